@@ -1,0 +1,2 @@
+pub mod WritingFacts
+pub mod LineFacts

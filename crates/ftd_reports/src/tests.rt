@@ -1,0 +1,154 @@
+//! The two due lists of the formats, byte for byte, and writers and readers that fail.
+
+ghost use Rattle.std.specs.Prelude.{◌≡◌, ◌<◌, IfOk};
+ghost use Rattle.std.specs.List.{sum_by};
+ghost use Rattle.ftd_reports.specs.DueLists.{amount_of};
+
+use crate::{Port, PortFault, Source, Target, WriteFault, due_list};
+use ftd_days::{Cents, Day, Quarter};
+use ftd_rules::{DueRow, Obligation, Rule, Verdict};
+use std::alloc::{AllocError, Global};
+use std::io::{Error, ErrorKind, Read, Write};
+use std::test::Fail;
+
+const WITH_ONE_ROW: &str = "DUE LIST ash 2024Q1 AS OF 2024-02-20
+2024-01-01 2024-01-31 monthly               882.50 2024-02-15 2024-04-30              0.00 with-return
+TOTAL                                       882.50
+";
+
+const WITHOUT_ROWS: &str = "DUE LIST ash 2024Q3 AS OF 2024-07-01
+TOTAL                                         0.00
+";
+
+fn day(text: &str) -> Result<Day, Fail> {
+    Ok(Day::read(text.as_bytes()).ok_or("a day")?)
+}
+
+fn quarter(text: &str) -> Result<Quarter, Fail> {
+    Ok(Quarter::read(text.as_bytes()).ok_or("a quarter")?)
+}
+
+/// January's obligation of 882.50, which may be paid with the return.
+fn january() -> Result<DueRow, Fail>
+    ensures { IfOk result (λ row. amount_of row ≡ 88_250) }
+{
+    Ok(DueRow {
+        obligation: Obligation {
+            first: day("2024-01-01")?,
+            last: day("2024-01-31")?,
+            rule: Rule::Monthly,
+            cents: Cents(88_250),
+            due: day("2024-02-15")?,
+        },
+        makeup: day("2024-04-30")?,
+        paid: Cents(0),
+        verdict: Verdict::WithReturn,
+    })
+}
+
+/// A writer that takes so many bytes, two at a time, and then fails.
+#[derive(Drop)]
+struct Narrow {
+    taken: Vec<u8>,
+    room: usize,
+}
+
+impl Write for Narrow {
+    fn write(&mut self, buf: &[u8]) -> std::io::Result<usize> {
+        let count = buf.len().min(2).min(self.room);
+        if count == 0 && !buf.is_empty() {
+            return Err(Error::from(ErrorKind::Other));
+        }
+        self.taken.extend_from_slice(&buf[..count])?;
+        self.room -= count;
+        Ok(count)
+    }
+
+    fn flush(&mut self) -> std::io::Result<()> {
+        Ok(())
+    }
+}
+
+/// Writes January's due list to a writer with so much room: what it took, and how it ended.
+fn written(alloc: Global, room: usize) -> Result<(Vec<u8>, Result<(), WriteFault>), Fail> {
+    let rows = [january()?];
+    let mut port = Port::new(Narrow {
+        taken: Vec::new(alloc),
+        room,
+    });
+    let end = due_list(
+        "ash",
+        quarter("2024Q1")?,
+        day("2024-02-20")?,
+        &rows,
+        &mut port,
+    );
+    let Narrow { taken, room: _ } = port.into_inner();
+    Ok((taken, end))
+}
+
+#[test]
+fn due_lists_have_their_bytes(rt: HostRuntime) -> Result<(), Fail> {
+    let (one, end) = written(rt.alloc(), 1000)?;
+    assert_eq!(rt; end, Ok(()));
+    assert_eq!(rt; one.as_slice(), WITH_ONE_ROW.as_bytes());
+    let mut none = Port::new(Vec::new(rt.alloc()));
+    let end = due_list(
+        "ash",
+        quarter("2024Q3")?,
+        day("2024-07-01")?,
+        &[],
+        &mut none,
+    );
+    assert_eq!(rt; end, Ok(()));
+    assert_eq!(rt; none.into_inner().as_slice(), WITHOUT_ROWS.as_bytes());
+    Ok(())
+}
+
+#[test]
+fn a_writer_that_fails_has_a_prefix(rt: HostRuntime) -> Result<(), Fail> {
+    let text = WITH_ONE_ROW.as_bytes();
+    for room in 0..text.len() {
+        let (taken, end) = written(rt.alloc(), room)?;
+        assert_eq!(rt; end, Err(WriteFault));
+        assert_eq!(rt; taken.as_slice(), &text[..room]);
+    }
+    Ok(())
+}
+
+/// A reader that is interrupted, gives two bytes, fails, and then would give bytes again.
+#[derive(Drop)]
+struct Flaky {
+    calls: u32,
+}
+
+impl Read for Flaky {
+    fn read(&mut self, buf: &mut [u8]) -> std::io::Result<usize> {
+        self.calls = self.calls.saturating_add(1);
+        match self.calls {
+            1 => Err(Error::from(ErrorKind::Interrupted)),
+            3 => Err(Error::from(ErrorKind::Other)),
+            _ => Ok(buf.len().min(2)),
+        }
+    }
+}
+
+#[test]
+fn a_source_that_failed_stays_failed(rt: HostRuntime) {
+    let mut source = Port::new(Flaky { calls: 0 });
+    let mut buf = [0u8; 4];
+    assert_eq!(rt; source.get(&mut buf), Ok(2));
+    assert_eq!(rt; source.get(&mut buf), Err(PortFault));
+    assert_eq!(rt; source.get(&mut buf), Err(PortFault));
+    assert_eq!(rt; source.into_inner().calls, 3);
+}
+
+#[test]
+fn a_put_that_takes_nothing_fails(rt: HostRuntime) {
+    let mut full = [0u8; 2];
+    let mut target = Port::new(full.as_mut_slice());
+    assert_eq!(rt; target.put(b""), Ok(0));
+    assert_eq!(rt; target.put(b"abc"), Ok(2));
+    assert_eq!(rt; target.put(b"c"), Err(PortFault));
+    assert_eq!(rt; target.put(b""), Err(PortFault));
+}

@@ -1,0 +1,103 @@
+//! Values as bytes of a fixed number, which take no memory.
+
+ghost use Rattle.std.specs.Prelude.{◌≡◌, ◌<◌, ◌++◌};
+ghost use Rattle.ftd_days.specs.Text.{day_text, quarter_text};
+ghost use Rattle.ftd_days.specs.Digits.{digit};
+ghost use Rattle.ftd_rules.specs.Text.{rule_text};
+ghost use Rattle.ftd_rules.specs.Verdicts.{verdict_text};
+ghost use Rattle.ftd_reports.specs.Columns.{left_in};
+ghost use Rattle.ftd_reports.specs.DueLists.{amount_in};
+
+use ftd_days::{Cents, Day, Quarter};
+use ftd_rules::{Rule, Verdict};
+use itoa::Buffer;
+
+/// Spaces to the left of dollars.
+const SPACES: &[u8; 14] = b"              ";
+
+/// The bytes of an amount at the right of 17: spaces, dollars, and the point with the cents.
+#[derive(Drop)]
+pub struct AmountColumn<'a> {
+    pub spaces: &'static [u8],
+    pub dollars: &'a [u8],
+    pub cents: [u8; 3],
+}
+
+/// An amount at the right of 17 bytes, its dollars written into the buffer.
+pub fn amount_column(amount: Cents, buffer: &mut Buffer) -> AmountColumn<'_>
+    ensures { result.spaces.now ++ result.dollars.now ++ result.cents ≡ amount_in amount.0 }
+{
+    let dollars = buffer.format(amount.0 / 100).as_bytes();
+    let cents = (amount.0 % 100) as u32;
+    AmountColumn {
+        spaces: &SPACES[..14usize.saturating_sub(dollars.len())],
+        dollars,
+        cents: [b'.', last_digit(cents / 10), last_digit(cents)],
+    }
+}
+
+/// The last digit of a number.
+pub fn last_digit(number: u32) -> u8
+    ensures { result ≡ digit number }
+{
+    b'0' + (number % 10) as u8
+}
+
+/// A day as YYYY-MM-DD.
+pub fn day_bytes(day: Day) -> [u8; 10]
+    ensures { result ≡ day_text day }
+{
+    let (year, month, of_month) = (day.year(), day.month(), day.day_of_month());
+    [
+        last_digit(year / 1000),
+        last_digit(year / 100),
+        last_digit(year / 10),
+        last_digit(year),
+        b'-',
+        last_digit(month / 10),
+        last_digit(month),
+        b'-',
+        last_digit(of_month / 10),
+        last_digit(of_month),
+    ]
+}
+
+/// A quarter as 2024Q1.
+pub fn quarter_bytes(quarter: Quarter) -> [u8; 6]
+    ensures { result ≡ quarter_text quarter }
+{
+    let year = quarter.year();
+    [
+        last_digit(year / 1000),
+        last_digit(year / 100),
+        last_digit(year / 10),
+        last_digit(year),
+        b'Q',
+        last_digit(u32::from(quarter.number())),
+    ]
+}
+
+/// The name of a rule, at the left of ten bytes.
+pub fn rule_column(rule: Rule) -> &'static [u8]
+    ensures { result.now ≡ left_in 10 (rule_text rule) }
+{
+    match rule {
+        Rule::Monthly => b"monthly   ",
+        Rule::Semiweekly => b"semiweekly",
+        Rule::NextDay => b"next-day  ",
+    }
+}
+
+/// The name of a verdict.
+pub fn verdict_name(verdict: Verdict) -> &'static [u8]
+    ensures { result.now ≡ verdict_text verdict }
+{
+    match verdict {
+        Verdict::Met => b"met",
+        Verdict::WithReturn => b"with-return",
+        Verdict::Open => b"open",
+        Verdict::MadeUp => b"made-up",
+        Verdict::Short => b"short",
+        Verdict::Late => b"late",
+    }
+}
