@@ -1,0 +1,9 @@
+pub mod AllRows
+pub mod Calendars
+pub mod Members
+pub mod ReadRows
+pub mod Said
+pub mod Spelled
+pub mod Sums
+pub mod TakingFacts
+pub mod WordFacts

@@ -1,0 +1,9 @@
+pub mod Fields
+pub mod Records
+pub mod Faults
+pub mod Plain
+pub mod Words
+pub mod Commands
+pub mod Rows
+pub mod Taking
+pub mod Views

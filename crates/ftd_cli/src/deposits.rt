@@ -1,0 +1,147 @@
+//! The deposits of one employer in one year, from its pay runs.
+
+ghost use Rattle.std.specs.Prelude.{◌≡◌, ◌≤◌, ◌++◌, IfOk, OnOk, MatchResult, All, length, map};
+ghost use Rattle.std.specs.BTreeMap.{IsOrdered, values};
+ghost use Rattle.std.specs.List.{flat_map};
+ghost use Rattle.std.specs.Ordering.{nat_cmp};
+ghost use Rattle.ftd_days.specs.Calendar.{year_of};
+ghost use Rattle.ftd_days.specs.Holidays.{holidays_of};
+ghost use Rattle.ftd_cli.specs.Plain.{PlainFails, PlainGives, Prints, line_text, most_bytes, most_runs};
+ghost use Rattle.ftd_cli.specs.Records.{HasHeader, records_of};
+ghost use Rattle.ftd_cli.specs.Taking.{IsSmall, TakesAll, TextFails, sum_of};
+
+use crate::calendar::calendar;
+use crate::fault::PlainFault;
+use crate::record::is_header;
+use crate::rows::{next_row, open_rows};
+use crate::runs::{Kept, take_rows};
+use csv::ByteRecord;
+use ftd_days::{Cents, Day, Holidays};
+use ftd_rules::{DaySum, Kind, Obligation, YearLine, assess};
+use std::alloc::{AllocError, Global};
+use std::collections::BTreeMap;
+
+/// The most bytes of a text of pay runs, 16 MiB.
+const MOST_BYTES: usize = 16_777_216;
+
+/// The deposits of an account in a year, from its pay runs as CSV (Pub. 15, section 11): the
+/// obligations of an employer that opens the year as a monthly depositor (its lookback total is zero,
+/// and it is not carried into the year as semiweekly), one line each, by first day.
+///
+/// The year is one of 2001 to 2098. The holidays rise, lie in the year or the next, and are at most 60
+/// for each. The text has at most 16 MiB and the header `employer,run,payday,fit,ss,medicare`. Under it
+/// runs of other accounts and years are read too, and left out. A run of the account that comes again
+/// with equal content counts once. `PlainFault` says when which fault is answered.
+pub fn plain(
+    alloc: Global,
+    csv: &[u8],
+    account: &str,
+    year: u32,
+    holidays: &[Day],
+) -> Result<Vec<u8>, PlainFault>
+    requires from { 2001 ≤ year }
+    requires to { year ≤ 2098 }
+    ensures { MatchResult result
+        (λ text. PlainGives csv.now account.now year holidays.now text.items)
+        (λ fault. PlainFails csv.now account.now year holidays.now fault) }
+{
+    if csv.len() > MOST_BYTES {
+        return Err(PlainFault::TooLong);
+    }
+    let calendar = calendar(alloc, year, holidays)?;
+    let runs = runs_of(alloc, csv, account, year)?;
+    let sums = day_sums(alloc, &runs)?;
+    let text = deposits(alloc, year, &sums, &calendar)?;
+    Ok(text)
+}
+
+/// The runs of the account with a payday in the year, by number.
+fn runs_of(
+    alloc: Global,
+    csv: &[u8],
+    account: &str,
+    year: u32,
+) -> Result<BTreeMap<u32, Kept>, PlainFault>
+    requires { length csv.now ≤ most_bytes }
+    ensures { MatchResult result
+        (λ runs. HasHeader csv.now × IsOrdered nat_cmp runs
+        × TakesAll account.now year (records_of csv.now) runs.entries)
+        (λ fault. TextFails account.now year csv.now fault) }
+{
+    let mut reader = open_rows(alloc, csv)?;
+    let mut row = ByteRecord::new(alloc);
+    if !next_row(&mut reader, &mut row)? || !is_header(&row) {
+        return Err(PlainFault::BadHeader);
+    }
+    take_rows(alloc, &mut reader, &mut row, account, year)
+}
+
+/// What the run adds to the liability of its payday: the income tax withheld and both shares of
+/// social security and of Medicare tax.
+fn day_sum(kept: &Kept) -> DaySum
+    requires { IsSmall kept.now }
+    ensures { result ≡ sum_of kept.now }
+{
+    DaySum {
+        day: kept.payday,
+        cents: Cents(kept.fit.0 + kept.ss.0 + kept.medicare.0),
+    }
+}
+
+/// What the runs add to the liability of their paydays.
+fn day_sums(alloc: Global, runs: &BTreeMap<u32, Kept>) -> Result<Vec<DaySum>, AllocError>
+    requires { All IsSmall (values runs.now) }
+    ensures { IfOk result (λ sums. sums.items ≡ map sum_of (values runs.now)) }
+{
+    let mut sums = Vec::new(alloc);
+    for kept in runs.values() {
+        sums.push(day_sum(kept))?;
+    }
+    Ok(sums)
+}
+
+/// The deposits of a monthly depositor with these sums in the year, as text.
+fn deposits(
+    alloc: Global,
+    year: u32,
+    sums: &[DaySum],
+    holidays: &Holidays,
+) -> Result<Vec<u8>, AllocError>
+    requires from { 2001 ≤ year }
+    requires to { year ≤ 2098 }
+    requires few { length sums.now ≤ most_runs }
+    requires in_year { All (λ sum. year_of sum.day ≡ year) sums.now }
+    requires small { All (λ sum. sum.cents.0 ≤ 299_999_999_997) sums.now }
+    ensures { IfOk result (λ text. Prints year (holidays_of holidays.now) sums.now text.items) }
+{
+    let line = YearLine {
+        year,
+        lookback: Cents(0),
+        carried: false,
+        opening: Kind::Monthly,
+        turn: None,
+    };
+    let assessment = assess(alloc, &[line], sums, holidays)?;
+    lines(alloc, assessment.rows.as_slice())
+}
+
+/// The rows as text, one line each.
+fn lines(alloc: Global, rows: &[Obligation]) -> Result<Vec<u8>, AllocError>
+    ensures { IfOk result (λ text. text.items ≡ flat_map line_text rows.now) }
+{
+    let mut text = Vec::new(alloc);
+    for row in rows {
+        push_line(alloc, &mut text, row)?;
+    }
+    Ok(text)
+}
+
+/// Writes the line of the row at the end of the text.
+fn push_line(alloc: Global, text: &mut Vec<u8>, row: &Obligation) -> Result<(), AllocError>
+    ensures { OnOk result (text.new.items ≡ text.old.items ++ line_text row.now) }
+{
+    let line = row.to_string(alloc)?;
+    text.extend_from_slice(line.as_bytes())?;
+    text.push(b'\n')?;
+    Ok(())
+}
