@@ -1,0 +1,15 @@
+pub mod KeptLemmas
+pub mod KeptWrites
+pub mod Steps
+pub mod Ordered
+pub mod Phrase
+pub mod Meaning
+pub mod Selects
+pub mod Updates
+pub mod Frames
+pub mod OneTable
+pub mod Standing
+pub mod OneRow
+pub mod Passing
+pub mod InOrder
+pub mod Counting

@@ -1,0 +1,5 @@
+pub mod Opened
+pub mod Kept
+pub mod Tables
+pub mod Rows
+pub mod Places

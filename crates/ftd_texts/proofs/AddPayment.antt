@@ -1,0 +1,69 @@
+-- Adding a row to `payment`: it comes last.
+use Rattle.std.proofs.Common.{◌≡◌, ℕ, ◌++◌, pos, List, [], ◌∷◌, codes, Ok, refl, false, true, IsTrue}
+use Rattle.sqlite.specs.Schema.{Schema}
+use Rattle.sqlite.specs.declared.types.Value.TheVariants.{Null, Int}
+use Rattle.sqlite.specs.Term.{Term, lit, col}
+use Rattle.sqlite.specs.Source.TheVariants.{Values}
+use Rattle.sqlite.specs.Command.TheVariants.{Insert}
+use Rattle.sqlite.specs.Tree.{put_row}
+use Rattle.sqlite.specs.Edit.{next_rowid, edit_of, edited}
+use Rattle.sqlite.specs.Rowids.TheVariants.{Chosen}
+use Rattle.sqlite.specs.Effect.{value_rows}
+use Rattle.sqlite.specs.State.{State, Executes, Shows}
+use Rattle.sqlite.proofs.Callers.{runs_as}
+use Rattle.sqlite_ast.specs.declared.Rows.{Rows}
+use Rattle.sqlite_ast.specs.declared.Rows.TheVariants as rows
+use Rattle.sqlite_ast.specs.declared.Conflict.TheVariants as conflict
+use Rattle.sqlite_ast.specs.declared.Statement.TheVariants as written
+use Rattle.sqlite_resolve.specs.Compile.{new_rows}
+use Rattle.sqlite_tied.specs.Compute.{everything}
+use Rattle.ftd_tables.specs.Tables.{payment_table}
+use Rattle.ftd_tables.specs.Rows.{Tables, Payment, payment_cells}
+use Rattle.ftd_tables.specs.Places.{IsAt, Stands}
+use Rattle.ftd_tables.proofs.Phrase.{Given, Whole, say}
+use Rattle.ftd_tables.proofs.Meaning.{Reads, Means, inserts}
+use Rattle.ftd_tables.proofs.KeptLemmas.{cast_null, cast_int}
+use Rattle.ftd_tables.proofs.OneTable.{adds_row}
+use Rattle.ftd_tables.proofs.Standing.{payments_now}
+use Rattle.ftd_texts.proofs.Inside.{stays_inside}
+use Rattle.ftd_texts.specs.Texts.{insert_payment, payment_given}
+
+abbrev columns : List (List ℕ)
+columns = codes "account" ∷ codes "payment" ∷ codes "paid" ∷ codes "for_day" ∷ codes "cents" ∷ codes "voided" ∷ []
+
+abbrev values : Rows
+values = rows.Values ((say (Given 1) ∷ say (Given 2) ∷ say (Given 3) ∷ say (Given 4) ∷ say (Given 5) ∷ say (Whole (codes "0")) ∷ []) ∷ [])
+
+abbrev terms : List Term
+terms = lit Null ∷ col 0 0 ∷ col 0 1 ∷ col 0 2 ∷ col 0 3 ∷ col 0 4 ∷ lit (Int (pos 0)) ∷ []
+
+reads : Reads insert_payment (written.Insert conflict.Abort (codes "payment") columns values [] [])
+unfolding everything
+reads = record { read = _; is = refl; said = refl; untimed = refl; whole = refl }
+
+is : (s : Schema) (tree base : ℕ) → new_rows s (payment_table tree) base columns values ≡ Ok (Values terms 7)
+unfolding everything
+is s tree base = refl
+
+means : (s : Schema) (at tree : ℕ) → IsAt s (codes "payment") (payment_table tree) at → Means s insert_payment (Insert at (Values terms 7))
+means s at tree place = inserts s insert_payment (codes "payment") (payment_table tree) at columns values (Values terms 7) place refl reads (is s tree)
+
+pub adds : (old new : State) (p : Payment) (count : ℕ) (t : Tables) → p.voided ≡ false → Stands old.now t → Executes insert_payment (payment_given p) old new (Ok count)
+    → Stands new.now (record t { payments = t.payments ++ p ∷ [] })
+adds old new p count t unvoided stands h =
+    let s = old.now.schema in
+    let l = stands.payments in
+    let m = means s l.at l.tree l.place in
+    let w = runs_as insert_payment (payment_given p) old new s refl (Insert l.at (Values terms 7)) m.is m.plain count h in
+    let cells : edited old.now.trees (edit_of old.now.trees (payment_table l.tree) [] Chosen 0 (value_rows (payment_given p) 7 1 terms)) ≡ put_row (Int (next_rowid (old.now.trees l.tree)) ∷ payment_cells p) (old.now.trees l.tree) =
+      rw (cast_null, cast_int, cast_int, cast_int, cast_int, cast_int, unvoided) refl in
+    let made = adds_row old new _ _ _ _ payment_cells t.payments p l 7 terms _ (payment_given p) count cells w in
+    payments_now old.now new.now t (t.payments ++ p ∷ []) stands made.0 made.1
+
+-- inside a transaction the last commit stays
+pub inside : (old new : State) (p : Payment) (count : ℕ) (t : Tables) → IsTrue old.in_transaction → Stands old.now t → Executes insert_payment (payment_given p) old new (Ok count)
+    → Shows old new new.now old.committed true
+inside old new p count t busy stands h =
+    let l = stands.payments in
+    let m = means old.now.schema l.at l.tree l.place in
+    stays_inside old new _ _ _ count busy (runs_as insert_payment (payment_given p) old new old.now.schema refl (Insert l.at (Values terms 7)) m.is m.plain count h)

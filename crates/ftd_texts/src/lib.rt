@@ -1,0 +1,2 @@
+//! What each statement of the desk means in typed rows.
+#![tactic(auto)]
