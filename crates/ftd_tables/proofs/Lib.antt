@@ -13,3 +13,6 @@ pub mod OneRow
 pub mod Passing
 pub mod InOrder
 pub mod Counting
+pub mod Grows
+pub mod Creating
+pub mod Grown

@@ -56,7 +56,7 @@ adds old new a count t stands h =
     let m = means s l.at l.tree l.place in
     let w = runs_as insert_account (account_given a) old new s refl (Insert l.at (Values terms 4)) m.is m.plain count h in
     let cells : edited old.now.trees (edit_of old.now.trees (account_table l.tree) [] Chosen 0 (value_rows (account_given a) 4 1 terms)) ≡ put_row (Int (next_rowid (old.now.trees l.tree)) ∷ account_cells a) (old.now.trees l.tree) =
-      rw (cast_null, cast_int, cast_int) refl in
+    rw (cast_null, cast_int, cast_int) refl in
     let made = adds_row old new _ _ _ _ account_cells t.accounts a l 4 terms _ (account_given a) count cells w in
     accounts_now old.now new.now t (t.accounts ++ a ∷ []) stands made.0 made.1
 

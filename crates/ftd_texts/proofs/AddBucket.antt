@@ -56,7 +56,7 @@ adds old new b count t stands h =
     let m = means s l.at l.tree l.place in
     let w = runs_as insert_bucket (bucket_given b) old new s refl (Insert l.at (Values terms 7)) m.is m.plain count h in
     let cells : edited old.now.trees (edit_of old.now.trees (bucket_table l.tree) [] Chosen 0 (value_rows (bucket_given b) 7 1 terms)) ≡ put_row (Int (next_rowid (old.now.trees l.tree)) ∷ bucket_cells b) (old.now.trees l.tree) =
-      rw (cast_null, cast_int, cast_int, cast_int, cast_int, cast_int) refl in
+    rw (cast_null, cast_int, cast_int, cast_int, cast_int, cast_int) refl in
     let made = adds_row old new _ _ _ _ bucket_cells t.buckets b l 7 terms _ (bucket_given b) count cells w in
     buckets_now old.now new.now t (t.buckets ++ b ∷ []) stands made.0 made.1
 

@@ -56,7 +56,7 @@ adds old new c count t stands h =
     let m = means s l.at l.tree l.place in
     let w = runs_as insert_calendar_year (calendar_year_given c) old new s refl (Insert l.at (Values terms 2)) m.is m.plain count h in
     let cells : edited old.now.trees (edit_of old.now.trees (calendar_year_table l.tree) [] Chosen 0 (value_rows (calendar_year_given c) 2 1 terms)) ≡ put_row (Int (next_rowid (old.now.trees l.tree)) ∷ calendar_year_cells c) (old.now.trees l.tree) =
-      rw (cast_null, cast_int) refl in
+    rw (cast_null, cast_int) refl in
     let made = adds_row old new _ _ _ _ calendar_year_cells t.calendar_years c l 2 terms _ (calendar_year_given c) count cells w in
     calendar_years_now old.now new.now t (t.calendar_years ++ c ∷ []) stands made.0 made.1
 

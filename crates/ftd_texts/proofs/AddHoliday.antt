@@ -56,7 +56,7 @@ adds old new x count t stands h =
     let m = means s l.at l.tree l.place in
     let w = runs_as insert_holiday (holiday_given x) old new s refl (Insert l.at (Values terms 3)) m.is m.plain count h in
     let cells : edited old.now.trees (edit_of old.now.trees (holiday_table l.tree) [] Chosen 0 (value_rows (holiday_given x) 3 1 terms)) ≡ put_row (Int (next_rowid (old.now.trees l.tree)) ∷ holiday_cells x) (old.now.trees l.tree) =
-      rw (cast_null, cast_int, cast_int) refl in
+    rw (cast_null, cast_int, cast_int) refl in
     let made = adds_row old new _ _ _ _ holiday_cells t.holidays x l 3 terms _ (holiday_given x) count cells w in
     holidays_now old.now new.now t (t.holidays ++ x ∷ []) stands made.0 made.1
 

@@ -56,7 +56,7 @@ adds old new x count t stands h =
     let m = means s l.at l.tree l.place in
     let w = runs_as insert_meta (meta_given x) old new s refl (Insert l.at (Values terms 3)) m.is m.plain count h in
     let cells : edited old.now.trees (edit_of old.now.trees (meta_table l.tree) [] Chosen 0 (value_rows (meta_given x) 3 1 terms)) ≡ put_row (Int (next_rowid (old.now.trees l.tree)) ∷ meta_cells x) (old.now.trees l.tree) =
-      rw (cast_null, cast_int) refl in
+    rw (cast_null, cast_int) refl in
     let made = adds_row old new _ _ _ _ meta_cells t.metas x l 3 terms _ (meta_given x) count cells w in
     metas_now old.now new.now t (t.metas ++ x ∷ []) stands made.0 made.1
 

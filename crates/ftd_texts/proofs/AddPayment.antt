@@ -56,7 +56,7 @@ adds old new p count t unvoided stands h =
     let m = means s l.at l.tree l.place in
     let w = runs_as insert_payment (payment_given p) old new s refl (Insert l.at (Values terms 7)) m.is m.plain count h in
     let cells : edited old.now.trees (edit_of old.now.trees (payment_table l.tree) [] Chosen 0 (value_rows (payment_given p) 7 1 terms)) ≡ put_row (Int (next_rowid (old.now.trees l.tree)) ∷ payment_cells p) (old.now.trees l.tree) =
-      rw (cast_null, cast_int, cast_int, cast_int, cast_int, cast_int, unvoided) refl in
+    rw (cast_null, cast_int, cast_int, cast_int, cast_int, cast_int, unvoided) refl in
     let made = adds_row old new _ _ _ _ payment_cells t.payments p l 7 terms _ (payment_given p) count cells w in
     payments_now old.now new.now t (t.payments ++ p ∷ []) stands made.0 made.1
 

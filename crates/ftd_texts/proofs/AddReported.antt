@@ -56,7 +56,7 @@ adds old new r count t stands h =
     let m = means s l.at l.tree l.place in
     let w = runs_as insert_reported (reported_given r) old new s refl (Insert l.at (Values terms 5)) m.is m.plain count h in
     let cells : edited old.now.trees (edit_of old.now.trees (reported_table l.tree) [] Chosen 0 (value_rows (reported_given r) 5 1 terms)) ≡ put_row (Int (next_rowid (old.now.trees l.tree)) ∷ reported_cells r) (old.now.trees l.tree) =
-      rw (cast_null, cast_int, cast_int, cast_int) refl in
+    rw (cast_null, cast_int, cast_int, cast_int) refl in
     let made = adds_row old new _ _ _ _ reported_cells t.reported r l 5 terms _ (reported_given r) count cells w in
     reported_now old.now new.now t (t.reported ++ r ∷ []) stands made.0 made.1
 

@@ -56,7 +56,7 @@ adds old new r count t unvoided stands h =
     let m = means s l.at l.tree l.place in
     let w = runs_as insert_run (run_given r) old new s refl (Insert l.at (Values terms 8)) m.is m.plain count h in
     let cells : edited old.now.trees (edit_of old.now.trees (run_table l.tree) [] Chosen 0 (value_rows (run_given r) 8 1 terms)) ≡ put_row (Int (next_rowid (old.now.trees l.tree)) ∷ run_cells r) (old.now.trees l.tree) =
-      rw (cast_null, cast_int, cast_int, cast_int, cast_int, cast_int, cast_int, unvoided) refl in
+    rw (cast_null, cast_int, cast_int, cast_int, cast_int, cast_int, cast_int, unvoided) refl in
     let made = adds_row old new _ _ _ _ run_cells t.runs r l 8 terms _ (run_given r) count cells w in
     runs_now old.now new.now t (t.runs ++ r ∷ []) stands made.0 made.1
 

@@ -56,7 +56,7 @@ adds old new y count t stands h =
     let m = means s l.at l.tree l.place in
     let w = runs_as insert_year (year_given y) old new s refl (Insert l.at (Values terms 6)) m.is m.plain count h in
     let cells : edited old.now.trees (edit_of old.now.trees (year_table l.tree) [] Chosen 0 (value_rows (year_given y) 6 1 terms)) ≡ put_row (Int (next_rowid (old.now.trees l.tree)) ∷ year_cells y) (old.now.trees l.tree) =
-      rw (cast_null, cast_int, cast_int, cast_int, cast_day_or_null y.turn) refl in
+    rw (cast_null, cast_int, cast_int, cast_int, cast_day_or_null y.turn) refl in
     let made = adds_row old new _ _ _ _ year_cells t.years y l 6 terms _ (year_given y) count cells w in
     years_now old.now new.now t (t.years ++ y ∷ []) stands made.0 made.1
 

@@ -56,7 +56,11 @@ draft tree = record {
   filter = filters;
   group = Some (record { keys = []; collations = []; aggregates = record { op = CountRows; distinct = false; collation = Binary; argument = lit Null } ∷ []; having = [] });
   project = col 1 0 ∷ [];
-  distinct = false; collations = []; order = []; limit = lit (Int (negsuc 0)); offset = lit (Int (pos 0));
+  distinct = false;
+  collations = [];
+  order = [];
+  limit = lit (Int (negsuc 0));
+  offset = lit (Int (pos 0));
 }
 
 abbrev statement : ast.Select

@@ -24,3 +24,4 @@ pub mod ListPayments
 pub mod ListBuckets
 pub mod CountRuns
 pub mod CountPayments
+pub mod CreateTables

@@ -174,3 +174,32 @@ count_runs = codes "SELECT COUNT(*) FROM run WHERE account = ?1"
 
 abbrev pub count_payments : List ℕ
 count_payments = codes "SELECT COUNT(*) FROM payment WHERE account = ?1"
+
+-- ---- making the tables
+
+abbrev pub create_meta : List ℕ
+create_meta = codes "CREATE TABLE ftd_meta (tag TEXT NOT NULL PRIMARY KEY, version INTEGER NOT NULL) STRICT"
+
+abbrev pub create_account : List ℕ
+create_account = codes "CREATE TABLE account (name TEXT NOT NULL PRIMARY KEY, start INTEGER NOT NULL, carried INTEGER NOT NULL) STRICT"
+
+abbrev pub create_reported : List ℕ
+create_reported = codes "CREATE TABLE reported (account TEXT NOT NULL REFERENCES account(name), cal_year INTEGER NOT NULL, quarter INTEGER NOT NULL, cents INTEGER NOT NULL, PRIMARY KEY (account, cal_year, quarter)) STRICT"
+
+abbrev pub create_calendar_year : List ℕ
+create_calendar_year = codes "CREATE TABLE calendar_year (cal_year INT NOT NULL PRIMARY KEY) STRICT"
+
+abbrev pub create_holiday : List ℕ
+create_holiday = codes "CREATE TABLE holiday (day INT NOT NULL PRIMARY KEY, cal_year INTEGER NOT NULL REFERENCES calendar_year(cal_year)) STRICT"
+
+abbrev pub create_year : List ℕ
+create_year = codes "CREATE TABLE year (account TEXT NOT NULL REFERENCES account(name), cal_year INTEGER NOT NULL, lookback INTEGER NOT NULL, opening INTEGER NOT NULL, turn INTEGER, PRIMARY KEY (account, cal_year)) STRICT"
+
+abbrev pub create_run : List ℕ
+create_run = codes "CREATE TABLE run (account TEXT NOT NULL REFERENCES account(name), run INTEGER NOT NULL, payday INTEGER NOT NULL, fit INTEGER NOT NULL, ss INTEGER NOT NULL, medicare INTEGER NOT NULL, voided INTEGER NOT NULL, PRIMARY KEY (account, run)) STRICT"
+
+abbrev pub create_payment : List ℕ
+create_payment = codes "CREATE TABLE payment (account TEXT NOT NULL REFERENCES account(name), payment INTEGER NOT NULL, paid INTEGER NOT NULL, for_day INTEGER NOT NULL, cents INTEGER NOT NULL, voided INTEGER NOT NULL, PRIMARY KEY (account, payment)) STRICT"
+
+abbrev pub create_bucket : List ℕ
+create_bucket = codes "CREATE TABLE bucket (account TEXT NOT NULL REFERENCES account(name), first_day INTEGER NOT NULL, last_day INTEGER NOT NULL, rule INTEGER NOT NULL, cents INTEGER NOT NULL, due INTEGER NOT NULL, PRIMARY KEY (account, first_day)) STRICT"
