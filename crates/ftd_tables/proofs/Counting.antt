@@ -73,8 +73,8 @@ counts_rows {X = X} old name make cells xs test h filters params rows tested a =
     let alone = one_permutation (output q env) a.ordered (subst (λ k. IsPermutation k a.ordered) shown a.same) in
     let rows_are : rows ≡ (Int (pos (min (length all) greatest_count)) ∷ []) ∷ [] = a.shown ∙ ap (map (λ (o : Output). o.1)) alone in
     let passed : all ≡ map (λ p. params ∷ stored cells p ∷ []) (filter (λ p. test p.1) kept) =
-      ap (scan filters params) (same_tree old.now.trees h.tree ∙ h.rows.rows_are) ∙ scanned cells test filters params tested kept in
+    ap (scan filters params) (same_tree old.now.trees h.tree ∙ h.rows.rows_are) ∙ scanned cells test filters params tested kept in
     let len : length all ≡ length (filter test xs) =
-      ap length passed ∙ length-map (filter (λ p. test p.1) kept) (λ p. params ∷ stored cells p ∷ [])
-      ∙ sym (length-map (filter (λ p. test p.1) kept) (λ (p : ℤ × X). p.1)) ∙ ap length (filter_typed test kept ∙ ap (filter test) h.rows.typed) in
+    ap length passed ∙ length-map (filter (λ p. test p.1) kept) (λ p. params ∷ stored cells p ∷ [])
+    ∙ sym (length-map (filter (λ p. test p.1) kept) (λ (p : ℤ × X). p.1)) ∙ ap length (filter_typed test kept ∙ ap (filter test) h.rows.typed) in
     rows_are ∙ ap (λ n. (Int (pos (min n greatest_count)) ∷ []) ∷ []) len

@@ -47,6 +47,7 @@ quiet s tree olds news spared = all s.tables spared
     each : (child : Table) (refs : List Reference) → AllByRecursion (Spares s tree) refs → filter_map (work_for s Enforced 0 tree olds news child) refs ≡ []
     each child [] h = refl
     each child (r ∷ refs) h = rw (spared_by s tree olds news child r h.0) (each child refs h.1)
+
     all : (tables : List Table) → AllByRecursion (λ t. AllByRecursion (Spares s tree) t.references) tables → flat_map (λ (child : Table). filter_map (work_for s Enforced 0 tree olds news child) child.references) tables ≡ []
     all [] h = refl
     all (t ∷ more) h = rw (each t t.references h.0, all more h.1) refl

@@ -56,6 +56,7 @@ lacks_kept s t bare h = rw (list_any_more s.tables (record t { tree = next_tree 
     has : (k : ℕ) (o : Option Table) → table_named s (codes "sqlite_sequence") ≡ Some k → slice_get s.tables k ≡ o → not (is_some o) ≡ false → not (is_some (sequence (created s t))) ≡ false
     has k None is got e = absurd cc
     has k (Some u) is got e = rw (position_kept (λ (v : Table). same_name v.name (codes "sqlite_sequence")) 0 k s.tables _ is, get_kept s.tables _ k u got) refl
+
     go : (b : Bool) (o : Option ℕ) → table_named s (codes "sqlite_sequence") ≡ o → (b && not (is_some (option_and_then (slice_get s.tables) o))) ≡ false → (b && not (is_some (sequence (created s t)))) ≡ false
     go false o is e = refl
     go true None is e = absurd cc
@@ -71,7 +72,7 @@ grown_one old new t m none bare =
       rows = λ name u at place. all_at (λ (v : Table). new.trees v.tree ≡ old.trees v.tree) s.tables at u m.others place.listed;
       spared = λ tree low h. subst (λ x. IsSpared x tree) (sym m.is) (spared_kept s t tree low none h);
       next = let below = all_at (λ (u : Table). u.tree < next_tree new.schema) new.schema.tables (length s.tables) made (all_below new.schema) (ap (λ (x : Schema). slice_get x.tables (length s.tables)) m.is ∙ get_new s.tables made) in
-        let same : made.tree ≡ next_tree s = refl in omega (arith, below, same);
+          let same : made.tree ≡ next_tree s = refl in omega (arith, below, same);
       unnamed = λ name h. subst (λ x. IsUnnamed x name) (sym m.is) (unnamed_kept s t name none h);
       counted = λ h. subst (λ x. lacks_sequence x ≡ false) (sym m.is) (lacks_kept s t bare h);
     }

@@ -82,7 +82,6 @@ find_new n (x ∷ xs) y below is = rw (ne_eqb x.tree n (λ e. absurd (omega (ari
 
 -- ---- the places
 
-
 pub at_new : (s : Schema) (t : Table) → table_named s t.name ≡ None → same_name t.name t.name ≡ true → nat_le (2 ^ 31) (next_tree s) ≡ false
     → IsAt (created s t) t.name (record t { tree = next_tree s }) (length s.tables)
 at_new s t free self low =
@@ -174,7 +173,7 @@ one_kept s t tree low r (inr away) = inr (λ key e.
 pub spared_kept : (s : Schema) (t : Table) (tree : ℕ) → tree < next_tree s → AllByRecursion HasNoAction t.references → IsSpared s tree → IsSpared (created s t) tree
 spared_kept s t tree low none spared =
     all_last (λ (u : Table). AllByRecursion (Spares (created s t) tree) u.references) s.tables _
-      (all_map _ (λ (u : Table). AllByRecursion (Spares (created s t) tree) u.references) s.tables (λ u h. all_map (Spares s tree) (Spares (created s t) tree) u.references (one_kept s t tree low) h) spared) (own (created s t) tree t.references none)
+    (all_map _ (λ (u : Table). AllByRecursion (Spares (created s t) tree) u.references) s.tables (λ u h. all_map (Spares s tree) (Spares (created s t) tree) u.references (one_kept s t tree low) h) spared) (own (created s t) tree t.references none)
 
 one_new : (s : Schema) (t : Table) (r : Reference) → HasNoAction r ⊎ (same_name t.name r.parent ≡ false) → Spares (created s t) (next_tree s) r
 one_new s t r (inl none) = inl none
@@ -191,5 +190,5 @@ one_new s t r (inr other) = inr (λ key e.
 pub spared_new : (s : Schema) (t : Table) → AllByRecursion HasNoAction t.references → IsUnnamed s t.name → IsSpared (created s t) (next_tree s)
 spared_new s t none unnamed =
     all_last (λ (u : Table). AllByRecursion (Spares (created s t) (next_tree s)) u.references) s.tables _
-      (all_map _ (λ (u : Table). AllByRecursion (Spares (created s t) (next_tree s)) u.references) s.tables (λ u h. all_map (λ r. HasNoAction r ⊎ (same_name t.name r.parent ≡ false)) (Spares (created s t) (next_tree s)) u.references (one_new s t) h) unnamed)
-      (own (created s t) (next_tree s) t.references none)
+    (all_map _ (λ (u : Table). AllByRecursion (Spares (created s t) (next_tree s)) u.references) s.tables (λ u h. all_map (λ r. HasNoAction r ⊎ (same_name t.name r.parent ≡ false)) (Spares (created s t) (next_tree s)) u.references (one_new s t) h) unnamed)
+    (own (created s t) (next_tree s) t.references none)

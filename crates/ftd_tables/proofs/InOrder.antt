@@ -38,17 +38,18 @@ shows_in_order {X = X} old name make cells shown xs test R h filters project key
     let passed : scan filters params (old.now.trees h.tree) ≡ map f (filter (λ p. test p.1) h.rows.kept) = ap (scan filters params) h.rows.rows_are ∙ scanned cells test filters params tested h.rows.kept in
     let up = lifted f (filter (λ p. test p.1) h.rows.kept) all.0 (subst (λ k. IsPermutation k all.0) passed all.1) in
     let qs : List (ℤ × X) = up.0 in
-    let typed = filter_typed test h.rows.kept ∙ ap (filter test) h.rows.typed in
-    (map (λ (p : ℤ × X). p.1) qs,
+    let typed = filter_typed test h.rows.kept ∙ ap (filter test) h.rows.typed in (
+      map (λ (p : ℤ × X). p.1) qs,
       subst (λ k. IsPermutation k (map (λ (p : ℤ × X). p.1) qs)) typed (IsPermutation-map (λ (p : ℤ × X). p.1) _ qs up.1),
       all.2 ∙ ap (map (eval_all project)) up.2 ∙ map_map (eval_all project) f qs ∙ all_seen qs,
       λ k d low.
-        let z : ℤ × X = (pos 0, d) in
-        let g = λ (p : ℤ × X). output q (f p) in
-        let sorted = subst (λ k. IsSorted (output_cmp q) k) (ap (map (output q)) up.2 ∙ map_map (output q) f qs) all.3 in
-        let one = sorted k (g z) (omega arith) (omega (arith, length-map qs g, length-map qs (λ (p : ℤ × X). p.1))) in
-        let two = rw (raw.get_or-map g qs (k + 1) z, raw.get_or-map g qs k z) at one in
-        rw (raw.get_or-map (λ (p : ℤ × X). p.1) qs k z, raw.get_or-map (λ (p : ℤ × X). p.1) qs (k + 1) z) (rises (get_or qs k z).1 (get_or qs (k + 1) z).1 (get_or qs (k + 1) z).0 (get_or qs k z).0 two))
+          let z : ℤ × X = (pos 0, d) in
+          let g = λ (p : ℤ × X). output q (f p) in
+          let sorted = subst (λ k. IsSorted (output_cmp q) k) (ap (map (output q)) up.2 ∙ map_map (output q) f qs) all.3 in
+          let one = sorted k (g z) (omega arith) (omega (arith, length-map qs g, length-map qs (λ (p : ℤ × X). p.1))) in
+          let two = rw (raw.get_or-map g qs (k + 1) z, raw.get_or-map g qs k z) at one in
+          rw (raw.get_or-map (λ (p : ℤ × X). p.1) qs k z, raw.get_or-map (λ (p : ℤ × X). p.1) qs (k + 1) z) (rises (get_or qs k z).1 (get_or qs (k + 1) z).1 (get_or qs (k + 1) z).0 (get_or qs k z).0 two),
+    )
   where
     all_seen : (ps : List (ℤ × X)) → map (λ p. eval_all project (params ∷ stored cells p ∷ [])) ps ≡ map shown (map (λ p. p.1) ps)
     all_seen [] = refl

@@ -166,7 +166,7 @@ pub keeps_fewer : {X : Type 0} (cells : X → Row) (test : X → Bool) (rows : L
     → IsPermutation (ids_that test k.kept) ids → Keeps cells (without_all rows ids) (filter (λ x. not (test x)) xs)
 keeps_fewer {X = X} cells test rows xs ids k moved =
     let same = with_both {X = ℤ × X} {P = λ p. list_any (same_id p.0) (ids_that test k.kept) ≡ test p.1} {Q = λ p. list_any (same_id p.0) (ids_that test k.kept) ≡ test p.1} {R = λ p. list_any (same_id p.0) ids ≡ test p.1}
-        (λ p h _. sym (list_any-IsPermutation (same_id p.0) (ids_that test k.kept) ids moved) ∙ h) k.kept (hits test k.kept k.rise) (hits test k.kept k.rise) in
+    (λ p h _. sym (list_any-IsPermutation (same_id p.0) (ids_that test k.kept) ids moved) ∙ h) k.kept (hits test k.kept k.rise) (hits test k.kept k.rise) in
     record {
       kept = filter (λ p. not (test p.1)) k.kept;
       rows_are = ap (λ rs. without_all rs ids) k.rows_are ∙ taken_out cells ids k.kept ∙ ap (map (stored cells)) (filter_same (λ p. list_any (same_id p.0) ids) (λ p. test p.1) k.kept same);

@@ -54,8 +54,10 @@ means_at s text st c r untimed bare gives = record { is = rw known refl; plain =
   where
     found : Compiled
     found = record { command = c; returning = None; names = r.read.names; formats = []; start = r.read.start; end = r.read.end; tail = r.read.tail }
+
     is : compiled s text ≡ Ok found
     is = rw (r.is, r.said, r.untimed, untimed, bare, gives) refl
+
     known : understood s text ≡ Ok found
     known = rw is refl
 

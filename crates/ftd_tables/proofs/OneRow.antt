@@ -50,12 +50,13 @@ takes_out old new name columns key references cells xs test h filters text param
     let made = deleted old new h.at name columns key references h.tree _ text params count h.place.listed (λ olds. quiet old.now.schema h.tree olds [] h.spared) w in
     let found = answer_unordered h.tree filters (col 1 0 ∷ []) old.now.trees params made.1 made.2 in
     let ids : map (λ (r : Row). id_in (rowid r)) (map (eval_all (col 1 0 ∷ [])) (scan filters params (old.now.trees h.tree))) ≡ ids_that test h.rows.kept =
-      ap (map (λ (r : Row). id_in (rowid r))) (found_rows cells test filters (col 1 0 ∷ []) params (old.now.trees h.tree) xs h.rows tested)
-      ∙ map_map (λ (r : Row). id_in (rowid r)) (λ p. eval_all (col 1 0 ∷ []) (params ∷ stored cells p ∷ [])) (filter (λ p. test p.1) h.rows.kept) in
+    ap (map (λ (r : Row). id_in (rowid r))) (found_rows cells test filters (col 1 0 ∷ []) params (old.now.trees h.tree) xs h.rows tested)
+    ∙ map_map (λ (r : Row). id_in (rowid r)) (λ p. eval_all (col 1 0 ∷ []) (params ∷ stored cells p ∷ [])) (filter (λ p. test p.1) h.rows.kept) in
     let moved : IsPermutation (ids_that test h.rows.kept) (ids_of made.1) = subst (λ k. IsPermutation k (ids_of made.1)) ids (IsPermutation-map (λ (r : Row). id_in (rowid r)) _ _ found) in
-    let step = made.4 in
-    (record { next = made.0; is = made.3; others = step.tables },
-      subst (λ rows. Keeps cells rows (filter (λ x. not (test x)) xs)) (sym step.rows) (keeps_fewer cells test (old.now.trees h.tree) xs (ids_of made.1) h.rows moved))
+    let step = made.4 in (
+      record { next = made.0; is = made.3; others = step.tables },
+      subst (λ rows. Keeps cells rows (filter (λ x. not (test x)) xs)) (sym step.rows) (keeps_fewer cells test (old.now.trees h.tree) xs (ids_of made.1) h.rows moved),
+    )
 
 -- an UPDATE that finds one row changes it
 pub changes_row : {X : Type 0} (old new : State) (name : List ℕ) (columns : List Column) (key : List ℕ) (references : List Reference) (cells : X → Row) (xs : List X) (test : X → Bool) (f : X → X)
@@ -76,11 +77,12 @@ changes_row {X = X} old new name columns key references cells xs test f h filter
     let one = one_of made_of (filter (λ p. test p.1) h.rows.kept) row (sym shown ∙ single) in
     let p = one.0 in
     let rows : made.0 h.tree ≡ put_row (Int p.0 ∷ cells (f p.1)) (without_rowid p.0 (old.now.trees h.tree)) =
-      made.4 ∙ ap (λ (r : Row). put_row (cast_row table (drop 1 r)) (without_rowid (id_in (rowid r)) (old.now.trees h.tree))) (sym one.2)
-      ∙ ap (λ (r : Row). put_row r (without_rowid (id_in (rowid (made_of p))) (old.now.trees h.tree))) (recast p)
-      ∙ ap (λ (n : ℤ). put_row (Int p.0 ∷ cells (f p.1)) (without_rowid n (old.now.trees h.tree))) (same_id p) in
-    (record { next = made.0; is = made.3; others = made.5 },
-      subst (λ rs. Keeps cells rs (map (changed test f) xs)) (sym rows) (keeps_changed cells test f (old.now.trees h.tree) xs h.rows p one.1))
+    made.4 ∙ ap (λ (r : Row). put_row (cast_row table (drop 1 r)) (without_rowid (id_in (rowid r)) (old.now.trees h.tree))) (sym one.2)
+    ∙ ap (λ (r : Row). put_row r (without_rowid (id_in (rowid (made_of p))) (old.now.trees h.tree))) (recast p)
+    ∙ ap (λ (n : ℤ). put_row (Int p.0 ∷ cells (f p.1)) (without_rowid n (old.now.trees h.tree))) (same_id p) in (
+      record { next = made.0; is = made.3; others = made.5 },
+      subst (λ rs. Keeps cells rs (map (changed test f) xs)) (sym rows) (keeps_changed cells test f (old.now.trees h.tree) xs h.rows p one.1),
+    )
 
 -- an UPDATE that finds none changes none, and no row passes
 pub changes_none : {X : Type 0} (old new : State) (name : List ℕ) (columns : List Column) (key : List ℕ) (references : List Reference) (cells : X → Row) (xs : List X) (test : X → Bool)
@@ -94,14 +96,16 @@ changes_none {X = X} old new name columns key references cells xs test h filters
     let found = answer_unordered h.tree filters project old.now.trees params [] made.1 in
     let shown = found_rows cells test filters project params (old.now.trees h.tree) xs h.rows tested in
     let bare = none_permutation _ found in
-    let none : filter (λ p. test p.1) h.rows.kept ≡ [] = none_of made_of _ (sym shown ∙ bare) in
-    (record { next = made.0; is = made.2; others = made.4 },
+    let none : filter (λ p. test p.1) h.rows.kept ≡ [] = none_of made_of _ (sym shown ∙ bare) in (
+      record { next = made.0; is = made.2; others = made.4 },
       subst (λ rs. Keeps cells rs xs) (sym made.3) h.rows,
-      ap (filter test) (sym h.rows.typed) ∙ sym (filter_typed test h.rows.kept) ∙ ap (map (λ p. p.1)) none)
+      ap (filter test) (sym h.rows.typed) ∙ sym (filter_typed test h.rows.kept) ∙ ap (map (λ p. p.1)) none,
+    )
   where
     none_of : {A B : Type 0} (f : A → B) (ys : List A) → map f ys ≡ [] → ys ≡ []
     none_of f [] e = refl
     none_of f (y ∷ ys) e = absurd cc
+
     none_permutation : (ys : List Row) → IsPermutation ys [] → ys ≡ []
     none_permutation [] moved = refl
     none_permutation (y ∷ ys) moved = absurd (let same = length_permutation (y ∷ ys) [] moved in omega arith)
@@ -117,9 +121,9 @@ shows_rows {X = X} old name make cells shown xs test h filters project params ro
     let found = answer_unordered h.tree filters project old.now.trees params rows answer in
     let each : (ps : List (ℤ × X)) → map (λ p. eval_all project (params ∷ stored cells p ∷ [])) ps ≡ map shown (map (λ p. p.1) ps) = all_seen in
     let is : map (eval_all project) (scan filters params (old.now.trees h.tree)) ≡ map shown (filter test xs) =
-      found_rows cells test filters project params (old.now.trees h.tree) xs h.rows tested
-      ∙ each (filter (λ p. test p.1) h.rows.kept)
-      ∙ ap (map shown) (filter_typed test h.rows.kept ∙ ap (filter test) h.rows.typed) in
+    found_rows cells test filters project params (old.now.trees h.tree) xs h.rows tested
+    ∙ each (filter (λ p. test p.1) h.rows.kept)
+    ∙ ap (map shown) (filter_typed test h.rows.kept ∙ ap (filter test) h.rows.typed) in
     subst (λ ys. IsPermutation ys rows) is found
   where
     all_seen : (ps : List (ℤ × X)) → map (λ p. eval_all project (params ∷ stored cells p ∷ [])) ps ≡ map shown (map (λ p. p.1) ps)

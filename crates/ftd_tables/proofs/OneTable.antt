@@ -51,11 +51,12 @@ holds_now old new name columns key references cells xs ys h w k =
 pub adds_row : {X : Type 0} (old new : State) (name : List ℕ) (columns : List Column) (key : List ℕ) (references : List Reference) (cells : X → Row) (xs : List X) (x : X)
     (h : Holds old.now name (a_table name columns key references) cells xs) (width : ℕ) (terms : List Term) (text : List ℕ) (params : Row) (count : ℕ)
     → edited old.now.trees (edit_of old.now.trees (a_table name columns key references h.tree) [] Chosen 0 (value_rows params width (length terms / width) terms))
-      ≡ put_row (Int (next_rowid (old.now.trees h.tree)) ∷ cells x) (old.now.trees h.tree)
+    ≡ put_row (Int (next_rowid (old.now.trees h.tree)) ∷ cells x) (old.now.trees h.tree)
     → Writes old new None (Insert h.at (Values terms width)) text params count
     → (w : WritesOne old.now new.now h.tree) × Keeps cells (w.next h.tree) (xs ++ x ∷ [])
 adds_row old new name columns key references cells xs x h width terms text params count written w =
     let made = inserted old new h.at width name columns key references h.tree terms text params count h.place.listed w in
-    let step = made.2 in
-    (record { next = made.0; is = made.1; others = step.tables },
-      subst (λ rows. Keeps cells rows (xs ++ x ∷ [])) (sym (step.rows ∙ written)) (keeps_more cells (old.now.trees h.tree) xs x h.rows))
+    let step = made.2 in (
+      record { next = made.0; is = made.1; others = step.tables },
+      subst (λ rows. Keeps cells rows (xs ++ x ∷ [])) (sym (step.rows ∙ written)) (keeps_more cells (old.now.trees h.tree) xs x h.rows),
+    )

@@ -22,9 +22,9 @@ swap_map f (x ∷ xs) i j p q =
     let p' : i < length (map f l) = omega (arith, length-map l f) in
     let q' : j < length (map f l) = omega (arith, length-map l f) in
     sym (
-      ap (map f) (sym (swap_is l i j x p q)) ∙ map-set f (set l i (get_or l j x)) j (get_or l i x) ∙ ap (λ m. set m j (f (get_or l i x))) (map-set f l i (get_or l j x))
-      ∙ ap (λ a. set (set (map f l) i a) j (f (get_or l i x))) (sym (raw.get_or-map f l j x)) ∙ ap (λ a. set (set (map f l) i (get_or (map f l) j (f x))) j a) (sym (raw.get_or-map f l i x))
-      ∙ swap_is (map f l) i j (f x) p' q'
+    ap (map f) (sym (swap_is l i j x p q)) ∙ map-set f (set l i (get_or l j x)) j (get_or l i x) ∙ ap (λ m. set m j (f (get_or l i x))) (map-set f l i (get_or l j x))
+    ∙ ap (λ a. set (set (map f l) i a) j (f (get_or l i x))) (sym (raw.get_or-map f l j x)) ∙ ap (λ a. set (set (map f l) i (get_or (map f l) j (f x))) j a) (sym (raw.get_or-map f l i x))
+    ∙ swap_is (map f l) i j (f x) p' q'
     )
 
 -- a permutation of images is the image of a permutation
@@ -32,15 +32,15 @@ pub lifted : {P X : Type 0} (f : P → X) (ps : List P) (ys : List X) → IsPerm
 lifted {P = P} f ps ys moved =
     IsPermutation-keeps (map f ps) (λ l. (qs : List P) × IsPermutation ps qs × (l ≡ map f qs)) (ps, IsPermutation-refl ps, refl)
     (λ l i j p q h.
-      let p' : i < length h.0 = omega (arith, ap length h.2, length-map h.0 f) in
-      let q' : j < length h.0 = omega (arith, ap length h.2, length-map h.0 f) in
-      (swap h.0 i j, IsPermutation-trans ps h.0 (swap h.0 i j) h.1 (IsPermutation-swap h.0 (swap h.0 i j) i j p' q' refl), ap (λ k. swap k i j) h.2 ∙ swap_map f h.0 i j p' q'))
+    let p' : i < length h.0 = omega (arith, ap length h.2, length-map h.0 f) in
+    let q' : j < length h.0 = omega (arith, ap length h.2, length-map h.0 f) in
+    (swap h.0 i j, IsPermutation-trans ps h.0 (swap h.0 i j) h.1 (IsPermutation-swap h.0 (swap h.0 i j) i j p' q' refl), ap (λ k. swap k i j) h.2 ∙ swap_map f h.0 i j p' q'))
     ys moved
 
 pub answer_ordered : (tree : ℕ) (filters project : List Term) (order : List (Term × Key)) (db : Trees) (params : Row) (rows : List Row)
     → IsAnswer (plain_query tree filters project order) (overlay db []) params rows
     → (es : List Env) × IsPermutation (scan filters params (db tree)) es × (rows ≡ map (eval_all project) es)
-      × IsSorted (output_cmp (plain_query tree filters project order)) (map (output (plain_query tree filters project order)) es)
+    × IsSorted (output_cmp (plain_query tree filters project order)) (map (output (plain_query tree filters project order)) es)
 answer_ordered tree filters project order db params rows a =
     let q = plain_query tree filters project order in
     let staged : a.staged ≡ scan filters params (db tree) = a.grouped ∙ ap (scan filters params) (same_tree db tree) in

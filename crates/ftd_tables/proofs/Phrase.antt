@@ -155,7 +155,7 @@ node_same f g cx dx x same =
     let rest = λ (outer : Option Collation) (t : Term). finish outer (passes x) >> pure t in
     let tail : (outer : Option Collation) → Alike (opened f cx x >>= rest outer) (opened g dx x >>= rest outer) = λ outer. bind_same (opened f cx x) (opened g dx x) (rest outer) (rest outer) same (λ v st. refl) in
     bind_same (spend 1) (spend 1) (λ _. begin >>= (λ outer. opened f cx x >>= rest outer)) (λ _. begin >>= (λ outer. opened g dx x >>= rest outer)) (λ st. refl)
-      (λ _. bind_same begin begin (λ outer. opened f cx x >>= rest outer) (λ outer. opened g dx x >>= rest outer) (λ st. refl) tail)
+    (λ _. bind_same begin begin (λ outer. opened f cx x >>= rest outer) (λ outer. opened g dx x >>= rest outer) (λ st. refl) tail)
 
 module _ (s : Schema) (at : ℕ) (t : Table) (listed : slice_get s.tables at ≡ Some t) (name : Name) (shown : List Output) (may : Bool) where
   pub lower_same : (d : ℕ) (p : Phrase) → knows t p ≡ true → Alike (lower_to d (here s at name shown may) (say p)) (lower_to d (here (alone t) 0 name shown may) (say p))
@@ -175,8 +175,8 @@ module _ (s : Schema) (at : ℕ) (t : Table) (listed : slice_get s.tables at ≡
       let done = λ (k : Context) (x : Term) (p : Carried) (y : Term) (q : Carried). combine k (word op) (chosen p q) x y in
       let next = λ (h : Phrase → Lowering Term) (k : Context) (x : Term) (p : Carried). h b >>= (λ y. last >>= done k x p y) in
       let inner : Alike (sides (lower_to d) cx op (say a) (say b)) (sides (lower_to d) dx op (say a) (say b)) =
-        bind_same (f a) (g a) (λ x. last >>= next f cx x) (λ x. last >>= next g dx x) left
-          (λ x. bind_same last last (next f cx x) (next g dx x) (λ st. refl)
-          (λ p. bind_same (f b) (g b) (λ y. last >>= done cx x p y) (λ y. last >>= done dx x p y) right
-          (λ y. bind_same last last (done cx x p y) (done dx x p y) (λ st. refl) (λ q. combine_same s at t listed name shown may op (chosen p q) x y)))) in
+      bind_same (f a) (g a) (λ x. last >>= next f cx x) (λ x. last >>= next g dx x) left
+      (λ x. bind_same last last (next f cx x) (next g dx x) (λ st. refl)
+      (λ p. bind_same (f b) (g b) (λ y. last >>= done cx x p y) (λ y. last >>= done dx x p y) right
+      (λ y. bind_same last last (done cx x p y) (done dx x p y) (λ st. refl) (λ q. combine_same s at t listed name shown may op (chosen p q) x y)))) in
       node_same (lower_to d) (lower_to d) cx dx (say (Two op a b)) (λ st. operation_is (lower_to d) cx op (say a) (say b) st ∙ inner st ∙ sym (operation_is (lower_to d) dx op (say a) (say b) st))

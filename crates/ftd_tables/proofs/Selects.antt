@@ -85,7 +85,11 @@ body_is s at name t columns test c outs filters st1 st2 opens place listed shown
 abbrev pub clauses : ℕ → ℕ → Name → List Output → List Term → Bool → List (Term × Key) → Clauses
 clauses tree at name outs filters grouped by = record {
   body = (let b : Body = record { level = record { tables = bound at name ∷ []; shown = outs }; steps = Inner tree ∷ []; filter = filters } in b);
-  is_grouped = grouped; keys = []; collations = []; having = []; order = by
+  is_grouped = grouped;
+  keys = [];
+  collations = [];
+  having = [];
+  order = by;
 }
 
 named_is : (s : Schema) (at : ℕ) (name : List ℕ) (t : Table) (columns : List (Phrase × List ℕ)) (test : Phrase) (c : Core) (order : List Sort) (outs : List Output) (filters : List Term) (grouped : Bool) (by : List (Term × Key)) (d : Draft) (st1 st2 st3 : State)
@@ -154,7 +158,7 @@ module _ (s : Schema) (at : ℕ) (t : Table) (listed : slice_get s.tables at ≡
       let cx = here s at name [] true in
       let dx = here (alone t) 0 name [] true in
       bind_same (lower cx (say x.0)) (lower dx (say x.0)) (f (heading cx (say x.0) x.1)) (f (heading dx (say x.0) x.1)) (lower_same s at t listed name [] true 700 x.0 known)
-        (λ v st. ap (λ called. f called v st) (heading_same true x.0 x.1 known))
+      (λ v st. ap (λ called. f called v st) (heading_same true x.0 x.1 known))
 
   outputs_from_same : (done : List Output) (columns : List (Phrase × Name)) → all_known t columns ≡ true
       → Alike (outputs_from lower (here s at name [] true) (bound at name ∷ []) done (map show columns)) (outputs_from lower (here (alone t) 0 name [] true) (bound 0 name ∷ []) done (map show columns))
@@ -163,8 +167,8 @@ module _ (s : Schema) (at : ℕ) (t : Table) (listed : slice_get s.tables at ≡
       let cx = here s at name [] true in
       let dx = here (alone t) 0 name [] true in
       bind_same (shown lower cx (bound at name ∷ []) done (show x)) (shown lower dx (bound 0 name ∷ []) done (show x))
-        (λ longer. outputs_from lower cx (bound at name ∷ []) longer (map show more)) (λ longer. outputs_from lower dx (bound 0 name ∷ []) longer (map show more))
-        (shown_same done x (and_left (knows t x.0) (all_known t more) known)) (λ longer. outputs_from_same longer more (and_right (knows t x.0) (all_known t more) known))
+      (λ longer. outputs_from lower cx (bound at name ∷ []) longer (map show more)) (λ longer. outputs_from lower dx (bound 0 name ∷ []) longer (map show more))
+      (shown_same done x (and_left (knows t x.0) (all_known t more) known)) (λ longer. outputs_from_same longer more (and_right (knows t x.0) (all_known t more) known))
 
   outputs_same : (columns : List (Phrase × Name)) → all_known t columns ≡ true → (st : State)
       → outputs lower (here s at name [] true) (bound at name ∷ []) (map show columns) st ≡ outputs lower (here (alone t) 0 name [] true) (bound 0 name ∷ []) (map show columns) st
@@ -192,7 +196,7 @@ module _ (s : Schema) (at : ℕ) (t : Table) (listed : slice_get s.tables at ≡
         let cx = here s at name outs may in
         let dx = here (alone t) 0 name outs may in
         bind_same (Order.sort lower cx outs done (sort x)) (Order.sort lower dx outs done (sort x)) (λ longer. sorts_from lower cx outs longer (map sort more)) (λ longer. sorts_from lower dx outs longer (map sort more))
-          (sort_same done x (and_left (knows t x.0) (all_known t more) known)) (λ longer. sorts_from_same longer more (and_right (knows t x.0) (all_known t more) known))
+        (sort_same done x (and_left (knows t x.0) (all_known t more) known)) (λ longer. sorts_from_same longer more (and_right (knows t x.0) (all_known t more) known))
 
     sorts_same : (order : List (Phrase × Bool)) → all_known t order ≡ true → (st : State)
         → sorts lower (here s at name outs may) outs (map sort order) st ≡ sorts lower (here (alone t) 0 name outs may) outs (map sort order) st

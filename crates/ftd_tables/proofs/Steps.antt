@@ -65,7 +65,7 @@ pub inserted : (old new : State) (at width : ℕ) (name : List ℕ) (columns : L
     → slice_get old.now.schema.tables at ≡ Some (a_table name columns key references tree)
     → Writes old new None (Insert at (Values terms width)) text params count
     → (next : Trees) × (new.now ≡ record { schema = old.now.schema; trees = next })
-      × Applies old.now.schema Enforced old.now.trees (edit_of old.now.trees (a_table name columns key references tree) [] Chosen 0 (value_rows params width (length terms / width) terms)) next
+    × Applies old.now.schema Enforced old.now.trees (edit_of old.now.trees (a_table name columns key references tree) [] Chosen 0 (value_rows params width (length terms / width) terms)) next
 inserted old new at width name columns key references tree terms text params count there w =
     let table = a_table name columns key references tree in
     let db = old.now.trees in
@@ -107,7 +107,7 @@ pub deleted : (old new : State) (at : ℕ) (name : List ℕ) (columns : List Col
     → ((olds : List Row) → works old.now.schema Enforced 0 tree olds [] ≡ [])
     → Writes old new None (Delete at (record { lets = []; body = q })) text params count
     → (next : Trees) × (rows : List Row) × IsAnswer q (overlay old.now.trees []) params rows × (new.now ≡ record { schema = old.now.schema; trees = next })
-      × Applies old.now.schema Enforced old.now.trees (edit_of old.now.trees (a_table name columns key references tree) (ids_of rows) Given 0 []) next
+    × Applies old.now.schema Enforced old.now.trees (edit_of old.now.trees (a_table name columns key references tree) (ids_of rows) Given 0 []) next
 deleted old new at name columns key references tree q text params count there quiet w =
     let table = a_table name columns key references tree in
     let db = old.now.trees in
@@ -135,8 +135,8 @@ updates : (old new : State) (at : ℕ) (name : List ℕ) (columns : List Column)
     → slice_get old.now.schema.tables at ≡ Some (a_table name columns key references tree)
     → Writes old new None (Update at (record { lets = []; body = q })) text params count
     → (next : Trees) × (rows : List Row) × IsAnswer q (overlay old.now.trees []) params rows × (new.now ≡ record { schema = old.now.schema; trees = next })
-      × WritesEdit old.now.schema Enforced old.now.trees (edit_of old.now.trees (a_table name columns key references tree) (ids_of rows) Given 1 rows) (Ok next)
-      × (count ≡ length (edit_of old.now.trees (a_table name columns key references tree) (ids_of rows) Given 1 rows).news)
+    × WritesEdit old.now.schema Enforced old.now.trees (edit_of old.now.trees (a_table name columns key references tree) (ids_of rows) Given 1 rows) (Ok next)
+    × (count ≡ length (edit_of old.now.trees (a_table name columns key references tree) (ids_of rows) Given 1 rows).news)
 updates old new at name columns key references tree q text params count there w =
     let table = a_table name columns key references tree in
     let db = old.now.trees in
@@ -147,17 +147,22 @@ updates old new at name columns key references tree q text params count there w 
     let found = went done.1 in
     let written = went found.2 in
     let is = same_value written.2 in
-    let next : done.0.trees ≡ written.0 = ap (λ (it : Written). it.trees) is in
-    (written.0, found.0, found.1.answer Null, after ∙ ap (λ ts. (let d : Database = record { schema = schema; trees = ts } in d)) next, written.1,
-      w.counted ∙ ap (λ (p : Tally × Database). unwrap_or p.0.rows 0) last ∙ ap (λ (it : Written). length it.rows) is)
+    let next : done.0.trees ≡ written.0 = ap (λ (it : Written). it.trees) is in (
+      written.0,
+      found.0,
+      found.1.answer Null,
+      after ∙ ap (λ ts. (let d : Database = record { schema = schema; trees = ts } in d)) next,
+      written.1,
+      w.counted ∙ ap (λ (p : Tally × Database). unwrap_or p.0.rows 0) last ∙ ap (λ (it : Written). length it.rows) is,
+    )
 
 pub updated_one : (old new : State) (at : ℕ) (name : List ℕ) (columns : List Column) (key : List ℕ) (references : List Reference) (tree : ℕ) (q : Query) (text : List ℕ) (params : Row)
     → slice_get old.now.schema.tables at ≡ Some (a_table name columns key references tree)
     → ((olds : List Row) (row : Row) → works old.now.schema Enforced 0 tree olds (row ∷ []) ≡ [])
     → Writes old new None (Update at (record { lets = []; body = q })) text params 1
     → (next : Trees) × (row : Row) × IsAnswer q (overlay old.now.trees []) params (row ∷ []) × (new.now ≡ record { schema = old.now.schema; trees = next })
-      × (next tree ≡ put_row (cast_row (a_table name columns key references tree) (drop 1 row)) (without_rowid (id_in (rowid row)) (old.now.trees tree)))
-      × AllByRecursion (λ t. t.tree ≢ tree → next t.tree ≡ old.now.trees t.tree) old.now.schema.tables
+    × (next tree ≡ put_row (cast_row (a_table name columns key references tree) (drop 1 row)) (without_rowid (id_in (rowid row)) (old.now.trees tree)))
+    × AllByRecursion (λ t. t.tree ≢ tree → next t.tree ≡ old.now.trees t.tree) old.now.schema.tables
 updated_one old new at name columns key references tree q text params there quiet w =
     let table = a_table name columns key references tree in
     let db = old.now.trees in
@@ -176,8 +181,8 @@ pub updated_none : (old new : State) (at : ℕ) (name : List ℕ) (columns : Lis
     → ((olds : List Row) → works old.now.schema Enforced 0 tree olds [] ≡ [])
     → Writes old new None (Update at (record { lets = []; body = q })) text params 0
     → (next : Trees) × IsAnswer q (overlay old.now.trees []) params [] × (new.now ≡ record { schema = old.now.schema; trees = next })
-      × (next tree ≡ old.now.trees tree)
-      × AllByRecursion (λ t. t.tree ≢ tree → next t.tree ≡ old.now.trees t.tree) old.now.schema.tables
+    × (next tree ≡ old.now.trees tree)
+    × AllByRecursion (λ t. t.tree ≢ tree → next t.tree ≡ old.now.trees t.tree) old.now.schema.tables
 updated_none old new at name columns key references tree q text params there quiet w =
     let table = a_table name columns key references tree in
     let db = old.now.trees in

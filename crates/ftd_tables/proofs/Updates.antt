@@ -40,8 +40,8 @@ module _ (s : Schema) (at : ℕ) (t : Table) (listed : slice_get s.tables at ≡
   sets_same done (x ∷ more) known st =
       let next = λ (k : Context) (p : List ℕ) (v : Term). sets_from k t (p, done.1 ++ v ∷ []) (map setting more) in
       each_same (with_place t done.0 x.1) (λ p. (lower cx (say x.0) >>= next cx p) st) (λ p. (lower dx (say x.0) >>= next dx p) st)
-        (λ p. bind_same (lower cx (say x.0)) (lower dx (say x.0)) (next cx p) (next dx p) (lower_same s at t listed t.name [] false 700 x.0 (and_left (knows t x.0) (all_known t more) known))
-          (λ v. sets_same (p, done.1 ++ v ∷ []) more (and_right (knows t x.0) (all_known t more) known)) st)
+      (λ p. bind_same (lower cx (say x.0)) (lower dx (say x.0)) (next cx p) (next dx p) (lower_same s at t listed t.name [] false 700 x.0 (and_left (knows t x.0) (all_known t more) known))
+      (λ v. sets_same (p, done.1 ++ v ∷ []) more (and_right (knows t x.0) (all_known t more) known)) st)
 
   assigned_same : (all : List (Phrase × Name)) → all_known t all ≡ true → (st : State) → assigned cx t (map setting all) st ≡ assigned dx t (map setting all) st
   unfolding assigned sets
@@ -57,8 +57,8 @@ module _ (s : Schema) (at : ℕ) (t : Table) (listed : slice_get s.tables at ≡
       let rest = λ (k : Context) (r : (List ℕ × List Term) × State). and_then (row t None r.0.0 (col 1 0 ∷ []) r.0.1) (λ project. and_then (picked k t project (Some (say p)) r.1) (λ d. Ok d.0)) in
       ap (λ r. and_then r (rest cx)) (assigned_same all known_sets (fresh 2 max_budget))
       ∙ each_same (assigned dx t (map setting all) (fresh 2 max_budget)) (rest cx) (rest dx)
-        (λ r. each_same (row t None r.0.0 (col 1 0 ∷ []) r.0.1) (λ project. and_then (picked cx t project (Some (say p)) r.1) (λ d. Ok d.0)) (λ project. and_then (picked dx t project (Some (say p)) r.1) (λ d. Ok d.0))
-          (λ project. ap (λ x. and_then x (λ d. Ok d.0)) (picked_same project p known r.1)))
+      (λ r. each_same (row t None r.0.0 (col 1 0 ∷ []) r.0.1) (λ project. and_then (picked cx t project (Some (say p)) r.1) (λ d. Ok d.0)) (λ project. and_then (picked dx t project (Some (say p)) r.1) (λ d. Ok d.0))
+      (λ project. ap (λ x. and_then x (λ d. Ok d.0)) (picked_same project p known r.1)))
 
 update_at : (s : Schema) (name : List ℕ) (all : List (Name × Expr)) (test : Option Expr) (at : ℕ) (t : Table) → IsAt s name t at
     → update s name all test ≡ and_then (updated s at t all test) (λ d. and_then (program s [] d) (λ p. Ok (Update at p)))

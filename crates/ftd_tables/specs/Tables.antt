@@ -57,31 +57,31 @@ account_table = a_table (codes "account") (a_text (codes "name") ∷ a_number (c
 
 abbrev pub reported_table : ℕ → Table
 reported_table = a_table (codes "reported")
-  (a_text (codes "account") ∷ a_number (codes "cal_year") ∷ a_number (codes "quarter") ∷ a_number (codes "cents") ∷ []) (1 ∷ 2 ∷ 3 ∷ []) (to_account ∷ [])
+    (a_text (codes "account") ∷ a_number (codes "cal_year") ∷ a_number (codes "quarter") ∷ a_number (codes "cents") ∷ []) (1 ∷ 2 ∷ 3 ∷ []) (to_account ∷ [])
 
 abbrev pub calendar_year_table : ℕ → Table
 calendar_year_table = a_table (codes "calendar_year") (a_number (codes "cal_year") ∷ []) (1 ∷ []) []
 
 abbrev pub holiday_table : ℕ → Table
 holiday_table = a_table (codes "holiday") (a_number (codes "day") ∷ a_number (codes "cal_year") ∷ []) (1 ∷ [])
-  (refers (2 ∷ []) (codes "calendar_year") (codes "cal_year") ∷ [])
+    (refers (2 ∷ []) (codes "calendar_year") (codes "cal_year") ∷ [])
 
 abbrev pub year_table : ℕ → Table
 year_table = a_table (codes "year")
-  (a_text (codes "account") ∷ a_number (codes "cal_year") ∷ a_number (codes "lookback") ∷ a_number (codes "opening") ∷ maybe_number (codes "turn") ∷ [])
-  (1 ∷ 2 ∷ []) (to_account ∷ [])
+    (a_text (codes "account") ∷ a_number (codes "cal_year") ∷ a_number (codes "lookback") ∷ a_number (codes "opening") ∷ maybe_number (codes "turn") ∷ [])
+    (1 ∷ 2 ∷ []) (to_account ∷ [])
 
 abbrev pub run_table : ℕ → Table
 run_table = a_table (codes "run")
-  (a_text (codes "account") ∷ a_number (codes "run") ∷ a_number (codes "payday") ∷ a_number (codes "fit") ∷ a_number (codes "ss") ∷ a_number (codes "medicare") ∷ a_number (codes "voided") ∷ [])
-  (1 ∷ 2 ∷ []) (to_account ∷ [])
+    (a_text (codes "account") ∷ a_number (codes "run") ∷ a_number (codes "payday") ∷ a_number (codes "fit") ∷ a_number (codes "ss") ∷ a_number (codes "medicare") ∷ a_number (codes "voided") ∷ [])
+    (1 ∷ 2 ∷ []) (to_account ∷ [])
 
 abbrev pub payment_table : ℕ → Table
 payment_table = a_table (codes "payment")
-  (a_text (codes "account") ∷ a_number (codes "payment") ∷ a_number (codes "paid") ∷ a_number (codes "for_day") ∷ a_number (codes "cents") ∷ a_number (codes "voided") ∷ [])
-  (1 ∷ 2 ∷ []) (to_account ∷ [])
+    (a_text (codes "account") ∷ a_number (codes "payment") ∷ a_number (codes "paid") ∷ a_number (codes "for_day") ∷ a_number (codes "cents") ∷ a_number (codes "voided") ∷ [])
+    (1 ∷ 2 ∷ []) (to_account ∷ [])
 
 abbrev pub bucket_table : ℕ → Table
 bucket_table = a_table (codes "bucket")
-  (a_text (codes "account") ∷ a_number (codes "first_day") ∷ a_number (codes "last_day") ∷ a_number (codes "rule") ∷ a_number (codes "cents") ∷ a_number (codes "due") ∷ [])
-  (1 ∷ 2 ∷ []) (to_account ∷ [])
+    (a_text (codes "account") ∷ a_number (codes "first_day") ∷ a_number (codes "last_day") ∷ a_number (codes "rule") ∷ a_number (codes "cents") ∷ a_number (codes "due") ∷ [])
+    (1 ∷ 2 ∷ []) (to_account ∷ [])
