@@ -14,35 +14,9 @@ import tempfile
 import time
 from datetime import date, timedelta
 
+from days import DAY, interval, month_end, nth_after, on_or_after
+
 LIMIT = 10_000_000
-DAY = timedelta(days=1)
-
-
-def month_end(day):
-    return (date(day.year + day.month // 12, day.month % 12 + 1, 1)) - DAY
-
-
-def is_business(day):
-    return day.weekday() < 5
-
-
-def on_or_after(day):
-    while not is_business(day):
-        day += DAY
-    return day
-
-
-def nth_after(day, count):
-    for _ in range(count):
-        day = on_or_after(day + DAY)
-    return day
-
-
-def interval(day):
-    """The first and the last day of the Wednesday to Friday or Saturday to Tuesday of a day."""
-    since = (day.weekday() - 2) % 7
-    start = day - timedelta(days=since if since < 3 else since - 3)
-    return start, start + timedelta(days=2 if since < 3 else 3)
 
 
 def turn_of(year, liability):

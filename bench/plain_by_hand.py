@@ -7,12 +7,13 @@ import io
 import re
 import sys
 
+from days import DAY, interval, month_end, nth_after, on_or_after
+
 NAME = re.compile(r"[a-z][a-z0-9-]{0,19}", re.ASCII).fullmatch
 NUMBER = re.compile(r"[0-9]{1,9}", re.ASCII).fullmatch
 AMOUNT = re.compile(r"[0-9]{1,9}(\.[0-9]{1,2})?", re.ASCII).fullmatch
 DATE = re.compile(r"[0-9]{4}-[0-9]{2}-[0-9]{2}", re.ASCII).fullmatch
 HEADER = ["employer", "run", "payday", "fit", "ss", "medicare"]
-DAY = datetime.timedelta(1)
 
 
 def refuse(text):
@@ -86,32 +87,12 @@ def deposits(runs, year, holidays):
     for day, fit, ss, medicare in runs.values():
         sums[day] = sums.get(day, 0) + fit + ss + medicare
 
-    def business(day):
-        return day.weekday() < 5 and day not in holidays
-
-    def on(day):
-        while not business(day):
-            day += DAY
-        return day
-
-    def after(day, count):
-        for _ in range(count):
-            day = on(day + DAY)
-        return day
-
-    def close(day):
-        into = (day.weekday() - 2) % 7
-        return day + DAY * ((2 if into < 3 else 6) - into)
-
-    def month_end(day):
-        return (day.replace(day=1) + 32 * DAY).replace(day=1) - DAY
-
     rows = []
     first = datetime.date(year, 1, 1)
     semiweekly = False
     while first.year == year:
         if semiweekly:
-            last = min(close(first), (first.replace(month=(first.month + 2) // 3 * 3, day=1) + 32 * DAY).replace(day=1) - DAY)
+            last = min(interval(first)[1], month_end(first.replace(month=(first.month + 2) // 3 * 3, day=1)))
         else:
             last = month_end(first)
         total = 0
@@ -120,7 +101,7 @@ def deposits(runs, year, holidays):
         while day <= last:
             total += sums.get(day, 0)
             if total >= 10_000_000:
-                rows.append((begin, day, "next-day", total, after(day, 1)))
+                rows.append((begin, day, "next-day", total, nth_after(day, 1, holidays)))
                 total = 0
                 begin = day + DAY
                 if not semiweekly:
@@ -128,7 +109,7 @@ def deposits(runs, year, holidays):
                     last = day
             day += DAY
         if total:
-            due = after(close(last), 3) if semiweekly else on((last + DAY).replace(day=15))
+            due = nth_after(interval(last)[1], 3, holidays) if semiweekly else on_or_after((last + DAY).replace(day=15), holidays)
             rows.append((begin, last, "semiweekly" if semiweekly else "monthly", total, due))
         first = last + DAY
     return rows
