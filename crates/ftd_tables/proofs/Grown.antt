@@ -15,9 +15,9 @@ use Rattle.sqlite_schema.specs.declared.schema.Column.{Column}
 use Rattle.sqlite_schema.specs.declared.schema.Reference.{Reference}
 use Rattle.ftd_tables.specs.Tables.{a_table}
 use Rattle.ftd_tables.specs.Kept.{Keeps}
-use Rattle.ftd_tables.specs.Places.{IsAt, IsSpared, Holds}
+use Rattle.ftd_tables.specs.Places.{IsAt, IsSpared, Holds, HasNoAction, IsUnnamed, KeepsTables}
 use Rattle.ftd_tables.proofs.Frames.{all_at}
-use Rattle.ftd_tables.proofs.Grows.{all_below, at_new, at_kept, spared_kept, spared_new, HasNoAction, IsUnnamed, all_last, get_new, get_kept, position_kept}
+use Rattle.ftd_tables.proofs.Grows.{all_below, at_new, at_kept, spared_kept, spared_new, all_last, get_new, get_kept, position_kept}
 use Rattle.ftd_tables.proofs.Creating.{list_any_more, Made}
 
 -- what a database keeps that was given more tables
@@ -38,6 +38,9 @@ grown_then a b c g h = record {
   unnamed = λ name u. h.unnamed name (g.unnamed name u);
   counted = λ none. h.counted (g.counted none);
 }
+
+pub grown_keeps : (a b : Database) → Grown a b → KeepsTables a b
+grown_keeps a b g = λ name t at place. (g.places name t at place, g.rows name t at place)
 
 pub grown_self : (a : Database) → Grown a a
 grown_self a = record { places = λ name t at place. place; rows = λ name t at place. refl; spared = λ tree low s. s; next = omega arith; unnamed = λ name u. u; counted = λ none. none }

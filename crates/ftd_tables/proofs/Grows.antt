@@ -7,13 +7,12 @@ use Rattle.std.specs.List.{AllByRecursion, position_from}
 use Rattle.sqlite.specs.Schema.{Schema}
 use Rattle.sqlite.specs.Table.{Table}
 use Rattle.sqlite.specs.Change.{created, next_tree}
-use Rattle.sqlite_schema.specs.declared.schema.Action.TheVariants.{NoAction}
 use Rattle.sqlite_schema.specs.declared.schema.Reference.{Reference}
 use Rattle.sqlite_schema.specs.declared.schema.Index.{Index}
 use Rattle.sqlite_schema.specs.Names.{same_name, table_named}
 use Rattle.sqlite_schema.specs.Rules.{ParentKey, key_in, key_places, declared_order}
 use Rattle.sqlite_value.specs.declared.keys.Order.{Order}
-use Rattle.ftd_tables.specs.Places.{IsAt, Spares, IsSpared}
+use Rattle.ftd_tables.specs.Places.{IsAt, Spares, IsSpared, HasNoAction, IsUnnamed}
 
 -- ---- lists
 
@@ -139,13 +138,6 @@ parent_of r o = option_and_then (λ t. option_and_then (key_in t) (key_places t 
 parent_by : (r : Reference) (o : Option Table) (key : ParentKey) → parent_of r o ≡ Some key → (u : Table) × (o ≡ Some u) × (key.0 ≡ u.tree)
 parent_by r None key e = absurd cc
 parent_by r (Some u) key e = (u, refl, key_tree u (key_places u r.parent_columns) key e)
-
-abbrev pub HasNoAction : Reference → Type 0
-HasNoAction r = (r.on_delete ≡ NoAction) × (r.on_update ≡ NoAction)
-
--- no foreign key with an action names the table
-abbrev pub IsUnnamed : Schema → List ℕ → Type 0
-IsUnnamed s name = AllByRecursion (λ t. AllByRecursion (λ r. HasNoAction r ⊎ (same_name name r.parent ≡ false)) t.references) s.tables
 
 pub all_map : {X : Type 0} (P Q : X → Type 0) (xs : List X) → ((x : X) → P x → Q x) → AllByRecursion P xs → AllByRecursion Q xs
 all_map P Q [] f h = tt

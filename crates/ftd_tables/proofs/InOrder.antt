@@ -1,5 +1,5 @@
 -- What a reading in order shows of one of the desk's tables.
-use Rattle.std.proofs.Common.{◌≡◌, ℕ, ℤ, pos, ◌+◌, ◌<◌, List, [], ◌∷◌, map, length, get_or, false, refl, ap, subst, ◌∙◌, arith, Bool}
+use Rattle.std.proofs.Common.{◌≡◌, ℕ, ℤ, pos, ◌+◌, List, [], ◌∷◌, map, get_or, false, refl, ap, subst, ◌∙◌, arith, Bool}
 use Rattle.std.specs.Prelude.{filter}
 use Rattle.std.specs.List.Sorted.{IsPermutation, IsSorted}
 use Rattle.std.specs.Ordering.{is_lt}
@@ -14,14 +14,11 @@ use Rattle.sqlite.specs.Query.{IsAnswer, output, output_cmp}
 use Rattle.sqlite.specs.State.{State}
 use Rattle.sqlite_value.specs.declared.keys.Key.{Key}
 use Rattle.ftd_tables.specs.Kept.{stored}
+use Rattle.ftd_tables.specs.Order.{EachToNext}
 use Rattle.ftd_tables.specs.Places.{Holds}
 use Rattle.ftd_tables.proofs.KeptLemmas.{plain_query, scan, scanned, filter_typed, map_map}
 use Rattle.ftd_tables.proofs.Ordered.{answer_ordered, lifted}
 use Rattle.ftd_tables.proofs.OneRow.{Tests}
-
--- each row stands so to the next
-abbrev pub EachToNext : {X : Type 0} → (X → X → Type 0) → List X → Type 0
-EachToNext {X = X} R ys = (k : ℕ) (d : X) → k + 1 < length ys → R (get_or ys k d) (get_or ys (k + 1) d)
 
 -- the rows that pass, in an order in which no row comes before the one that it follows
 pub shows_in_order : {X : Type 0} (old : State) (name : List ℕ) (make : ℕ → Table) (cells shown : X → Row) (xs : List X) (test : X → Bool) (R : X → X → Type 0)

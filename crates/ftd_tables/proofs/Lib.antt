@@ -16,3 +16,5 @@ pub mod Counting
 pub mod Grows
 pub mod Creating
 pub mod Grown
+pub mod Indexing
+pub mod Commits

@@ -1,5 +1,6 @@
 -- What a text means over a table that stands anywhere in the schema.
-use Rattle.std.proofs.Common.{◌≡◌, ℕ, List, [], ◌∷◌, Option, Some, None, Ok, Err, refl, ◌∙◌, true, false, ◌+◌}
+use Rattle.std.proofs.Common.{◌≡◌, ℕ, List, [], ◌∷◌, Option, Some, None, Ok, Err, refl, ◌∙◌, true, false, ◌+◌, Bool, Result, subst, sym}
+use Rattle.std.specs.Prelude.{if◌then◌else◌}
 use Rattle.std.specs.Prelude.{slice_range, ◌&&◌}
 use Rattle.sqlite.specs.Schema.{Schema}
 use Rattle.sqlite.specs.Table.{Table}
@@ -7,7 +8,10 @@ use Rattle.sqlite.specs.Query.{Query, inner, end}
 use Rattle.sqlite.specs.Command.{Command}
 use Rattle.sqlite.specs.Command.TheVariants.{Insert, Delete}
 use Rattle.sqlite.specs.Source.{Source}
-use Rattle.sqlite.specs.Listing.{understood, reads_listing, misses_table}
+use Rattle.sqlite.specs.Listing.{understood, reads_listing, misses_table, if_select, is_select, listing_schema}
+use Rattle.sqlite_ast.specs.declared.Select.{Select}
+use Rattle.sqlite_resolve.specs.declared.error.CompileError.TheVariants.{NoSuchTable}
+use Rattle.sqlite_resolve.specs.Lowering.{Checked}
 use Rattle.sqlite_resolve.specs.declared.error.CompileError.{CompileError}
 use Rattle.sqlite.proofs.Callers.{IsPlain, command_of, statement_of}
 use Rattle.sqlite_ast.specs.declared.Expr.{Expr}
@@ -72,6 +76,31 @@ refused s text st e r untimed bare gives other = rw (is, other) refl
   where
     is : compiled s text ≡ Err e
     is = rw (r.is, r.said, r.untimed, untimed, bare (small r.read.names + small []), gives (small r.read.names + small [])) refl
+
+command_plain : (x : Schema) (text : List ℕ) (q : Select) → Reads text (written.Select q) → (d : Compiled) (o : Checked Command) → command x [] 0 (written.Select q) ≡ o → compiled x text ≡ Ok d → (d.returning ≡ None) × (d.formats ≡ [])
+unfolding compiled planned meaning timed returning command
+command_plain x text q r d (Ok k) known is = let e = rw (r.is, r.said, r.untimed, known) at is in (cc, cc)
+command_plain x text q r d (Err k) known is = absurd (let e = rw (r.is, r.said, r.untimed, known) at is in cc)
+
+compiled_plain : (x : Schema) (text : List ℕ) (q : Select) → Reads text (written.Select q) → (d : Compiled) → compiled x text ≡ Ok d → (d.returning ≡ None) × (d.formats ≡ [])
+compiled_plain x text q r d is = command_plain x text q r d (command x [] 0 (written.Select q)) refl is
+
+picked_plain : (o : Result Compiled CompileError) → ((d : Compiled) → o ≡ Ok d → (d.returning ≡ None) × (d.formats ≡ [])) → (c : Compiled) → if_select o ≡ Ok c → (c.returning ≡ None) × (c.formats ≡ [])
+picked_plain (Ok d) each c e = go (is_select d.command) e
+  where
+    go : (b : Bool) → (if b then Ok d else Err NoSuchTable) ≡ Ok c → (c.returning ≡ None) × (c.formats ≡ [])
+    go true e = let same : d ≡ c = cc in subst (λ (x : Compiled). (x.returning ≡ None) × (x.formats ≡ [])) same (each d refl)
+    go false e = absurd cc
+picked_plain (Err k) each c e = absurd cc
+
+-- a SELECT that is understood, in whatever schema, is plain: it gives nothing back but its answer
+pub select_plain : (s : Schema) (text : List ℕ) (q : Select) → Reads text (written.Select q) → (c : Compiled) → understood s text ≡ Ok c → IsPlain (understood s text)
+unfolding understood
+select_plain s text q r c h = subst IsPlain (sym h) (go (misses_table (compiled s text)) h)
+  where
+    go : (b : Bool) → (if b then if_select (compiled listing_schema text) else compiled s text) ≡ Ok c → (c.returning ≡ None) × (c.formats ≡ [])
+    go false e = compiled_plain s text q r c e
+    go true e = picked_plain (compiled listing_schema text) (compiled_plain listing_schema text q r) c e
 
 -- ---- the test of types
 

@@ -58,14 +58,14 @@ takes_out old new name columns key references cells xs test h filters text param
       subst (λ rows. Keeps cells rows (filter (λ x. not (test x)) xs)) (sym step.rows) (keeps_fewer cells test (old.now.trees h.tree) xs (ids_of made.1) h.rows moved),
     )
 
--- an UPDATE that finds one row changes it
+-- an UPDATE that finds one row changes it, and it is the one that passes
 pub changes_row : {X : Type 0} (old new : State) (name : List ℕ) (columns : List Column) (key : List ℕ) (references : List Reference) (cells : X → Row) (xs : List X) (test : X → Bool) (f : X → X)
     (h : Holds old.now name (a_table name columns key references) cells xs) (filters project : List Term) (text : List ℕ) (params : Row)
     → Tests cells test filters params
     → ((p : ℤ × X) → cast_row (a_table name columns key references h.tree) (drop 1 (eval_all project (params ∷ stored cells p ∷ []))) ≡ Int p.0 ∷ cells (f p.1))
     → ((p : ℤ × X) → id_in (rowid (eval_all project (params ∷ stored cells p ∷ []))) ≡ p.0)
     → Writes old new None (Update h.at (record { lets = []; body = plain_query h.tree filters project [] })) text params 1
-    → (w : WritesOne old.now new.now h.tree) × Keeps cells (w.next h.tree) (map (changed test f) xs)
+    → (w : WritesOne old.now new.now h.tree) × Keeps cells (w.next h.tree) (map (changed test f) xs) × ((x : X) × (filter test xs ≡ x ∷ []))
 changes_row {X = X} old new name columns key references cells xs test f h filters project text params tested recast same_id w =
     let table = a_table name columns key references h.tree in
     let made = updated_one old new h.at name columns key references h.tree _ text params h.place.listed (λ olds row. quiet old.now.schema h.tree olds (row ∷ []) h.spared) w in
@@ -82,6 +82,7 @@ changes_row {X = X} old new name columns key references cells xs test f h filter
     ∙ ap (λ (n : ℤ). put_row (Int p.0 ∷ cells (f p.1)) (without_rowid n (old.now.trees h.tree))) (same_id p) in (
       record { next = made.0; is = made.3; others = made.5 },
       subst (λ rs. Keeps cells rs (map (changed test f) xs)) (sym rows) (keeps_changed cells test f (old.now.trees h.tree) xs h.rows p one.1),
+      (p.1, ap (filter test) (sym h.rows.typed) ∙ sym (filter_typed test h.rows.kept) ∙ ap (map (λ p. p.1)) one.1),
     )
 
 -- an UPDATE that finds none changes none, and no row passes

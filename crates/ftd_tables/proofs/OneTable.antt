@@ -39,6 +39,14 @@ still {X = X} old new name other columns key references cells xs written i there
     let P : Database → Type 0 = λ d. Holds d name (a_table name columns key references) cells xs in
     subst P (sym w.is) (record { at = h.at; tree = h.tree; place = h.place; spared = h.spared; rows = subst (λ rows. Keeps cells rows xs) (sym same) h.rows })
 
+-- so does any table that is not the written one
+pub others_stay : (old new : Database) (other : List ℕ) (written : Table) (i : ℕ) → IsAt old.schema other written i → WritesOne old new written.tree
+    → (name : List ℕ) (t : Table) (at : ℕ) → IsAt old.schema name t at → t ≢ written → IsAt new.schema name t at × (new.trees t.tree ≡ old.trees t.tree)
+others_stay old new other written i there w name t at place differ =
+    let away = apart old.schema name other t written at i place there differ in
+    let same = stays old.schema name t at written.tree old.trees w.next place w.others away in
+    subst (λ (d : Database). IsAt d.schema name t at × (d.trees t.tree ≡ old.trees t.tree)) (sym w.is) (place, same)
+
 -- the written table holds these rows
 pub holds_now : {X : Type 0} (old new : Database) (name : List ℕ) (columns : List Column) (key : List ℕ) (references : List Reference) (cells : X → Row) (xs ys : List X)
     → (h : Holds old name (a_table name columns key references) cells xs) → (w : WritesOne old new h.tree) → Keeps cells (w.next h.tree) ys

@@ -56,10 +56,15 @@ sort x = roll-Sort (record { key = say x.0; descending = x.1; nulls_first = None
 abbrev pub source : List ℕ → Source
 source name = roll-Source (record { is_left = false; origin = origin.Table name; alias = None; on = None; using = [] })
 
-abbrev pub core : List ℕ → List (Phrase × List ℕ) → Phrase → Core
-core name columns test = roll-Core (record { distinct = false; shown = map show columns; from = source name ∷ []; filter = Some (say test); group = []; having = None })
+-- a WHERE, or none
+abbrev pub said : Option Phrase → Option Expr
+said None = None
+said (Some p) = Some (say p)
 
-abbrev pub a_select : List ℕ → List (Phrase × List ℕ) → Phrase → List (Phrase × Bool) → ast.Select
+abbrev pub core : List ℕ → List (Phrase × List ℕ) → Option Phrase → Core
+core name columns test = roll-Core (record { distinct = false; shown = map show columns; from = source name ∷ []; filter = said test; group = []; having = None })
+
+abbrev pub a_select : List ℕ → List (Phrase × List ℕ) → Option Phrase → List (Phrase × Bool) → ast.Select
 a_select name columns test order = ast.roll-Select (record { with = []; first = core name columns test; others = []; order = map sort order; limit = None; offset = None })
 
 abbrev pub bound : ℕ → List ℕ → Bound
@@ -69,14 +74,14 @@ abbrev pub page : Term × Term
 page = (lit (Int (negsuc 0)), number 0)
 
 -- what the parts of the statement hold, once opened
-abbrev pub core_in : List ℕ → List (Phrase × List ℕ) → Phrase → Core-F Expr Shown Arm Core ast.Select Sort Source
-core_in name columns test = record { distinct = false; shown = map show columns; from = source name ∷ []; filter = Some (say test); group = []; having = None }
+abbrev pub core_in : List ℕ → List (Phrase × List ℕ) → Option Phrase → Core-F Expr Shown Arm Core ast.Select Sort Source
+core_in name columns test = record { distinct = false; shown = map show columns; from = source name ∷ []; filter = said test; group = []; having = None }
 
-body_is : (s : Schema) (at : ℕ) (name : List ℕ) (t : Table) (columns : List (Phrase × List ℕ)) (test : Phrase) (c : Core) (outs : List Output) (filters : List Term) (st1 st2 : State)
+body_is : (s : Schema) (at : ℕ) (name : List ℕ) (t : Table) (columns : List (Phrase × List ℕ)) (test : Option Phrase) (c : Core) (outs : List Output) (filters : List Term) (st1 st2 : State)
     → out-Core c ≡ core_in name columns test
     → table_named s name ≡ Some at → slice_get s.tables at ≡ Some t
     → outputs lower (here s at name [] true) (bound at name ∷ []) (map show columns) (fresh 2 max_budget) ≡ Ok (outs, st1)
-    → tests lower (here s at name outs false) [] (Some (say test)) st1 ≡ Ok (filters, st2)
+    → tests lower (here s at name outs false) [] (said test) st1 ≡ Ok (filters, st2)
     → body lower (outermost s) c (fresh 1 max_budget) ≡ Ok (record { level = record { tables = bound at name ∷ []; shown = outs }; steps = Inner t.tree ∷ []; filter = filters }, st2)
 unfolding opened_ast opened_select
 body_is s at name t columns test c outs filters st1 st2 opens place listed shown tested = rw (opens, place, shown, listed, tested) refl
@@ -92,11 +97,11 @@ clauses tree at name outs filters grouped by = record {
   order = by;
 }
 
-named_is : (s : Schema) (at : ℕ) (name : List ℕ) (t : Table) (columns : List (Phrase × List ℕ)) (test : Phrase) (c : Core) (order : List Sort) (outs : List Output) (filters : List Term) (grouped : Bool) (by : List (Term × Key)) (d : Draft) (st1 st2 st3 : State)
+named_is : (s : Schema) (at : ℕ) (name : List ℕ) (t : Table) (columns : List (Phrase × List ℕ)) (test : Option Phrase) (c : Core) (order : List Sort) (outs : List Output) (filters : List Term) (grouped : Bool) (by : List (Term × Key)) (d : Draft) (st1 st2 st3 : State)
     → out-Core c ≡ core_in name columns test
     → table_named s name ≡ Some at → slice_get s.tables at ≡ Some t
     → outputs lower (here s at name [] true) (bound at name ∷ []) (map show columns) (fresh 2 max_budget) ≡ Ok (outs, st1)
-    → tests lower (here s at name outs false) [] (Some (say test)) st1 ≡ Ok (filters, st2)
+    → tests lower (here s at name outs false) [] (said test) st1 ≡ Ok (filters, st2)
     → not (length st2.aggregates == 0) ≡ grouped
     → sorts lower (here s at name outs grouped) outs order st2 ≡ Ok (by, st3)
     → assembled false page.0 page.1 (clauses t.tree at name outs filters grouped by) st3 ≡ Ok d
@@ -108,7 +113,7 @@ named_is s at name t columns test c order outs filters grouped by d st1 st2 st3 
 abbrev pub select_in : Core → List Sort → Select-F Expr Shown Arm Core ast.Select Sort Source
 select_in c order = record { with = []; first = c; others = []; order = order; limit = None; offset = None }
 
-query_is : (s : Schema) (name : List ℕ) (columns : List (Phrase × List ℕ)) (test : Phrase) (q : ast.Select) (c : Core) (order : List Sort) (found : Draft × List Name × List (Option Collation))
+query_is : (s : Schema) (name : List ℕ) (columns : List (Phrase × List ℕ)) (test : Option Phrase) (q : ast.Select) (c : Core) (order : List Sort) (found : Draft × List Name × List (Option Collation))
     → ast.out-Select q ≡ select_in c order → out-Core c ≡ core_in name columns test → named s c order page ≡ Ok found → query s q ≡ Ok (found, [])
 unfolding opened_ast opened_query
 query_is s name columns test q c order found opens cut is = rw (opens, cut, is) refl
@@ -122,6 +127,10 @@ read_is s q found p is accepted = rw (is, accepted) refl
 abbrev pub all_known : {X : Type 0} → Table → List (Phrase × X) → Bool
 all_known t [] = true
 all_known t (x ∷ more) = knows t x.0 && all_known t more
+
+abbrev pub knows_test : Table → Option Phrase → Bool
+knows_test t None = true
+knows_test t (Some p) = knows t p
 
 peeled_is : (p : Phrase) → peeled (say p) ≡ say p
 unfolding everything
@@ -145,10 +154,11 @@ module _ (s : Schema) (at : ℕ) (t : Table) (listed : slice_get s.tables at ≡
   heading_same may Rows text known = refl
   heading_same may (Two op a b) text known = refl
 
-  tests_same : (outs : List Output) (p : Phrase) → knows t p ≡ true → (st : State)
-      → tests lower (here s at name outs false) [] (Some (say p)) st ≡ tests lower (here (alone t) 0 name outs false) [] (Some (say p)) st
+  tests_same : (outs : List Output) (test : Option Phrase) → knows_test t test ≡ true → (st : State)
+      → tests lower (here s at name outs false) [] (said test) st ≡ tests lower (here (alone t) 0 name outs false) [] (said test) st
   unfolding tests
-  tests_same outs p known st = rw (lower_same s at t listed name outs false 700 p known st) refl
+  tests_same outs None known st = refl
+  tests_same outs (Some p) known st = rw (lower_same s at t listed name outs false 700 p known st) refl
 
   shown_same : (done : List Output) (x : Phrase × Name) → knows t x.0 ≡ true
       → Alike (shown lower (here s at name [] true) (bound at name ∷ []) done (show x)) (shown lower (here (alone t) 0 name [] true) (bound 0 name ∷ []) done (show x))
@@ -208,7 +218,7 @@ abbrev pub out : Name → ℕ → Output
 out called k = record { name = called; is_alias = false; is_column = true; term = col 1 k; carried = record { collation = Some Binary; is_written = false } }
 
 -- the parts of the statement, computed where the table stands alone
-pub record Resolves (t : Table) (name : Name) (columns : List (Phrase × Name)) (test : Phrase) (order : List (Phrase × Bool)) (outs : List Output) (draft : Draft) : Type 0 where
+pub record Resolves (t : Table) (name : Name) (columns : List (Phrase × Name)) (test : Option Phrase) (order : List (Phrase × Bool)) (outs : List Output) (draft : Draft) : Type 0 where
   pub filters : List Term
   pub grouped : Bool
   pub keys : List (Term × Key)
@@ -216,15 +226,15 @@ pub record Resolves (t : Table) (name : Name) (columns : List (Phrase × Name)) 
   pub after_test : State
   pub after_order : State
   pub known_columns : all_known t columns ≡ true
-  pub known_test : knows t test ≡ true
+  pub known_test : knows_test t test ≡ true
   pub known_order : all_known t order ≡ true
   pub columns_are : outputs lower (here (alone t) 0 name [] true) (bound 0 name ∷ []) (map show columns) (fresh 2 max_budget) ≡ Ok (outs, after_columns)
-  pub filters_are : tests lower (here (alone t) 0 name outs false) [] (Some (say test)) after_columns ≡ Ok (filters, after_test)
+  pub filters_are : tests lower (here (alone t) 0 name outs false) [] (said test) after_columns ≡ Ok (filters, after_test)
   pub is_grouped : not (length after_test.aggregates == 0) ≡ grouped
   pub keys_are : sorts lower (here (alone t) 0 name outs grouped) outs (map sort order) after_test ≡ Ok (keys, after_order)
   pub draft_is : (at : ℕ) → assembled false page.0 page.1 (clauses t.tree at name outs filters grouped keys) after_order ≡ Ok draft
 
-pub selects : (s : Schema) (text name : List ℕ) (t : Table) (at : ℕ) (columns : List (Phrase × Name)) (test : Phrase) (order : List (Phrase × Bool)) (q : ast.Select) (c : Core)
+pub selects : (s : Schema) (text name : List ℕ) (t : Table) (at : ℕ) (columns : List (Phrase × Name)) (test : Option Phrase) (order : List (Phrase × Bool)) (q : ast.Select) (c : Core)
     (outs : List Output) (draft : Draft)
     → IsAt s name t at → Reads text (written.Select q) → ast.out-Select q ≡ select_in c (map sort order) → out-Core c ≡ core_in name columns test
     → Resolves t name columns test order outs draft → IsAccepted t (query_of draft)

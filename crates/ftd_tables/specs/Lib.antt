@@ -3,3 +3,4 @@ pub mod Kept
 pub mod Tables
 pub mod Rows
 pub mod Places
+pub mod Order

@@ -85,3 +85,7 @@ abbrev pub bucket_table : ℕ → Table
 bucket_table = a_table (codes "bucket")
     (a_text (codes "account") ∷ a_number (codes "first_day") ∷ a_number (codes "last_day") ∷ a_number (codes "rule") ∷ a_number (codes "cents") ∷ a_number (codes "due") ∷ [])
     (1 ∷ 2 ∷ []) (to_account ∷ [])
+
+-- the names of the nine tables
+abbrev pub our_names : List (List ℕ)
+our_names = codes "ftd_meta" ∷ codes "account" ∷ codes "reported" ∷ codes "calendar_year" ∷ codes "holiday" ∷ codes "year" ∷ codes "run" ∷ codes "payment" ∷ codes "bucket" ∷ []

@@ -19,12 +19,13 @@ use Rattle.sqlite_resolve.specs.Compile.{new_rows}
 use Rattle.sqlite_tied.specs.Compute.{everything}
 use Rattle.ftd_tables.specs.Tables.{account_table}
 use Rattle.ftd_tables.specs.Rows.{Tables, Account, account_cells}
-use Rattle.ftd_tables.specs.Places.{IsAt, Stands}
+use Rattle.ftd_tables.specs.Places.{IsAt, Stands, Becomes}
 use Rattle.ftd_tables.proofs.Phrase.{Given, say}
 use Rattle.ftd_tables.proofs.Meaning.{Reads, Means, inserts}
 use Rattle.ftd_tables.proofs.KeptLemmas.{cast_null, cast_int}
 use Rattle.ftd_tables.proofs.OneTable.{adds_row}
 use Rattle.ftd_tables.proofs.Standing.{accounts_now}
+use Rattle.ftd_tables.proofs.Commits.{IsRowText}
 use Rattle.ftd_texts.proofs.Inside.{stays_inside}
 use Rattle.ftd_texts.specs.Texts.{insert_account, account_given}
 
@@ -41,6 +42,10 @@ reads : Reads insert_account (written.Insert conflict.Abort (codes "account") co
 unfolding everything
 reads = record { read = _; is = refl; said = refl; untimed = refl; whole = refl }
 
+-- the text speaks of rows
+pub of_rows : IsRowText insert_account
+of_rows = (_, reads, tt)
+
 is : (s : Schema) (tree base : ℕ) → new_rows s (account_table tree) base columns values ≡ Ok (Values terms 4)
 unfolding everything
 is s tree base = refl
@@ -49,7 +54,7 @@ means : (s : Schema) (at tree : ℕ) → IsAt s (codes "account") (account_table
 means s at tree place = inserts s insert_account (codes "account") (account_table tree) at columns values (Values terms 4) place refl reads (is s tree)
 
 pub adds : (old new : State) (a : Account) (count : ℕ) (t : Tables) → Stands old.now t → Executes insert_account (account_given a) old new (Ok count)
-    → Stands new.now (record t { accounts = t.accounts ++ a ∷ [] })
+    → Becomes old.now new.now (record t { accounts = t.accounts ++ a ∷ [] })
 adds old new a count t stands h =
     let s = old.now.schema in
     let l = stands.accounts in

@@ -19,12 +19,13 @@ use Rattle.sqlite_resolve.specs.Compile.{new_rows}
 use Rattle.sqlite_tied.specs.Compute.{everything}
 use Rattle.ftd_tables.specs.Tables.{calendar_year_table}
 use Rattle.ftd_tables.specs.Rows.{Tables, CalendarYear, calendar_year_cells}
-use Rattle.ftd_tables.specs.Places.{IsAt, Stands}
+use Rattle.ftd_tables.specs.Places.{IsAt, Stands, Becomes}
 use Rattle.ftd_tables.proofs.Phrase.{Given, say}
 use Rattle.ftd_tables.proofs.Meaning.{Reads, Means, inserts}
 use Rattle.ftd_tables.proofs.KeptLemmas.{cast_null, cast_int}
 use Rattle.ftd_tables.proofs.OneTable.{adds_row}
 use Rattle.ftd_tables.proofs.Standing.{calendar_years_now}
+use Rattle.ftd_tables.proofs.Commits.{IsRowText}
 use Rattle.ftd_texts.proofs.Inside.{stays_inside}
 use Rattle.ftd_texts.specs.Texts.{insert_calendar_year, calendar_year_given}
 
@@ -41,6 +42,10 @@ reads : Reads insert_calendar_year (written.Insert conflict.Abort (codes "calend
 unfolding everything
 reads = record { read = _; is = refl; said = refl; untimed = refl; whole = refl }
 
+-- the text speaks of rows
+pub of_rows : IsRowText insert_calendar_year
+of_rows = (_, reads, tt)
+
 is : (s : Schema) (tree base : ℕ) → new_rows s (calendar_year_table tree) base columns values ≡ Ok (Values terms 2)
 unfolding everything
 is s tree base = refl
@@ -49,7 +54,7 @@ means : (s : Schema) (at tree : ℕ) → IsAt s (codes "calendar_year") (calenda
 means s at tree place = inserts s insert_calendar_year (codes "calendar_year") (calendar_year_table tree) at columns values (Values terms 2) place refl reads (is s tree)
 
 pub adds : (old new : State) (c : CalendarYear) (count : ℕ) (t : Tables) → Stands old.now t → Executes insert_calendar_year (calendar_year_given c) old new (Ok count)
-    → Stands new.now (record t { calendar_years = t.calendar_years ++ c ∷ [] })
+    → Becomes old.now new.now (record t { calendar_years = t.calendar_years ++ c ∷ [] })
 adds old new c count t stands h =
     let s = old.now.schema in
     let l = stands.calendar_years in

@@ -19,12 +19,13 @@ use Rattle.sqlite_resolve.specs.Compile.{new_rows}
 use Rattle.sqlite_tied.specs.Compute.{everything}
 use Rattle.ftd_tables.specs.Tables.{holiday_table}
 use Rattle.ftd_tables.specs.Rows.{Tables, Holiday, holiday_cells}
-use Rattle.ftd_tables.specs.Places.{IsAt, Stands}
+use Rattle.ftd_tables.specs.Places.{IsAt, Stands, Becomes}
 use Rattle.ftd_tables.proofs.Phrase.{Given, say}
 use Rattle.ftd_tables.proofs.Meaning.{Reads, Means, inserts}
 use Rattle.ftd_tables.proofs.KeptLemmas.{cast_null, cast_int}
 use Rattle.ftd_tables.proofs.OneTable.{adds_row}
 use Rattle.ftd_tables.proofs.Standing.{holidays_now}
+use Rattle.ftd_tables.proofs.Commits.{IsRowText}
 use Rattle.ftd_texts.proofs.Inside.{stays_inside}
 use Rattle.ftd_texts.specs.Texts.{insert_holiday, holiday_given}
 
@@ -41,6 +42,10 @@ reads : Reads insert_holiday (written.Insert conflict.Abort (codes "holiday") co
 unfolding everything
 reads = record { read = _; is = refl; said = refl; untimed = refl; whole = refl }
 
+-- the text speaks of rows
+pub of_rows : IsRowText insert_holiday
+of_rows = (_, reads, tt)
+
 is : (s : Schema) (tree base : ℕ) → new_rows s (holiday_table tree) base columns values ≡ Ok (Values terms 3)
 unfolding everything
 is s tree base = refl
@@ -49,7 +54,7 @@ means : (s : Schema) (at tree : ℕ) → IsAt s (codes "holiday") (holiday_table
 means s at tree place = inserts s insert_holiday (codes "holiday") (holiday_table tree) at columns values (Values terms 3) place refl reads (is s tree)
 
 pub adds : (old new : State) (x : Holiday) (count : ℕ) (t : Tables) → Stands old.now t → Executes insert_holiday (holiday_given x) old new (Ok count)
-    → Stands new.now (record t { holidays = t.holidays ++ x ∷ [] })
+    → Becomes old.now new.now (record t { holidays = t.holidays ++ x ∷ [] })
 adds old new x count t stands h =
     let s = old.now.schema in
     let l = stands.holidays in

@@ -19,12 +19,13 @@ use Rattle.sqlite_resolve.specs.Compile.{new_rows}
 use Rattle.sqlite_tied.specs.Compute.{everything}
 use Rattle.ftd_tables.specs.Tables.{payment_table}
 use Rattle.ftd_tables.specs.Rows.{Tables, Payment, payment_cells}
-use Rattle.ftd_tables.specs.Places.{IsAt, Stands}
+use Rattle.ftd_tables.specs.Places.{IsAt, Stands, Becomes}
 use Rattle.ftd_tables.proofs.Phrase.{Given, Whole, say}
 use Rattle.ftd_tables.proofs.Meaning.{Reads, Means, inserts}
 use Rattle.ftd_tables.proofs.KeptLemmas.{cast_null, cast_int}
 use Rattle.ftd_tables.proofs.OneTable.{adds_row}
 use Rattle.ftd_tables.proofs.Standing.{payments_now}
+use Rattle.ftd_tables.proofs.Commits.{IsRowText}
 use Rattle.ftd_texts.proofs.Inside.{stays_inside}
 use Rattle.ftd_texts.specs.Texts.{insert_payment, payment_given}
 
@@ -41,6 +42,10 @@ reads : Reads insert_payment (written.Insert conflict.Abort (codes "payment") co
 unfolding everything
 reads = record { read = _; is = refl; said = refl; untimed = refl; whole = refl }
 
+-- the text speaks of rows
+pub of_rows : IsRowText insert_payment
+of_rows = (_, reads, tt)
+
 is : (s : Schema) (tree base : ℕ) → new_rows s (payment_table tree) base columns values ≡ Ok (Values terms 7)
 unfolding everything
 is s tree base = refl
@@ -49,7 +54,7 @@ means : (s : Schema) (at tree : ℕ) → IsAt s (codes "payment") (payment_table
 means s at tree place = inserts s insert_payment (codes "payment") (payment_table tree) at columns values (Values terms 7) place refl reads (is s tree)
 
 pub adds : (old new : State) (p : Payment) (count : ℕ) (t : Tables) → p.voided ≡ false → Stands old.now t → Executes insert_payment (payment_given p) old new (Ok count)
-    → Stands new.now (record t { payments = t.payments ++ p ∷ [] })
+    → Becomes old.now new.now (record t { payments = t.payments ++ p ∷ [] })
 adds old new p count t unvoided stands h =
     let s = old.now.schema in
     let l = stands.payments in

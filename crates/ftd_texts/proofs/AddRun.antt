@@ -19,12 +19,13 @@ use Rattle.sqlite_resolve.specs.Compile.{new_rows}
 use Rattle.sqlite_tied.specs.Compute.{everything}
 use Rattle.ftd_tables.specs.Tables.{run_table}
 use Rattle.ftd_tables.specs.Rows.{Tables, Run, run_cells}
-use Rattle.ftd_tables.specs.Places.{IsAt, Stands}
+use Rattle.ftd_tables.specs.Places.{IsAt, Stands, Becomes}
 use Rattle.ftd_tables.proofs.Phrase.{Given, Whole, say}
 use Rattle.ftd_tables.proofs.Meaning.{Reads, Means, inserts}
 use Rattle.ftd_tables.proofs.KeptLemmas.{cast_null, cast_int}
 use Rattle.ftd_tables.proofs.OneTable.{adds_row}
 use Rattle.ftd_tables.proofs.Standing.{runs_now}
+use Rattle.ftd_tables.proofs.Commits.{IsRowText}
 use Rattle.ftd_texts.proofs.Inside.{stays_inside}
 use Rattle.ftd_texts.specs.Texts.{insert_run, run_given}
 
@@ -41,6 +42,10 @@ reads : Reads insert_run (written.Insert conflict.Abort (codes "run") columns va
 unfolding everything
 reads = record { read = _; is = refl; said = refl; untimed = refl; whole = refl }
 
+-- the text speaks of rows
+pub of_rows : IsRowText insert_run
+of_rows = (_, reads, tt)
+
 is : (s : Schema) (tree base : ℕ) → new_rows s (run_table tree) base columns values ≡ Ok (Values terms 8)
 unfolding everything
 is s tree base = refl
@@ -49,7 +54,7 @@ means : (s : Schema) (at tree : ℕ) → IsAt s (codes "run") (run_table tree) a
 means s at tree place = inserts s insert_run (codes "run") (run_table tree) at columns values (Values terms 8) place refl reads (is s tree)
 
 pub adds : (old new : State) (r : Run) (count : ℕ) (t : Tables) → r.voided ≡ false → Stands old.now t → Executes insert_run (run_given r) old new (Ok count)
-    → Stands new.now (record t { runs = t.runs ++ r ∷ [] })
+    → Becomes old.now new.now (record t { runs = t.runs ++ r ∷ [] })
 adds old new r count t unvoided stands h =
     let s = old.now.schema in
     let l = stands.runs in

@@ -19,12 +19,13 @@ use Rattle.sqlite_resolve.specs.Compile.{new_rows}
 use Rattle.sqlite_tied.specs.Compute.{everything}
 use Rattle.ftd_tables.specs.Tables.{year_table}
 use Rattle.ftd_tables.specs.Rows.{Tables, Year, year_cells}
-use Rattle.ftd_tables.specs.Places.{IsAt, Stands}
+use Rattle.ftd_tables.specs.Places.{IsAt, Stands, Becomes}
 use Rattle.ftd_tables.proofs.Phrase.{Given, say}
 use Rattle.ftd_tables.proofs.Meaning.{Reads, Means, inserts}
 use Rattle.ftd_tables.proofs.KeptLemmas.{cast_null, cast_int, cast_day_or_null}
 use Rattle.ftd_tables.proofs.OneTable.{adds_row}
 use Rattle.ftd_tables.proofs.Standing.{years_now}
+use Rattle.ftd_tables.proofs.Commits.{IsRowText}
 use Rattle.ftd_texts.proofs.Inside.{stays_inside}
 use Rattle.ftd_texts.specs.Texts.{insert_year, year_given}
 
@@ -41,6 +42,10 @@ reads : Reads insert_year (written.Insert conflict.Abort (codes "year") columns 
 unfolding everything
 reads = record { read = _; is = refl; said = refl; untimed = refl; whole = refl }
 
+-- the text speaks of rows
+pub of_rows : IsRowText insert_year
+of_rows = (_, reads, tt)
+
 is : (s : Schema) (tree base : ℕ) → new_rows s (year_table tree) base columns values ≡ Ok (Values terms 6)
 unfolding everything
 is s tree base = refl
@@ -49,7 +54,7 @@ means : (s : Schema) (at tree : ℕ) → IsAt s (codes "year") (year_table tree)
 means s at tree place = inserts s insert_year (codes "year") (year_table tree) at columns values (Values terms 6) place refl reads (is s tree)
 
 pub adds : (old new : State) (y : Year) (count : ℕ) (t : Tables) → Stands old.now t → Executes insert_year (year_given y) old new (Ok count)
-    → Stands new.now (record t { years = t.years ++ y ∷ [] })
+    → Becomes old.now new.now (record t { years = t.years ++ y ∷ [] })
 adds old new y count t stands h =
     let s = old.now.schema in
     let l = stands.years in

@@ -1,5 +1,5 @@
 -- Counting the payments of an account.
-use Rattle.std.proofs.Common.{◌≡◌, ℕ, pos, negsuc, List, [], ◌∷◌, length, Some, None, true, false, refl, codes, subst}
+use Rattle.std.proofs.Common.{◌≡◌, ℕ, pos, negsuc, List, [], ◌∷◌, length, Some, None, true, false, refl, codes, subst, Option}
 use Rattle.std.specs.Prelude.{filter, min}
 use Rattle.sqlite.specs.Schema.{Schema}
 use Rattle.sqlite.specs.declared.types.Value.TheVariants.{Null, Int}
@@ -30,6 +30,7 @@ use Rattle.ftd_tables.proofs.Meaning.{IsAccepted, Reads, Means}
 use Rattle.ftd_tables.proofs.Selects.{a_select, core, select_in, core_in, Resolves, selects}
 use Rattle.ftd_tables.proofs.Counting.{count_query, counts_rows, greatest_count}
 use Rattle.ftd_tables.proofs.OneRow.{Tests}
+use Rattle.ftd_tables.proofs.Commits.{IsReadText}
 use Rattle.ftd_texts.proofs.Inside.{stays_read}
 use Rattle.ftd_texts.specs.Texts.{count_payments, name_given}
 use Rattle.ftd_texts.specs.Tests.{is_payment_of}
@@ -37,8 +38,8 @@ use Rattle.ftd_texts.specs.Tests.{is_payment_of}
 abbrev columns : List (Phrase × List ℕ)
 columns = (Rows, codes "COUNT(*)") ∷ []
 
-abbrev where_is : Phrase
-where_is = Two Eq (Column (codes "account")) (Given 1)
+abbrev where_is : Option Phrase
+where_is = Some (Two Eq (Column (codes "account")) (Given 1))
 
 -- the number by which a draft names the count, before rows are grouped
 abbrev ungrouped_count : ℕ
@@ -69,6 +70,10 @@ statement = a_select (codes "payment") columns where_is []
 reads : Reads count_payments (written.Select statement)
 unfolding everything
 reads = record { read = _; is = refl; said = refl; untimed = refl; whole = refl }
+
+-- the text is a reading
+pub of_reading : IsReadText count_payments
+of_reading = (_, reads)
 
 opens : ast.out-Select statement ≡ select_in (core (codes "payment") columns where_is) []
 unfolding everything

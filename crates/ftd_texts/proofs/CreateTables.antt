@@ -1,20 +1,24 @@
 -- Making the desk's nine tables, in a database that may have others.
-use Rattle.std.proofs.Common.{◌≡◌, ℕ, [], codes, Ok, refl, true, false}
+use Rattle.std.proofs.Common.{◌≡◌, ℕ, List, [], codes, Ok, None, refl, true, false}
+use Rattle.std.specs.Prelude.{IsTrue}
 use Rattle.std.specs.List.{AllByRecursion}
-use Rattle.sqlite.specs.Schema.{Schema}
 use Rattle.sqlite.specs.Does.{lacks_sequence}
-use Rattle.sqlite.specs.State.{State, Executes}
+use Rattle.sqlite.specs.Table.{Table}
+use Rattle.sqlite.specs.Command.TheVariants.{CreateTable}
+use Rattle.sqlite.specs.State.{State, Executes, ExecutesIn, Shows}
+use Rattle.sqlite.proofs.Callers.{runs_as}
 use Rattle.sqlite_ast.specs.declared.CreateTable.{CreateTable as Definition}
 use Rattle.sqlite_ast.specs.declared.Statement.TheVariants as written
-use Rattle.sqlite_schema.specs.Names.{same_name}
+use Rattle.sqlite_schema.specs.Names.{same_name, table_named}
 use Rattle.sqlite_tied.specs.Compute.{everything}
 use Rattle.ftd_tables.specs.Tables.{meta_table, account_table, reported_table, calendar_year_table, holiday_table, year_table, run_table, payment_table, bucket_table}
 use Rattle.ftd_tables.specs.Rows.{no_rows, meta_cells, account_cells, reported_cells, calendar_year_cells, holiday_cells, year_cells, run_cells, payment_cells, bucket_cells}
-use Rattle.ftd_tables.specs.Places.{Stands}
+use Rattle.ftd_tables.specs.Places.{Stands, HasNoAction, KeepsTables}
 use Rattle.ftd_tables.proofs.Meaning.{Reads}
-use Rattle.ftd_tables.proofs.Grows.{IsUnnamed, HasNoAction}
-use Rattle.ftd_tables.proofs.Creating.{Defines, Made, creates_any}
-use Rattle.ftd_tables.proofs.Grown.{grown_one, grown_then, grown_self, lacks_kept, starts, holds_on}
+use Rattle.ftd_tables.proofs.Creating.{Defines, Made, made, creates_any}
+use Rattle.ftd_tables.proofs.Grown.{grown_one, grown_then, grown_keeps, grown_self, lacks_kept, starts, holds_on}
+use Rattle.ftd_texts.proofs.Inside.{stays_inside}
+use Rattle.ftd_texts.specs.New.{IsFree}
 use Rattle.ftd_texts.specs.Texts.{create_meta, create_account, create_reported, create_calendar_year, create_holiday, create_year, create_run, create_payment, create_bucket}
 
 meta_text : (d : Definition) × Reads create_meta (written.CreateTable d) × Defines d (meta_table 0)
@@ -145,18 +149,41 @@ payment_made old new count counted h = creates_any old new create_payment paymen
 bucket_made : (old new : State) (count : ℕ) → lacks_sequence old.now.schema ≡ false → Executes create_bucket [] old new (Ok count) → Made old.now new.now (bucket_table 0)
 bucket_made old new count counted h = creates_any old new create_bucket bucket_text.0 (bucket_table 0) count bucket_text.1 bucket_text.2 (lacks_kept old.now.schema (bucket_table 0) refl counted) h
 
--- no foreign key with an action names one of the desk's tables, and no sqlite_sequence is missing
-pub record IsFree (s : Schema) : Type 0 where
-  pub metas : IsUnnamed s (codes "ftd_meta")
-  pub accounts : IsUnnamed s (codes "account")
-  pub reported : IsUnnamed s (codes "reported")
-  pub calendar_years : IsUnnamed s (codes "calendar_year")
-  pub holidays : IsUnnamed s (codes "holiday")
-  pub years : IsUnnamed s (codes "year")
-  pub runs : IsUnnamed s (codes "run")
-  pub payments : IsUnnamed s (codes "payment")
-  pub buckets : IsUnnamed s (codes "bucket")
-  pub counted : lacks_sequence s ≡ false
+-- ---- inside a transaction the last commit stays
+
+keeps : (old new : State) (text : List ℕ) (d : Definition) (t : Table) (count : ℕ) → Reads text (written.CreateTable d) → Defines d t → IsTrue old.in_transaction → Executes text [] old new (Ok count) → Shows old new new.now old.committed true
+unfolding ExecutesIn
+keeps old new text d t count r has busy h =
+    let s = old.now.schema in
+    let m = made s text d t h.0 r has h.1.is in
+    stays_inside old new _ _ _ count busy (runs_as text [] old new s refl CreateTable m.is m.plain count h)
+
+pub meta_inside : (old new : State) (count : ℕ) → IsTrue old.in_transaction → Executes create_meta [] old new (Ok count) → Shows old new new.now old.committed true
+meta_inside old new count busy h = keeps old new create_meta meta_text.0 (meta_table 0) count meta_text.1 meta_text.2 busy h
+
+pub account_inside : (old new : State) (count : ℕ) → IsTrue old.in_transaction → Executes create_account [] old new (Ok count) → Shows old new new.now old.committed true
+account_inside old new count busy h = keeps old new create_account account_text.0 (account_table 0) count account_text.1 account_text.2 busy h
+
+pub reported_inside : (old new : State) (count : ℕ) → IsTrue old.in_transaction → Executes create_reported [] old new (Ok count) → Shows old new new.now old.committed true
+reported_inside old new count busy h = keeps old new create_reported reported_text.0 (reported_table 0) count reported_text.1 reported_text.2 busy h
+
+pub calendar_year_inside : (old new : State) (count : ℕ) → IsTrue old.in_transaction → Executes create_calendar_year [] old new (Ok count) → Shows old new new.now old.committed true
+calendar_year_inside old new count busy h = keeps old new create_calendar_year calendar_year_text.0 (calendar_year_table 0) count calendar_year_text.1 calendar_year_text.2 busy h
+
+pub holiday_inside : (old new : State) (count : ℕ) → IsTrue old.in_transaction → Executes create_holiday [] old new (Ok count) → Shows old new new.now old.committed true
+holiday_inside old new count busy h = keeps old new create_holiday holiday_text.0 (holiday_table 0) count holiday_text.1 holiday_text.2 busy h
+
+pub year_inside : (old new : State) (count : ℕ) → IsTrue old.in_transaction → Executes create_year [] old new (Ok count) → Shows old new new.now old.committed true
+year_inside old new count busy h = keeps old new create_year year_text.0 (year_table 0) count year_text.1 year_text.2 busy h
+
+pub run_inside : (old new : State) (count : ℕ) → IsTrue old.in_transaction → Executes create_run [] old new (Ok count) → Shows old new new.now old.committed true
+run_inside old new count busy h = keeps old new create_run run_text.0 (run_table 0) count run_text.1 run_text.2 busy h
+
+pub payment_inside : (old new : State) (count : ℕ) → IsTrue old.in_transaction → Executes create_payment [] old new (Ok count) → Shows old new new.now old.committed true
+payment_inside old new count busy h = keeps old new create_payment payment_text.0 (payment_table 0) count payment_text.1 payment_text.2 busy h
+
+pub bucket_inside : (old new : State) (count : ℕ) → IsTrue old.in_transaction → Executes create_bucket [] old new (Ok count) → Shows old new new.now old.committed true
+bucket_inside old new count busy h = keeps old new create_bucket bucket_text.0 (bucket_table 0) count bucket_text.1 bucket_text.2 busy h
 
 -- the nine texts in turn make nine empty tables, whatever others there are
 pub makes : (s0 s1 s2 s3 s4 s5 s6 s7 s8 s9 : State) (n1 n2 n3 n4 n5 n6 n7 n8 n9 : ℕ) → IsFree s0.now.schema
@@ -169,7 +196,7 @@ pub makes : (s0 s1 s2 s3 s4 s5 s6 s7 s8 s9 : State) (n1 n2 n3 n4 n5 n6 n7 n8 n9 
     → Executes create_run [] s6 s7 (Ok n7)
     → Executes create_payment [] s7 s8 (Ok n8)
     → Executes create_bucket [] s8 s9 (Ok n9)
-    → Stands s9.now no_rows
+    → Stands s9.now no_rows × KeepsTables s0.now s9.now × (table_named s0.now.schema (codes "ftd_meta") ≡ None)
 makes s0 s1 s2 s3 s4 s5 s6 s7 s8 s9 n1 n2 n3 n4 n5 n6 n7 n8 n9 free h1 h2 h3 h4 h5 h6 h7 h8 h9 =
     let g0 = grown_self s0.now in
     let m1 = meta_made s0 s1 n1 (g0.counted free.counted) h1 in
@@ -207,15 +234,18 @@ makes s0 s1 s2 s3 s4 s5 s6 s7 s8 s9 n1 n2 n3 n4 n5 n6 n7 n8 n9 free h1 h2 h3 h4 
     let r4 = grown_then s4.now s5.now s9.now o5 r5 in
     let r3 = grown_then s3.now s4.now s9.now o4 r4 in
     let r2 = grown_then s2.now s3.now s9.now o3 r3 in
-    let r1 = grown_then s1.now s2.now s9.now o2 r2 in
-    record {
-      metas = holds_on s1.now s9.now _ _ _ _ meta_cells [] r1 (starts s0.now s1.now _ _ _ _ meta_cells m1 meta_named meta_acts_not (g0.unnamed _ free.metas));
-      accounts = holds_on s2.now s9.now _ _ _ _ account_cells [] r2 (starts s1.now s2.now _ _ _ _ account_cells m2 account_named account_acts_not (g1.unnamed _ free.accounts));
-      reported = holds_on s3.now s9.now _ _ _ _ reported_cells [] r3 (starts s2.now s3.now _ _ _ _ reported_cells m3 reported_named reported_acts_not (g2.unnamed _ free.reported));
-      calendar_years = holds_on s4.now s9.now _ _ _ _ calendar_year_cells [] r4 (starts s3.now s4.now _ _ _ _ calendar_year_cells m4 calendar_year_named calendar_year_acts_not (g3.unnamed _ free.calendar_years));
-      holidays = holds_on s5.now s9.now _ _ _ _ holiday_cells [] r5 (starts s4.now s5.now _ _ _ _ holiday_cells m5 holiday_named holiday_acts_not (g4.unnamed _ free.holidays));
-      years = holds_on s6.now s9.now _ _ _ _ year_cells [] r6 (starts s5.now s6.now _ _ _ _ year_cells m6 year_named year_acts_not (g5.unnamed _ free.years));
-      runs = holds_on s7.now s9.now _ _ _ _ run_cells [] r7 (starts s6.now s7.now _ _ _ _ run_cells m7 run_named run_acts_not (g6.unnamed _ free.runs));
-      payments = holds_on s8.now s9.now _ _ _ _ payment_cells [] r8 (starts s7.now s8.now _ _ _ _ payment_cells m8 payment_named payment_acts_not (g7.unnamed _ free.payments));
-      buckets = holds_on s9.now s9.now _ _ _ _ bucket_cells [] r9 (starts s8.now s9.now _ _ _ _ bucket_cells m9 bucket_named bucket_acts_not (g8.unnamed _ free.buckets));
-    }
+    let r1 = grown_then s1.now s2.now s9.now o2 r2 in (
+      record {
+        metas = holds_on s1.now s9.now _ _ _ _ meta_cells [] r1 (starts s0.now s1.now _ _ _ _ meta_cells m1 meta_named meta_acts_not (g0.unnamed _ free.metas));
+        accounts = holds_on s2.now s9.now _ _ _ _ account_cells [] r2 (starts s1.now s2.now _ _ _ _ account_cells m2 account_named account_acts_not (g1.unnamed _ free.accounts));
+        reported = holds_on s3.now s9.now _ _ _ _ reported_cells [] r3 (starts s2.now s3.now _ _ _ _ reported_cells m3 reported_named reported_acts_not (g2.unnamed _ free.reported));
+        calendar_years = holds_on s4.now s9.now _ _ _ _ calendar_year_cells [] r4 (starts s3.now s4.now _ _ _ _ calendar_year_cells m4 calendar_year_named calendar_year_acts_not (g3.unnamed _ free.calendar_years));
+        holidays = holds_on s5.now s9.now _ _ _ _ holiday_cells [] r5 (starts s4.now s5.now _ _ _ _ holiday_cells m5 holiday_named holiday_acts_not (g4.unnamed _ free.holidays));
+        years = holds_on s6.now s9.now _ _ _ _ year_cells [] r6 (starts s5.now s6.now _ _ _ _ year_cells m6 year_named year_acts_not (g5.unnamed _ free.years));
+        runs = holds_on s7.now s9.now _ _ _ _ run_cells [] r7 (starts s6.now s7.now _ _ _ _ run_cells m7 run_named run_acts_not (g6.unnamed _ free.runs));
+        payments = holds_on s8.now s9.now _ _ _ _ payment_cells [] r8 (starts s7.now s8.now _ _ _ _ payment_cells m8 payment_named payment_acts_not (g7.unnamed _ free.payments));
+        buckets = holds_on s9.now s9.now _ _ _ _ bucket_cells [] r9 (starts s8.now s9.now _ _ _ _ bucket_cells m9 bucket_named bucket_acts_not (g8.unnamed _ free.buckets));
+      },
+      grown_keeps s0.now s9.now g9,
+      m1.free,
+    )

@@ -13,6 +13,7 @@ pub mod VoidRun
 pub mod VoidPayment
 pub mod PutYear
 pub mod ReadAccount
+pub mod ReadMeta
 pub mod ReadReported
 pub mod ReadCalendarYear
 pub mod ReadRun
@@ -25,3 +26,4 @@ pub mod ListBuckets
 pub mod CountRuns
 pub mod CountPayments
 pub mod CreateTables
+pub mod CreateIndexes

@@ -1,5 +1,5 @@
 -- Reading an account's bucket rows between two first days, by first day.
-use Rattle.std.proofs.Common.{◌≡◌, ◌≤◌, ℕ, ℤ, List, [], ◌∷◌, map, Bool, false, refl, codes, subst, sym, ap, ◌∙◌}
+use Rattle.std.proofs.Common.{◌≡◌, ℕ, ℤ, List, [], ◌∷◌, map, Bool, false, refl, codes, subst, sym, ap, ◌∙◌, Option, Some}
 use Rattle.std.specs.Prelude.{filter}
 use Rattle.std.specs.Ordering.{is_lt}
 use Rattle.std.specs.List.Sorted.{IsPermutation}
@@ -36,16 +36,19 @@ use Rattle.ftd_tables.proofs.Phrase.{Phrase, Column, Given, Two, And, Eq, Ge, Le
 use Rattle.ftd_tables.proofs.Meaning.{IsAccepted, Reads, Means}
 use Rattle.ftd_tables.proofs.Selects.{a_select, core, select_in, core_in, page, sort, Resolves, selects, out}
 use Rattle.ftd_tables.proofs.OneRow.{Tests}
-use Rattle.ftd_tables.proofs.InOrder.{EachToNext, shows_in_order}
+use Rattle.ftd_tables.proofs.InOrder.{shows_in_order}
+use Rattle.ftd_tables.proofs.Commits.{IsReadText}
 use Rattle.ftd_texts.proofs.Inside.{stays_read}
 use Rattle.ftd_texts.specs.Texts.{select_buckets, days_given, bucket_listed}
+use Rattle.ftd_tables.specs.Order.{EachToNext}
+use Rattle.ftd_texts.specs.Orders.{BucketsRise}
 use Rattle.ftd_texts.specs.Tests.{is_bucket_between}
 
 abbrev columns : List (Phrase × List ℕ)
 columns = (Column (codes "first_day"), codes "first_day") ∷ (Column (codes "last_day"), codes "last_day") ∷ (Column (codes "rule"), codes "rule") ∷ (Column (codes "cents"), codes "cents") ∷ (Column (codes "due"), codes "due") ∷ []
 
-abbrev where_is : Phrase
-where_is = Two And (Two And (Two Eq (Column (codes "account")) (Given 1)) (Two Ge (Column (codes "first_day")) (Given 2))) (Two Le (Column (codes "first_day")) (Given 3))
+abbrev where_is : Option Phrase
+where_is = Some (Two And (Two And (Two Eq (Column (codes "account")) (Given 1)) (Two Ge (Column (codes "first_day")) (Given 2))) (Two Le (Column (codes "first_day")) (Given 3)))
 
 abbrev order : List (Phrase × Bool)
 order = (Column (codes "first_day"), false) ∷ []
@@ -62,16 +65,16 @@ project = col 1 2 ∷ col 1 3 ∷ col 1 4 ∷ col 1 5 ∷ col 1 6 ∷ []
 abbrev keys : List (Term × Key)
 keys = (col 1 2, rising) ∷ []
 
--- the rows follow one another by first_day
-abbrev pub Follows : Bucket → Bucket → Type 0
-Follows a b = a.first ≤ b.first
-
 abbrev statement : ast.Select
 statement = a_select (codes "bucket") columns where_is order
 
 reads : Reads select_buckets (written.Select statement)
 unfolding everything
 reads = record { read = _; is = refl; said = refl; untimed = refl; whole = refl }
+
+-- the text is a reading
+pub of_reading : IsReadText select_buckets
+of_reading = (_, reads)
 
 opens : ast.out-Select statement ≡ select_in (core (codes "bucket") columns where_is) (map sort order)
 unfolding everything
@@ -108,17 +111,17 @@ pub tested : (account : List ℕ) (from to : ℕ) → Tests bucket_cells (is_buc
 tested account from to x = three_pass _ _ _ _ _ _ (text_is x.1.account account) (day_at_least_is x.1.first from) (day_at_most_is x.1.first to)
 
 rises : (tree : ℕ) (params : Row) (a b : Bucket) (m n : ℤ) → is_lt (output_cmp (plain_query tree filters project keys) (output (plain_query tree filters project keys) (params ∷ stored bucket_cells (m, b) ∷ [])) (output (plain_query tree filters project keys) (params ∷ stored bucket_cells (n, a) ∷ []))) ≡ false
-    → Follows a b
+    → BucketsRise a b
 rises tree params a b m n h = day_rises a.first b.first (sym (ap is_lt (then-Equal (value_cmp (day_cell b.first) (day_cell a.first)))) ∙ h)
 
 pub shows : (old new : State) (account : List ℕ) (from to : ℕ) (rows : List Row) (t : Tables) → Stands old.now t → Shown select_buckets (days_given account from to) old new rows
-    → (ys : List Bucket) × IsPermutation (filter (is_bucket_between account from to) t.buckets) ys × (rows ≡ map bucket_listed ys) × EachToNext Follows ys
+    → (ys : List Bucket) × IsPermutation (filter (is_bucket_between account from to) t.buckets) ys × (rows ≡ map bucket_listed ys) × EachToNext BucketsRise ys
 shows old new account from to rows t stands h =
     let s = old.now.schema in
     let l = stands.buckets in
     let m = means s l.at l.tree l.place in
     let read = reads_as select_buckets (days_given account from to) old new s refl _ m.is m.plain m.unlisted rows h in
-    shows_in_order old _ _ bucket_cells bucket_listed t.buckets (is_bucket_between account from to) Follows l filters project keys (days_given account from to) rows (tested account from to) (λ p. refl) (rises l.tree (days_given account from to)) (read.answer Null)
+    shows_in_order old _ _ bucket_cells bucket_listed t.buckets (is_bucket_between account from to) BucketsRise l filters project keys (days_given account from to) rows (tested account from to) (λ p. refl) (rises l.tree (days_given account from to)) (read.answer Null)
 
 -- the reading changes nothing
 pub unchanged : (old new : State) (account : List ℕ) (from to : ℕ) (rows : List Row) (t : Tables) → Stands old.now t → Shown select_buckets (days_given account from to) old new rows

@@ -1,5 +1,5 @@
 -- Reading the holidays of a year, by day.
-use Rattle.std.proofs.Common.{◌≡◌, ◌≤◌, ℕ, ℤ, List, [], ◌∷◌, map, Bool, false, refl, codes, subst, sym, ap, ◌∙◌}
+use Rattle.std.proofs.Common.{◌≡◌, ℕ, ℤ, List, [], ◌∷◌, map, Bool, false, refl, codes, subst, sym, ap, ◌∙◌, Option, Some}
 use Rattle.std.specs.Prelude.{filter}
 use Rattle.std.specs.Ordering.{is_lt}
 use Rattle.std.specs.List.Sorted.{IsPermutation}
@@ -36,16 +36,19 @@ use Rattle.ftd_tables.proofs.Phrase.{Phrase, Column, Given, Two, Eq}
 use Rattle.ftd_tables.proofs.Meaning.{IsAccepted, Reads, Means}
 use Rattle.ftd_tables.proofs.Selects.{a_select, core, select_in, core_in, page, sort, Resolves, selects, out}
 use Rattle.ftd_tables.proofs.OneRow.{Tests}
-use Rattle.ftd_tables.proofs.InOrder.{EachToNext, shows_in_order}
+use Rattle.ftd_tables.proofs.InOrder.{shows_in_order}
+use Rattle.ftd_tables.proofs.Commits.{IsReadText}
 use Rattle.ftd_texts.proofs.Inside.{stays_read}
 use Rattle.ftd_texts.specs.Texts.{select_holidays, calendar_given, holiday_listed}
+use Rattle.ftd_tables.specs.Order.{EachToNext}
+use Rattle.ftd_texts.specs.Orders.{HolidaysRise}
 use Rattle.ftd_texts.specs.Tests.{is_holiday_of}
 
 abbrev columns : List (Phrase × List ℕ)
 columns = (Column (codes "day"), codes "day") ∷ []
 
-abbrev where_is : Phrase
-where_is = Two Eq (Column (codes "cal_year")) (Given 1)
+abbrev where_is : Option Phrase
+where_is = Some (Two Eq (Column (codes "cal_year")) (Given 1))
 
 abbrev order : List (Phrase × Bool)
 order = (Column (codes "day"), false) ∷ []
@@ -62,16 +65,16 @@ project = col 1 1 ∷ []
 abbrev keys : List (Term × Key)
 keys = (col 1 1, rising) ∷ []
 
--- the rows follow one another by day
-abbrev pub Follows : Holiday → Holiday → Type 0
-Follows a b = a.day ≤ b.day
-
 abbrev statement : ast.Select
 statement = a_select (codes "holiday") columns where_is order
 
 reads : Reads select_holidays (written.Select statement)
 unfolding everything
 reads = record { read = _; is = refl; said = refl; untimed = refl; whole = refl }
+
+-- the text is a reading
+pub of_reading : IsReadText select_holidays
+of_reading = (_, reads)
 
 opens : ast.out-Select statement ≡ select_in (core (codes "holiday") columns where_is) (map sort order)
 unfolding everything
@@ -108,17 +111,17 @@ pub tested : (year : ℕ) → Tests holiday_cells (is_holiday_of year) filters (
 tested year x = one_passes _ _ (number_is x.1.year year)
 
 rises : (tree : ℕ) (params : Row) (a b : Holiday) (m n : ℤ) → is_lt (output_cmp (plain_query tree filters project keys) (output (plain_query tree filters project keys) (params ∷ stored holiday_cells (m, b) ∷ [])) (output (plain_query tree filters project keys) (params ∷ stored holiday_cells (n, a) ∷ []))) ≡ false
-    → Follows a b
+    → HolidaysRise a b
 rises tree params a b m n h = day_rises a.day b.day (sym (ap is_lt (then-Equal (value_cmp (day_cell b.day) (day_cell a.day)))) ∙ h)
 
 pub shows : (old new : State) (year : ℕ) (rows : List Row) (t : Tables) → Stands old.now t → Shown select_holidays (calendar_given year) old new rows
-    → (ys : List Holiday) × IsPermutation (filter (is_holiday_of year) t.holidays) ys × (rows ≡ map holiday_listed ys) × EachToNext Follows ys
+    → (ys : List Holiday) × IsPermutation (filter (is_holiday_of year) t.holidays) ys × (rows ≡ map holiday_listed ys) × EachToNext HolidaysRise ys
 shows old new year rows t stands h =
     let s = old.now.schema in
     let l = stands.holidays in
     let m = means s l.at l.tree l.place in
     let read = reads_as select_holidays (calendar_given year) old new s refl _ m.is m.plain m.unlisted rows h in
-    shows_in_order old _ _ holiday_cells holiday_listed t.holidays (is_holiday_of year) Follows l filters project keys (calendar_given year) rows (tested year) (λ p. refl) (rises l.tree (calendar_given year)) (read.answer Null)
+    shows_in_order old _ _ holiday_cells holiday_listed t.holidays (is_holiday_of year) HolidaysRise l filters project keys (calendar_given year) rows (tested year) (λ p. refl) (rises l.tree (calendar_given year)) (read.answer Null)
 
 -- the reading changes nothing
 pub unchanged : (old new : State) (year : ℕ) (rows : List Row) (t : Tables) → Stands old.now t → Shown select_holidays (calendar_given year) old new rows

@@ -1,5 +1,5 @@
 -- Reading an account's live runs between two paydays, by payday and number.
-use Rattle.std.proofs.Common.{◌≡◌, ◌⊎◌, ◌≤◌, ◌<◌, ℕ, ℤ, pos, List, [], ◌∷◌, map, Bool, false, refl, codes, subst}
+use Rattle.std.proofs.Common.{◌≡◌, ℕ, ℤ, pos, List, [], ◌∷◌, map, Bool, false, refl, codes, subst, Option, Some}
 use Rattle.std.specs.Prelude.{filter}
 use Rattle.std.specs.Ordering.{is_lt}
 use Rattle.std.specs.List.Sorted.{IsPermutation}
@@ -36,16 +36,19 @@ use Rattle.ftd_tables.proofs.Phrase.{Phrase, Column, Given, Whole, Two, And, Eq,
 use Rattle.ftd_tables.proofs.Meaning.{IsAccepted, Reads, Means}
 use Rattle.ftd_tables.proofs.Selects.{a_select, core, select_in, core_in, page, sort, Resolves, selects, out}
 use Rattle.ftd_tables.proofs.OneRow.{Tests}
-use Rattle.ftd_tables.proofs.InOrder.{EachToNext, shows_in_order}
+use Rattle.ftd_tables.proofs.InOrder.{shows_in_order}
+use Rattle.ftd_tables.proofs.Commits.{IsReadText}
 use Rattle.ftd_texts.proofs.Inside.{stays_read}
 use Rattle.ftd_texts.specs.Texts.{select_runs, days_given, run_listed}
+use Rattle.ftd_tables.specs.Order.{EachToNext}
+use Rattle.ftd_texts.specs.Orders.{RunsRise}
 use Rattle.ftd_texts.specs.Tests.{is_live_between}
 
 abbrev columns : List (Phrase × List ℕ)
 columns = (Column (codes "payday"), codes "payday") ∷ (Column (codes "fit"), codes "fit") ∷ (Column (codes "ss"), codes "ss") ∷ (Column (codes "medicare"), codes "medicare") ∷ []
 
-abbrev where_is : Phrase
-where_is = Two And (Two And (Two And (Two Eq (Column (codes "account")) (Given 1)) (Two Ge (Column (codes "payday")) (Given 2))) (Two Le (Column (codes "payday")) (Given 3))) (Two Eq (Column (codes "voided")) (Whole (codes "0")))
+abbrev where_is : Option Phrase
+where_is = Some (Two And (Two And (Two And (Two Eq (Column (codes "account")) (Given 1)) (Two Ge (Column (codes "payday")) (Given 2))) (Two Le (Column (codes "payday")) (Given 3))) (Two Eq (Column (codes "voided")) (Whole (codes "0"))))
 
 abbrev order : List (Phrase × Bool)
 order = (Column (codes "payday"), false) ∷ (Column (codes "run"), false) ∷ []
@@ -62,16 +65,16 @@ project = col 1 3 ∷ col 1 4 ∷ col 1 5 ∷ col 1 6 ∷ []
 abbrev keys : List (Term × Key)
 keys = (col 1 3, rising) ∷ (col 1 2, rising) ∷ []
 
--- the rows follow one another by payday, and by run on one day
-abbrev pub Follows : Run → Run → Type 0
-Follows a b = (a.payday < b.payday) ⊎ ((a.payday ≡ b.payday) × (a.number ≤ b.number))
-
 abbrev statement : ast.Select
 statement = a_select (codes "run") columns where_is order
 
 reads : Reads select_runs (written.Select statement)
 unfolding everything
 reads = record { read = _; is = refl; said = refl; untimed = refl; whole = refl }
+
+-- the text is a reading
+pub of_reading : IsReadText select_runs
+of_reading = (_, reads)
 
 opens : ast.out-Select statement ≡ select_in (core (codes "run") columns where_is) (map sort order)
 unfolding everything
@@ -108,17 +111,17 @@ pub tested : (account : List ℕ) (from to : ℕ) → Tests run_cells (is_live_b
 tested account from to x = four_pass _ _ _ _ _ _ _ _ (text_is x.1.account account) (day_at_least_is x.1.payday from) (day_at_most_is x.1.payday to) (unmarked_is x.1.voided)
 
 rises : (tree : ℕ) (params : Row) (a b : Run) (m n : ℤ) → is_lt (output_cmp (plain_query tree filters project keys) (output (plain_query tree filters project keys) (params ∷ stored run_cells (m, b) ∷ [])) (output (plain_query tree filters project keys) (params ∷ stored run_cells (n, a) ∷ []))) ≡ false
-    → Follows a b
+    → RunsRise a b
 rises tree params a b m n h = day_then_number a.payday b.payday a.number b.number h
 
 pub shows : (old new : State) (account : List ℕ) (from to : ℕ) (rows : List Row) (t : Tables) → Stands old.now t → Shown select_runs (days_given account from to) old new rows
-    → (ys : List Run) × IsPermutation (filter (is_live_between account from to) t.runs) ys × (rows ≡ map run_listed ys) × EachToNext Follows ys
+    → (ys : List Run) × IsPermutation (filter (is_live_between account from to) t.runs) ys × (rows ≡ map run_listed ys) × EachToNext RunsRise ys
 shows old new account from to rows t stands h =
     let s = old.now.schema in
     let l = stands.runs in
     let m = means s l.at l.tree l.place in
     let read = reads_as select_runs (days_given account from to) old new s refl _ m.is m.plain m.unlisted rows h in
-    shows_in_order old _ _ run_cells run_listed t.runs (is_live_between account from to) Follows l filters project keys (days_given account from to) rows (tested account from to) (λ p. refl) (rises l.tree (days_given account from to)) (read.answer Null)
+    shows_in_order old _ _ run_cells run_listed t.runs (is_live_between account from to) RunsRise l filters project keys (days_given account from to) rows (tested account from to) (λ p. refl) (rises l.tree (days_given account from to)) (read.answer Null)
 
 -- the reading changes nothing
 pub unchanged : (old new : State) (account : List ℕ) (from to : ℕ) (rows : List Row) (t : Tables) → Stands old.now t → Shown select_runs (days_given account from to) old new rows

@@ -1,5 +1,5 @@
 -- Reading an account's open years, by year.
-use Rattle.std.proofs.Common.{◌≡◌, ◌≤◌, ℕ, ℤ, List, [], ◌∷◌, map, Bool, false, refl, codes, subst, sym, ap, ◌∙◌}
+use Rattle.std.proofs.Common.{◌≡◌, ℕ, ℤ, List, [], ◌∷◌, map, Bool, false, refl, codes, subst, sym, ap, ◌∙◌, Option, Some}
 use Rattle.std.specs.Prelude.{filter}
 use Rattle.std.specs.Ordering.{is_lt}
 use Rattle.std.specs.List.Sorted.{IsPermutation}
@@ -36,16 +36,19 @@ use Rattle.ftd_tables.proofs.Phrase.{Phrase, Column, Given, Two, Eq}
 use Rattle.ftd_tables.proofs.Meaning.{IsAccepted, Reads, Means}
 use Rattle.ftd_tables.proofs.Selects.{a_select, core, select_in, core_in, page, sort, Resolves, selects, out}
 use Rattle.ftd_tables.proofs.OneRow.{Tests}
-use Rattle.ftd_tables.proofs.InOrder.{EachToNext, shows_in_order}
+use Rattle.ftd_tables.proofs.InOrder.{shows_in_order}
+use Rattle.ftd_tables.proofs.Commits.{IsReadText}
 use Rattle.ftd_texts.proofs.Inside.{stays_read}
 use Rattle.ftd_texts.specs.Texts.{select_years, name_given, year_listed}
+use Rattle.ftd_tables.specs.Order.{EachToNext}
+use Rattle.ftd_texts.specs.Orders.{YearsRise}
 use Rattle.ftd_texts.specs.Tests.{is_year_of}
 
 abbrev columns : List (Phrase × List ℕ)
 columns = (Column (codes "cal_year"), codes "cal_year") ∷ (Column (codes "lookback"), codes "lookback") ∷ (Column (codes "opening"), codes "opening") ∷ (Column (codes "turn"), codes "turn") ∷ []
 
-abbrev where_is : Phrase
-where_is = Two Eq (Column (codes "account")) (Given 1)
+abbrev where_is : Option Phrase
+where_is = Some (Two Eq (Column (codes "account")) (Given 1))
 
 abbrev order : List (Phrase × Bool)
 order = (Column (codes "cal_year"), false) ∷ []
@@ -62,16 +65,16 @@ project = col 1 2 ∷ col 1 3 ∷ col 1 4 ∷ col 1 5 ∷ []
 abbrev keys : List (Term × Key)
 keys = (col 1 2, rising) ∷ []
 
--- the rows follow one another by cal_year
-abbrev pub Follows : Year → Year → Type 0
-Follows a b = a.year ≤ b.year
-
 abbrev statement : ast.Select
 statement = a_select (codes "year") columns where_is order
 
 reads : Reads select_years (written.Select statement)
 unfolding everything
 reads = record { read = _; is = refl; said = refl; untimed = refl; whole = refl }
+
+-- the text is a reading
+pub of_reading : IsReadText select_years
+of_reading = (_, reads)
 
 opens : ast.out-Select statement ≡ select_in (core (codes "year") columns where_is) (map sort order)
 unfolding everything
@@ -108,17 +111,17 @@ pub tested : (account : List ℕ) → Tests year_cells (is_year_of account) filt
 tested account x = one_passes _ _ (text_is x.1.account account)
 
 rises : (tree : ℕ) (params : Row) (a b : Year) (m n : ℤ) → is_lt (output_cmp (plain_query tree filters project keys) (output (plain_query tree filters project keys) (params ∷ stored year_cells (m, b) ∷ [])) (output (plain_query tree filters project keys) (params ∷ stored year_cells (n, a) ∷ []))) ≡ false
-    → Follows a b
+    → YearsRise a b
 rises tree params a b m n h = number_rises a.year b.year (sym (ap is_lt (then-Equal (value_cmp (number_cell b.year) (number_cell a.year)))) ∙ h)
 
 pub shows : (old new : State) (account : List ℕ) (rows : List Row) (t : Tables) → Stands old.now t → Shown select_years (name_given account) old new rows
-    → (ys : List Year) × IsPermutation (filter (is_year_of account) t.years) ys × (rows ≡ map year_listed ys) × EachToNext Follows ys
+    → (ys : List Year) × IsPermutation (filter (is_year_of account) t.years) ys × (rows ≡ map year_listed ys) × EachToNext YearsRise ys
 shows old new account rows t stands h =
     let s = old.now.schema in
     let l = stands.years in
     let m = means s l.at l.tree l.place in
     let read = reads_as select_years (name_given account) old new s refl _ m.is m.plain m.unlisted rows h in
-    shows_in_order old _ _ year_cells year_listed t.years (is_year_of account) Follows l filters project keys (name_given account) rows (tested account) (λ p. refl) (rises l.tree (name_given account)) (read.answer Null)
+    shows_in_order old _ _ year_cells year_listed t.years (is_year_of account) YearsRise l filters project keys (name_given account) rows (tested account) (λ p. refl) (rises l.tree (name_given account)) (read.answer Null)
 
 -- the reading changes nothing
 pub unchanged : (old new : State) (account : List ℕ) (rows : List Row) (t : Tables) → Stands old.now t → Shown select_years (name_given account) old new rows

@@ -18,7 +18,7 @@ use Rattle.sqlite_draft.specs.declared.query.Draft.{Draft}
 use Rattle.sqlite_draft.specs.declared.join.Step.TheVariants.{Inner}
 use Rattle.sqlite_draft.specs.Query.{query_of}
 use Rattle.sqlite_tied.specs.Compute.{everything}
-use Rattle.ftd_tables.specs.Places.{IsAt, Stands}
+use Rattle.ftd_tables.specs.Places.{IsAt, Stands, Becomes}
 use Rattle.ftd_tables.specs.Tables.{year_table}
 use Rattle.ftd_tables.specs.Kept.{stored, changed}
 use Rattle.ftd_tables.specs.Rows.{Tables, Year, year_cells}
@@ -30,6 +30,7 @@ use Rattle.ftd_tables.proofs.Selects.{all_known}
 use Rattle.ftd_tables.proofs.Updates.{setting, updates}
 use Rattle.ftd_tables.proofs.OneRow.{Tests, changes_row, changes_none}
 use Rattle.ftd_tables.proofs.Standing.{years_now}
+use Rattle.ftd_tables.proofs.Commits.{IsRowText}
 use Rattle.ftd_texts.proofs.Inside.{stays_inside}
 use Rattle.ftd_texts.specs.Texts.{update_year, year_given}
 use Rattle.ftd_texts.specs.Tests.{is_year, put_year}
@@ -49,6 +50,10 @@ project = col 1 0 ∷ col 1 0 ∷ col 1 1 ∷ col 1 2 ∷ col 0 2 ∷ col 0 3 �
 reads : Reads update_year (written.Update (codes "year") (map setting sets) (Some (say where_is)) [])
 unfolding everything
 reads = record { read = _; is = refl; said = refl; untimed = refl; whole = refl }
+
+-- the text speaks of rows
+pub of_rows : IsRowText update_year
+of_rows = (_, reads, tt)
 
 abbrev draft : ℕ → Draft
 draft tree = simple (Inner tree ∷ []) filters project
@@ -73,20 +78,20 @@ tested y p = two_pass _ _ _ _ (text_is p.1.account y.account) (number_is p.1.yea
 recast : (tree : ℕ) (y : Year) (p : ℤ × Year) → cast_row (year_table tree) (drop 1 (eval_all project (year_given y ∷ stored year_cells p ∷ []))) ≡ Int p.0 ∷ year_cells (put_year y p.1)
 recast tree y p = rw (cast_int, cast_int, cast_int, cast_int, cast_day_or_null y.turn) refl
 
--- where one row was changed, it is the row of the year
+-- where one row was changed, it is the row of the year, and the only one
 pub puts : (old new : State) (y : Year) (t : Tables) → Stands old.now t → Executes update_year (year_given y) old new (Ok 1)
-    → Stands new.now (record t { years = map (changed (is_year y.account y.year) (put_year y)) t.years })
+    → Becomes old.now new.now (record t { years = map (changed (is_year y.account y.year) (put_year y)) t.years }) × ((x : Year) × (filter (is_year y.account y.year) t.years ≡ x ∷ []))
 puts old new y t stands h =
     let s = old.now.schema in
     let l = stands.years in
     let m = means s l.at l.tree l.place in
     let w = runs_as update_year (year_given y) old new s refl _ m.is m.plain 1 h in
     let made = changes_row old new _ _ _ _ year_cells t.years (is_year y.account y.year) (put_year y) l filters project _ (year_given y) (tested y) (recast l.tree y) (λ p. refl) w in
-    years_now old.now new.now t _ stands made.0 made.1
+    (years_now old.now new.now t _ stands made.0 made.1, made.2)
 
 -- where none was changed, the year is not there, and all stays
 pub puts_none : (old new : State) (y : Year) (t : Tables) → Stands old.now t → Executes update_year (year_given y) old new (Ok 0)
-    → Stands new.now t × (filter (is_year y.account y.year) t.years ≡ [])
+    → Becomes old.now new.now t × (filter (is_year y.account y.year) t.years ≡ [])
 puts_none old new y t stands h =
     let s = old.now.schema in
     let l = stands.years in

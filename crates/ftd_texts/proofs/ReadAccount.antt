@@ -1,5 +1,5 @@
 -- Reading the row of an account name.
-use Rattle.std.proofs.Common.{◌≡◌, ℕ, List, [], ◌∷◌, map, Bool, false, refl, codes, subst}
+use Rattle.std.proofs.Common.{◌≡◌, ℕ, List, [], ◌∷◌, map, Bool, false, refl, codes, subst, Option, Some}
 use Rattle.std.specs.Prelude.{filter}
 use Rattle.std.specs.List.Sorted.{IsPermutation}
 use Rattle.sqlite.specs.Schema.{Schema}
@@ -30,6 +30,7 @@ use Rattle.ftd_tables.proofs.Phrase.{Phrase, Column, Given, Two, Eq}
 use Rattle.ftd_tables.proofs.Meaning.{IsAccepted, Reads, Means}
 use Rattle.ftd_tables.proofs.Selects.{a_select, core, select_in, core_in, page, sort, Resolves, selects, out}
 use Rattle.ftd_tables.proofs.OneRow.{Tests, shows_rows}
+use Rattle.ftd_tables.proofs.Commits.{IsReadText}
 use Rattle.ftd_texts.proofs.Inside.{stays_read}
 use Rattle.ftd_texts.specs.Texts.{select_account, name_given, account_shown}
 use Rattle.ftd_texts.specs.Tests.{is_account}
@@ -37,8 +38,8 @@ use Rattle.ftd_texts.specs.Tests.{is_account}
 abbrev columns : List (Phrase × List ℕ)
 columns = (Column (codes "start"), codes "start") ∷ (Column (codes "carried"), codes "carried") ∷ []
 
-abbrev where_is : Phrase
-where_is = Two Eq (Column (codes "name")) (Given 1)
+abbrev where_is : Option Phrase
+where_is = Some (Two Eq (Column (codes "name")) (Given 1))
 
 abbrev order : List (Phrase × Bool)
 order = []
@@ -58,6 +59,10 @@ statement = a_select (codes "account") columns where_is order
 reads : Reads select_account (written.Select statement)
 unfolding everything
 reads = record { read = _; is = refl; said = refl; untimed = refl; whole = refl }
+
+-- the text is a reading
+pub of_reading : IsReadText select_account
+of_reading = (_, reads)
 
 opens : ast.out-Select statement ≡ select_in (core (codes "account") columns where_is) (map sort order)
 unfolding everything

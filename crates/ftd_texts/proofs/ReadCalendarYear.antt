@@ -1,5 +1,5 @@
 -- Reading a year whose holidays are given.
-use Rattle.std.proofs.Common.{◌≡◌, ℕ, List, [], ◌∷◌, map, Bool, false, refl, codes, subst}
+use Rattle.std.proofs.Common.{◌≡◌, ℕ, List, [], ◌∷◌, map, Bool, false, refl, codes, subst, Option, Some}
 use Rattle.std.specs.Prelude.{filter}
 use Rattle.std.specs.List.Sorted.{IsPermutation}
 use Rattle.sqlite.specs.Schema.{Schema}
@@ -30,6 +30,7 @@ use Rattle.ftd_tables.proofs.Phrase.{Phrase, Column, Given, Two, Eq}
 use Rattle.ftd_tables.proofs.Meaning.{IsAccepted, Reads, Means}
 use Rattle.ftd_tables.proofs.Selects.{a_select, core, select_in, core_in, page, sort, Resolves, selects, out}
 use Rattle.ftd_tables.proofs.OneRow.{Tests, shows_rows}
+use Rattle.ftd_tables.proofs.Commits.{IsReadText}
 use Rattle.ftd_texts.proofs.Inside.{stays_read}
 use Rattle.ftd_texts.specs.Texts.{select_calendar_year, calendar_given, calendar_year_shown}
 use Rattle.ftd_texts.specs.Tests.{is_calendar_year}
@@ -37,8 +38,8 @@ use Rattle.ftd_texts.specs.Tests.{is_calendar_year}
 abbrev columns : List (Phrase × List ℕ)
 columns = (Column (codes "cal_year"), codes "cal_year") ∷ []
 
-abbrev where_is : Phrase
-where_is = Two Eq (Column (codes "cal_year")) (Given 1)
+abbrev where_is : Option Phrase
+where_is = Some (Two Eq (Column (codes "cal_year")) (Given 1))
 
 abbrev order : List (Phrase × Bool)
 order = []
@@ -58,6 +59,10 @@ statement = a_select (codes "calendar_year") columns where_is order
 reads : Reads select_calendar_year (written.Select statement)
 unfolding everything
 reads = record { read = _; is = refl; said = refl; untimed = refl; whole = refl }
+
+-- the text is a reading
+pub of_reading : IsReadText select_calendar_year
+of_reading = (_, reads)
 
 opens : ast.out-Select statement ≡ select_in (core (codes "calendar_year") columns where_is) (map sort order)
 unfolding everything

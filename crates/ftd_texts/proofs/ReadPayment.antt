@@ -1,5 +1,5 @@
 -- Reading the payment of an account and a number.
-use Rattle.std.proofs.Common.{◌≡◌, ℕ, List, [], ◌∷◌, map, Bool, false, refl, codes, subst}
+use Rattle.std.proofs.Common.{◌≡◌, ℕ, List, [], ◌∷◌, map, Bool, false, refl, codes, subst, Option, Some}
 use Rattle.std.specs.Prelude.{filter}
 use Rattle.std.specs.List.Sorted.{IsPermutation}
 use Rattle.sqlite.specs.Schema.{Schema}
@@ -30,6 +30,7 @@ use Rattle.ftd_tables.proofs.Phrase.{Phrase, Column, Given, Two, And, Eq}
 use Rattle.ftd_tables.proofs.Meaning.{IsAccepted, Reads, Means}
 use Rattle.ftd_tables.proofs.Selects.{a_select, core, select_in, core_in, page, sort, Resolves, selects, out}
 use Rattle.ftd_tables.proofs.OneRow.{Tests, shows_rows}
+use Rattle.ftd_tables.proofs.Commits.{IsReadText}
 use Rattle.ftd_texts.proofs.Inside.{stays_read}
 use Rattle.ftd_texts.specs.Texts.{select_payment, key_given, payment_shown}
 use Rattle.ftd_texts.specs.Tests.{is_payment}
@@ -37,8 +38,8 @@ use Rattle.ftd_texts.specs.Tests.{is_payment}
 abbrev columns : List (Phrase × List ℕ)
 columns = (Column (codes "paid"), codes "paid") ∷ (Column (codes "for_day"), codes "for_day") ∷ (Column (codes "cents"), codes "cents") ∷ (Column (codes "voided"), codes "voided") ∷ []
 
-abbrev where_is : Phrase
-where_is = Two And (Two Eq (Column (codes "account")) (Given 1)) (Two Eq (Column (codes "payment")) (Given 2))
+abbrev where_is : Option Phrase
+where_is = Some (Two And (Two Eq (Column (codes "account")) (Given 1)) (Two Eq (Column (codes "payment")) (Given 2)))
 
 abbrev order : List (Phrase × Bool)
 order = []
@@ -58,6 +59,10 @@ statement = a_select (codes "payment") columns where_is order
 reads : Reads select_payment (written.Select statement)
 unfolding everything
 reads = record { read = _; is = refl; said = refl; untimed = refl; whole = refl }
+
+-- the text is a reading
+pub of_reading : IsReadText select_payment
+of_reading = (_, reads)
 
 opens : ast.out-Select statement ≡ select_in (core (codes "payment") columns where_is) (map sort order)
 unfolding everything

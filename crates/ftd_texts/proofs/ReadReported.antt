@@ -1,5 +1,5 @@
 -- Reading the figure reported for an account's quarter.
-use Rattle.std.proofs.Common.{◌≡◌, ℕ, List, [], ◌∷◌, map, Bool, false, refl, codes, subst}
+use Rattle.std.proofs.Common.{◌≡◌, ℕ, List, [], ◌∷◌, map, Bool, false, refl, codes, subst, Option, Some}
 use Rattle.std.specs.Prelude.{filter}
 use Rattle.std.specs.List.Sorted.{IsPermutation}
 use Rattle.sqlite.specs.Schema.{Schema}
@@ -30,6 +30,7 @@ use Rattle.ftd_tables.proofs.Phrase.{Phrase, Column, Given, Two, And, Eq}
 use Rattle.ftd_tables.proofs.Meaning.{IsAccepted, Reads, Means}
 use Rattle.ftd_tables.proofs.Selects.{a_select, core, select_in, core_in, page, sort, Resolves, selects, out}
 use Rattle.ftd_tables.proofs.OneRow.{Tests, shows_rows}
+use Rattle.ftd_tables.proofs.Commits.{IsReadText}
 use Rattle.ftd_texts.proofs.Inside.{stays_read}
 use Rattle.ftd_texts.specs.Texts.{select_reported, quarter_given, reported_shown}
 use Rattle.ftd_texts.specs.Tests.{is_reported}
@@ -37,8 +38,8 @@ use Rattle.ftd_texts.specs.Tests.{is_reported}
 abbrev columns : List (Phrase × List ℕ)
 columns = (Column (codes "cents"), codes "cents") ∷ []
 
-abbrev where_is : Phrase
-where_is = Two And (Two And (Two Eq (Column (codes "account")) (Given 1)) (Two Eq (Column (codes "cal_year")) (Given 2))) (Two Eq (Column (codes "quarter")) (Given 3))
+abbrev where_is : Option Phrase
+where_is = Some (Two And (Two And (Two Eq (Column (codes "account")) (Given 1)) (Two Eq (Column (codes "cal_year")) (Given 2))) (Two Eq (Column (codes "quarter")) (Given 3)))
 
 abbrev order : List (Phrase × Bool)
 order = []
@@ -58,6 +59,10 @@ statement = a_select (codes "reported") columns where_is order
 reads : Reads select_reported (written.Select statement)
 unfolding everything
 reads = record { read = _; is = refl; said = refl; untimed = refl; whole = refl }
+
+-- the text is a reading
+pub of_reading : IsReadText select_reported
+of_reading = (_, reads)
 
 opens : ast.out-Select statement ≡ select_in (core (codes "reported") columns where_is) (map sort order)
 unfolding everything

@@ -15,7 +15,7 @@ use Rattle.sqlite_draft.specs.declared.query.Draft.{Draft}
 use Rattle.sqlite_draft.specs.declared.join.Step.TheVariants.{Inner}
 use Rattle.sqlite_draft.specs.Query.{query_of}
 use Rattle.sqlite_tied.specs.Compute.{everything}
-use Rattle.ftd_tables.specs.Places.{IsAt, Stands}
+use Rattle.ftd_tables.specs.Places.{IsAt, Stands, Becomes}
 use Rattle.ftd_tables.specs.Tables.{bucket_table}
 use Rattle.ftd_tables.specs.Rows.{Tables, bucket_cells}
 use Rattle.ftd_tables.proofs.KeptLemmas.{plain_query, text_is}
@@ -24,6 +24,7 @@ use Rattle.ftd_tables.proofs.Phrase.{Phrase, Column, Given, Two, And, Eq, Ge, Le
 use Rattle.ftd_tables.proofs.Meaning.{IsAccepted, Reads, Means, deletes}
 use Rattle.ftd_tables.proofs.OneRow.{Tests, takes_out}
 use Rattle.ftd_tables.proofs.Standing.{buckets_now}
+use Rattle.ftd_tables.proofs.Commits.{IsRowText}
 use Rattle.ftd_texts.proofs.Inside.{stays_inside}
 use Rattle.ftd_texts.specs.Texts.{delete_buckets, days_given}
 use Rattle.ftd_texts.specs.Tests.{is_bucket_between}
@@ -37,6 +38,10 @@ filters = op2 (Compare by.Eq Binary) (col 1 1) (col 0 0) ∷ op2 (Compare by.Ge 
 reads : Reads delete_buckets (written.Delete (codes "bucket") (Some (say where_is)) [])
 unfolding everything
 reads = record { read = _; is = refl; said = refl; untimed = refl; whole = refl }
+
+-- the text speaks of rows
+pub of_rows : IsRowText delete_buckets
+of_rows = (_, reads, tt)
 
 abbrev draft : ℕ → Draft
 draft tree = simple (Inner tree ∷ []) filters (col 1 0 ∷ [])
@@ -59,7 +64,7 @@ pub tested : (account : List ℕ) (from to : ℕ) → Tests bucket_cells (is_buc
 tested account from to p = three_pass _ _ _ _ _ _ (text_is p.1.account account) (day_at_least_is p.1.first from) (day_at_most_is p.1.first to)
 
 pub removes : (old new : State) (account : List ℕ) (from to count : ℕ) (t : Tables) → Stands old.now t → Executes delete_buckets (days_given account from to) old new (Ok count)
-    → Stands new.now (record t { buckets = filter (λ b. not (is_bucket_between account from to b)) t.buckets })
+    → Becomes old.now new.now (record t { buckets = filter (λ b. not (is_bucket_between account from to b)) t.buckets })
 removes old new account from to count t stands h =
     let s = old.now.schema in
     let l = stands.buckets in

@@ -19,7 +19,7 @@ use Rattle.sqlite_draft.specs.declared.query.Draft.{Draft}
 use Rattle.sqlite_draft.specs.declared.join.Step.TheVariants.{Inner}
 use Rattle.sqlite_draft.specs.Query.{query_of}
 use Rattle.sqlite_tied.specs.Compute.{everything}
-use Rattle.ftd_tables.specs.Places.{IsAt, Stands}
+use Rattle.ftd_tables.specs.Places.{IsAt, Stands, Becomes}
 use Rattle.ftd_tables.specs.Tables.{payment_table}
 use Rattle.ftd_tables.specs.Kept.{stored, changed}
 use Rattle.ftd_tables.specs.Rows.{Tables, Payment, payment_cells}
@@ -31,6 +31,7 @@ use Rattle.ftd_tables.proofs.Selects.{all_known}
 use Rattle.ftd_tables.proofs.Updates.{setting, updates}
 use Rattle.ftd_tables.proofs.OneRow.{Tests, changes_row, changes_none}
 use Rattle.ftd_tables.proofs.Standing.{payments_now}
+use Rattle.ftd_tables.proofs.Commits.{IsRowText}
 use Rattle.ftd_texts.proofs.Inside.{stays_inside}
 use Rattle.ftd_texts.specs.Texts.{void_payment, key_given}
 use Rattle.ftd_texts.specs.Tests.{is_payment, voided_payment}
@@ -50,6 +51,10 @@ project = col 1 0 ∷ col 1 0 ∷ col 1 1 ∷ col 1 2 ∷ col 1 3 ∷ col 1 4 �
 reads : Reads void_payment (written.Update (codes "payment") (map setting sets) (Some (say where_is)) [])
 unfolding everything
 reads = record { read = _; is = refl; said = refl; untimed = refl; whole = refl }
+
+-- the text speaks of rows
+pub of_rows : IsRowText void_payment
+of_rows = (_, reads, tt)
 
 abbrev draft : ℕ → Draft
 draft tree = simple (Inner tree ∷ []) filters project
@@ -76,7 +81,7 @@ recast tree params p = rw (cast_int, cast_int, cast_int, cast_int, cast_int, cas
 
 -- where one row was changed, it is the row of the key
 pub marks : (old new : State) (account : List ℕ) (number : ℕ) (t : Tables) → Stands old.now t → Executes void_payment (key_given account number) old new (Ok 1)
-    → Stands new.now (record t { payments = map (changed (is_payment account number) voided_payment) t.payments })
+    → Becomes old.now new.now (record t { payments = map (changed (is_payment account number) voided_payment) t.payments }) × ((x : Payment) × (filter (is_payment account number) t.payments ≡ x ∷ []))
 marks old new account number t stands h =
     let s = old.now.schema in
     let l = stands.payments in
@@ -84,11 +89,11 @@ marks old new account number t stands h =
     let params = key_given account number in
     let w = runs_as void_payment params old new s refl _ m.is m.plain 1 h in
     let made = changes_row old new _ _ _ _ payment_cells t.payments (is_payment account number) voided_payment l filters project _ params (tested account number) (recast l.tree params) (λ p. refl) w in
-    payments_now old.now new.now t _ stands made.0 made.1
+    (payments_now old.now new.now t _ stands made.0 made.1, made.2)
 
 -- where none was changed, there is no row of the key, and all stays
 pub marks_none : (old new : State) (account : List ℕ) (number : ℕ) (t : Tables) → Stands old.now t → Executes void_payment (key_given account number) old new (Ok 0)
-    → Stands new.now t × (filter (is_payment account number) t.payments ≡ [])
+    → Becomes old.now new.now t × (filter (is_payment account number) t.payments ≡ [])
 marks_none old new account number t stands h =
     let s = old.now.schema in
     let l = stands.payments in

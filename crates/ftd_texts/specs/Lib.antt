@@ -1,2 +1,4 @@
 pub mod Texts
 pub mod Tests
+pub mod Orders
+pub mod New

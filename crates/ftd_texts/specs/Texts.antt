@@ -95,6 +95,9 @@ calendar_given year = number_cell year ∷ []
 abbrev pub quarter_given : List ℕ → ℕ → ℕ → Row
 quarter_given account year quarter = Text account ∷ number_cell year ∷ number_cell quarter ∷ []
 
+abbrev pub select_meta : List ℕ
+select_meta = codes "SELECT tag, version FROM ftd_meta"
+
 abbrev pub select_account : List ℕ
 select_account = codes "SELECT start, carried FROM account WHERE name = ?1"
 
@@ -203,3 +206,11 @@ create_payment = codes "CREATE TABLE payment (account TEXT NOT NULL REFERENCES a
 
 abbrev pub create_bucket : List ℕ
 create_bucket = codes "CREATE TABLE bucket (account TEXT NOT NULL REFERENCES account(name), first_day INTEGER NOT NULL, last_day INTEGER NOT NULL, rule INTEGER NOT NULL, cents INTEGER NOT NULL, due INTEGER NOT NULL, PRIMARY KEY (account, first_day)) STRICT"
+
+-- ---- the indexes by day, beside the tables
+
+abbrev pub index_runs : List ℕ
+index_runs = codes "CREATE INDEX run_by_payday ON run (account, payday, run)"
+
+abbrev pub index_payments : List ℕ
+index_payments = codes "CREATE INDEX payment_by_day ON payment (account, for_day, payment)"
