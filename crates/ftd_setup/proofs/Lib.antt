@@ -1,0 +1,4 @@
+pub mod Controls
+pub mod Leaves
+pub mod Versions
+pub mod WhileMade
