@@ -1,0 +1,69 @@
+#!/bin/sh
+# Writes a database with the store and reads it by sqlite3's command line: the file is whole, the nine tables have
+# their columns and types, and the rows are there. Run it at the top after
+# `cd crates/ftd_store_bench && rt run -- :memory: 10` has built the program. It needs Debian's sqlite3.
+set -eu
+top=$(cd "$(dirname "$0")/.." && pwd)
+folder=$(mktemp -d)
+trap 'rm -r "$folder"' EXIT
+"$top/crates/ftd_store_bench/out/ftd_store_bench" "$folder/desk.db" 3 2>"$folder/times" >"$folder/sums"
+sqlite3 "$folder/desk.db" >"$folder/found" <<'SQL'
+PRAGMA integrity_check;
+PRAGMA foreign_key_check;
+SELECT m.name, c.name, c.type, c."notnull", c.pk FROM sqlite_schema m, pragma_table_info(m.name) c
+  WHERE m.type = 'table' ORDER BY m.rowid, c.cid;
+SELECT tbl_name, name FROM sqlite_schema WHERE type = 'index' AND sql IS NOT NULL ORDER BY name;
+SELECT * FROM ftd_meta;
+SELECT * FROM account;
+SELECT * FROM run WHERE run < 3 ORDER BY run;
+SELECT count(*) FROM run;
+SQL
+cat >"$folder/expected" <<'TEXT'
+ok
+ftd_meta|tag|TEXT|1|1
+ftd_meta|version|INTEGER|1|0
+account|name|TEXT|1|1
+account|start|INTEGER|1|0
+account|carried|INTEGER|1|0
+reported|account|TEXT|1|1
+reported|cal_year|INTEGER|1|2
+reported|quarter|INTEGER|1|3
+reported|cents|INTEGER|1|0
+calendar_year|cal_year|INT|1|1
+holiday|day|INT|1|1
+holiday|cal_year|INTEGER|1|0
+year|account|TEXT|1|1
+year|cal_year|INTEGER|1|2
+year|lookback|INTEGER|1|0
+year|opening|INTEGER|1|0
+year|turn|INTEGER|0|0
+run|account|TEXT|1|1
+run|run|INTEGER|1|2
+run|payday|INTEGER|1|0
+run|fit|INTEGER|1|0
+run|ss|INTEGER|1|0
+run|medicare|INTEGER|1|0
+run|voided|INTEGER|1|0
+payment|account|TEXT|1|1
+payment|payment|INTEGER|1|2
+payment|paid|INTEGER|1|0
+payment|for_day|INTEGER|1|0
+payment|cents|INTEGER|1|0
+payment|voided|INTEGER|1|0
+bucket|account|TEXT|1|1
+bucket|first_day|INTEGER|1|2
+bucket|last_day|INTEGER|1|0
+bucket|rule|INTEGER|1|0
+bucket|cents|INTEGER|1|0
+bucket|due|INTEGER|1|0
+payment|payment_by_day
+run|run_by_payday
+ftd|1
+ash|19723|0
+ash|0|19723|100000|24800|5800|0
+ash|1|19956|100001|24800|5800|0
+ash|2|19823|100002|24800|5800|0
+103
+TEXT
+diff "$folder/expected" "$folder/found"
+echo "sqlite3 reads what the store wrote"
