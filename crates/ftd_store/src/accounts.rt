@@ -48,7 +48,7 @@ impl<S: Alter> Store<S> {
 }
 
 impl<'store, S: Alter> Tx<'store, S> {
-    /// Adds an account.
+    /// Adds an account. `Store` where the name is taken.
     pub fn add_account(&mut self, name: &str, account: Account) -> Result<(), StoreFault>
         ensures same_reference { BorrowsSame self.old self.new }
         ensures rows { HasCleanDisk (shown S.Store self.new) → OnOk result (Changes (shown S.Store self.old) (shown S.Store self.new) (λ t. record t { accounts = t.accounts ++ account_row name.now account ∷ [] })) }
@@ -67,7 +67,7 @@ impl<'store, S: Alter> Tx<'store, S> {
         added
     }
 
-    /// The account of the name, or None.
+    /// The account of the name, or None. Nothing is changed.
     pub fn account(&mut self, name: &str) -> Result<Option<Account>, StoreFault>
         ensures same_reference { BorrowsSame self.old self.new }
         ensures rows { HasCleanDisk (shown S.Store self.new) → IfOk result (λ found. Tells (shown S.Store self.old) (shown S.Store self.new) (λ t. filter (is_account name.now) t.accounts ≡ rows_of (account_row name.now) found)) }

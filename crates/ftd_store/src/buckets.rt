@@ -101,7 +101,7 @@ impl<S: Alter> Store<S> {
 }
 
 impl<'store, S: Alter> Tx<'store, S> {
-    /// The account's obligations with a first day from `from` to `to`, by first day.
+    /// The account's obligations with a first day from `from` to `to`, by first day. Nothing is changed.
     pub fn buckets(
         &mut self,
         alloc: Global,
@@ -127,6 +127,8 @@ impl<'store, S: Alter> Tx<'store, S> {
     }
 
     /// Takes out the account's obligations with a first day from `from` to `to`, and adds the given ones in their order.
+    /// `Store` where the account is not there, where a first day is there already or comes twice, and where an amount is
+    /// 2^63 cents or more.
     pub fn replace_buckets(
         &mut self,
         account: &str,

@@ -110,7 +110,8 @@ impl<S: Alter> Store<S> {
 }
 
 impl<'store, S: Alter> Tx<'store, S> {
-    /// Adds the calendar of the year: the year itself, and its holidays in the order in which they are given.
+    /// Adds the calendar of the year: the year itself, and its holidays in the order in which they are given. `Store` where
+    /// the year or one of the days is there already.
     pub fn add_calendar(&mut self, year: u32, days: &[Day]) -> Result<(), StoreFault>
         ensures same_reference { BorrowsSame self.old self.new }
         ensures rows { HasCleanDisk (shown S.Store self.new) → OnOk result (Changes (shown S.Store self.old) (shown S.Store self.new) (λ t. record t { calendar_years = t.calendar_years ++ calendar_row year ∷ []; holidays = t.holidays ++ map (holiday_row year) days.now })) }
@@ -129,7 +130,7 @@ impl<'store, S: Alter> Tx<'store, S> {
         added
     }
 
-    /// The holidays of the year, rising, or None where its calendar was not added.
+    /// The holidays of the year, rising, or None where its calendar was not added. Nothing is changed.
     pub fn calendar(&mut self, alloc: Global, year: u32) -> Result<Option<Vec<Day>>, StoreFault>
         ensures same_reference { BorrowsSame self.old self.new }
         ensures rows { HasCleanDisk (shown S.Store self.new) → IfOk result (λ found. Tells (shown S.Store self.old) (shown S.Store self.new) (λ t. IsCalendar year t found)) }

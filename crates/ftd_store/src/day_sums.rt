@@ -46,7 +46,8 @@ impl<S: Alter> Store<S> {
 
 impl<'store, S: Alter> Tx<'store, S> {
     /// The account's liability day by day, rising, for the paydays from `from` to `to`. Void runs and days on which
-    /// nothing is owed are left out. `Store` also where the amounts of a day do not fit in a `u64` of cents.
+    /// nothing is owed are left out. `Store` also where the amounts of a day do not fit in a `u64` of cents. Nothing is
+    /// changed.
     pub fn day_sums(
         &mut self,
         alloc: Global,

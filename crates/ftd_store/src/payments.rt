@@ -104,7 +104,8 @@ impl<S: Alter> Store<S> {
 }
 
 impl<'store, S: Alter> Tx<'store, S> {
-    /// Adds a payment of the account, which is not void.
+    /// Adds a payment of the account, which is not void. `Store` where the number is taken, where the account is not there,
+    /// and where the amount is 2^63 cents or more.
     pub fn add_payment(
         &mut self,
         account: &str,
@@ -128,7 +129,7 @@ impl<'store, S: Alter> Tx<'store, S> {
         added
     }
 
-    /// The account's payment of the number, or None.
+    /// The account's payment of the number, void or not, or None. Nothing is changed.
     pub fn payment(&mut self, account: &str, number: u32) -> Result<Option<KeptPayment>, StoreFault>
         ensures same_reference { BorrowsSame self.old self.new }
         ensures rows { HasCleanDisk (shown S.Store self.new) → IfOk result (λ found. Tells (shown S.Store self.old) (shown S.Store self.new) (λ t. filter (is_payment account.now number) t.payments ≡ rows_of (kept_payment_row account.now number) found)) }
@@ -147,7 +148,7 @@ impl<'store, S: Alter> Tx<'store, S> {
         found
     }
 
-    /// Marks the account's payment of the number as void. `Store` where there is none.
+    /// Marks the account's payment of the number as void, or leaves it so. `Store` where there is none.
     pub fn void_payment(&mut self, account: &str, number: u32) -> Result<(), StoreFault>
         ensures same_reference { BorrowsSame self.old self.new }
         ensures rows { HasCleanDisk (shown S.Store self.new) → OnOk result (Changes (shown S.Store self.old) (shown S.Store self.new) (λ t. record t { payments = map (changed (is_payment account.now number) voided_payment) t.payments })) }
@@ -167,7 +168,7 @@ impl<'store, S: Alter> Tx<'store, S> {
         voided
     }
 
-    /// The account's payments for the days from `from` to `to` that are not void, by day and number.
+    /// The account's payments for the days from `from` to `to` that are not void, by day and number. Nothing is changed.
     pub fn payments_for(
         &mut self,
         alloc: Global,

@@ -59,7 +59,8 @@ impl<S: Alter> Store<S> {
 }
 
 impl<'store, S: Alter> Tx<'store, S> {
-    /// Adds the total that the account reported for a quarter.
+    /// Adds the total that the account reported for a quarter. `Store` where the quarter has one, where the account is not
+    /// there, and where the amount is 2^63 cents or more.
     pub fn add_reported(
         &mut self,
         account: &str,
@@ -83,7 +84,7 @@ impl<'store, S: Alter> Tx<'store, S> {
         added
     }
 
-    /// What the account reported for the quarter, or None.
+    /// What the account reported for the quarter, or None. Nothing is changed.
     pub fn reported(&mut self, account: &str, quarter: Quarter) -> Result<Option<Cents>, StoreFault>
         ensures same_reference { BorrowsSame self.old self.new }
         ensures rows { HasCleanDisk (shown S.Store self.new) → IfOk result (λ found. Tells (shown S.Store self.old) (shown S.Store self.new) (λ t. filter (is_reported account.now (quarter_year quarter) (quarter_number quarter)) t.reported ≡ rows_of (reported_row account.now quarter) found)) }

@@ -74,7 +74,8 @@ impl<S: Alter> Store<S> {
 }
 
 impl<'store, S: Alter> Tx<'store, S> {
-    /// Adds a run of the account, which is not void.
+    /// Adds a run of the account, which is not void. `Store` where the number is taken, where the account is not there, and
+    /// where an amount is 2^63 cents or more.
     pub fn add_run(&mut self, account: &str, number: u32, run: PayRun) -> Result<(), StoreFault>
         ensures same_reference { BorrowsSame self.old self.new }
         ensures rows { HasCleanDisk (shown S.Store self.new) → OnOk result (Changes (shown S.Store self.old) (shown S.Store self.new) (λ t. record t { runs = t.runs ++ run_row account.now number run false ∷ [] })) }
@@ -93,7 +94,7 @@ impl<'store, S: Alter> Tx<'store, S> {
         added
     }
 
-    /// The account's run of the number, or None.
+    /// The account's run of the number, void or not, or None. Nothing is changed.
     pub fn run(&mut self, account: &str, number: u32) -> Result<Option<KeptRun>, StoreFault>
         ensures same_reference { BorrowsSame self.old self.new }
         ensures rows { HasCleanDisk (shown S.Store self.new) → IfOk result (λ found. Tells (shown S.Store self.old) (shown S.Store self.new) (λ t. filter (is_run account.now number) t.runs ≡ rows_of (kept_run_row account.now number) found)) }
@@ -112,7 +113,7 @@ impl<'store, S: Alter> Tx<'store, S> {
         found
     }
 
-    /// Marks the account's run of the number as void. `Store` where there is none.
+    /// Marks the account's run of the number as void, or leaves it so. `Store` where there is none.
     pub fn void_run(&mut self, account: &str, number: u32) -> Result<(), StoreFault>
         ensures same_reference { BorrowsSame self.old self.new }
         ensures rows { HasCleanDisk (shown S.Store self.new) → OnOk result (Changes (shown S.Store self.old) (shown S.Store self.new) (λ t. record t { runs = map (changed (is_run account.now number) voided_run) t.runs })) }

@@ -95,7 +95,8 @@ impl<S: Alter> Store<S> {
         }
     }
 
-    /// Begins a transaction. `Memory` and `Store` leave the rows as they were.
+    /// Begins a transaction over the rows as they are. `Memory` and `Store` (also where one is under way) leave the rows from
+    /// the last commit.
     pub fn begin(&mut self) -> Result<Tx<'_, S>, StoreFault>
         ensures* rests { sem 𝓛 (store_rests S.row S.Store self.entry result) }
         ensures same_reference { IfOk result (λ tx. Borrows tx self.entry) }

@@ -11,8 +11,11 @@ use crate::store::Store;
 use ftd_values::StoreFault;
 use sqlite::Alter;
 
-/// A transaction. Dropped before `commit`, it changes nothing. Once a call on it failed, every later one answers
-/// `Store` and changes nothing.
+/// A transaction. Dropped before `commit`, it changes nothing.
+///
+/// Each call answers `Memory` where memory is refused, and `Store` where the database fails or has a row that is no value
+/// of its type; nothing is committed then. Once a call has failed, every later one answers `Store` and touches
+/// nothing, `commit` too. Days are whole days, amounts whole cents; a day or an amount is stored as `docs/FORMATS.md` says.
 pub struct Tx<'store, S: Alter> {
     pub(crate) store: &'store mut Store<S>,
     pub(crate) failed: bool,

@@ -1,7 +1,8 @@
 -- The rows of the open years.
-use Rattle.std.proofs.Common.{◌≡◌, ℕ, Option, None, Some, List, [], ◌∷◌, ◌++◌, map, inl, inr, refl, sym, ap, ◌∙◌, true, Bool, length, MatchOption}
+use Rattle.std.proofs.Common.{◌≡◌, ◌<◌, ◌≤◌, ◌+◌, zero, suc, get_or, arith, ℕ, Option, None, Some, List, [], ◌∷◌, ◌++◌, map, inl, inr, refl, sym, ap, ◌∙◌, true, Bool, length, MatchOption}
 use Rattle.std.specs.Prelude.{filter, bytes_eq, ◌==◌}
 use Rattle.std.proofs.lemmas.Bool.{cases_Bool, eqb-true}
+use Rattle.ftd_rules.specs.Years.{AreOpenYears, YearsFrom}
 use Rattle.sqlite.specs.Values.{or_null, bound_value}
 use Rattle.ftd_tables.specs.Rows.{Account, Year, day_cell}
 use Rattle.ftd_tables.specs.Kept.{changed}
@@ -61,3 +62,25 @@ pub carried_as : (name : List ℕ) (found : Option AccountValue) (mark : Option 
 carried_as name found mark accounts [] is same starts = tt
 carried_as name None mark accounts (line ∷ lines) is same starts = absurd (let e = sym same ∙ starts line lines refl in cc)
 carried_as name (Some a) mark accounts (line ∷ lines) is same starts = (account_row name a, is, let e = sym same ∙ starts line lines refl in cc)
+
+-- ---- the years of lines that go on one by one
+
+years_end : (year : ℕ) (lines : List YearLine) → YearsFrom year lines → year ≤ 2099
+years_end year [] h = h
+years_end year (line ∷ lines) h = let more = years_end (year + 1) lines h.1 in omega (arith, more)
+
+years_at : (year : ℕ) (lines : List YearLine) (i : ℕ) (d : YearLine) → YearsFrom year lines → i < length lines → ((get_or lines i d).year ≡ year + i) × (year + i ≤ 2098)
+years_at year [] i d h within = absurd (omega (arith, within))
+years_at year (line ∷ lines) zero d h within = let more = years_end (year + 1) lines h.1 in (omega (arith, h.0), omega (arith, more))
+years_at year (line ∷ lines) (suc i) d h within = let more = years_at (year + 1) lines i d h.1 (omega (arith, within)) in (omega (arith, more.0), omega (arith, more.1))
+
+-- where the first line's year is known, so is each other's
+pub open_years_at : (lines : List YearLine) (first : ℕ) → (lines ≡ [] → first ≡ 2001) → ((line : YearLine) (more : List YearLine) → lines ≡ line ∷ more → first ≡ line.year) → AreOpenYears lines
+    → (2001 ≤ first) × (first ≤ 2099) × ((i : ℕ) (d : YearLine) → i < length lines → ((get_or lines i d).year ≡ first + i) × (first + i ≤ 2098))
+open_years_at [] first none some h = let is = none refl in (omega (arith, is), omega (arith, is), (λ i d within. absurd (omega (arith, within))))
+open_years_at (line ∷ lines) first none some h =
+    let is = some line lines refl in
+    let same : first ≡ h.0 = is ∙ h.2.0 in
+    let low = h.1 in
+    let end = years_end h.0 (line ∷ lines) h.2 in
+    (omega (arith, same, low), omega (arith, same, end), (λ i d within. rw same (years_at h.0 (line ∷ lines) i d h.2 within)))

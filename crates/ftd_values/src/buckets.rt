@@ -13,6 +13,7 @@ use std::alloc::Global;
 
 fn rule(number: u32) -> Result<Rule, StoreFault>
     ensures value { IfOk result (λ rule. number ≡ rule_code rule) }
+    ensures bad { IfErr result (λ _. (rule : Rule) → ¬ (number ≡ rule_code rule)) }
     ensures why { IfErr result IsFault }
 {
     match number {

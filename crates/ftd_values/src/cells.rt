@@ -1,6 +1,6 @@
 //! Values as the cells of a row, and back.
 
-ghost use Rattle.std.specs.Prelude.{◌≡◌, ◌<◌, ◌≤◌, ◌^◌, pos, ◌-ℤ◌, length, IfOk, IfErr, if◌then◌else◌};
+ghost use Rattle.std.specs.Prelude.{◌≡◌, ◌<◌, ◌≤◌, ◌^◌, pos, ◌-ℤ◌, ℕ, length, IfOk, IfErr, Err, if◌then◌else◌};
 ghost use Rattle.sqlite_value.specs.Order.{column};
 ghost use Rattle.ftd_values.specs.Faults.{IsFault};
 
@@ -24,6 +24,7 @@ pub fn whole(amount: Cents) -> Result<i64, StoreFault>
 // a cell of a row
 pub(crate) fn cell<T: FromSql>(row: &Row, at: usize) -> Result<T, StoreFault>
     ensures value { IfOk result (λ x. (at < length row.now) × T.FromSql.reads_as (column row.now at) x) }
+    ensures bad { result ≡ Err StoreFault.Store → at < length row.now → ¬ T.FromSql.is_readable (column row.now at) }
     ensures why { IfErr result IsFault }
 {
     match row.get(at) {
@@ -35,6 +36,7 @@ pub(crate) fn cell<T: FromSql>(row: &Row, at: usize) -> Result<T, StoreFault>
 // the day of a cell
 pub(crate) fn day(number: i32) -> Result<Day, StoreFault>
     ensures value { IfOk result (λ day. number ≡ pos day -ℤ pos 25_567) }
+    ensures bad { IfErr result (λ _. (day : ℕ) → day ≤ 109_572 → ¬ (number ≡ pos day -ℤ pos 25_567)) }
     ensures why { IfErr result IsFault }
 {
     match Day::from_number(number) {
@@ -46,6 +48,7 @@ pub(crate) fn day(number: i32) -> Result<Day, StoreFault>
 // the mark of a cell
 pub(crate) fn mark(number: u32) -> Result<bool, StoreFault>
     ensures value { IfOk result (λ mark. pos number ≡ (if mark then pos 1 else pos 0)) }
+    ensures bad { IfErr result (λ _. 1 < number) }
     ensures why { IfErr result IsFault }
 {
     match number {

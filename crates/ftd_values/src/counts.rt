@@ -1,6 +1,6 @@
 //! How many runs and payments an account has.
 
-ghost use Rattle.std.specs.Prelude.{◌≡◌, ◌<◌, ◌^◌, [], ◌∷◌, IfOk, IfErr, Err};
+ghost use Rattle.std.specs.Prelude.{◌≡◌, ◌<◌, ◌^◌, ℕ, [], ◌∷◌, IfOk, IfErr, Err};
 ghost use Rattle.ftd_tables.specs.Rows.{number_cell};
 ghost use Rattle.ftd_values.specs.Faults.{IsFault};
 
@@ -12,6 +12,7 @@ use sqlite::Row;
 pub fn only_count(rows: &[Row]) -> Result<u32, StoreFault>
     ensures value { IfOk result (λ count. rows.now ≡ (number_cell count ∷ []) ∷ []) }
     ensures small { IfOk result (λ count. count < 2 ^ 32) }
+    ensures bad { result ≡ Err StoreFault.Store → (count : ℕ) → count < 2 ^ 32 → ¬ (rows.now ≡ (number_cell count ∷ []) ∷ []) }
     ensures why { IfErr result IsFault }
 {
     match rows {

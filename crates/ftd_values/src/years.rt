@@ -1,6 +1,6 @@
 //! The open years of the accounts.
 
-ghost use Rattle.std.specs.Prelude.{◌≡◌, ◌↔◌, true, false, map, List, ◌∷◌, IsTrue, MatchOption, IfOk, IfErr, OnOk, Ok, Err};
+ghost use Rattle.std.specs.Prelude.{◌≡◌, ◌↔◌, true, false, map, List, ◌∷◌, IsTrue, MatchOption, IfOk, IfErr, OnOk, Ok, Err, [], ℕ, ◌≤◌};
 ghost use Rattle.std.specs.List.{All};
 ghost use Rattle.sqlite.specs.Values.{or_null};
 ghost use Rattle.sqlite.specs.declared.types.Value.TheVariants.{Int};
@@ -40,6 +40,7 @@ pub fn stored_turn(turn: Option<Day>) -> Option<i32>
 
 fn opening(number: u32) -> Result<Kind, StoreFault>
     ensures value { IfOk result (λ kind. number ≡ opening_code kind) }
+    ensures bad { IfErr result (λ _. (kind : Kind) → ¬ (number ≡ opening_code kind)) }
     ensures why { IfErr result IsFault }
 {
     match number {
@@ -52,6 +53,7 @@ fn opening(number: u32) -> Result<Kind, StoreFault>
 // the turn of a cell
 fn turn(number: Option<i32>) -> Result<Option<Day>, StoreFault>
     ensures value { IfOk result (λ turn. or_null Int number ≡ or_null day_cell turn) }
+    ensures bad { IfErr result (λ _. (day : ℕ) → day ≤ 109_572 → ¬ (or_null Int number ≡ day_cell day)) }
     ensures why { IfErr result IsFault }
 {
     match number {
@@ -125,7 +127,8 @@ fn turn_fits(line: &YearLine) -> bool
 
 // the first line's year; any year serves where there is none
 fn first_year(lines: &[YearLine]) -> u32
-    ensures { (line : YearLine) (more : List YearLine) → lines.now ≡ line ∷ more → result ≡ line.year }
+    ensures some { (line : YearLine) (more : List YearLine) → lines.now ≡ line ∷ more → result ≡ line.year }
+    ensures none { lines.now ≡ [] → result ≡ 2001 }
 {
     match lines.first() {
         Some(line) => line.year,
@@ -138,6 +141,7 @@ fn first_year(lines: &[YearLine]) -> u32
 pub fn check_years(lines: &[YearLine]) -> Result<(), StoreFault>
     ensures whole { OnOk result (AreOpenYears lines.now) }
     ensures turns { OnOk result (All HasFittingTurn lines.now) }
+    ensures bad { IfErr result (λ _. AreOpenYears lines.now → ¬ All HasFittingTurn lines.now) }
     ensures why { IfErr result IsFault }
 {
     let first = first_year(lines);
