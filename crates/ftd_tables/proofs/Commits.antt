@@ -41,7 +41,7 @@ abbrev pub IsReadText : List ℕ → Type 0
 IsReadText text = (q : ast.Select) × Reads text (written.Select q)
 
 -- the command reads or writes rows
-abbrev OnRows : Command → Type 0
+abbrev pub OnRows : Command → Type 0
 OnRows (Select q names) = ⊤
 OnRows (Insert at source) = ⊤
 OnRows (Update at q) = ⊤
@@ -118,7 +118,7 @@ on_picked (Ok d) each c e = go (is_select d.command) e
     go false e = absurd cc
 on_picked (Err k) each c e = absurd cc
 
-on_rows : (s : Schema) (text : List ℕ) → IsRowText text → (c : Compiled) → understood s text ≡ Ok c → OnRows c.command
+pub on_rows : (s : Schema) (text : List ℕ) → IsRowText text → (c : Compiled) → understood s text ≡ Ok c → OnRows c.command
 unfolding understood
 on_rows s text t c h = go (misses_table (compiled s text)) h
   where

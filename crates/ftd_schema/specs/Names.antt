@@ -1,0 +1,34 @@
+-- The names of the desk's tables.
+use Rattle.std.specs.Prelude.{ℕ, Bool, List, [], ◌∷◌, codes, ◌||◌, is_some}
+use Rattle.std.specs.List.{list_any}
+use Rattle.sqlite_schema.specs.declared.schema.Schema.{Schema}
+use Rattle.sqlite_schema.specs.Names.{table_named, view_named}
+use Rattle.ftd_schema.specs.declared.TableName.{TableName}
+use Rattle.ftd_schema.specs.declared.TableName.TheVariants.{Metas, Accounts, ReportedQuarters, CalendarYears, Holidays, Years, Runs, Payments, Obligations, Forms, ReportedYears, AddedHolidays}
+
+-- as it is written in SQL
+abbrev pub name_of : TableName → List ℕ
+name_of Metas = codes "ftd_meta"
+name_of Accounts = codes "account"
+name_of ReportedQuarters = codes "reported"
+name_of CalendarYears = codes "calendar_year"
+name_of Holidays = codes "holiday"
+name_of Years = codes "year"
+name_of Runs = codes "run"
+name_of Payments = codes "payment"
+name_of Obligations = codes "bucket"
+name_of Forms = codes "account_form"
+name_of ReportedYears = codes "reported_year"
+name_of AddedHolidays = codes "added_holiday"
+
+-- in the order in which they are made
+abbrev pub all_names : List TableName
+all_names = Metas ∷ Accounts ∷ ReportedQuarters ∷ CalendarYears ∷ Holidays ∷ Years ∷ Runs ∷ Payments ∷ Obligations ∷ Forms ∷ ReportedYears ∷ AddedHolidays ∷ []
+
+-- a table or a view has the name; small and capital letters are not told apart
+abbrev pub has_name : Schema → List ℕ → Bool
+has_name s name = is_some (table_named s name) || is_some (view_named s name)
+
+-- one of the names is there
+abbrev pub has_any : Schema → Bool
+has_any s = list_any (λ n. has_name s (name_of n)) all_names

@@ -1,0 +1,75 @@
+//! The names of the desk's tables, for code and for contracts.
+#![tactic(auto)]
+
+ghost use Rattle.std.specs.Prelude.{◌≡◌};
+ghost use Rattle.ftd_schema.specs.Names.{name_of, has_name, has_any};
+
+use sqlite_schema::schema::Schema;
+
+/// One of the desk's tables.
+#[derive(Clone, Copy)]
+pub enum TableName {
+    Metas,
+    Accounts,
+    ReportedQuarters,
+    CalendarYears,
+    Holidays,
+    Years,
+    Runs,
+    Payments,
+    Obligations,
+    Forms,
+    ReportedYears,
+    AddedHolidays,
+}
+
+impl TableName {
+    /// As it is written in SQL.
+    pub fn text(self) -> &'static [u8]
+        ensures { result.now ≡ name_of self }
+    {
+        match self {
+            TableName::Metas => b"ftd_meta",
+            TableName::Accounts => b"account",
+            TableName::ReportedQuarters => b"reported",
+            TableName::CalendarYears => b"calendar_year",
+            TableName::Holidays => b"holiday",
+            TableName::Years => b"year",
+            TableName::Runs => b"run",
+            TableName::Payments => b"payment",
+            TableName::Obligations => b"bucket",
+            TableName::Forms => b"account_form",
+            TableName::ReportedYears => b"reported_year",
+            TableName::AddedHolidays => b"added_holiday",
+        }
+    }
+}
+
+/// All of them, in the order in which they are made.
+pub const ALL: [TableName; 12] = [
+    TableName::Metas,
+    TableName::Accounts,
+    TableName::ReportedQuarters,
+    TableName::CalendarYears,
+    TableName::Holidays,
+    TableName::Years,
+    TableName::Runs,
+    TableName::Payments,
+    TableName::Obligations,
+    TableName::Forms,
+    TableName::ReportedYears,
+    TableName::AddedHolidays,
+];
+
+fn has(schema: &Schema, name: &[u8]) -> bool
+    ensures { result ≡ has_name schema.now name.now }
+{
+    schema.table_named(name).is_some() || schema.view_named(name).is_some()
+}
+
+/// Whether a table or a view has one of the names.
+pub fn has_any(schema: &Schema) -> bool
+    ensures { result ≡ has_any schema.now }
+{
+    ALL.iter().any(|name| has(schema, name.text()))
+}

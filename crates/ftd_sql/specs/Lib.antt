@@ -1,0 +1,4 @@
+pub mod States
+pub mod Texts
+pub mod Tests
+pub mod New
