@@ -1,5 +1,5 @@
 -- What BEGIN, COMMIT and ROLLBACK do, and what a statement that fails leaves.
-use Rattle.std.proofs.Common.{◌≡◌, ◌⊎◌, inl, inr, ℕ, List, [], codes, Bool, true, false, not, IsTrue, refl, sym, ap, subst, ◌∙◌, Ok, Err, None, Result, length, arith, ◌≢◌, ◌+◌, zero, suc, cond, slice_get, Some, ◌∷◌}
+use Rattle.std.proofs.Common.{◌≡◌, ◌⊎◌, inl, inr, ℕ, List, [], codes, Bool, true, false, not, IsTrue, refl, sym, ap, subst, ◌∙◌, Ok, Err, None, Result, length, arith}
 use Rattle.std.specs.Prelude.{MatchBool, IsSome, IfOk, OnOk, OnErr}
 use Rattle.std.proofs.lemmas.Bool.{false≢true}
 use Rattle.sqlite.specs.Order.{Row}
@@ -17,11 +17,8 @@ use Rattle.sqlite.specs.Calls.{IsWrite}
 use Rattle.sqlite.proofs.StateLemmas.{survives_then}
 use Rattle.ftd_sql.specs.States.{CrashKeeps, ShowsAgain}
 use Rattle.sqlite.proofs.Callers.{IsPlain, command_of, runs_as}
-use Rattle.std.specs.List.{position_from}
-use Rattle.sqlite.specs.Table.{Table}
 use Rattle.sqlite.specs.Effect.{Database}
-use Rattle.sqlite_schema.specs.Names.{same_name, table_named}
-use Rattle.ftd_tables.specs.Places.{IsAt, KeepsTables}
+use Rattle.ftd_tables.specs.Places.{KeepsTables}
 use Rattle.sqlite_tied.specs.Compute.{everything}
 
 abbrev pub begin_text : List ℕ

@@ -3,6 +3,9 @@ pub mod Leaves
 pub mod Inside
 pub mod Passing
 pub mod Writing
+pub mod Shapes
 pub mod Reading
-pub mod Statements
+pub mod Asking
+pub mod Changing
+pub mod Meanings
 pub mod Making

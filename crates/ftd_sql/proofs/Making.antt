@@ -17,7 +17,7 @@ use Rattle.ftd_schema.specs.Names.{name_of, all_names}
 use Rattle.ftd_schema.specs.Rows.{cells_of}
 use Rattle.ftd_schema.specs.Layout.{table_of, references_of}
 use Rattle.ftd_schema.specs.Standing.{Stands, no_rows}
-use Rattle.ftd_sql.specs.New.{create_of, IsFree}
+use Rattle.ftd_sql.specs.Making.{create_of, IsFree}
 
 -- what the text says, with no look at a schema
 Says : TableName → Type 0

@@ -1,4 +1,6 @@
 pub mod States
-pub mod Texts
+pub mod Given
+pub mod Answers
 pub mod Tests
-pub mod New
+pub mod Orders
+pub mod Making

@@ -14,8 +14,8 @@ pub const SET_VERSION: &str = "UPDATE ftd_meta SET version = ?2 WHERE tag = ?1";
 
 /// The first day of the account of a name, and whether it was carried over.
 pub const READ_ACCOUNT: &str = "SELECT start, carried FROM account WHERE name = ?1";
-/// The names of all accounts, in their order.
-pub const LIST_ACCOUNTS: &str = "SELECT name FROM account ORDER BY name";
+/// The names of all accounts.
+pub const LIST_ACCOUNTS: &str = "SELECT name FROM account";
 /// Adds an account.
 pub const ADD_ACCOUNT: &str = "INSERT INTO account (name, start, carried) VALUES (?1, ?2, ?3)";
 /// The form of an account.
@@ -26,13 +26,17 @@ pub const ADD_FORM: &str = "INSERT INTO account_form (account, form) VALUES (?1,
 // ---- reported and reported_year
 
 /// The total that an account reported for a quarter.
-pub const READ_REPORTED: &str = "SELECT cents FROM reported WHERE account = ?1 AND cal_year = ?2 AND quarter = ?3";
+pub const READ_REPORTED: &str =
+    "SELECT cents FROM reported WHERE account = ?1 AND cal_year = ?2 AND quarter = ?3";
 /// Adds the total of a quarter.
-pub const ADD_REPORTED: &str = "INSERT INTO reported (account, cal_year, quarter, cents) VALUES (?1, ?2, ?3, ?4)";
+pub const ADD_REPORTED: &str =
+    "INSERT INTO reported (account, cal_year, quarter, cents) VALUES (?1, ?2, ?3, ?4)";
 /// The total that an account reported for a year.
-pub const READ_REPORTED_YEAR: &str = "SELECT cents FROM reported_year WHERE account = ?1 AND cal_year = ?2";
+pub const READ_REPORTED_YEAR: &str =
+    "SELECT cents FROM reported_year WHERE account = ?1 AND cal_year = ?2";
 /// Adds the total of a year.
-pub const ADD_REPORTED_YEAR: &str = "INSERT INTO reported_year (account, cal_year, cents) VALUES (?1, ?2, ?3)";
+pub const ADD_REPORTED_YEAR: &str =
+    "INSERT INTO reported_year (account, cal_year, cents) VALUES (?1, ?2, ?3)";
 
 // ---- calendar_year, holiday and added_holiday
 
@@ -45,54 +49,115 @@ pub const LIST_HOLIDAYS: &str = "SELECT day FROM holiday WHERE cal_year = ?1 ORD
 /// Adds a holiday that is given with its year.
 pub const ADD_HOLIDAY: &str = "INSERT INTO holiday (day, cal_year) VALUES (?1, ?2)";
 /// The holidays added to a given year, by day.
-pub const LIST_ADDED_HOLIDAYS: &str = "SELECT day FROM added_holiday WHERE cal_year = ?1 ORDER BY day";
+pub const LIST_ADDED_HOLIDAYS: &str =
+    "SELECT day FROM added_holiday WHERE cal_year = ?1 ORDER BY day";
 /// Adds a holiday to a given year.
 pub const ADD_ADDED_HOLIDAY: &str = "INSERT INTO added_holiday (day, cal_year) VALUES (?1, ?2)";
 
 // ---- year
 
 /// The open years of an account, by year.
-pub const LIST_YEARS: &str = "SELECT cal_year, lookback, opening, turn FROM year WHERE account = ?1 ORDER BY cal_year";
+pub const LIST_YEARS: &str =
+    "SELECT cal_year, lookback, opening, turn FROM year WHERE account = ?1 ORDER BY cal_year";
 /// Adds an open year.
-pub const ADD_YEAR: &str = "INSERT INTO year (account, cal_year, lookback, opening, turn) VALUES (?1, ?2, ?3, ?4, ?5)";
+pub const ADD_YEAR: &str =
+    "INSERT INTO year (account, cal_year, lookback, opening, turn) VALUES (?1, ?2, ?3, ?4, ?5)";
 /// Gives an open year of an account its figures anew, given as its row is.
-pub const SET_YEAR: &str = "UPDATE year SET lookback = ?3, opening = ?4, turn = ?5 WHERE account = ?1 AND cal_year = ?2";
+pub const SET_YEAR: &str =
+    "UPDATE year SET lookback = ?3, opening = ?4, turn = ?5 WHERE account = ?1 AND cal_year = ?2";
 
 // ---- run
 
 /// The run of an account and a number, void or not.
-pub const READ_RUN: &str = "SELECT payday, fit, ss, medicare, voided FROM run WHERE account = ?1 AND run = ?2";
-/// Adds a run that is not void.
-pub const ADD_RUN: &str = "INSERT INTO run (account, run, payday, fit, ss, medicare, voided) VALUES (?1, ?2, ?3, ?4, ?5, ?6, 0)";
+pub const READ_RUN: &str =
+    "SELECT payday, fit, ss, medicare, voided FROM run WHERE account = ?1 AND run = ?2";
+/// Adds a run.
+pub const ADD_RUN: &str =
+    "INSERT INTO run (account, run, payday, fit, ss, medicare, voided) VALUES (?1, ?2, ?3, ?4, ?5, ?6, ?7)";
 /// Marks the run of an account and a number as void.
 pub const VOID_RUN: &str = "UPDATE run SET voided = 1 WHERE account = ?1 AND run = ?2";
 /// How many runs an account has, void ones too.
 pub const COUNT_RUNS: &str = "SELECT COUNT(*) FROM run WHERE account = ?1";
 /// The live runs of an account with a payday between two days, by payday and number.
-pub const LIST_RUNS: &str = "SELECT payday, fit, ss, medicare FROM run WHERE account = ?1 AND payday >= ?2 AND payday <= ?3 AND voided = 0 ORDER BY payday, run";
+pub const LIST_RUNS: &str =
+    "SELECT payday, fit, ss, medicare FROM run WHERE account = ?1 AND payday >= ?2 AND payday <= ?3 AND voided = 0 ORDER BY payday, run";
 
 // ---- payment
 
 /// The payment of an account and a number, void or not.
-pub const READ_PAYMENT: &str = "SELECT paid, for_day, cents, voided FROM payment WHERE account = ?1 AND payment = ?2";
-/// Adds a payment that is not void.
-pub const ADD_PAYMENT: &str = "INSERT INTO payment (account, payment, paid, for_day, cents, voided) VALUES (?1, ?2, ?3, ?4, ?5, 0)";
+pub const READ_PAYMENT: &str =
+    "SELECT paid, for_day, cents, voided FROM payment WHERE account = ?1 AND payment = ?2";
+/// Adds a payment.
+pub const ADD_PAYMENT: &str =
+    "INSERT INTO payment (account, payment, paid, for_day, cents, voided) VALUES (?1, ?2, ?3, ?4, ?5, ?6)";
 /// Marks the payment of an account and a number as void.
 pub const VOID_PAYMENT: &str = "UPDATE payment SET voided = 1 WHERE account = ?1 AND payment = ?2";
 /// How many payments an account has, void ones too.
 pub const COUNT_PAYMENTS: &str = "SELECT COUNT(*) FROM payment WHERE account = ?1";
 /// The live payments of an account for days between two, by that day and number.
-pub const LIST_PAYMENTS: &str = "SELECT for_day, paid, cents FROM payment WHERE account = ?1 AND for_day >= ?2 AND for_day <= ?3 AND voided = 0 ORDER BY for_day, payment";
+pub const LIST_PAYMENTS: &str =
+    "SELECT for_day, paid, cents FROM payment WHERE account = ?1 AND for_day >= ?2 AND for_day <= ?3 AND voided = 0 ORDER BY for_day, payment";
 
 // ---- bucket: the obligations
 
 /// The obligations of an account with a first day between two days, by first day.
-pub const LIST_OBLIGATIONS: &str = "SELECT first_day, last_day, rule, cents, due FROM bucket WHERE account = ?1 AND first_day >= ?2 AND first_day <= ?3 ORDER BY first_day";
+pub const LIST_OBLIGATIONS: &str =
+    "SELECT first_day, last_day, rule, cents, due FROM bucket WHERE account = ?1 AND first_day >= ?2 AND first_day <= ?3 ORDER BY first_day";
 /// Adds an obligation.
-pub const ADD_OBLIGATION: &str = "INSERT INTO bucket (account, first_day, last_day, rule, cents, due) VALUES (?1, ?2, ?3, ?4, ?5, ?6)";
+pub const ADD_OBLIGATION: &str =
+    "INSERT INTO bucket (account, first_day, last_day, rule, cents, due) VALUES (?1, ?2, ?3, ?4, ?5, ?6)";
 /// Takes out the obligations of an account with a first day between two days.
-pub const REMOVE_OBLIGATIONS: &str = "DELETE FROM bucket WHERE account = ?1 AND first_day >= ?2 AND first_day <= ?3";
+pub const REMOVE_OBLIGATIONS: &str =
+    "DELETE FROM bucket WHERE account = ?1 AND first_day >= ?2 AND first_day <= ?3";
 /// The obligations of all accounts that begin before a day and are due on it or later, by account and first day.
-pub const LIST_DUE_OVER: &str = "SELECT account, first_day, last_day, rule, cents, due FROM bucket WHERE first_day < ?1 AND due >= ?1 ORDER BY account, first_day";
+pub const LIST_DUE_OVER: &str =
+    "SELECT account, first_day, last_day, rule, cents, due FROM bucket WHERE first_day < ?1 AND due >= ?1 ORDER BY account, first_day";
 /// Gives the obligation of an account (?1) and a first day (?2) another due date (?3).
 pub const SET_DUE: &str = "UPDATE bucket SET due = ?3 WHERE account = ?1 AND first_day = ?2";
+
+// ---- making the tables
+
+/// Makes `ftd_meta`.
+pub const CREATE_METAS: &str =
+    "CREATE TABLE ftd_meta (tag TEXT NOT NULL PRIMARY KEY, version INTEGER NOT NULL) STRICT";
+/// Makes `account`.
+pub const CREATE_ACCOUNTS: &str =
+    "CREATE TABLE account (name TEXT NOT NULL PRIMARY KEY, start INTEGER NOT NULL, carried INTEGER NOT NULL) STRICT";
+/// Makes `reported`.
+pub const CREATE_REPORTED_QUARTERS: &str =
+    "CREATE TABLE reported (account TEXT NOT NULL REFERENCES account(name), cal_year INTEGER NOT NULL, quarter INTEGER NOT NULL, cents INTEGER NOT NULL, PRIMARY KEY (account, cal_year, quarter)) STRICT";
+/// Makes `calendar_year`.
+pub const CREATE_CALENDAR_YEARS: &str =
+    "CREATE TABLE calendar_year (cal_year INT NOT NULL PRIMARY KEY) STRICT";
+/// Makes `holiday`.
+pub const CREATE_HOLIDAYS: &str =
+    "CREATE TABLE holiday (day INT NOT NULL PRIMARY KEY, cal_year INTEGER NOT NULL REFERENCES calendar_year(cal_year)) STRICT";
+/// Makes `year`.
+pub const CREATE_YEARS: &str =
+    "CREATE TABLE year (account TEXT NOT NULL REFERENCES account(name), cal_year INTEGER NOT NULL, lookback INTEGER NOT NULL, opening INTEGER NOT NULL, turn INTEGER, PRIMARY KEY (account, cal_year)) STRICT";
+/// Makes `run`.
+pub const CREATE_RUNS: &str =
+    "CREATE TABLE run (account TEXT NOT NULL REFERENCES account(name), run INTEGER NOT NULL, payday INTEGER NOT NULL, fit INTEGER NOT NULL, ss INTEGER NOT NULL, medicare INTEGER NOT NULL, voided INTEGER NOT NULL, PRIMARY KEY (account, run)) STRICT";
+/// Makes `payment`.
+pub const CREATE_PAYMENTS: &str =
+    "CREATE TABLE payment (account TEXT NOT NULL REFERENCES account(name), payment INTEGER NOT NULL, paid INTEGER NOT NULL, for_day INTEGER NOT NULL, cents INTEGER NOT NULL, voided INTEGER NOT NULL, PRIMARY KEY (account, payment)) STRICT";
+/// Makes `bucket`.
+pub const CREATE_OBLIGATIONS: &str =
+    "CREATE TABLE bucket (account TEXT NOT NULL REFERENCES account(name), first_day INTEGER NOT NULL, last_day INTEGER NOT NULL, rule INTEGER NOT NULL, cents INTEGER NOT NULL, due INTEGER NOT NULL, PRIMARY KEY (account, first_day)) STRICT";
+/// Makes `account_form`.
+pub const CREATE_FORMS: &str =
+    "CREATE TABLE account_form (account TEXT NOT NULL PRIMARY KEY REFERENCES account(name), form INTEGER NOT NULL) STRICT";
+/// Makes `reported_year`.
+pub const CREATE_REPORTED_YEARS: &str =
+    "CREATE TABLE reported_year (account TEXT NOT NULL REFERENCES account(name), cal_year INTEGER NOT NULL, cents INTEGER NOT NULL, PRIMARY KEY (account, cal_year)) STRICT";
+/// Makes `added_holiday`.
+pub const CREATE_ADDED_HOLIDAYS: &str =
+    "CREATE TABLE added_holiday (day INT NOT NULL PRIMARY KEY, cal_year INTEGER NOT NULL REFERENCES calendar_year(cal_year)) STRICT";
+
+// ---- the indexes by day
+
+/// Makes the index by which the runs of a few days are found.
+pub const INDEX_RUNS: &str = "CREATE INDEX ftd_run_by_payday ON run (account, payday, run)";
+/// Makes the index by which the payments for a few days are found.
+pub const INDEX_PAYMENTS: &str =
+    "CREATE INDEX ftd_payment_by_day ON payment (account, for_day, payment)";

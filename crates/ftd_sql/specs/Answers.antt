@@ -1,0 +1,54 @@
+-- What each reading shows of a row.
+use Rattle.std.specs.Prelude.{[], ◌∷◌}
+use Rattle.sqlite.specs.declared.types.Value.TheVariants.{Int, Text}
+use Rattle.sqlite.specs.Order.{Row}
+use Rattle.sqlite.specs.Values.{or_null}
+use Rattle.ftd_schema.specs.Rows.{MetaRow, AccountRow, ReportedQuarterRow, CalendarYearRow, HolidayRow, YearRow, RunRow, PaymentRow, ObligationRow, FormRow, ReportedYearRow}
+
+abbrev pub meta_shown : MetaRow → Row
+meta_shown m = Text m.tag ∷ Int m.version ∷ []
+
+abbrev pub account_shown : AccountRow → Row
+account_shown a = Int a.start ∷ Int a.carried ∷ []
+
+abbrev pub name_shown : AccountRow → Row
+name_shown a = Text a.name ∷ []
+
+abbrev pub form_shown : FormRow → Row
+form_shown f = Int f.form ∷ []
+
+abbrev pub reported_shown : ReportedQuarterRow → Row
+reported_shown r = Int r.cents ∷ []
+
+abbrev pub reported_year_shown : ReportedYearRow → Row
+reported_year_shown r = Int r.cents ∷ []
+
+abbrev pub calendar_year_shown : CalendarYearRow → Row
+calendar_year_shown c = Int c.year ∷ []
+
+abbrev pub holiday_shown : HolidayRow → Row
+holiday_shown h = Int h.day ∷ []
+
+abbrev pub year_shown : YearRow → Row
+year_shown y = Int y.year ∷ Int y.lookback ∷ Int y.opening ∷ or_null Int y.turn ∷ []
+
+-- a run of a key, void or not, and a live run in a list
+abbrev pub run_shown : RunRow → Row
+run_shown r = Int r.payday ∷ Int r.fit ∷ Int r.ss ∷ Int r.medicare ∷ Int r.voided ∷ []
+
+abbrev pub live_run_shown : RunRow → Row
+live_run_shown r = Int r.payday ∷ Int r.fit ∷ Int r.ss ∷ Int r.medicare ∷ []
+
+-- a payment of a key, void or not, and a live payment in a list
+abbrev pub payment_shown : PaymentRow → Row
+payment_shown p = Int p.paid ∷ Int p.for_day ∷ Int p.cents ∷ Int p.voided ∷ []
+
+abbrev pub live_payment_shown : PaymentRow → Row
+live_payment_shown p = Int p.for_day ∷ Int p.paid ∷ Int p.cents ∷ []
+
+-- an obligation of one account, and one with its account
+abbrev pub obligation_shown : ObligationRow → Row
+obligation_shown o = Int o.first ∷ Int o.last ∷ Int o.rule ∷ Int o.cents ∷ Int o.due ∷ []
+
+abbrev pub account_obligation_shown : ObligationRow → Row
+account_obligation_shown o = Text o.account ∷ obligation_shown o

@@ -1,0 +1,30 @@
+-- In which order the rows of a reading follow one another.
+use Rattle.std.specs.Prelude.{◌≡◌, ◌⊎◌, ◌<ℤ◌, ◌≤ℤ◌}
+use Rattle.std.specs.Ordering.{nat_cmp}
+use Rattle.std.specs.declared.cmp.Ordering.TheVariants.{Less}
+use Rattle.std.specs.Cmp.Lexicographic.{slice_cmp}
+use Rattle.ftd_schema.specs.Rows.{HolidayRow, YearRow, RunRow, PaymentRow, ObligationRow}
+
+-- by day
+abbrev pub HolidaysRise : HolidayRow → HolidayRow → Type 0
+HolidaysRise a b = a.day ≤ℤ b.day
+
+-- by year
+abbrev pub YearsRise : YearRow → YearRow → Type 0
+YearsRise a b = a.year ≤ℤ b.year
+
+-- by payday, and by number on one day
+abbrev pub RunsRise : RunRow → RunRow → Type 0
+RunsRise a b = (a.payday <ℤ b.payday) ⊎ ((a.payday ≡ b.payday) × (a.number ≤ℤ b.number))
+
+-- by the day that they are for, and by number on one day
+abbrev pub PaymentsRise : PaymentRow → PaymentRow → Type 0
+PaymentsRise a b = (a.for_day <ℤ b.for_day) ⊎ ((a.for_day ≡ b.for_day) × (a.number ≤ℤ b.number))
+
+-- by first day
+abbrev pub ObligationsRise : ObligationRow → ObligationRow → Type 0
+ObligationsRise a b = a.first ≤ℤ b.first
+
+-- by account, and by first day in one account
+abbrev pub AccountsRise : ObligationRow → ObligationRow → Type 0
+AccountsRise a b = (slice_cmp nat_cmp a.account b.account ≡ Less) ⊎ ((a.account ≡ b.account) × (a.first ≤ℤ b.first))
