@@ -11,7 +11,7 @@ use Rattle.ftd_schema.specs.declared.TableName.{TableName}
 use Rattle.ftd_schema.specs.declared.TableName.TheVariants.{Metas, Accounts, ReportedQuarters, CalendarYears, Holidays, Years, Runs, Payments, Obligations, Forms, ReportedYears, AddedHolidays}
 use Rattle.ftd_schema.specs.Names.{name_of}
 use Rattle.ftd_schema.specs.Rows.{RowOf, cells_of}
-use Rattle.ftd_schema.specs.Layout.{table_of}
+use Rattle.ftd_schema.specs.Layout.{table_of, is_rewritten}
 use Rattle.ftd_schema.specs.Standing.{Tables, with_rows, Stands, KeepsForeign, Becomes}
 
 -- each two of the desk's tables differ in the length of the name or in the number of columns
@@ -65,13 +65,13 @@ stands_now n old new t rows h w k = (
   λ name u at place other. others_stay old new (name_of n) (table_of n (h n).tree) (h n).at (h n).place w name u at place (λ e. other n (ap (λ (v : Table). v.name) e)),
 )
   where
-    written : Holds new (name_of n) (table_of n) (cells_of n) (with_rows n rows t n)
-    written = subst (Holds new (name_of n) (table_of n) (cells_of n)) (sym (with_its_rows n rows t)) (holds_now old new _ _ _ _ _ _ rows (h n) w k)
+    written : Holds (is_rewritten n) new (name_of n) (table_of n) (cells_of n) (with_rows n rows t n)
+    written = subst (Holds (is_rewritten n) new (name_of n) (table_of n) (cells_of n)) (sym (with_its_rows n rows t)) (holds_now old new _ _ _ _ _ _ rows (h n) w k)
 
-    each : (m : TableName) → (n ≡ m) ⊎ IsOther n m → Holds new (name_of m) (table_of m) (cells_of m) (with_rows n rows t m)
-    each m (inl same) = subst (λ l. Holds new (name_of l) (table_of l) (cells_of l) (with_rows n rows t l)) same written
+    each : (m : TableName) → (n ≡ m) ⊎ IsOther n m → Holds (is_rewritten m) new (name_of m) (table_of m) (cells_of m) (with_rows n rows t m)
+    each m (inl same) = subst (λ l. Holds (is_rewritten l) new (name_of l) (table_of l) (cells_of l) (with_rows n rows t l)) same written
     each m (inr other) =
-        subst (Holds new (name_of m) (table_of m) (cells_of m)) (sym (other.1 rows t))
+        subst (Holds (is_rewritten m) new (name_of m) (table_of m) (cells_of m)) (sym (other.1 rows t))
         (still old new _ _ _ _ _ _ _ (table_of n (h n).tree) (h n).at (h n).place w (h m) (differ n m (h m).tree (h n).tree other.0))
 
 -- rows that are set twice are those of the second time
@@ -87,7 +87,7 @@ set_twice n xs ys t m = go m (same_or_other n m)
 
 -- the same rows, table by table
 pub stands_same : (db : Database) (t u : Tables) → ((n : TableName) → t n ≡ u n) → Stands db t → Stands db u
-stands_same db t u same h = λ n. subst (Holds db (name_of n) (table_of n) (cells_of n)) (same n) (h n)
+stands_same db t u same h = λ n. subst (Holds (is_rewritten n) db (name_of n) (table_of n) (cells_of n)) (same n) (h n)
 
 -- two steps, one after the other, keep the tables of other names
 pub foreign_then : (a b c : Database) → KeepsForeign a b → KeepsForeign b c → KeepsForeign a c

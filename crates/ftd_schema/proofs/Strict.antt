@@ -1,6 +1,6 @@
 -- The rows of a STRICT table are texts and whole numbers: what the engine's rules say of a row makes it a typed one.
 use Rattle.std.proofs.Common.{◌≡◌, ℕ, zero, suc, ◌+◌, ℤ, List, [], ◌∷◌, Bool, true, false, not, Option, None, Some, refl, sym, ap, subst, ◌∙◌, length, drop, map, Less, arith}
-use Rattle.std.specs.Prelude.{◌&&◌, ◌||◌}
+use Rattle.std.specs.Prelude.{◌&&◌, ◌||◌, IsTrue}
 use Rattle.std.specs.Int.Signed.{◌<ℤ◌}
 use Rattle.std.specs.Cmp.{int_ranked}
 use Rattle.std.specs.List.{AllByRecursion}
@@ -27,7 +27,7 @@ use Rattle.ftd_schema.specs.declared.TableName.{TableName}
 use Rattle.ftd_schema.specs.declared.TableName.TheVariants.{Metas, Accounts, ReportedQuarters, CalendarYears, Holidays, Years, Runs, Payments, Obligations, Forms, ReportedYears, AddedHolidays}
 use Rattle.ftd_schema.specs.Names.{name_of}
 use Rattle.ftd_schema.specs.Rows.{RowOf, cells_of}
-use Rattle.ftd_schema.specs.Layout.{columns_of, table_of}
+use Rattle.ftd_schema.specs.Layout.{columns_of, table_of, is_rewritten}
 use Rattle.ftd_schema.specs.Standing.{Tables, Stands}
 
 -- what a column holds: a text, a whole number, or perhaps one
@@ -190,7 +190,7 @@ pub record IsLaid (db : Database) (n : TableName) : Type 0 where
   pub at : ℕ
   pub tree : ℕ
   pub place : IsAt db.schema (name_of n) (table_of n tree) at
-  pub spared : IsSpared db.schema tree
+  pub spared : IsTrue (is_rewritten n) → IsSpared db.schema tree
   pub ordered : IsTable (db.trees tree)
   pub whole : AllByRecursion (λ row. (id : ℤ) × (rest : Row) × (row ≡ Int id ∷ rest) × (length rest ≡ length (columns_of n))) (db.trees tree)
 

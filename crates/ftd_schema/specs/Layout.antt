@@ -1,9 +1,9 @@
 -- The columns, keys and references of the tables.
-use Rattle.std.specs.Prelude.{ℕ, List, [], ◌∷◌, codes}
+use Rattle.std.specs.Prelude.{ℕ, List, [], ◌∷◌, codes, Bool, true, false}
 use Rattle.sqlite.specs.Table.{Table}
 use Rattle.sqlite_schema.specs.declared.schema.Column.{Column}
 use Rattle.sqlite_schema.specs.declared.schema.Reference.{Reference}
-use Rattle.ftd_tables.specs.Tables.{a_text, a_number, maybe_number, refers, to_account, a_table}
+use Rattle.ftd_tables.specs.Tables.{a_text, a_number, maybe_number, refers, a_table}
 use Rattle.ftd_schema.specs.declared.TableName.{TableName}
 use Rattle.ftd_schema.specs.declared.TableName.TheVariants.{Metas, Accounts, ReportedQuarters, CalendarYears, Holidays, Years, Runs, Payments, Obligations, Forms, ReportedYears, AddedHolidays}
 use Rattle.ftd_schema.specs.Names.{name_of}
@@ -32,6 +32,9 @@ key_of Obligations = 1 ∷ 2 ∷ []
 key_of ReportedYears = 1 ∷ 2 ∷ []
 key_of n = 1 ∷ []
 
+abbrev to_account : Reference
+to_account = refers (1 ∷ []) (codes "account") (codes "name")
+
 -- to the account, or from a holiday to its year
 abbrev pub references_of : TableName → List Reference
 references_of Metas = []
@@ -44,3 +47,12 @@ references_of n = to_account ∷ []
 -- the table at this tree
 abbrev pub table_of : TableName → ℕ → Table
 table_of n tree = a_table (name_of n) (columns_of n) (key_of n) (references_of n) tree
+
+-- rows of these tables are changed or taken out, and not only added
+abbrev pub is_rewritten : TableName → Bool
+is_rewritten Metas = true
+is_rewritten Years = true
+is_rewritten Runs = true
+is_rewritten Payments = true
+is_rewritten Obligations = true
+is_rewritten n = false

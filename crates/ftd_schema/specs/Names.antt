@@ -2,7 +2,7 @@
 use Rattle.std.specs.Prelude.{ℕ, Bool, List, [], ◌∷◌, codes, ◌||◌, is_some}
 use Rattle.std.specs.List.{list_any}
 use Rattle.sqlite_schema.specs.declared.schema.Schema.{Schema}
-use Rattle.sqlite_schema.specs.Names.{table_named, view_named}
+use Rattle.sqlite_schema.specs.Names.{table_named, view_named, index_named}
 use Rattle.ftd_schema.specs.declared.TableName.{TableName}
 use Rattle.ftd_schema.specs.declared.TableName.TheVariants.{Metas, Accounts, ReportedQuarters, CalendarYears, Holidays, Years, Runs, Payments, Obligations, Forms, ReportedYears, AddedHolidays}
 
@@ -25,10 +25,14 @@ name_of AddedHolidays = codes "added_holiday"
 abbrev pub all_names : List TableName
 all_names = Metas ∷ Accounts ∷ ReportedQuarters ∷ CalendarYears ∷ Holidays ∷ Years ∷ Runs ∷ Payments ∷ Obligations ∷ Forms ∷ ReportedYears ∷ AddedHolidays ∷ []
 
--- a table or a view has the name; small and capital letters are not told apart
-abbrev pub has_name : Schema → List ℕ → Bool
-has_name s name = is_some (table_named s name) || is_some (view_named s name)
+-- those that version 2 has beside those of version 1, in the order in which they are made
+abbrev pub later_names : List TableName
+later_names = Forms ∷ ReportedYears ∷ AddedHolidays ∷ []
 
--- one of the names is there
-abbrev pub has_any : Schema → Bool
-has_any s = list_any (λ n. has_name s (name_of n)) all_names
+-- a table, a view or an index has the name; small and capital letters are not told apart
+abbrev pub is_taken : Schema → List ℕ → Bool
+is_taken s name = is_some (table_named s name) || (is_some (view_named s name) || is_some (index_named s name))
+
+-- one of these names is taken
+abbrev pub has_any : List TableName → Schema → Bool
+has_any names s = list_any (λ n. is_taken s (name_of n)) names

@@ -1,5 +1,5 @@
 -- A database that stands for typed rows, wherever in its schema the desk's tables stand.
-use Rattle.std.specs.Prelude.{◌≡◌, ◌≢◌, ℕ, List, []}
+use Rattle.std.specs.Prelude.{◌≡◌, ◌≢◌, ℕ, List, [], ⊤}
 use Rattle.sqlite.specs.Effect.{Database}
 use Rattle.sqlite.specs.Table.{Table}
 use Rattle.ftd_tables.specs.Places.{IsAt, Holds}
@@ -7,7 +7,7 @@ use Rattle.ftd_schema.specs.declared.TableName.{TableName}
 use Rattle.ftd_schema.specs.declared.TableName.TheVariants.{Metas, Accounts, ReportedQuarters, CalendarYears, Holidays, Years, Runs, Payments, Obligations, Forms, ReportedYears, AddedHolidays}
 use Rattle.ftd_schema.specs.Names.{name_of}
 use Rattle.ftd_schema.specs.Rows.{RowOf, cells_of}
-use Rattle.ftd_schema.specs.Layout.{table_of}
+use Rattle.ftd_schema.specs.Layout.{table_of, is_rewritten}
 
 -- the rows of each table
 abbrev pub Tables : Type 0
@@ -34,7 +34,7 @@ with_rows n rows t m = t m
 
 -- the database stands for these rows
 abbrev pub Stands : Database → Tables → Type 0
-Stands db t = (n : TableName) → Holds db (name_of n) (table_of n) (cells_of n) (t n)
+Stands db t = (n : TableName) → Holds (is_rewritten n) db (name_of n) (table_of n) (cells_of n) (t n)
 
 -- the name is none of the desk's
 abbrev pub IsForeign : List ℕ → Type 0
@@ -47,3 +47,23 @@ KeepsForeign old new = (name : List ℕ) (t : Table) (at : ℕ) → IsAt old.sch
 -- the database stands for these rows now, and keeps every table of another name
 abbrev pub Becomes : Database → Database → Tables → Type 0
 Becomes old new t = Stands new t × KeepsForeign old new
+
+-- ---- version 1
+
+-- the table is one of the nine of version 1
+abbrev pub IsFirst : TableName → Type 0
+IsFirst Forms = ⊥
+IsFirst ReportedYears = ⊥
+IsFirst AddedHolidays = ⊥
+IsFirst n = ⊤
+
+-- the database stands for these rows of the nine tables of version 1
+abbrev pub StandsAsFirst : Database → Tables → Type 0
+StandsAsFirst db t = (n : TableName) → IsFirst n → Holds (is_rewritten n) db (name_of n) (table_of n) (cells_of n) (t n)
+
+-- the rows of the nine tables, and none in the others
+abbrev pub first_rows : Tables → (n : TableName) → List (RowOf n)
+first_rows t Forms = []
+first_rows t ReportedYears = []
+first_rows t AddedHolidays = []
+first_rows t n = t n

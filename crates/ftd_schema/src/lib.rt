@@ -1,8 +1,9 @@
-//! The names of the desk's tables, for code and for contracts.
+//! The desk's twelve tables: their names, for code and for contracts; the typed rows of each, and the rows for which a
+//! database stands.
 #![tactic(auto)]
 
 ghost use Rattle.std.specs.Prelude.{◌≡◌};
-ghost use Rattle.ftd_schema.specs.Names.{name_of, has_name, has_any};
+ghost use Rattle.ftd_schema.specs.Names.{name_of, is_taken, has_any};
 
 use sqlite_schema::schema::Schema;
 
@@ -61,15 +62,24 @@ pub const ALL: [TableName; 12] = [
     TableName::AddedHolidays,
 ];
 
-fn has(schema: &Schema, name: &[u8]) -> bool
-    ensures { result ≡ has_name schema.now name.now }
+/// Those that version 2 has beside those of version 1.
+pub const LATER: [TableName; 3] = [
+    TableName::Forms,
+    TableName::ReportedYears,
+    TableName::AddedHolidays,
+];
+
+/// Whether a table, a view or an index has the name. Small and capital letters are not told apart.
+pub fn is_taken(schema: &Schema, name: &[u8]) -> bool
+    ensures { result ≡ is_taken schema.now name.now }
 {
-    schema.table_named(name).is_some() || schema.view_named(name).is_some()
+    schema.table_named(name).is_some()
+        || (schema.view_named(name).is_some() || schema.index_named(name).is_some())
 }
 
-/// Whether a table or a view has one of the names.
-pub fn has_any(schema: &Schema) -> bool
-    ensures { result ≡ has_any schema.now }
+/// Whether one of the names is taken.
+pub fn has_any(schema: &Schema, names: &[TableName]) -> bool
+    ensures { result ≡ has_any names.now schema.now }
 {
-    ALL.iter().any(|name| has(schema, name.text()))
+    names.iter().any(|name| is_taken(schema, name.text()))
 }

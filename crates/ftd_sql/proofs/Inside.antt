@@ -11,7 +11,8 @@ use Rattle.sqlite_schema.specs.declared.command.Returning.{Returning}
 use Rattle.sqlite.specs.declared.error.Error.{Error}
 use Rattle.sqlite.specs.declared.error.Error.TheVariants.{ExecuteReturnedResults}
 use Rattle.sqlite.specs.Clock.{timed}
-use Rattle.ftd_tables.proofs.Commits.{IsRowText, IsReadText, OnRows, on_rows}
+use Rattle.ftd_tables.specs.TextKinds.{IsRowText, IsReadText}
+use Rattle.ftd_tables.proofs.Commits.{OnRows, on_rows}
 use Rattle.ftd_tables.proofs.Meaning.{select_plain}
 
 -- a change inside a transaction is not committed

@@ -1,7 +1,6 @@
 pub mod Controls
 pub mod Leaves
 pub mod Inside
-pub mod Passing
 pub mod Writing
 pub mod Shapes
 pub mod Reading
@@ -9,3 +8,4 @@ pub mod Asking
 pub mod Changing
 pub mod Meanings
 pub mod Making
+pub mod Indexing

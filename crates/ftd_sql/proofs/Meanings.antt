@@ -9,7 +9,7 @@ use Rattle.sqlite_tied.specs.Compute.{everything}
 use Rattle.ftd_tables.specs.Kept.{changed}
 use Rattle.ftd_tables.specs.Order.{EachToNext}
 use Rattle.ftd_tables.proofs.Counting.{greatest_count}
-use Rattle.ftd_tables.proofs.KeptLemmas.{text_is, cast_int}
+use Rattle.ftd_tables.proofs.KeptLemmas.{text_is, cast_int, cast_int_or_null}
 use Rattle.ftd_tables.proofs.Passing.{one_passes, two_pass, three_pass, four_pass}
 use Rattle.ftd_schema.specs.declared.TableName.{TableName}
 use Rattle.ftd_schema.specs.declared.TableName.TheVariants.{Metas, Accounts, ReportedQuarters, CalendarYears, Holidays, Years, Runs, Payments, Obligations, Forms, ReportedYears, AddedHolidays}
@@ -20,7 +20,7 @@ use Rattle.ftd_sql.specs.Given.{name_given, number_given, key_given, pair_given}
 use Rattle.ftd_sql.specs.Answers.{meta_shown, account_shown, name_shown, form_shown, reported_shown, reported_year_shown, calendar_year_shown, holiday_shown, year_shown, run_shown, live_run_shown, payment_shown, live_payment_shown, obligation_shown, account_obligation_shown}
 use Rattle.ftd_sql.specs.Tests.{is_tag, is_account, is_form_of, is_reported, is_reported_year, is_calendar_year, is_holiday_of, is_year, is_year_of, is_run, is_run_of, is_live_run_between, is_payment, is_payment_of, is_live_payment_between, is_obligation_between, is_obligation, is_due_over, voided_run, voided_payment, with_figures, with_due, with_version}
 use Rattle.ftd_sql.specs.Orders.{HolidaysRise, YearsRise, RunsRise, PaymentsRise, ObligationsRise, AccountsRise}
-use Rattle.ftd_sql.proofs.Passing.{whole_is, below_is, at_least_is, at_most_is, one_rises, two_rise, text_then_number, cast_int_or_null}
+use Rattle.ftd_tables.proofs.Passing.{whole_is, below_is, at_least_is, at_most_is, one_rises, two_rise, text_then_number}
 use Rattle.ftd_sql.proofs.Reading.{shows, lists, counts}
 use Rattle.ftd_sql.proofs.Writing.{changes, changes_nothing, removes}
 use Rattle.ftd_sql.proofs.Asking.{lists_metas, reads_account, lists_accounts, reads_form, reads_reported, reads_reported_year, reads_calendar_year, reads_run, reads_payment, lists_holidays, lists_added_holidays, lists_years, lists_runs, lists_payments, lists_obligations, lists_due_over, counts_runs, counts_payments}

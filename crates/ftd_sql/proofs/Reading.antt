@@ -22,11 +22,12 @@ use Rattle.sqlite_resolve.specs.declared.scope.Output.{Output}
 use Rattle.ftd_tables.specs.Kept.{stored}
 use Rattle.ftd_tables.specs.Order.{EachToNext}
 use Rattle.ftd_tables.specs.Places.{IsAt}
-use Rattle.ftd_tables.proofs.Commits.{IsReadText}
+use Rattle.ftd_tables.specs.TextKinds.{IsReadText}
 use Rattle.ftd_tables.proofs.Counting.{count_query, counts_rows, greatest_count}
 use Rattle.ftd_tables.proofs.InOrder.{shows_in_order}
 use Rattle.ftd_tables.proofs.KeptLemmas.{plain_query}
-use Rattle.ftd_tables.proofs.Meaning.{IsAccepted, Reads, Means}
+use Rattle.ftd_tables.specs.TextKinds.{Reads}
+use Rattle.ftd_tables.proofs.Meaning.{IsAccepted, Means}
 use Rattle.ftd_tables.proofs.OneRow.{Tests}
 use Rattle.ftd_tables.proofs.Phrase.{Phrase, Rows}
 use Rattle.ftd_tables.proofs.Selects.{a_select, core, select_in, core_in, sort, Resolves, selects}

@@ -1,7 +1,7 @@
 -- What a statement of one of the desk's tables makes of its rows, from what its text computes to.
 use Rattle.std.proofs.Common.{◌≡◌, ℕ, zero, suc, ℤ, List, [], ◌∷◌, ◌++◌, ◌/◌, length, map, not, Bool, true, Some, Ok, refl, drop}
 use Rattle.sqlite_tied.specs.Compute.{everything}
-use Rattle.std.specs.Prelude.{filter}
+use Rattle.std.specs.Prelude.{filter, IsTrue}
 use Rattle.sqlite.specs.declared.types.Value.TheVariants.{Int}
 use Rattle.sqlite.specs.Cast.{cast_row}
 use Rattle.sqlite.specs.Order.{Row}
@@ -22,7 +22,7 @@ use Rattle.sqlite_schema.specs.declared.schema.Column.{Column}
 use Rattle.ftd_tables.proofs.KeptLemmas.{cast_null, cast_int}
 use Rattle.ftd_schema.specs.declared.TableName.TheVariants.{Metas, Accounts, ReportedQuarters, CalendarYears, Holidays, Years, Runs, Payments, Obligations, Forms, ReportedYears, AddedHolidays}
 use Rattle.ftd_sql.specs.Making.{add_of}
-use Rattle.ftd_sql.proofs.Passing.{cast_int_or_null}
+use Rattle.ftd_tables.proofs.KeptLemmas.{cast_int_or_null}
 use Rattle.ftd_sql.proofs.Shapes.{Test, joined, filters_of}
 use Rattle.sqlite_ast.specs.declared.Conflict.TheVariants as conflict
 use Rattle.sqlite_ast.specs.declared.Statement.TheVariants as written
@@ -31,8 +31,9 @@ use Rattle.sqlite_draft.specs.Query.{query_of}
 use Rattle.sqlite_resolve.specs.Compile.{new_rows}
 use Rattle.sqlite_resolve.specs.Write.{simple, updated, deleted}
 use Rattle.ftd_tables.specs.Kept.{stored, changed}
-use Rattle.ftd_tables.proofs.Commits.{IsRowText}
-use Rattle.ftd_tables.proofs.Meaning.{IsAccepted, Reads, Means, inserts, deletes}
+use Rattle.ftd_tables.specs.TextKinds.{IsRowText}
+use Rattle.ftd_tables.specs.TextKinds.{Reads}
+use Rattle.ftd_tables.proofs.Meaning.{IsAccepted, Means, inserts, deletes}
 use Rattle.ftd_tables.proofs.KeptLemmas.{plain_query}
 use Rattle.sqlite.specs.Command.TheVariants.{Update}
 use Rattle.ftd_tables.proofs.OneRow.{Tests, takes_out, changes_row, changes_none}
@@ -43,7 +44,7 @@ use Rattle.ftd_tables.proofs.Updates.{setting, updates}
 use Rattle.ftd_schema.specs.declared.TableName.{TableName}
 use Rattle.ftd_schema.specs.Names.{name_of}
 use Rattle.ftd_schema.specs.Rows.{RowOf, cells_of}
-use Rattle.ftd_schema.specs.Layout.{columns_of, table_of}
+use Rattle.ftd_schema.specs.Layout.{columns_of, table_of, is_rewritten}
 use Rattle.ftd_schema.specs.Standing.{Tables, with_rows, Stands, Becomes}
 use Rattle.ftd_schema.proofs.OneOfAll.{stands_now}
 
@@ -107,6 +108,7 @@ adds n x old new count t stands h =
 
 -- the text is an UPDATE of the rows that pass the tests; the new row is what `project` computes
 pub record Changes (n : TableName) (text : List ℕ) (first : Test) (more : List Test) (sets : List (Phrase × List ℕ)) (project : List Term) : Type 0 where
+  pub acts : IsTrue (is_rewritten n)
   pub reads : Reads text (written.Update (name_of n) (map setting sets) (Some (say (joined first more))) [])
   pub is : (tree : ℕ) → updated (alone (table_of n tree)) 0 (table_of n tree) (map setting sets) (Some (say (joined first more))) ≡ Ok (simple (Inner tree ∷ []) (filters_of (first ∷ more)) project)
   pub known : (tree : ℕ) → (knows (table_of n tree) (joined first more) ≡ true) × (all_known (table_of n tree) sets ≡ true)
@@ -130,7 +132,7 @@ module _ (n : TableName) (text : List ℕ) (first : Test) (more : List Test) (se
     changes h =
         let l = stands n in
         let w = runs_as text params old new old.now.schema refl _ means.is means.plain 1 h in
-        let made = changes_row old new _ _ _ _ (cells_of n) (t n) test f l (filters_of (first ∷ more)) project _ params tested (recast l.tree) same_id w in
+        let made = changes_row old new _ _ _ _ (cells_of n) (t n) test f l a.acts (filters_of (first ∷ more)) project _ params tested (recast l.tree) same_id w in
         (stands_now n old.now new.now t _ stands made.0 made.1, made.2)
 
     -- where none was changed, none passes
@@ -138,13 +140,14 @@ module _ (n : TableName) (text : List ℕ) (first : Test) (more : List Test) (se
     changes_nothing h =
         let l = stands n in
         let w = runs_as text params old new old.now.schema refl _ means.is means.plain 0 h in
-        let made = changes_none old new _ _ _ _ (cells_of n) (t n) test l (filters_of (first ∷ more)) project _ params tested w in
+        let made = changes_none old new _ _ _ _ (cells_of n) (t n) test l a.acts (filters_of (first ∷ more)) project _ params tested w in
         (stands_now n old.now new.now t _ stands made.0 made.1, made.2)
 
 -- ---- taking out
 
 -- the text is a DELETE of the rows that pass the tests
 pub record Removes (n : TableName) (text : List ℕ) (first : Test) (more : List Test) : Type 0 where
+  pub acts : IsTrue (is_rewritten n)
   pub reads : Reads text (written.Delete (name_of n) (Some (say (joined first more))) [])
   pub is : (tree : ℕ) → deleted (alone (table_of n tree)) 0 (table_of n tree) (Some (say (joined first more))) ≡ Ok (simple (Inner tree ∷ []) (filters_of (first ∷ more)) (col 1 0 ∷ []))
   pub known : (tree : ℕ) → knows (table_of n tree) (joined first more) ≡ true
@@ -162,5 +165,5 @@ module _ (n : TableName) (text : List ℕ) (first : Test) (more : List Test) (a 
       let l = stands n in
       let m = deletes s text (name_of n) (table_of n l.tree) l.at (joined first more) _ l.place a.reads (a.known l.tree) (a.is l.tree) (a.accepted l.tree) in
       let w = runs_as text params old new s refl _ m.is m.plain count h in
-      let made = takes_out old new _ _ _ _ (cells_of n) (t n) test l (filters_of (first ∷ more)) _ params count tested w in
+      let made = takes_out old new _ _ _ _ (cells_of n) (t n) test l a.acts (filters_of (first ∷ more)) _ params count tested w in
       stands_now n old.now new.now t _ stands made.0 made.1

@@ -1,11 +1,15 @@
 -- The texts that make each table and add a row to it, and a database in which the tables can be made.
-use Rattle.std.specs.Prelude.{◌≡◌, ℕ, List, false}
+use Rattle.std.specs.Prelude.{◌≡◌, ℕ, List, [], IsTrue, false}
+use Rattle.std.specs.List.{All}
 use Rattle.sqlite.specs.Schema.{Schema}
 use Rattle.sqlite.specs.Does.{lacks_sequence}
-use Rattle.ftd_tables.specs.Places.{IsUnnamed}
+use Rattle.sqlite.specs.Effect.{Database}
+use Rattle.ftd_tables.specs.Places.{IsUnnamed, Holds}
 use Rattle.ftd_schema.specs.declared.TableName.{TableName}
 use Rattle.ftd_schema.specs.declared.TableName.TheVariants.{Metas, Accounts, ReportedQuarters, CalendarYears, Holidays, Years, Runs, Payments, Obligations, Forms, ReportedYears, AddedHolidays}
-use Rattle.ftd_schema.specs.Names.{name_of}
+use Rattle.ftd_schema.specs.Names.{name_of, all_names}
+use Rattle.ftd_schema.specs.Rows.{cells_of}
+use Rattle.ftd_schema.specs.Layout.{table_of, is_rewritten}
 use Rattle.ftd_sql.specs.declared.texts.TheConstants as text
 
 abbrev pub create_of : TableName → List ℕ
@@ -36,7 +40,16 @@ add_of Forms = text.ADD_FORM.now
 add_of ReportedYears = text.ADD_REPORTED_YEAR.now
 add_of AddedHolidays = text.ADD_ADDED_HOLIDAY.now
 
--- no foreign key with an action names one of the desk's tables, and no sqlite_sequence is missing
-pub record IsFree (s : Schema) : Type 0 where
-  pub unnamed : (n : TableName) → IsUnnamed s (name_of n)
+-- these tables can be made: where their rows are ever changed or taken out, no foreign key with an action names them, and no
+-- sqlite_sequence is missing
+pub record AreFree (names : List TableName) (s : Schema) : Type 0 where
+  pub unnamed : All (λ n. IsTrue (is_rewritten n) → IsUnnamed s (name_of n)) names
   pub counted : lacks_sequence s ≡ false
+
+-- all of them can be made
+abbrev pub IsFree : Schema → Type 0
+IsFree s = AreFree all_names s
+
+-- these tables hold no rows
+abbrev pub AreEmpty : List TableName → Database → Type 0
+AreEmpty names db = All (λ n. Holds (is_rewritten n) db (name_of n) (table_of n) (cells_of n) []) names

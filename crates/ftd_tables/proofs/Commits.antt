@@ -11,7 +11,6 @@ use Rattle.sqlite.specs.Listing.{understood, misses_table, if_select, is_select,
 use Rattle.sqlite.specs.State.{State, CommitsBy, CommitsShowing}
 use Rattle.sqlite.proofs.Callers.{IsPlain}
 use Rattle.std.proofs.lemmas.Bool.{false≢true}
-use Rattle.sqlite_ast.specs.declared.Select as ast
 use Rattle.sqlite_ast.specs.declared.Conflict.TheVariants as conflict
 use Rattle.sqlite_ast.specs.declared.Statement.{Statement}
 use Rattle.sqlite_ast.specs.declared.Statement.TheVariants as written
@@ -24,21 +23,9 @@ use Rattle.sqlite_resolve.specs.Compile.{small, timed, compiled, planned, meanin
 use Rattle.sqlite_resolve.specs.Program.{query, program}
 use Rattle.sqlite_resolve.specs.Write.{updated, deleted}
 use Rattle.sqlite_resolve.specs.Body.{table_at}
-use Rattle.ftd_tables.proofs.Meaning.{Reads, select_plain}
-
--- the statement speaks of rows: it reads, adds, changes or takes out, and names no clause besides
-abbrev pub IsOfRows : Statement → Type 0
-IsOfRows (written.Select q) = ⊤
-IsOfRows (written.Insert conflict.Abort name columns rows [] []) = ⊤
-IsOfRows (written.Update name sets test []) = ⊤
-IsOfRows (written.Delete name test []) = ⊤
-IsOfRows _ = ⊥
-
-abbrev pub IsRowText : List ℕ → Type 0
-IsRowText text = (st : Statement) × Reads text st × IsOfRows st
-
-abbrev pub IsReadText : List ℕ → Type 0
-IsReadText text = (q : ast.Select) × Reads text (written.Select q)
+use Rattle.ftd_tables.specs.TextKinds.{Reads}
+use Rattle.ftd_tables.proofs.Meaning.{select_plain}
+use Rattle.ftd_tables.specs.TextKinds.{IsOfRows, IsRowText, IsReadText}
 
 -- the command reads or writes rows
 abbrev pub OnRows : Command → Type 0

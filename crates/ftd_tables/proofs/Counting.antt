@@ -58,8 +58,8 @@ one_group params all staged s =
     go order (r ∷ x ∷ more) h e = absurd h.1
 
 -- a count shows one row: how many rows pass
-pub counts_rows : {X : Type 0} (old : State) (name : List ℕ) (make : ℕ → Table) (cells : X → Row) (xs : List X) (test : X → Bool)
-    (h : Holds old.now name make cells xs) (filters : List Term) (params : Row) (rows : List Row)
+pub counts_rows : {X : Type 0} {acted : Bool} (old : State) (name : List ℕ) (make : ℕ → Table) (cells : X → Row) (xs : List X) (test : X → Bool)
+    (h : Holds acted old.now name make cells xs) (filters : List Term) (params : Row) (rows : List Row)
     → Tests cells test filters params
     → IsAnswer (count_query h.tree filters) (overlay old.now.trees []) params rows
     → rows ≡ (Int (pos (min (length (filter test xs)) greatest_count)) ∷ []) ∷ []

@@ -23,7 +23,8 @@ use Rattle.std.specs.Prelude.{is_some, ◌||◌}
 use Rattle.std.specs.List.{AllByRecursion, AllZip, list_any}
 use Rattle.sqlite.specs.Order.{Row}
 use Rattle.sqlite_catalog.specs.Listing.{IsTableRow}
-use Rattle.ftd_tables.proofs.Meaning.{Reads, Means, means, refused}
+use Rattle.ftd_tables.specs.TextKinds.{Reads}
+use Rattle.ftd_tables.proofs.Meaning.{Means, means, refused}
 
 -- what the text defines, with no look at a schema
 pub record Defines (d : Definition) (t : Table) : Type 0 where

@@ -12,8 +12,7 @@ use Rattle.sqlite_schema.specs.declared.schema.Reference.{Reference}
 use Rattle.sqlite_schema.specs.Rules.{ParentKey, parent_key}
 use Rattle.sqlite_rules.specs.declared.action.Deed.{Deed}
 use Rattle.sqlite_rules.specs.Action.{works, work_by, work_for, deed_for, deed_of, pairs}
-use Rattle.sqlite.specs.Effect.{Database}
-use Rattle.ftd_tables.specs.Places.{IsAt, Spares, IsSpared, KeepsForeign}
+use Rattle.ftd_tables.specs.Places.{IsAt, Spares, IsSpared}
 
 pub all_at : {X : Type 0} (P : X → Type 0) (xs : List X) (i : ℕ) (x : X) → AllByRecursion P xs → slice_get xs i ≡ Some x → P x
 all_at P [] i x h e = absurd cc
@@ -52,7 +51,3 @@ quiet s tree olds news spared = all s.tables spared
     all : (tables : List Table) → AllByRecursion (λ t. AllByRecursion (Spares s tree) t.references) tables → flat_map (λ (child : Table). filter_map (work_for s Enforced 0 tree olds news child) child.references) tables ≡ []
     all [] h = refl
     all (t ∷ more) h = rw (each t t.references h.0, all more h.1) refl
-
--- two steps, one after the other, keep the tables of other names
-pub foreign_then : (a b c : Database) → KeepsForeign a b → KeepsForeign b c → KeepsForeign a c
-foreign_then a b c p q = λ name t at place other. let one = p name t at place other in let two = q name t at one.0 other in (two.0, two.1 ∙ one.1)

@@ -1,7 +1,7 @@
 -- What stays where a table is made beside others, and how the new one stands.
 use Rattle.std.proofs.Common.{◌≡◌, ◌⊎◌, inl, ◌<◌, ◌≤◌, ℕ, List, [], ◌∷◌, codes, Option, Some, None, refl, sym, ap, subst, ◌∙◌, Bool, true, false, arith, length, nat_le, ◌^◌, slice_get}
 use Rattle.std.proofs.lemmas.Bool.Decides.{nat_tests}
-use Rattle.std.specs.Prelude.{not, is_some, ◌&&◌, option_and_then}
+use Rattle.std.specs.Prelude.{not, is_some, ◌&&◌, option_and_then, IsTrue}
 use Rattle.std.specs.List.{AllByRecursion, list_any}
 use Rattle.sqlite.specs.Order.{Row}
 use Rattle.sqlite.specs.Rows.{sequence}
@@ -88,9 +88,9 @@ low old new t m =
     grind (arith, nat_tests)
 
 -- the new table holds no rows
-pub starts : {X : Type 0} (old new : Database) (name : List ℕ) (columns : List Column) (key : List ℕ) (references : List Reference) (cells : X → Row)
-    → Made old new (a_table name columns key references 0) → same_name name name ≡ true → AllByRecursion HasNoAction references → IsUnnamed old.schema name
-    → Holds new name (a_table name columns key references) cells []
+pub starts : {X : Type 0} {acted : Bool} (old new : Database) (name : List ℕ) (columns : List Column) (key : List ℕ) (references : List Reference) (cells : X → Row)
+    → Made old new (a_table name columns key references 0) → same_name name name ≡ true → AllByRecursion HasNoAction references → (IsTrue acted → IsUnnamed old.schema name)
+    → Holds acted new name (a_table name columns key references) cells []
 starts old new name columns key references cells m self none unnamed =
     let s = old.schema in
     let t = a_table name columns key references 0 in
@@ -98,13 +98,13 @@ starts old new name columns key references cells m self none unnamed =
       at = length s.tables;
       tree = next_tree s;
       place = subst (λ x. IsAt x name (a_table name columns key references (next_tree s)) (length s.tables)) (sym m.is) (at_new s t m.free self (low _ _ _ m));
-      spared = subst (λ x. IsSpared x (next_tree s)) (sym m.is) (spared_new s t none unnamed);
+      spared = λ acts. subst (λ x. IsSpared x (next_tree s)) (sym m.is) (spared_new s t none (unnamed acts));
       rows = record { kept = []; rows_are = m.empty; typed = refl; rise = tt };
     }
 
 -- a table that holds rows still holds them
-pub holds_on : {X : Type 0} (old new : Database) (name : List ℕ) (columns : List Column) (key : List ℕ) (references : List Reference) (cells : X → Row) (xs : List X)
-    → Grown old new → Holds old name (a_table name columns key references) cells xs → Holds new name (a_table name columns key references) cells xs
+pub holds_on : {X : Type 0} {acted : Bool} (old new : Database) (name : List ℕ) (columns : List Column) (key : List ℕ) (references : List Reference) (cells : X → Row) (xs : List X)
+    → Grown old new → Holds acted old name (a_table name columns key references) cells xs → Holds acted new name (a_table name columns key references) cells xs
 holds_on old new name columns key references cells xs g h =
     let t = a_table name columns key references h.tree in
     let below : h.tree < next_tree old.schema = all_at (λ (u : Table). u.tree < next_tree old.schema) old.schema.tables h.at t (all_below old.schema) h.place.listed in
@@ -112,6 +112,6 @@ holds_on old new name columns key references cells xs g h =
       at = h.at;
       tree = h.tree;
       place = g.places name t h.at h.place;
-      spared = g.spared h.tree below h.spared;
+      spared = λ acts. g.spared h.tree below (h.spared acts);
       rows = subst (λ rs. Keeps cells rs xs) (sym (g.rows name t h.at h.place)) h.rows;
     }

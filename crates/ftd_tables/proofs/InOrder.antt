@@ -21,8 +21,8 @@ use Rattle.ftd_tables.proofs.Ordered.{answer_ordered, lifted}
 use Rattle.ftd_tables.proofs.OneRow.{Tests}
 
 -- the rows that pass, in an order in which no row comes before the one that it follows
-pub shows_in_order : {X : Type 0} (old : State) (name : List ℕ) (make : ℕ → Table) (cells shown : X → Row) (xs : List X) (test : X → Bool) (R : X → X → Type 0)
-    (h : Holds old.now name make cells xs) (filters project : List Term) (keys : List (Term × Key)) (params : Row) (rows : List Row)
+pub shows_in_order : {X : Type 0} {acted : Bool} (old : State) (name : List ℕ) (make : ℕ → Table) (cells shown : X → Row) (xs : List X) (test : X → Bool) (R : X → X → Type 0)
+    (h : Holds acted old.now name make cells xs) (filters project : List Term) (keys : List (Term × Key)) (params : Row) (rows : List Row)
     → Tests cells test filters params
     → ((p : ℤ × X) → eval_all project (params ∷ stored cells p ∷ []) ≡ shown p.1)
     → ((a b : X) (m n : ℤ) → is_lt (output_cmp (plain_query h.tree filters project keys) (output (plain_query h.tree filters project keys) (params ∷ stored cells (m, b) ∷ [])) (output (plain_query h.tree filters project keys) (params ∷ stored cells (n, a) ∷ []))) ≡ false → R a b)

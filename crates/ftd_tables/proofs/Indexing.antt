@@ -1,5 +1,5 @@
--- What CREATE INDEX on one of the desk's tables means, and that it changes no row.
-use Rattle.std.proofs.Common.{◌≡◌, ℕ, List, [], Option, Some, None, Ok, refl, sym, ap, subst, ◌∙◌, false}
+-- What CREATE INDEX on a table means, and that it changes no row.
+use Rattle.std.proofs.Common.{◌≡◌, ℕ, List, [], Option, Some, None, Ok, refl, sym, ap, subst, ◌∙◌, Bool, false}
 use Rattle.std.specs.Option.{option_or}
 use Rattle.sqlite.specs.Schema.{Schema}
 use Rattle.sqlite.specs.Table.{Table}
@@ -23,11 +23,11 @@ use Rattle.sqlite_schema.specs.declared.schema.Column.{Column}
 use Rattle.sqlite_schema.specs.declared.schema.Reference.{Reference}
 use Rattle.ftd_tables.specs.Tables.{a_table}
 use Rattle.ftd_tables.specs.Kept.{Keeps}
-use Rattle.ftd_tables.specs.Rows.{Tables}
-use Rattle.ftd_tables.specs.Places.{IsAt, IsSpared, Holds, Stands, KeepsTables}
+use Rattle.ftd_tables.specs.Places.{IsAt, IsSpared, Holds, KeepsTables}
 use Rattle.ftd_tables.proofs.Frames.{all_at}
 use Rattle.ftd_tables.proofs.Steps.{went, same_value}
-use Rattle.ftd_tables.proofs.Meaning.{Reads, Means, means, refused}
+use Rattle.ftd_tables.specs.TextKinds.{Reads}
+use Rattle.ftd_tables.proofs.Meaning.{Means, means, refused}
 
 -- what the text defines on the table
 pub record DefinesIndex (d : Definition) (t : Table) (i : Index) : Type 0 where
@@ -57,31 +57,18 @@ at_beside old new name t at same place = rw same (record { named = place.named; 
 spared_beside : (old new : Schema) (tree : ℕ) → new.tables ≡ old.tables → IsSpared old tree → IsSpared new tree
 spared_beside old new tree same spared = rw same spared
 
-holds_beside : {X : Type 0} (old new : Database) (name : List ℕ) (columns : List Column) (key : List ℕ) (references : List Reference) (cells : X → Row) (xs : List X)
-    → Beside old new → Holds old name (a_table name columns key references) cells xs → Holds new name (a_table name columns key references) cells xs
+pub holds_beside : {X : Type 0} {acted : Bool} (old new : Database) (name : List ℕ) (columns : List Column) (key : List ℕ) (references : List Reference) (cells : X → Row) (xs : List X)
+    → Beside old new → Holds acted old name (a_table name columns key references) cells xs → Holds acted new name (a_table name columns key references) cells xs
 holds_beside old new name columns key references cells xs b h = record {
   at = h.at;
   tree = h.tree;
   place = at_beside old.schema new.schema name (a_table name columns key references h.tree) h.at b.tables h.place;
-  spared = spared_beside old.schema new.schema h.tree b.tables h.spared;
+  spared = λ acts. spared_beside old.schema new.schema h.tree b.tables (h.spared acts);
   rows = subst (λ rs. Keeps cells rs xs) (sym (all_at (λ (v : Table). new.trees v.tree ≡ old.trees v.tree) old.schema.tables h.at (a_table name columns key references h.tree) b.rows h.place.listed)) h.rows;
 }
 
 pub beside_keeps : (old new : Database) → Beside old new → KeepsTables old new
 beside_keeps old new b = λ name t at place. (at_beside old.schema new.schema name t at b.tables place, all_at (λ (v : Table). new.trees v.tree ≡ old.trees v.tree) old.schema.tables at t b.rows place.listed)
-
-pub stands_beside : (old new : Database) (t : Tables) → Beside old new → Stands old t → Stands new t
-stands_beside old new t b h = record {
-  metas = holds_beside old new _ _ _ _ _ _ b h.metas;
-  accounts = holds_beside old new _ _ _ _ _ _ b h.accounts;
-  reported = holds_beside old new _ _ _ _ _ _ b h.reported;
-  calendar_years = holds_beside old new _ _ _ _ _ _ b h.calendar_years;
-  holidays = holds_beside old new _ _ _ _ _ _ b h.holidays;
-  years = holds_beside old new _ _ _ _ _ _ b h.years;
-  runs = holds_beside old new _ _ _ _ _ _ b h.runs;
-  payments = holds_beside old new _ _ _ _ _ _ b h.payments;
-  buckets = holds_beside old new _ _ _ _ _ _ b h.buckets;
-}
 
 -- a CREATE INDEX that runs leaves the tables and their rows
 pub indexes_any : (old new : State) (text : List ℕ) (d : Definition) (t : Table) (at : ℕ) (i : Index) (count : ℕ) → Reads text (written.CreateIndex d) → IsAt old.now.schema d.table t at → DefinesIndex d t i → Executes text [] old new (Ok count)

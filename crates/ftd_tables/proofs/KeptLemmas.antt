@@ -1,9 +1,7 @@
 -- What SQL makes of a table that is a list of typed rows.
-use Rattle.std.proofs.Common.{negsuc, Option, None, Some, slice_get, unwrap_or, nat_le, ◌-◌, ◌^◌, ◌≡◌, ℕ, ℤ, pos, List, [], ◌∷◌, map, Bool, true, false, cond, refl, sym, ap, subst, ◌∙◌, int_cmp, is_eq, arith}
-use Rattle.std.proofs.lemmas.Bool.Decides.{nat_tests}
-use Rattle.std.specs.Prelude.{filter, flat_map, ◌&&◌, bytes_eq, ◌==◌}
+use Rattle.std.proofs.Common.{negsuc, Option, None, Some, slice_get, unwrap_or, nat_le, ◌-◌, ◌^◌, ◌≡◌, ℕ, ℤ, pos, List, [], ◌∷◌, map, Bool, true, false, cond, refl, sym, ap, subst, ◌∙◌, is_eq}
+use Rattle.std.specs.Prelude.{filter, flat_map, ◌&&◌, bytes_eq}
 use Rattle.std.specs.List.{list_all}
-use Rattle.std.specs.Ordering.{is_ge, is_le}
 use Rattle.std.proofs.lemmas.Map.Text.{is_eq-slice_cmp}
 use Rattle.sqlite.specs.declared.types.Value.{Value}
 use Rattle.sqlite.specs.declared.types.Value.TheVariants.{Null, Int, Text}
@@ -14,17 +12,16 @@ use Rattle.sqlite.specs.Query.{Query, inner, end, IsAnswer, output, Output}
 use Rattle.sqlite_sql.specs.Ops.{is_true, from_truth, binary, unary}
 use Rattle.sqlite.specs.Collation.TheVariants.{Binary}
 use Rattle.sqlite_sql.specs.declared.ops.BinaryOp.TheVariants.{Compare}
-use Rattle.sqlite_sql.specs.declared.ops.CompareOp.TheVariants.{Eq, Ge, Le}
+use Rattle.sqlite_sql.specs.declared.ops.CompareOp.TheVariants.{Eq}
 use Rattle.sqlite.specs.Program.{overlay}
 use Rattle.sqlite.specs.Tree.{Trees}
 use Rattle.sqlite_value.specs.declared.keys.Key.{Key}
 use Rattle.std.specs.List.Sorted.{IsPermutation}
 use Rattle.std.proofs.lemmas.List.Sorted.{IsPermutation-map}
 use Rattle.sqlite.specs.Term.{Term, Env, holds, lit, eval_all}
-use Rattle.sqlite_value.proofs.OrderLemmas.{value_cmp-Int, value_cmp-Text}
+use Rattle.sqlite_value.proofs.OrderLemmas.{value_cmp-Text}
 use Rattle.sqlite.specs.Values.{or_null}
 use Rattle.ftd_tables.specs.Kept.{stored}
-use Rattle.ftd_tables.specs.Rows.{day_cell, day_number}
 
 -- the ways to fill a query over one table
 abbrev pub scan : List Term → Row → List Row → List Env
@@ -51,12 +48,9 @@ filter_typed test (p ∷ kept) = go (test p.1) refl (filter_typed test kept)
     go true is more = rw is (ap (λ all. p.1 ∷ all) more)
     go false is more = rw is more
 
--- the equality of SQL on texts and on numbers
+-- the equality of SQL on texts
 pub same_text : (a b : List ℕ) → is_eq (value_cmp (Text a) (Text b)) ≡ bytes_eq a b
 same_text a b = ap is_eq (value_cmp-Text a b) ∙ is_eq-slice_cmp a b
-
-pub same_number : (m n : ℕ) → is_eq (value_cmp (Int (pos m)) (Int (pos n))) ≡ (m == n)
-same_number m n = ap is_eq (value_cmp-Int (pos m) (pos n)) ∙ grind (arith, nat_tests)
 
 pub map_map : {A B C : Type 0} (f : B → C) (g : A → B) (xs : List A) → map f (map g xs) ≡ map (λ x. f (g x)) xs
 map_map f g [] = refl
@@ -101,22 +95,10 @@ pub truth_is : (b : Bool) → is_true (from_truth (Some b)) ≡ b
 truth_is true = refl
 truth_is false = refl
 
--- `=` of a WHERE on texts and on numbers
+-- `=` of a WHERE on texts
 pub text_is : (a b : List ℕ) → is_true (binary (Compare Eq Binary) (Text a) (Text b)) ≡ bytes_eq a b
 unfolding binary
 text_is a b = ap (λ c. is_true (from_truth (Some c))) (same_text a b) ∙ truth_is (bytes_eq a b)
-
-pub number_is : (m n : ℕ) → is_true (binary (Compare Eq Binary) (Int (pos m)) (Int (pos n))) ≡ (m == n)
-unfolding binary
-number_is m n = ap (λ c. is_true (from_truth (Some c))) (same_number m n) ∙ truth_is (m == n)
-
-pub at_least_is : (m n : ℕ) → is_true (binary (Compare Ge Binary) (Int (pos m)) (Int (pos n))) ≡ nat_le n m
-unfolding binary
-at_least_is m n = ap (λ o. is_true (from_truth (Some (is_ge o)))) (value_cmp-Int (pos m) (pos n)) ∙ truth_is (is_ge (int_cmp (pos m) (pos n))) ∙ grind (arith, nat_tests)
-
-pub at_most_is : (m n : ℕ) → is_true (binary (Compare Le Binary) (Int (pos m)) (Int (pos n))) ≡ nat_le m n
-unfolding binary
-at_most_is m n = ap (λ o. is_true (from_truth (Some (is_le o)))) (value_cmp-Int (pos m) (pos n)) ∙ truth_is (is_le (int_cmp (pos m) (pos n))) ∙ grind (arith, nat_tests)
 
 pub and_true : (b : Bool) → (b && true) ≡ b
 and_true true = refl
@@ -137,6 +119,6 @@ unfolding unary
 cast_int n = either _ (Int n)
 
 -- a column that may be NULL
-pub cast_day_or_null : (o : Option ℕ) → cast kind.Integer (or_null day_cell o) ≡ or_null day_cell o
-cast_day_or_null None = cast_null
-cast_day_or_null (Some day) = cast_int (day_number day)
+pub cast_int_or_null : (o : Option ℤ) → cast kind.Integer (or_null Int o) ≡ or_null Int o
+cast_int_or_null None = cast_null
+cast_int_or_null (Some n) = cast_int n

@@ -8,7 +8,7 @@ pub mod Selects
 pub mod Updates
 pub mod Frames
 pub mod OneTable
-pub mod Standing
+pub mod Opened
 pub mod OneRow
 pub mod Passing
 pub mod InOrder

@@ -1,7 +1,7 @@
 -- What a text means over a table that stands anywhere in the schema.
 use Rattle.std.proofs.Common.{◌≡◌, ℕ, List, [], ◌∷◌, Option, Some, None, Ok, Err, refl, ◌∙◌, true, false, ◌+◌, Bool, Result, subst, sym}
 use Rattle.std.specs.Prelude.{if◌then◌else◌}
-use Rattle.std.specs.Prelude.{slice_range, ◌&&◌}
+use Rattle.std.specs.Prelude.{◌&&◌}
 use Rattle.sqlite.specs.Schema.{Schema}
 use Rattle.sqlite.specs.Table.{Table}
 use Rattle.sqlite.specs.Query.{Query, inner, end}
@@ -29,17 +29,10 @@ use Rattle.sqlite_resolve.specs.Scope.{Name}
 use Rattle.sqlite_resolve.specs.Body.{tests}
 use Rattle.sqlite_resolve.specs.Write.{deleted, picked}
 use Rattle.sqlite_resolve.specs.Program.{program}
-use Rattle.sqlite_resolve.specs.Compile.{first, compiled, small, planned, meaning, command, returning, timed, shows, delete, insert, insert_or_abort, new_rows}
+use Rattle.sqlite_resolve.specs.Compile.{compiled, small, planned, meaning, command, returning, timed, shows, delete, insert, insert_or_abort, new_rows}
 use Rattle.ftd_tables.specs.Places.{IsAt}
+use Rattle.ftd_tables.specs.TextKinds.{Reads}
 use Rattle.ftd_tables.proofs.Phrase.{Phrase, say, knows, alone, lower_same}
-
--- the text is read as this statement
-pub record Reads (text : List ℕ) (statement : Statement) : Type 0 where
-  pub read : Parsed
-  pub is : first text ≡ Ok read
-  pub said : read.statement ≡ statement
-  pub untimed : read.formats ≡ []
-  pub whole : slice_range text read.start read.end ≡ text
 
 -- the text stands for this command
 pub record Means (s : Schema) (text : List ℕ) (c : Command) : Type 0 where

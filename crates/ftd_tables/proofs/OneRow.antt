@@ -1,6 +1,6 @@
 -- DELETE and UPDATE over one of the desk's tables, and what a reading of it shows.
 use Rattle.std.proofs.Common.{◌≡◌, ℕ, ℤ, List, [], ◌∷◌, map, not, Bool, None, refl, sym, ap, subst, ◌∙◌, drop, arith}
-use Rattle.std.specs.Prelude.{filter}
+use Rattle.std.specs.Prelude.{filter, IsTrue}
 use Rattle.std.specs.List.{list_all}
 use Rattle.std.specs.List.Sorted.{IsPermutation}
 use Rattle.std.proofs.lemmas.List.Sorted.{IsPermutation-map, IsPermutation-sym, length_permutation}
@@ -41,13 +41,13 @@ found_rows cells test filters project params rows xs k tested =
     ∙ map_map (eval_all project) (λ p. params ∷ stored cells p ∷ []) (filter (λ p. test p.1) k.kept)
 
 -- a DELETE takes out the rows that pass
-pub takes_out : {X : Type 0} (old new : State) (name : List ℕ) (columns : List Column) (key : List ℕ) (references : List Reference) (cells : X → Row) (xs : List X) (test : X → Bool)
-    (h : Holds old.now name (a_table name columns key references) cells xs) (filters : List Term) (text : List ℕ) (params : Row) (count : ℕ)
+pub takes_out : {X : Type 0} {acted : Bool} (old new : State) (name : List ℕ) (columns : List Column) (key : List ℕ) (references : List Reference) (cells : X → Row) (xs : List X) (test : X → Bool)
+    (h : Holds acted old.now name (a_table name columns key references) cells xs) (acts : IsTrue acted) (filters : List Term) (text : List ℕ) (params : Row) (count : ℕ)
     → Tests cells test filters params
     → Writes old new None (Delete h.at (record { lets = []; body = plain_query h.tree filters (col 1 0 ∷ []) [] })) text params count
     → (w : WritesOne old.now new.now h.tree) × Keeps cells (w.next h.tree) (filter (λ x. not (test x)) xs)
-takes_out old new name columns key references cells xs test h filters text params count tested w =
-    let made = deleted old new h.at name columns key references h.tree _ text params count h.place.listed (λ olds. quiet old.now.schema h.tree olds [] h.spared) w in
+takes_out old new name columns key references cells xs test h acts filters text params count tested w =
+    let made = deleted old new h.at name columns key references h.tree _ text params count h.place.listed (λ olds. quiet old.now.schema h.tree olds [] (h.spared acts)) w in
     let found = answer_unordered h.tree filters (col 1 0 ∷ []) old.now.trees params made.1 made.2 in
     let ids : map (λ (r : Row). id_in (rowid r)) (map (eval_all (col 1 0 ∷ [])) (scan filters params (old.now.trees h.tree))) ≡ ids_that test h.rows.kept =
     ap (map (λ (r : Row). id_in (rowid r))) (found_rows cells test filters (col 1 0 ∷ []) params (old.now.trees h.tree) xs h.rows tested)
@@ -59,16 +59,16 @@ takes_out old new name columns key references cells xs test h filters text param
     )
 
 -- an UPDATE that finds one row changes it, and it is the one that passes
-pub changes_row : {X : Type 0} (old new : State) (name : List ℕ) (columns : List Column) (key : List ℕ) (references : List Reference) (cells : X → Row) (xs : List X) (test : X → Bool) (f : X → X)
-    (h : Holds old.now name (a_table name columns key references) cells xs) (filters project : List Term) (text : List ℕ) (params : Row)
+pub changes_row : {X : Type 0} {acted : Bool} (old new : State) (name : List ℕ) (columns : List Column) (key : List ℕ) (references : List Reference) (cells : X → Row) (xs : List X) (test : X → Bool) (f : X → X)
+    (h : Holds acted old.now name (a_table name columns key references) cells xs) (acts : IsTrue acted) (filters project : List Term) (text : List ℕ) (params : Row)
     → Tests cells test filters params
     → ((p : ℤ × X) → cast_row (a_table name columns key references h.tree) (drop 1 (eval_all project (params ∷ stored cells p ∷ []))) ≡ Int p.0 ∷ cells (f p.1))
     → ((p : ℤ × X) → id_in (rowid (eval_all project (params ∷ stored cells p ∷ []))) ≡ p.0)
     → Writes old new None (Update h.at (record { lets = []; body = plain_query h.tree filters project [] })) text params 1
     → (w : WritesOne old.now new.now h.tree) × Keeps cells (w.next h.tree) (map (changed test f) xs) × ((x : X) × (filter test xs ≡ x ∷ []))
-changes_row {X = X} old new name columns key references cells xs test f h filters project text params tested recast same_id w =
+changes_row {X = X} old new name columns key references cells xs test f h acts filters project text params tested recast same_id w =
     let table = a_table name columns key references h.tree in
-    let made = updated_one old new h.at name columns key references h.tree _ text params h.place.listed (λ olds row. quiet old.now.schema h.tree olds (row ∷ []) h.spared) w in
+    let made = updated_one old new h.at name columns key references h.tree _ text params h.place.listed (λ olds row. quiet old.now.schema h.tree olds (row ∷ []) (h.spared acts)) w in
     let row = made.1 in
     let made_of : ℤ × X → Row = λ p. eval_all project (params ∷ stored cells p ∷ []) in
     let found = answer_unordered h.tree filters project old.now.trees params (row ∷ []) made.2 in
@@ -86,13 +86,13 @@ changes_row {X = X} old new name columns key references cells xs test f h filter
     )
 
 -- an UPDATE that finds none changes none, and no row passes
-pub changes_none : {X : Type 0} (old new : State) (name : List ℕ) (columns : List Column) (key : List ℕ) (references : List Reference) (cells : X → Row) (xs : List X) (test : X → Bool)
-    (h : Holds old.now name (a_table name columns key references) cells xs) (filters project : List Term) (text : List ℕ) (params : Row)
+pub changes_none : {X : Type 0} {acted : Bool} (old new : State) (name : List ℕ) (columns : List Column) (key : List ℕ) (references : List Reference) (cells : X → Row) (xs : List X) (test : X → Bool)
+    (h : Holds acted old.now name (a_table name columns key references) cells xs) (acts : IsTrue acted) (filters project : List Term) (text : List ℕ) (params : Row)
     → Tests cells test filters params
     → Writes old new None (Update h.at (record { lets = []; body = plain_query h.tree filters project [] })) text params 0
     → (w : WritesOne old.now new.now h.tree) × Keeps cells (w.next h.tree) xs × (filter test xs ≡ [])
-changes_none {X = X} old new name columns key references cells xs test h filters project text params tested w =
-    let made = updated_none old new h.at name columns key references h.tree _ text params h.place.listed (λ olds. quiet old.now.schema h.tree olds [] h.spared) w in
+changes_none {X = X} old new name columns key references cells xs test h acts filters project text params tested w =
+    let made = updated_none old new h.at name columns key references h.tree _ text params h.place.listed (λ olds. quiet old.now.schema h.tree olds [] (h.spared acts)) w in
     let made_of : ℤ × X → Row = λ p. eval_all project (params ∷ stored cells p ∷ []) in
     let found = answer_unordered h.tree filters project old.now.trees params [] made.1 in
     let shown = found_rows cells test filters project params (old.now.trees h.tree) xs h.rows tested in
@@ -112,8 +112,8 @@ changes_none {X = X} old new name columns key references cells xs test h filters
     none_permutation (y ∷ ys) moved = absurd (let same = length_permutation (y ∷ ys) [] moved in omega arith)
 
 -- what an unordered reading of the rows that pass shows
-pub shows_rows : {X : Type 0} (old : State) (name : List ℕ) (make : ℕ → Table) (cells shown : X → Row) (xs : List X) (test : X → Bool)
-    (h : Holds old.now name make cells xs) (filters project : List Term) (params : Row) (rows : List Row)
+pub shows_rows : {X : Type 0} {acted : Bool} (old : State) (name : List ℕ) (make : ℕ → Table) (cells shown : X → Row) (xs : List X) (test : X → Bool)
+    (h : Holds acted old.now name make cells xs) (filters project : List Term) (params : Row) (rows : List Row)
     → Tests cells test filters params
     → ((p : ℤ × X) → eval_all project (params ∷ stored cells p ∷ []) ≡ shown p.1)
     → IsAnswer (plain_query h.tree filters project []) (overlay old.now.trees []) params rows

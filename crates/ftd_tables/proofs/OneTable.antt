@@ -1,6 +1,6 @@
 -- A write to one of the desk's tables, wherever it stands: the others keep their rows.
 use Rattle.std.proofs.Common.{◌≡◌, ◌≢◌, ℕ, List, [], ◌∷◌, ◌++◌, None, sym, subst, ◌∙◌, length}
-use Rattle.std.specs.Prelude.{◌/◌}
+use Rattle.std.specs.Prelude.{◌/◌, Bool}
 use Rattle.std.specs.List.{AllByRecursion}
 use Rattle.sqlite.specs.declared.types.Value.TheVariants.{Int}
 use Rattle.sqlite.specs.Order.{Row}
@@ -29,14 +29,14 @@ pub record WritesOne (old new : Database) (tree : ℕ) : Type 0 where
   pub others : AllByRecursion (λ (v : Table). v.tree ≢ tree → next v.tree ≡ old.trees v.tree) old.schema.tables
 
 -- a table that is not the written one keeps its rows
-pub still : {X : Type 0} (old new : Database) (name other : List ℕ) (columns : List Column) (key : List ℕ) (references : List Reference) (cells : X → Row) (xs : List X) (written : Table) (i : ℕ)
+pub still : {X : Type 0} {acted : Bool} (old new : Database) (name other : List ℕ) (columns : List Column) (key : List ℕ) (references : List Reference) (cells : X → Row) (xs : List X) (written : Table) (i : ℕ)
     → IsAt old.schema other written i → WritesOne old new written.tree
-    → (h : Holds old name (a_table name columns key references) cells xs) → a_table name columns key references h.tree ≢ written
-    → Holds new name (a_table name columns key references) cells xs
-still {X = X} old new name other columns key references cells xs written i there w h differ =
+    → (h : Holds acted old name (a_table name columns key references) cells xs) → a_table name columns key references h.tree ≢ written
+    → Holds acted new name (a_table name columns key references) cells xs
+still {X = X} {acted = acted} old new name other columns key references cells xs written i there w h differ =
     let away = apart old.schema name other (a_table name columns key references h.tree) written h.at i h.place there differ in
     let same = stays old.schema name (a_table name columns key references h.tree) h.at written.tree old.trees w.next h.place w.others away in
-    let P : Database → Type 0 = λ d. Holds d name (a_table name columns key references) cells xs in
+    let P : Database → Type 0 = λ d. Holds acted d name (a_table name columns key references) cells xs in
     subst P (sym w.is) (record { at = h.at; tree = h.tree; place = h.place; spared = h.spared; rows = subst (λ rows. Keeps cells rows xs) (sym same) h.rows })
 
 -- so does any table that is not the written one
@@ -48,16 +48,16 @@ others_stay old new other written i there w name t at place differ =
     subst (λ (d : Database). IsAt d.schema name t at × (d.trees t.tree ≡ old.trees t.tree)) (sym w.is) (place, same)
 
 -- the written table holds these rows
-pub holds_now : {X : Type 0} (old new : Database) (name : List ℕ) (columns : List Column) (key : List ℕ) (references : List Reference) (cells : X → Row) (xs ys : List X)
-    → (h : Holds old name (a_table name columns key references) cells xs) → (w : WritesOne old new h.tree) → Keeps cells (w.next h.tree) ys
-    → Holds new name (a_table name columns key references) cells ys
-holds_now old new name columns key references cells xs ys h w k =
-    let P : Database → Type 0 = λ d. Holds d name (a_table name columns key references) cells ys in
+pub holds_now : {X : Type 0} {acted : Bool} (old new : Database) (name : List ℕ) (columns : List Column) (key : List ℕ) (references : List Reference) (cells : X → Row) (xs ys : List X)
+    → (h : Holds acted old name (a_table name columns key references) cells xs) → (w : WritesOne old new h.tree) → Keeps cells (w.next h.tree) ys
+    → Holds acted new name (a_table name columns key references) cells ys
+holds_now {acted = acted} old new name columns key references cells xs ys h w k =
+    let P : Database → Type 0 = λ d. Holds acted d name (a_table name columns key references) cells ys in
     subst P (sym w.is) (record { at = h.at; tree = h.tree; place = h.place; spared = h.spared; rows = k })
 
 -- an INSERT of one row adds it last
-pub adds_row : {X : Type 0} (old new : State) (name : List ℕ) (columns : List Column) (key : List ℕ) (references : List Reference) (cells : X → Row) (xs : List X) (x : X)
-    (h : Holds old.now name (a_table name columns key references) cells xs) (width : ℕ) (terms : List Term) (text : List ℕ) (params : Row) (count : ℕ)
+pub adds_row : {X : Type 0} {acted : Bool} (old new : State) (name : List ℕ) (columns : List Column) (key : List ℕ) (references : List Reference) (cells : X → Row) (xs : List X) (x : X)
+    (h : Holds acted old.now name (a_table name columns key references) cells xs) (width : ℕ) (terms : List Term) (text : List ℕ) (params : Row) (count : ℕ)
     → edited old.now.trees (edit_of old.now.trees (a_table name columns key references h.tree) [] Chosen 0 (value_rows params width (length terms / width) terms))
     ≡ put_row (Int (next_rowid (old.now.trees h.tree)) ∷ cells x) (old.now.trees h.tree)
     → Writes old new None (Insert h.at (Values terms width)) text params count

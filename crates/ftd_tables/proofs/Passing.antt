@@ -1,45 +1,64 @@
--- The tests of a WHERE: texts, numbers and days, one or more joined by AND.
-use Rattle.std.proofs.Common.{◌≡◌, ℕ, ℤ, pos, Bool, true, false, refl, sym, ap, ◌∙◌, Some, Less, Equal, Greater, int_cmp, is_eq, ◌⊎◌, inl, inr, ◌<◌, arith}
-use Rattle.std.specs.Prelude.{◌&&◌, ◌==◌, ◌≤◌, nat_le, not}
-use Rattle.std.specs.Ordering.{is_ge, is_le, is_lt, ordering_then}
-use Rattle.std.specs.Cmp.{int_cmp_is}
+-- The tests of a WHERE on texts and whole numbers.
+use Rattle.std.proofs.Common.{inl, inr, ◌≡◌, ℤ, pos, negsuc, false, refl, sym, ap, ◌∙◌, Some, int_cmp, is_eq, arith}
+use Rattle.std.specs.Prelude.{int_le, int_lt, ◌≤ℤ◌, ◌<ℤ◌, ◌⊎◌, List, ℕ, Bool, true, ◌&&◌}
+use Rattle.std.specs.Ordering.{is_ge, is_le, is_lt, int_eq, nat_cmp, ordering_then, ordering_reverse}
 use Rattle.std.proofs.lemmas.Int.{ints}
-use Rattle.std.proofs.lemmas.Bool.{cases_order}
 use Rattle.std.proofs.lemmas.Bool.Decides.{nat_tests}
-use Rattle.sqlite.specs.declared.types.Value.TheVariants.{Int}
+use Rattle.sqlite.specs.declared.types.Value.TheVariants.{Int, Text}
 use Rattle.sqlite_sql.specs.Ops.{is_true, from_truth, binary}
 use Rattle.sqlite.specs.Collation.TheVariants.{Binary}
 use Rattle.sqlite_sql.specs.declared.ops.BinaryOp.TheVariants.{Compare}
-use Rattle.sqlite_sql.specs.declared.ops.CompareOp.TheVariants.{Eq, Ge, Le}
+use Rattle.sqlite_sql.specs.declared.ops.CompareOp.TheVariants.{Eq, Lt, Ge, Le}
 use Rattle.sqlite_value.specs.declared.keys.Key.{Key}
-use Rattle.sqlite_value.proofs.OrderLemmas.{value_cmp-Int, then-Equal}
+use Rattle.sqlite_value.proofs.OrderLemmas.{value_cmp-Int, value_cmp-Text, then-Equal}
+use Rattle.std.specs.declared.cmp.Ordering.{Ordering}
+use Rattle.std.specs.declared.cmp.Ordering.TheVariants.{Less, Equal, Greater}
+use Rattle.std.specs.Cmp.{int_ranked}
+use Rattle.std.specs.Cmp.Lexicographic.{slice_cmp}
+use Rattle.std.specs.FinMap.{slice_cmp-IsAntisymmetric, nat_cmp-IsAntisymmetric}
+use Rattle.std.proofs.lemmas.Cmp.{nat_list_cmp_total}
 use Rattle.sqlite.specs.Order.{value_cmp}
-use Rattle.ftd_tables.specs.Rows.{day_cell, day_number, flag_cell}
-use Rattle.ftd_tables.proofs.KeptLemmas.{truth_is, and_true, number_is}
+use Rattle.ftd_tables.proofs.KeptLemmas.{truth_is, and_true}
 
--- days compare as their numbers
-days_cmp : (m n : ℕ) → int_cmp (day_number m) (day_number n) ≡ int_cmp (pos m) (pos n)
-days_cmp m n =
-    elim (cases_order m n) [
-      | inl same ↦ rw same (equal (day_number n) ∙ sym (equal (pos n)))
-      | inr (inl less) ↦ sym (int_cmp_is (day_number m) (day_number n) Less (omega (arith, ints))) ∙ int_cmp_is (pos m) (pos n) Less (omega (arith, ints))
-      | inr (inr more) ↦ sym (int_cmp_is (day_number m) (day_number n) Greater (omega (arith, ints))) ∙ int_cmp_is (pos m) (pos n) Greater (omega (arith, ints))
-    ]
-  where
-    equal : (z : ℤ) → int_cmp z z ≡ Equal
-    equal z = sym (int_cmp_is z z Equal refl)
+from_is : (m n : ℤ) → is_ge (int_cmp m n) ≡ int_le n m
+from_is (pos m) (pos n) = grind (arith, nat_tests)
+from_is (pos m) (negsuc n) = refl
+from_is (negsuc m) (pos n) = refl
+from_is (negsuc m) (negsuc n) = grind (arith, nat_tests)
 
-pub day_is : (m n : ℕ) → is_true (binary (Compare Eq Binary) (day_cell m) (day_cell n)) ≡ (m == n)
+to_is : (m n : ℤ) → is_le (int_cmp m n) ≡ int_le m n
+to_is (pos m) (pos n) = grind (arith, nat_tests)
+to_is (pos m) (negsuc n) = refl
+to_is (negsuc m) (pos n) = refl
+to_is (negsuc m) (negsuc n) = grind (arith, nat_tests)
+
+less_is : (m n : ℤ) → is_lt (int_cmp m n) ≡ int_lt m n
+less_is (pos m) (pos n) = grind (arith, nat_tests)
+less_is (pos m) (negsuc n) = refl
+less_is (negsuc m) (pos n) = refl
+less_is (negsuc m) (negsuc n) = grind (arith, nat_tests)
+
+pub whole_is : (m n : ℤ) → is_true (binary (Compare Eq Binary) (Int m) (Int n)) ≡ int_eq m n
 unfolding binary
-day_is m n = ap (λ o. is_true (from_truth (Some (is_eq o)))) (value_cmp-Int (day_number m) (day_number n) ∙ days_cmp m n) ∙ truth_is (is_eq (int_cmp (pos m) (pos n))) ∙ grind (arith, nat_tests)
+whole_is m n = ap (λ o. is_true (from_truth (Some (is_eq o)))) (value_cmp-Int m n) ∙ truth_is (int_eq m n)
 
-pub day_at_least_is : (m n : ℕ) → is_true (binary (Compare Ge Binary) (day_cell m) (day_cell n)) ≡ nat_le n m
+pub below_is : (m n : ℤ) → is_true (binary (Compare Lt Binary) (Int m) (Int n)) ≡ int_lt m n
 unfolding binary
-day_at_least_is m n = ap (λ o. is_true (from_truth (Some (is_ge o)))) (value_cmp-Int (day_number m) (day_number n) ∙ days_cmp m n) ∙ truth_is (is_ge (int_cmp (pos m) (pos n))) ∙ grind (arith, nat_tests)
+below_is m n = ap (λ o. is_true (from_truth (Some (is_lt o)))) (value_cmp-Int m n) ∙ truth_is (is_lt (int_cmp m n)) ∙ less_is m n
 
-pub day_at_most_is : (m n : ℕ) → is_true (binary (Compare Le Binary) (day_cell m) (day_cell n)) ≡ nat_le m n
+pub at_least_is : (m n : ℤ) → is_true (binary (Compare Ge Binary) (Int m) (Int n)) ≡ int_le n m
 unfolding binary
-day_at_most_is m n = ap (λ o. is_true (from_truth (Some (is_le o)))) (value_cmp-Int (day_number m) (day_number n) ∙ days_cmp m n) ∙ truth_is (is_le (int_cmp (pos m) (pos n))) ∙ grind (arith, nat_tests)
+at_least_is m n = ap (λ o. is_true (from_truth (Some (is_ge o)))) (value_cmp-Int m n) ∙ truth_is (is_ge (int_cmp m n)) ∙ from_is m n
+
+pub at_most_is : (m n : ℤ) → is_true (binary (Compare Le Binary) (Int m) (Int n)) ≡ int_le m n
+unfolding binary
+at_most_is m n = ap (λ o. is_true (from_truth (Some (is_le o)))) (value_cmp-Int m n) ∙ truth_is (is_le (int_cmp m n)) ∙ to_is m n
+
+le_if : (m n : ℤ) → is_lt (int_cmp n m) ≡ false → m ≤ℤ n
+le_if (pos m) (pos n) h = grind (arith, nat_tests, ints)
+le_if (pos m) (negsuc n) h = absurd cc
+le_if (negsuc m) (pos n) h = omega (arith, ints)
+le_if (negsuc m) (negsuc n) h = grind (arith, nat_tests, ints)
 
 -- tests joined by AND
 pub one_passes : (a x : Bool) → a ≡ x → (a && true) ≡ x
@@ -54,43 +73,36 @@ three_pass a b c x y z e f g = rw (e, f, g, and_true z) refl
 pub four_pass : (a b c d x y z w : Bool) → a ≡ x → b ≡ y → c ≡ z → d ≡ w → (a && (b && (c && (d && true)))) ≡ (x && (y && (z && w)))
 four_pass a b c d x y z w e f g h = rw (e, f, g, h, and_true w) refl
 
--- a mark that is not set
-pub unmarked_is : (b : Bool) → is_true (binary (Compare Eq Binary) (flag_cell b) (Int (pos 0))) ≡ not b
-unmarked_is true = number_is 1 0
-unmarked_is false = number_is 0 0
-
--- ---- what an order by a day or a number says of two rows that follow one another
-
-pub day_rises : (a b : ℕ) → is_lt (value_cmp (day_cell b) (day_cell a)) ≡ false → a ≤ b
-day_rises a b h =
-    let e : is_lt (int_cmp (pos b) (pos a)) ≡ false = sym (ap is_lt (value_cmp-Int (day_number b) (day_number a) ∙ days_cmp b a)) ∙ h in
-    grind (arith, nat_tests)
-
-pub number_rises : (a b : ℕ) → is_lt (value_cmp (Int (pos b)) (Int (pos a))) ≡ false → a ≤ b
-number_rises a b h =
-    let e : is_lt (int_cmp (pos b) (pos a)) ≡ false = sym (ap is_lt (value_cmp-Int (pos b) (pos a))) ∙ h in
-    grind (arith, nat_tests)
-
-pub same_day : (a : ℕ) → value_cmp (day_cell a) (day_cell a) ≡ Equal
-same_day a = value_cmp-Int (day_number a) (day_number a) ∙ sym (int_cmp_is (day_number a) (day_number a) Equal refl)
+-- ---- what an order says of two rows that follow one another
 
 -- the order of a column that rises
 abbrev pub rising : Key
 rising = record { collation = Binary; descending = false }
 
--- by day, and by number on one day
-pub day_then_number : (a b m n : ℕ) → is_lt (ordering_then (value_cmp (day_cell b) (day_cell a)) (ordering_then (value_cmp (Int (pos n)) (Int (pos m))) Equal)) ≡ false
-    → (a < b) ⊎ ((a ≡ b) × (m ≤ n))
-day_then_number a b m n h =
-    elim (cases_order a b) [
-      | inl same ↦
-          (let e : value_cmp (day_cell b) (day_cell a) ≡ Equal = rw same (same_day b) in
-          let rest = rw e at h in
-          inr (same, number_rises m n (sym (ap is_lt (then-Equal (value_cmp (Int (pos n)) (Int (pos m))))) ∙ rest)))
-      | inr (inl less) ↦ inl less
-      | inr (inr more) ↦
-          absurd
-          (let e : value_cmp (day_cell b) (day_cell a) ≡ Less = value_cmp-Int (day_number b) (day_number a) ∙ days_cmp b a ∙ sym (int_cmp_is (pos b) (pos a) Less (omega (arith, ints))) in
-          let wrong = rw e at h in
-          cc)
-    ]
+-- by a number
+whole_rises : (a b : ℤ) → is_lt (value_cmp (Int b) (Int a)) ≡ false → a ≤ℤ b
+whole_rises a b h = le_if a b (sym (ap is_lt (value_cmp-Int b a)) ∙ h)
+
+pub one_rises : (a b : ℤ) → is_lt (ordering_then (value_cmp (Int b) (Int a)) Equal) ≡ false → a ≤ℤ b
+one_rises a b h = whole_rises a b (sym (ap is_lt (then-Equal (value_cmp (Int b) (Int a)))) ∙ h)
+
+-- where what comes first does not come after, the second decides where it is the same
+then_by : (o : Ordering) (m n : ℤ) → is_lt (ordering_then o (ordering_then (value_cmp (Int n) (Int m)) Equal)) ≡ false → (o ≡ Greater) ⊎ ((o ≡ Equal) × (m ≤ℤ n))
+then_by Less m n h = absurd cc
+then_by Equal m n h = inr (refl, one_rises m n h)
+then_by Greater m n h = inl refl
+
+-- by two numbers
+pub two_rise : (a b m n : ℤ) → is_lt (ordering_then (value_cmp (Int b) (Int a)) (ordering_then (value_cmp (Int n) (Int m)) Equal)) ≡ false → (a <ℤ b) ⊎ ((a ≡ b) × (m ≤ℤ n))
+two_rise a b m n h = elim (then_by (value_cmp (Int b) (Int a)) m n h) [
+  | inl after ↦ inl (int_ranked b a Greater (sym after ∙ value_cmp-Int b a))
+  | inr same ↦ inr (sym (int_ranked b a Equal (sym same.0 ∙ value_cmp-Int b a)), same.1)
+]
+
+-- by a text and a number
+pub text_then_number : (a b : List ℕ) (m n : ℤ) → is_lt (ordering_then (value_cmp (Text b) (Text a)) (ordering_then (value_cmp (Int n) (Int m)) Equal)) ≡ false
+    → (slice_cmp nat_cmp a b ≡ Less) ⊎ ((a ≡ b) × (m ≤ℤ n))
+text_then_number a b m n h = elim (then_by (value_cmp (Text b) (Text a)) m n h) [
+  | inl after ↦ inl (nat_list_cmp_total.antisymm a b ∙ ap ordering_reverse (sym (value_cmp-Text b a) ∙ after))
+  | inr same ↦ inr (sym (slice_cmp-IsAntisymmetric nat_cmp-IsAntisymmetric b a (sym (value_cmp-Text b a) ∙ same.0)), same.1)
+]

@@ -41,9 +41,10 @@ use Rattle.sqlite_resolve.specs.Select.{outermost, named, parts, assembled, havi
 use Rattle.sqlite_resolve.specs.Program.{query, program}
 use Rattle.sqlite_resolve.specs.Compile.{read, timed, returning, command}
 use Rattle.ftd_tables.specs.Places.{IsAt}
-use Rattle.ftd_tables.proofs.Meaning.{IsAccepted, Reads, Means, means, program_is}
+use Rattle.ftd_tables.specs.TextKinds.{Reads}
+use Rattle.ftd_tables.proofs.Meaning.{IsAccepted, Means, means, program_is}
 use Rattle.sqlite_tied.specs.Compute.{everything}
-use Rattle.ftd_tables.specs.Opened.{opened_ast, opened_select, opened_query}
+use Rattle.ftd_tables.proofs.Opened.{opened_ast, opened_select, opened_query}
 use Rattle.ftd_tables.proofs.Phrase.{Phrase, Column, Given, Whole, Rows, Two, say, knows, here, alone, Alike, bind_same, lower_same, and_left, and_right}
 
 -- a column of the result with no alias: the expression and its text

@@ -18,7 +18,8 @@ use Rattle.sqlite_resolve.specs.Compile.{timed, returning, shows, command, updat
 use Rattle.sqlite_resolve.specs.Program.{program}
 use Rattle.ftd_tables.specs.Places.{IsAt}
 use Rattle.ftd_tables.proofs.Phrase.{Phrase, say, knows, here, alone, Alike, bind_same, lower_same, and_left, and_right}
-use Rattle.ftd_tables.proofs.Meaning.{IsAccepted, Reads, Means, means, program_is}
+use Rattle.ftd_tables.specs.TextKinds.{Reads}
+use Rattle.ftd_tables.proofs.Meaning.{IsAccepted, Means, means, program_is}
 use Rattle.ftd_tables.proofs.Selects.{all_known}
 
 abbrev pub setting : Phrase × Name → Name × Expr

@@ -1,6 +1,5 @@
-pub mod Opened
 pub mod Kept
 pub mod Tables
-pub mod Rows
+pub mod TextKinds
 pub mod Places
 pub mod Order

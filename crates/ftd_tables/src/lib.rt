@@ -1,3 +1,2 @@
-//! What the desk's database stands for: nine tables as lists of typed rows, and the lemmas on reading and
-//! writing them.
+//! A table of SQL as a list of typed rows: where it stands in a schema, and the lemmas on reading, writing and making it.
 #![tactic(auto)]

@@ -1,4 +1,0 @@
-pub mod Texts
-pub mod Tests
-pub mod Orders
-pub mod New

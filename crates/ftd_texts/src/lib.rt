@@ -1,2 +1,0 @@
-//! What each statement of the desk means in typed rows.
-#![tactic(auto)]
