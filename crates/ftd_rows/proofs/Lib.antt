@@ -1,0 +1,4 @@
+pub mod Found
+pub mod Listed
+pub mod DaySums
+pub mod OpenYears

@@ -1,0 +1,35 @@
+-- What a reading in order lists.
+use Rattle.std.proofs.Common.{◌≡◌, List, [], ◌∷◌, map, Bool, true, false, not, refl, sym, ◌∙◌, inl, inr}
+use Rattle.std.specs.Prelude.{filter}
+use Rattle.std.specs.List.{list_any}
+use Rattle.std.specs.List.Sorted.{IsPermutation}
+use Rattle.std.proofs.lemmas.Bool.{cases_Bool}
+use Rattle.std.proofs.lemmas.List.Sorted.{list_any-IsPermutation}
+use Rattle.sqlite.specs.Order.{Row}
+use Rattle.ftd_tables.specs.Order.{EachToNext}
+use Rattle.ftd_rows.specs.Lists.{Pairs, Lists}
+
+none_fails : {X : Type 0} (test : X → Bool) (xs : List X) → list_any (λ x. not (test x)) (filter test xs) ≡ false
+none_fails test [] = refl
+none_fails test (x ∷ xs) = elim (cases_Bool (test x)) [
+  | inl passes ↦ rw (passes, passes) (none_fails test xs)
+  | inr fails ↦ rw fails (none_fails test xs)
+]
+
+pairs_shown : {X Y : Type 0} (test : X → Bool) (see : X → Row) (seen : Y → Row) (IsRowOf : X → Y → Type 0) → ((x : X) (y : Y) → test x ≡ true → see x ≡ seen y → IsRowOf x y)
+    → (xs : List X) (ys : List Y) → list_any (λ x. not (test x)) xs ≡ false → map see xs ≡ map seen ys → Pairs IsRowOf xs ys
+pairs_shown test see seen IsRowOf same [] [] all h = tt
+pairs_shown test see seen IsRowOf same [] (y ∷ ys) all h = absurd cc
+pairs_shown test see seen IsRowOf same (x ∷ xs) [] all h = absurd cc
+pairs_shown test see seen IsRowOf same (x ∷ xs) (y ∷ ys) all h = elim (cases_Bool (test x)) [
+  | inl passes ↦ (same x y passes cc, pairs_shown test see seen IsRowOf same xs ys (rw passes at all) cc)
+  | inr fails ↦ absurd (let wrong = rw fails at all in cc)
+]
+
+-- the rows that pass, in the order in which they are shown, are those of the values that are read
+pub lists_shown : {X Y : Type 0} (Rise : X → X → Type 0) (IsRowOf : X → Y → Type 0) (test : X → Bool) (see : X → Row) (seen : Y → Row)
+    → ((x : X) (y : Y) → test x ≡ true → see x ≡ seen y → IsRowOf x y)
+    → (rows ordered : List X) (listed : List Y) → IsPermutation (filter test rows) ordered → EachToNext Rise ordered → map see ordered ≡ map seen listed → Lists Rise IsRowOf (filter test rows) listed
+lists_shown Rise IsRowOf test see seen same rows ordered listed moved rise shown =
+    let all = sym (list_any-IsPermutation (λ x. not (test x)) (filter test rows) ordered moved) ∙ none_fails test rows in
+    record { ordered = ordered; same = moved; rise = rise; pairs = pairs_shown test see seen IsRowOf same ordered listed all shown }

@@ -1,0 +1,26 @@
+//! The desk's values as rows of the database, and back.
+//!
+//! Contracts say exactly which cells stand for the value that is read. A row that is no value of its type is answered
+//! as `StoreFault::Failed`.
+#![tactic(auto)]
+
+mod accounts;
+mod calendars;
+mod cells;
+mod day_sums;
+mod faults;
+mod obligations;
+mod payments;
+mod reader;
+mod runs;
+mod years;
+
+pub use crate::accounts::Account;
+pub use crate::cells::{StoredDay, StoredFlag, StoredRule, StoredSchedule, stored};
+pub use crate::day_sums::sums_of;
+pub use crate::faults::StoreFault;
+pub use crate::obligations::AccountObligation;
+pub use crate::payments::{Payment, StoredPayment};
+pub use crate::reader::{FromRow, all, only};
+pub use crate::runs::{PayRun, StoredRun};
+pub use crate::years::{StoredYear, check_years, lines_of};
