@@ -11,7 +11,7 @@ ghost use Rattle.ftd_rules.specs.Years.{YearsFrom, OnlyFirstCarried};
 
 use anyhow::{Context, Result, bail, ensure};
 use ftd_days::{Cents, Day, Holidays};
-use ftd_rules::{DaySum, Kind, YearLine, assess};
+use ftd_rules::{DaySum, Form, Kind, YearLine, assess};
 use std::alloc::{AllocError, Global};
 use std::io::{self, Read, Write};
 
@@ -73,7 +73,7 @@ fn told(alloc: Global, first: u32, count: u32, text: &str) -> Result<String>
 {
     let years = years(alloc, first, count)?;
     let sums = day_sums(alloc, first, first + count, text)?;
-    let history = assess(alloc, &years, &sums, &Holidays::new(alloc))?;
+    let history = assess(Form::F941, alloc, &years, &sums, &Holidays::new(alloc))?;
     let mut lines = String::new(alloc);
     for row in history.rows.as_slice() {
         writeln!(lines, "{row}")?;

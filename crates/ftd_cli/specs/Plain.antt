@@ -6,6 +6,7 @@ use Rattle.std.specs.Str.{bytes_eq}
 use Rattle.ftd_days.specs.Calendar.{year_of}
 use Rattle.ftd_rules.specs.declared.DaySum.{DaySum}
 use Rattle.ftd_rules.specs.declared.Obligation.{Obligation}
+use Rattle.ftd_rules.specs.declared.Form.TheVariants.{F941}
 use Rattle.ftd_rules.specs.declared.YearLine.{YearLine}
 use Rattle.ftd_rules.specs.Years.{AreLines}
 use Rattle.ftd_rules.specs.Obligations.{AreObligations}
@@ -88,8 +89,8 @@ day_sum run = record { day = run.payday; cents = record { 0 = run.fit + run.ss +
 abbrev pub line_text : Obligation → List ℕ
 line_text row = obligation_text row ++ 10 ∷ []
 
--- the text prints the obligations of a monthly depositor with these sums in the year, a line for each by
--- first day: the year's lookback total is zero, and the account is not carried
+-- the text prints the obligations of a monthly depositor on Form 941 with these sums in the year, a line
+-- for each by first day: the year's lookback total is zero, and the account is not carried
 pub record Prints (year : ℕ) (holidays : List ℕ) (sums : List DaySum) (text : List ℕ) : Type 0 where
   pub line : YearLine
   pub of_year : line.year ≡ year
@@ -97,7 +98,7 @@ pub record Prints (year : ℕ) (holidays : List ℕ) (sums : List DaySum) (text 
   pub not_carried : line.carried ≡ false
   pub scheduled : AreLines sums (line ∷ [])
   pub rows : List Obligation
-  pub owed : AreObligations (line ∷ []) sums holidays rows
+  pub owed : AreObligations F941 (line ∷ []) sums holidays rows
   pub printed : text ≡ flat_map line_text rows
 
 -- the text of the deposits of the records, of which none is at fault

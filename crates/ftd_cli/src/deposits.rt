@@ -17,7 +17,7 @@ use crate::rows::{next_row, open_rows};
 use crate::runs::{Kept, take_rows};
 use csv::ByteRecord;
 use ftd_days::{Cents, Day, Holidays};
-use ftd_rules::{DaySum, Kind, Obligation, YearLine, assess};
+use ftd_rules::{DaySum, Form, Kind, Obligation, YearLine, assess};
 use std::alloc::{AllocError, Global};
 use std::collections::BTreeMap;
 
@@ -121,7 +121,7 @@ fn deposits(
         opening: Kind::Monthly,
         turn: None,
     };
-    let assessment = assess(alloc, &[line], sums, holidays)?;
+    let assessment = assess(Form::F941, alloc, &[line], sums, holidays)?;
     lines(alloc, assessment.rows.as_slice())
 }
 

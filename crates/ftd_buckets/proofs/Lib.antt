@@ -1,0 +1,17 @@
+pub mod Turns
+pub mod Places
+pub mod Chain
+pub mod Elsewhere
+pub mod Begun
+pub mod Years
+pub mod Steps
+pub mod Openings
+pub mod Onward
+pub mod Fed
+pub mod Joined
+pub mod Rest
+pub mod Split
+pub mod Kept
+pub mod Answering
+pub mod Few
+pub mod Needed
