@@ -21,7 +21,7 @@ use Rattle.sqlite_draft.specs.Query.{query_of}
 use Rattle.sqlite_resolve.specs.declared.scope.Output.{Output}
 use Rattle.ftd_tables.specs.Kept.{stored}
 use Rattle.ftd_tables.specs.Order.{EachToNext}
-use Rattle.ftd_tables.specs.Places.{IsAt}
+use Rattle.ftd_tables.specs.Places.{IsAt, Holds}
 use Rattle.ftd_tables.specs.TextKinds.{IsReadText}
 use Rattle.ftd_tables.proofs.Counting.{count_query, counts_rows, greatest_count}
 use Rattle.ftd_tables.proofs.InOrder.{shows_in_order}
@@ -66,24 +66,23 @@ means n text columns test order outs draft query s at tree reads opens resolves 
 module _ (n : TableName) (text : List ℕ) (columns : List Place) (tests : List Test) (order : List Place) (a : Asks n text columns tests order) where
   module _ (params : Row) (test : RowOf n → Bool) (shown : RowOf n → Row) (tested : Tests (cells_of n) test (filters_of tests) params)
       (seen : (p : ℤ × RowOf n) → eval_all (project_of columns) (params ∷ stored (cells_of n) p ∷ []) ≡ shown p.1)
-      (old new : State) (rows : List Row) (t : Tables) (stands : Stands old.now t) (h : Shown text params old new rows) where
+      (old new : State) (rows : List Row) (xs : List (RowOf n)) {acted : Bool} (l : Holds acted old.now (name_of n) (table_of n) (cells_of n) xs) (h : Shown text params old new rows) where
     -- in an order in which each row follows from the one before
     pub lists : (R : RowOf n → RowOf n → Type 0)
         → ((tree : ℕ) (a b : RowOf n) (i j : ℤ) → is_lt (output_cmp (plain_query tree (filters_of tests) (project_of columns) (keys_of order)) (output (plain_query tree (filters_of tests) (project_of columns) (keys_of order)) (params ∷ stored (cells_of n) (i, b) ∷ []))
         (output (plain_query tree (filters_of tests) (project_of columns) (keys_of order)) (params ∷ stored (cells_of n) (j, a) ∷ []))) ≡ false → R a b)
-        → (ys : List (RowOf n)) × IsPermutation (filter test (t n)) ys × (rows ≡ map shown ys) × EachToNext R ys
+        → (ys : List (RowOf n)) × IsPermutation (filter test xs) ys × (rows ≡ map shown ys) × EachToNext R ys
     lists R rises =
         let s = old.now.schema in
-        let l = stands n in
         let m = means n text _ _ _ _ _ _ s l.at l.tree a.reads a.opens (a.resolves l.tree) (a.accepted l.tree) (a.is_query l.tree) l.place in
         let read = reads_as text params old new s refl _ m.is m.plain m.unlisted rows h in
-        shows_in_order old _ _ (cells_of n) shown (t n) test R l (filters_of tests) (project_of columns) (keys_of order) params rows tested seen (rises l.tree) (read.answer Null)
+        shows_in_order old _ _ (cells_of n) shown xs test R l (filters_of tests) (project_of columns) (keys_of order) params rows tested seen (rises l.tree) (read.answer Null)
 
     -- in whatever order
-    pub shows : IsPermutation (map shown (filter test (t n))) rows
+    pub shows : IsPermutation (map shown (filter test xs)) rows
     shows =
         let found = lists (λ a b. ⊤) (λ tree a b i j h. tt) in
-        subst (IsPermutation (map shown (filter test (t n)))) (sym found.2) (IsPermutation-map shown _ found.0 found.1)
+        subst (IsPermutation (map shown (filter test xs))) (sym found.2) (IsPermutation-map shown _ found.0 found.1)
 
 -- ---- counting
 

@@ -1,4 +1,0 @@
-pub mod Controls
-pub mod Leaves
-pub mod Versions
-pub mod WhileMade
