@@ -85,6 +85,14 @@ set_twice n xs ys t m = go m (same_or_other n m)
     go m (inl same) = subst (λ l. with_rows n ys (with_rows n xs t) l ≡ with_rows n ys t l) same here
     go m (inr other) = other.1 ys (with_rows n xs t) ∙ other.1 xs t ∙ sym (other.1 ys t)
 
+-- rows that are those that are there
+pub set_own : (n : TableName) (rows : List (RowOf n)) (t : Tables) → rows ≡ t n → (m : TableName) → t m ≡ with_rows n rows t m
+set_own n rows t own m = go m (same_or_other n m)
+  where
+    go : (m : TableName) → (n ≡ m) ⊎ IsOther n m → t m ≡ with_rows n rows t m
+    go m (inl same) = subst (λ l. t l ≡ with_rows n rows t l) same (sym own ∙ sym (with_its_rows n rows t))
+    go m (inr other) = sym (other.1 rows t)
+
 -- the same rows, table by table
 pub stands_same : (db : Database) (t u : Tables) → ((n : TableName) → t n ≡ u n) → Stands db t → Stands db u
 stands_same db t u same h = λ n. subst (Holds (is_rewritten n) db (name_of n) (table_of n) (cells_of n)) (same n) (h n)

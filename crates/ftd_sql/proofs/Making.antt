@@ -48,7 +48,7 @@ acts_not Accounts = tt
 acts_not CalendarYears = tt
 acts_not n = ((refl, refl), tt)
 
-self_named : (n : TableName) → same_name (name_of n) (name_of n) ≡ true
+pub self_named : (n : TableName) → same_name (name_of n) (name_of n) ≡ true
 unfolding everything
 self_named Metas = refl
 self_named Accounts = refl

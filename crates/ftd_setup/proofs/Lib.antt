@@ -1,0 +1,4 @@
+pub mod Stepping
+pub mod Readings
+pub mod Foreign
+pub mod Made

@@ -1,0 +1,106 @@
+-- How a database is told to be the desk's, and what it becomes when it is opened.
+use Rattle.std.specs.Prelude.{◌≡◌, ◌<◌, ◌≤◌, ◌||◌, ◌&&◌, ℕ, ℤ, pos, Bool, true, false, List, [], ◌∷◌, codes, map, Option, Some, None, Result, Ok, Err, IsErrAnd, ⊤, ◌⊎◌, is_some, option_and_then, slice_get}
+use Rattle.std.specs.List.Sorted.{IsPermutation}
+use Rattle.sqlite.specs.Effect.{Database}
+use Rattle.sqlite.specs.Order.{Row}
+use Rattle.sqlite.specs.Schema.{Schema}
+use Rattle.sqlite.specs.State.{State, Shown, IsUnchanged}
+use Rattle.sqlite.specs.Table.{Table}
+use Rattle.sqlite.specs.Tree.{Trees}
+use Rattle.sqlite.specs.Does.{lacks_sequence}
+use Rattle.sqlite.specs.declared.types.Value.TheVariants.{Int, Text}
+use Rattle.sqlite_schema.specs.Names.{table_named, column_named}
+use Rattle.ftd_tables.specs.Places.{KeepsTables}
+use Rattle.ftd_schema.specs.declared.TableName.{TableName}
+use Rattle.ftd_schema.specs.declared.TableName.TheVariants.{Metas, Accounts, Forms, ReportedYears, AddedHolidays}
+use Rattle.ftd_schema.specs.Names.{all_names, later_names, has_any}
+use Rattle.ftd_schema.specs.Rows.{MetaRow, AccountRow, FormRow}
+use Rattle.ftd_schema.specs.Standing.{Tables, no_rows, with_rows, Stands, KeepsForeign, IsFirst, StandsAsFirst}
+use Rattle.ftd_sql.specs.Making.{IsFree}
+use Rattle.ftd_sql.specs.declared.texts.TheConstants.{LIST_METAS}
+use Rattle.ftd_setup.specs.declared.opening.Change.{Change}
+use Rattle.ftd_setup.specs.declared.opening.Change.TheVariants.{Make, Migrate}
+use Rattle.ftd_setup.specs.declared.opening.OpenFault.{OpenFault}
+use Rattle.ftd_setup.specs.declared.opening.OpenFault.TheVariants.{NotOurs, Newer, Store}
+
+-- ---- what is there
+
+-- none of the twelve names is taken
+abbrev pub IsNew : Schema → Type 0
+IsNew s = has_any all_names s ≡ false
+
+abbrev has_columns : Option Table → Bool
+has_columns (Some t) = is_some (column_named t (codes "tag")) && is_some (column_named t (codes "version"))
+has_columns None = false
+
+-- ftd_meta is a table with a tag and a version
+abbrev pub is_tagged : Schema → Bool
+is_tagged s = has_columns (option_and_then (slice_get s.tables) (table_named s (codes "ftd_meta")))
+
+-- the row of ftd_meta in a database of the desk
+abbrev pub tag_row : ℕ → MetaRow
+tag_row version = record { tag = codes "ftd"; version = pos version }
+
+-- the rows of ftd_meta are that of this version alone, as they are read and as they are stored
+abbrev pub ReadsVersion : List Row → ℕ → Type 0
+ReadsVersion rows version = rows ≡ (Text (codes "ftd") ∷ Int (pos version) ∷ []) ∷ []
+
+abbrev pub HasVersion : List MetaRow → ℕ → Type 0
+HasVersion metas version = metas ≡ tag_row version ∷ []
+
+-- ---- what it becomes
+
+-- the desk's tables have the rows that they had, and every other table is as it was
+abbrev pub KeepsRows : Database → Database → Type 0
+KeepsRows old new = (t : Tables) → Stands old t → Stands new t × KeepsTables old new
+
+-- the twelve tables were made: they are empty but for the tag of version 2, and every other table is as it was
+abbrev pub IsMade : Database → Database → Type 0
+IsMade old new = Stands new (with_rows Metas (tag_row 2 ∷ []) no_rows) × KeepsTables old new
+
+-- an account on Form 941, as every account of version 1 is
+abbrev pub on_form_941 : AccountRow → FormRow
+on_form_941 a = record { account = a.name; form = pos 0 }
+
+-- the rows of version 2 that stand for those of version 1
+pub record IsMigration (first second : Tables) : Type 0 where
+  pub version : HasVersion (second Metas) 2
+  pub forms : IsPermutation (map on_form_941 (first Accounts)) (second Forms)
+  pub years : second ReportedYears ≡ []
+  pub holidays : second AddedHolidays ≡ []
+  pub others : (n : TableName) → IsFirst n → (n ≡ Metas → ⊥) → second n ≡ first n
+
+-- the tables of version 1 became those of version 2, and every table of another name is as it was
+abbrev pub IsMigrated : Database → Database → Type 0
+IsMigrated old new = (first : Tables) → StandsAsFirst old first → HasVersion (first Metas) 1 → lacks_sequence old.schema ≡ false → ((second : Tables) × Stands new second × IsMigration first second) × KeepsForeign old new
+
+-- what is done in one transaction
+abbrev pub Becomes : Change → Database → Database → Type 0
+Becomes Make old new = IsNew old.schema → IsFree old.schema → IsMade old new
+Becomes Migrate old new = IsMigrated old new
+
+-- what a crash may leave of it, beside what there was: all of it
+abbrev pub MayBecome : Change → Database → Trees → Type 0
+MayBecome how old left = (db : Database) × (left ≡ db.trees) × Becomes how old db
+
+-- what a crash may leave of a database that is being opened, beside what there was: version 2 in whole
+abbrev pub MayBeOpened : Database → Trees → Type 0
+MayBeOpened old left = ((is_tagged old.schema ≡ false) × MayBecome Make old left) ⊎ ((is_tagged old.schema ≡ true) × MayBecome Migrate old left)
+
+-- ---- what is answered
+
+-- how a database with this version was opened: version 2 as it is, version 1 by migration
+abbrev pub Opens : State → State → (ℕ → Type 0) → Bool → Result (Unit {0}) OpenFault → Type 0
+Opens old new Is taken (Ok opened) = (Is 2 × IsUnchanged old new) ⊎ (Is 1 × (taken ≡ false) × IsMigrated old.now new.now × (new.committed ≡ new.now))
+Opens old new Is taken (Err (Newer version)) = (2 < version) × Is version
+Opens old new Is taken (Err NotOurs) = (version : ℕ) → 1 ≤ version → Is version → (version ≡ 1) × (taken ≡ true)
+Opens old new Is taken (Err (Store fault)) = ⊤
+
+-- a fault of the store says nothing of what the database is
+abbrev pub IsStoreFault : OpenFault → Type 0
+IsStoreFault (Store fault) = ⊤
+IsStoreFault e = ⊥
+
+-- the answer follows from what ftd_meta would show to a reading before
+abbrev pub OpensByReading : State → State → Result (Unit {0}) OpenFault → Type 0
+OpensByReading old new r = IsErrAnd r IsStoreFault ⊎ ((rows : List Row) × Shown LIST_METAS.now [] old old rows × Opens old new (ReadsVersion rows) (has_any later_names old.now.schema) r)

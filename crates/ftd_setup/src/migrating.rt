@@ -1,0 +1,75 @@
+//! From version 1 to version 2.
+
+ghost use Rattle.std.specs.Prelude.{◌≡◌, ◌++◌, pos, codes, map, List};
+ghost use Rattle.std.specs.List.Sorted.{IsPermutation};
+ghost use Rattle.ftd_tables.specs.Kept.{changed};
+ghost use Rattle.ftd_schema.specs.declared.TableName.TheVariants.{Metas, Accounts, Forms};
+ghost use Rattle.ftd_schema.specs.Rows.{AccountRow};
+ghost use Rattle.ftd_schema.specs.Standing.{Tables, with_rows, Stands, Becomes};
+ghost use Rattle.ftd_sql.specs.Answers.{name_shown};
+ghost use Rattle.ftd_sql.specs.Tests.{is_tag, with_version};
+ghost use Rattle.ftd_setup.specs.Steps.{Steps};
+ghost use Rattle.ftd_setup.specs.Versions.{on_form_941, IsMigrated};
+
+use crate::making::{Indexes, VERSION, make_indexes, make_tables};
+use crate::steps::{read, run};
+use ftd_rows::StoreFault;
+use ftd_schema::LATER;
+use ftd_sql::texts;
+use sqlite::types::ValueRef;
+use sqlite::{Alter, Row, Transaction, params};
+
+// Form 941, as it is stored
+const FORM_941: i64 = 0;
+
+// puts the accounts of these names on Form 941
+fn add_forms<S: Alter>(tx: &mut Transaction<'_, S>, names: &[Row]) -> Result<(), StoreFault>
+    ensures step { Steps S.Store tx.old tx.new result (λ _ old new. (accounts : List AccountRow) (t : Tables)
+        → names.now ≡ map name_shown accounts → Stands old.now t
+        → Becomes old.now new.now (with_rows Forms (t Forms ++ map on_form_941 accounts) t)) }
+{
+    for name in names {
+        run(
+            tx,
+            texts::ADD_FORM,
+            &[name.get_ref(0)?, ValueRef::Int(FORM_941)],
+        )?;
+    }
+    Ok(())
+}
+
+// puts every account on Form 941
+fn give_forms<S: Alter>(tx: &mut Transaction<'_, S>) -> Result<(), StoreFault>
+    ensures step { Steps S.Store tx.old tx.new result (λ _ old new. (t : Tables) → Stands old.now t
+        → (accounts : List AccountRow) × IsPermutation (t Accounts) accounts
+        × Becomes old.now new.now (with_rows Forms (t Forms ++ map on_form_941 accounts) t)) }
+{
+    let names = read(tx, texts::LIST_ACCOUNTS)?;
+    add_forms(tx, &names)
+}
+
+// gives the tag version 2
+fn set_version<S: Alter>(tx: &mut Transaction<'_, S>) -> Result<(), StoreFault>
+    ensures step { Steps S.Store tx.old tx.new result (λ _ old new. (t : Tables) → Stands old.now t
+        → Becomes old.now new.now (with_rows Metas
+            (map (changed (is_tag (codes "ftd")) (with_version (pos 2))) (t Metas)) t)) }
+{
+    if run(tx, texts::SET_VERSION, params!["ftd", VERSION])? != 1 {
+        return Err(StoreFault::Failed);
+    }
+    Ok(())
+}
+
+/// Makes the three later tables, puts every account on Form 941, and gives the tag version 2.
+pub(crate) fn migrate<S: Alter>(
+    tx: &mut Transaction<'_, S>,
+    indexes: Indexes,
+) -> Result<(), StoreFault>
+    ensures step { Steps S.Store tx.old tx.new result (λ _ old new. IsMigrated old.now new.now) }
+{
+    let names = LATER;
+    make_tables(tx, names.as_slice())?;
+    make_indexes(tx, indexes)?;
+    give_forms(tx)?;
+    set_version(tx)
+}
