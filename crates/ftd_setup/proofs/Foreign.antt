@@ -1,7 +1,7 @@
 -- Tables of other names, where no name of the desk's is taken.
 use Rattle.std.proofs.Common.{◌≡◌, ◌≢◌, ℕ, zero, suc, ◌+◌, List, [], ◌∷◌, Bool, true, false, Option, None, Some, cond, refl, sym, subst, ◌∙◌, slice_get, get_or, length, ◌<◌, arith}
 use Rattle.std.specs.Prelude.{◌||◌, is_some}
-use Rattle.std.specs.List.{list_any, position_from}
+use Rattle.std.specs.List.{position_from}
 use Rattle.std.proofs.lemmas.Bool.{false≢true}
 use Rattle.std.proofs.lemmas.List.Folds.{list_any_at}
 use Rattle.sqlite.specs.Schema.{Schema}
@@ -10,7 +10,7 @@ use Rattle.sqlite_schema.specs.Names.{same_name, table_named}
 use Rattle.ftd_tables.specs.Places.{IsAt}
 use Rattle.ftd_schema.specs.declared.TableName.{TableName}
 use Rattle.ftd_schema.specs.declared.TableName.TheVariants.{Metas, Accounts, ReportedQuarters, CalendarYears, Holidays, Years, Runs, Payments, Obligations, Forms, ReportedYears, AddedHolidays}
-use Rattle.ftd_schema.specs.Names.{name_of, all_names, is_taken, has_any}
+use Rattle.ftd_schema.specs.Names.{name_of, all_names, is_taken}
 use Rattle.ftd_schema.specs.Standing.{IsForeign}
 use Rattle.ftd_sql.proofs.Making.{self_named}
 use Rattle.ftd_setup.specs.Versions.{IsNew}

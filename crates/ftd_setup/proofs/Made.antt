@@ -1,5 +1,5 @@
 -- What the steps of making and migrating come to.
-use Rattle.std.proofs.Common.{◌≡◌, ◌<◌, ◌++◌, ◌∙◌, ℕ, zero, suc, length, ◌+◌, drop, take, append-nil, append_assoc, add-one, IsTrue, arith, pos, List, [], ◌∷◌, codes, map, Ok, refl, sym, ap, subst, Bool, true, false}
+use Rattle.std.proofs.Common.{◌≡◌, ◌<◌, ◌++◌, ◌∙◌, ℕ, zero, suc, length, ◌+◌, drop, take, append-nil, append_assoc, IsTrue, arith, pos, List, [], ◌∷◌, codes, map, Ok, refl, sym, ap, subst, false}
 use Rattle.std.specs.Prelude.{slice_index_or}
 use Rattle.std.specs.List.Sorted.{IsPermutation}
 use Rattle.std.proofs.lemmas.List.Sorted.{IsPermutation-map}
@@ -19,7 +19,7 @@ use Rattle.sqlite_tied.specs.Compute.{everything}
 use Rattle.ftd_tables.specs.Kept.{changed}
 use Rattle.ftd_tables.specs.Places.{KeepsTables, IsUnnamed}
 use Rattle.ftd_schema.specs.declared.TableName.{TableName}
-use Rattle.ftd_schema.specs.declared.TableName.TheVariants.{Metas, Accounts, ReportedQuarters, CalendarYears, Holidays, Years, Runs, Payments, Obligations, Forms, ReportedYears, AddedHolidays}
+use Rattle.ftd_schema.specs.declared.TableName.TheVariants.{Metas, Accounts, Forms, ReportedYears, AddedHolidays}
 use Rattle.ftd_schema.specs.Names.{name_of, all_names, later_names}
 use Rattle.ftd_schema.specs.Layout.{is_rewritten}
 use Rattle.ftd_schema.specs.Rows.{cells_of, AccountRow}
@@ -30,7 +30,7 @@ use Rattle.ftd_sql.specs.Tests.{is_tag, with_version}
 use Rattle.ftd_sql.proofs.Controls.{keeps_tables_then}
 use Rattle.ftd_sql.proofs.Making.{AreMade, all_made, later_made}
 use Rattle.ftd_sql.proofs.Writing.{adds}
-use Rattle.ftd_setup.specs.Versions.{IsNew, IsMade, KeepsRows, tag_row, HasVersion, on_form_941, IsMigration, IsMigrated}
+use Rattle.ftd_setup.specs.Versions.{IsNew, IsMade, KeepsRows, tag_row, on_form_941, IsMigrated}
 use Rattle.ftd_setup.proofs.Foreign.{all_foreign}
 
 -- ---- a new database
@@ -102,14 +102,20 @@ unfolding everything
 migrated old mid new before sets t first one counted =
     let forms = before t first counted in
     let rows : Tables = with_rows Forms (map on_form_941 forms.0) (first_rows t) in
-    let last = sets rows forms.2 in
-    ((with_rows Metas (map (changed (is_tag (codes "ftd")) (with_version (pos 2))) (t Metas)) rows, last.0, record {
-      version = ap (map (changed (is_tag (codes "ftd")) (with_version (pos 2)))) one;
-      forms = IsPermutation-map on_form_941 (t Accounts) forms.0 forms.1;
-      years = refl;
-      holidays = refl;
-      others = others;
-    }), foreign_then old mid new forms.3 last.1)
+    let last = sets rows forms.2 in (
+      (
+        with_rows Metas (map (changed (is_tag (codes "ftd")) (with_version (pos 2))) (t Metas)) rows,
+        last.0,
+        record {
+          version = ap (map (changed (is_tag (codes "ftd")) (with_version (pos 2)))) one;
+          forms = IsPermutation-map on_form_941 (t Accounts) forms.0 forms.1;
+          years = refl;
+          holidays = refl;
+          others = others;
+        },
+      ),
+      foreign_then old mid new forms.3 last.1,
+    )
   where
     others : (n : TableName) → IsFirst n → (n ≡ Metas → ⊥) → with_rows Metas (map (changed (is_tag (codes "ftd")) (with_version (pos 2))) (t Metas)) (with_rows Forms (map on_form_941 (before t first counted).0) (first_rows t)) n ≡ t n
     others Metas here other = absurd (other refl)

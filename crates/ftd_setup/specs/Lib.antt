@@ -1,2 +1,3 @@
 pub mod Steps
 pub mod Versions
+pub mod Ended

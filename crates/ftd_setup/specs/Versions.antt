@@ -1,5 +1,5 @@
 -- How a database is told to be the desk's, and what it becomes when it is opened.
-use Rattle.std.specs.Prelude.{◌≡◌, ◌<◌, ◌≤◌, ◌||◌, ◌&&◌, ℕ, ℤ, pos, Bool, true, false, List, [], ◌∷◌, codes, map, Option, Some, None, Result, Ok, Err, IsErrAnd, ⊤, ◌⊎◌, is_some, option_and_then, slice_get}
+use Rattle.std.specs.Prelude.{◌≡◌, ◌<◌, ◌≤◌, ◌&&◌, ℕ, pos, Bool, true, false, List, [], ◌∷◌, codes, map, Option, Some, None, Result, Ok, Err, IsErrAnd, ⊤, ◌⊎◌, is_some, option_and_then, slice_get}
 use Rattle.std.specs.List.Sorted.{IsPermutation}
 use Rattle.sqlite.specs.Effect.{Database}
 use Rattle.sqlite.specs.Order.{Row}

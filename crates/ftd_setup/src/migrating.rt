@@ -52,7 +52,7 @@ fn give_forms<S: Alter>(tx: &mut Transaction<'_, S>) -> Result<(), StoreFault>
 fn set_version<S: Alter>(tx: &mut Transaction<'_, S>) -> Result<(), StoreFault>
     ensures step { Steps S.Store tx.old tx.new result (λ _ old new. (t : Tables) → Stands old.now t
         → Becomes old.now new.now (with_rows Metas
-            (map (changed (is_tag (codes "ftd")) (with_version (pos 2))) (t Metas)) t)) }
+        (map (changed (is_tag (codes "ftd")) (with_version (pos 2))) (t Metas)) t)) }
 {
     if run(tx, texts::SET_VERSION, params!["ftd", VERSION])? != 1 {
         return Err(StoreFault::Failed);

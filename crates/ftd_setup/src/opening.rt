@@ -11,6 +11,8 @@ ghost use Rattle.ftd_schema.specs.Layout.{table_of};
 ghost use Rattle.ftd_sql.specs.Making.{IsFree};
 ghost use Rattle.ftd_sql.specs.States.{CrashKeeps, ShowsAgain};
 ghost use Rattle.ftd_sql.specs.declared.texts.TheConstants.{LIST_METAS};
+ghost use Rattle.ftd_setup.specs.Ended.{held, Ended};
+ghost use Rattle.ftd_setup.specs.Steps.{Steps};
 ghost use Rattle.ftd_setup.specs.Versions.{IsNew, IsMade, is_tagged, HasVersion, Becomes, MayBecome, MayBeOpened, IsStoreFault, Opens, OpensByReading};
 
 use crate::making::{Indexes, make};
@@ -19,7 +21,7 @@ use crate::versions::{is_tagged, told};
 use ftd_rows::StoreFault;
 use ftd_schema::{ALL, LATER, has_any};
 use ftd_sql::texts;
-use sqlite::{Alter, Connection, Row};
+use sqlite::{Alter, Connection, Row, Transaction};
 use thiserror::Error;
 
 /// Why a database was not opened.
@@ -47,6 +49,15 @@ impl From<StoreFault> for OpenFault {
     }
 }
 
+/// A database that was not opened, with the rows that it had.
+#[derive(Drop)]
+pub struct NotOpened<S: Alter> {
+    /// The database.
+    pub connection: Connection<S>,
+    /// Why it was not opened.
+    pub fault: OpenFault,
+}
+
 /// What is done to a database in one transaction before it is the desk's.
 #[derive(Clone, Copy)]
 pub(crate) enum Change {
@@ -56,62 +67,112 @@ pub(crate) enum Change {
     Migrate,
 }
 
-// does so in one transaction
-fn carry_out<S: Alter>(conn: &mut Connection<S>, how: Change) -> Result<(), StoreFault>
-    ensures done { HasCleanDisk (state S.Store conn.new) → OnOk result
-        (Becomes how (state S.Store conn.old).now (state S.Store conn.new).now
-        × ((state S.Store conn.new).committed ≡ (state S.Store conn.new).now)) }
-    ensures kept { HasCleanDisk (state S.Store conn.new) → IsTrue (state S.Store conn.new).is_open
-        → OnErr result (ShowsAgain (state S.Store conn.old) (state S.Store conn.new)) }
-    ensures crash { Survives (state S.Store conn.old) (state S.Store conn.new)
-        (MayBecome how (state S.Store conn.old).now) }
+// does so inside a transaction
+fn apply<S: Alter>(
+    tx: &mut Transaction<'_, S>,
+    how: Change,
+    indexes: Indexes,
+) -> Result<(), StoreFault>
+    ensures step { Steps S.Store tx.old tx.new result (λ _ old new. Becomes how old.now new.now) }
 {
-    if !conn.is_autocommit() {
-        return Err(StoreFault::Failed);
-    }
-    let indexes = Indexes::free_in(conn.schema());
-    let mut tx = conn.transaction();
     match how {
-        Change::Make => make(&mut tx, indexes)?,
-        Change::Migrate => migrate(&mut tx, indexes)?,
+        Change::Make => make(tx, indexes),
+        Change::Migrate => migrate(tx, indexes),
     }
-    tx.commit()?;
-    Ok(())
 }
 
-// the rows of ftd_meta
-fn read_tag<S: Alter>(conn: &mut Connection<S>) -> Result<Vec<Row>, StoreFault>
-    ensures shown { HasCleanDisk (state S.Store conn.new) → IfOk result
-        (λ rows. Shown LIST_METAS.now [] (state S.Store conn.old) (state S.Store conn.old) rows.items
-        × IsUnchanged (state S.Store conn.old) (state S.Store conn.new)) }
-    ensures kept { HasCleanDisk (state S.Store conn.new) → IsTrue (state S.Store conn.new).is_open
-        → ShowsAgain (state S.Store conn.old) (state S.Store conn.new) }
-    ensures crash { CrashKeeps (state S.Store conn.old) (state S.Store conn.new) }
-{
-    if !conn.is_autocommit() {
-        return Err(StoreFault::Failed);
-    }
-    Ok(conn.query_all(texts::LIST_METAS, &[])?)
+/// A database, as it is before it is known to be the desk's.
+#[derive(Drop)]
+struct Found<S: Alter> {
+    conn: Connection<S>,
 }
 
-// opens a database that has a tag: version 2 as it is, version 1 by migration
-fn open_tagged<S: Alter>(conn: &mut Connection<S>) -> Result<(), OpenFault>
-    ensures read { HasCleanDisk (state S.Store conn.new)
-        → OpensByReading (state S.Store conn.old) (state S.Store conn.new) result }
-    ensures kept { HasCleanDisk (state S.Store conn.new) → IsTrue (state S.Store conn.new).is_open
-        → OnErr result (ShowsAgain (state S.Store conn.old) (state S.Store conn.new)) }
-    ensures crash { Survives (state S.Store conn.old) (state S.Store conn.new)
-        (MayBecome Change.Migrate (state S.Store conn.old).now) }
-{
-    let rows = read_tag(conn)?;
-    match told(&rows) {
-        Some(2) => Ok(()),
-        Some(1) if !has_any(conn.schema(), LATER.as_slice()) => {
-            carry_out(conn, Change::Migrate)?;
-            Ok(())
+impl<S: Alter> Found<S> {
+    // does so in one transaction
+    fn carry_out(&mut self, how: Change) -> Result<(), StoreFault>
+        ensures done { HasCleanDisk (held S.Store self.new) → OnOk result
+            (Becomes how (held S.Store self.old).now (held S.Store self.new).now
+            × ((held S.Store self.new).committed ≡ (held S.Store self.new).now)) }
+        ensures kept { HasCleanDisk (held S.Store self.new) → IsTrue (held S.Store self.new).is_open
+            → OnErr result (ShowsAgain (held S.Store self.old) (held S.Store self.new)) }
+        ensures crash { Survives (held S.Store self.old) (held S.Store self.new)
+            (MayBecome how (held S.Store self.old).now) }
+    {
+        if !self.conn.is_autocommit() {
+            return Err(StoreFault::Failed);
         }
-        Some(version) if version > 2 => Err(OpenFault::Newer(version)),
-        _ => Err(OpenFault::NotOurs),
+        let indexes = Indexes::free_in(self.conn.schema());
+        let mut tx = self.conn.transaction();
+        apply(&mut tx, how, indexes)?;
+        match tx.commit() {
+            Ok(()) => Ok(()),
+            Err(error) => Err(StoreFault::from(error)),
+        }
+    }
+
+    // the rows of ftd_meta
+    fn read_tag(&mut self) -> Result<Vec<Row>, StoreFault>
+        ensures shown { HasCleanDisk (held S.Store self.new) → IfOk result
+            (λ rows. Shown LIST_METAS.now [] (held S.Store self.old) (held S.Store self.old) rows.items
+            × IsUnchanged (held S.Store self.old) (held S.Store self.new)) }
+        ensures kept { HasCleanDisk (held S.Store self.new) → IsTrue (held S.Store self.new).is_open
+            → ShowsAgain (held S.Store self.old) (held S.Store self.new) }
+        ensures crash { CrashKeeps (held S.Store self.old) (held S.Store self.new) }
+    {
+        if !self.conn.is_autocommit() {
+            return Err(StoreFault::Failed);
+        }
+        match self.conn.query_all(texts::LIST_METAS, &[]) {
+            Ok(rows) => Ok(rows),
+            Err(error) => Err(StoreFault::from(error)),
+        }
+    }
+
+    // opens a database that has a tag: version 2 as it is, version 1 by migration
+    fn open_tagged(&mut self) -> Result<(), OpenFault>
+        ensures read { HasCleanDisk (held S.Store self.new)
+            → OpensByReading (held S.Store self.old) (held S.Store self.new) result }
+        ensures kept { HasCleanDisk (held S.Store self.new) → IsTrue (held S.Store self.new).is_open
+            → OnErr result (ShowsAgain (held S.Store self.old) (held S.Store self.new)) }
+        ensures crash { Survives (held S.Store self.old) (held S.Store self.new)
+            (MayBecome Change.Migrate (held S.Store self.old).now) }
+    {
+        let rows = self.read_tag()?;
+        match told(&rows) {
+            Some(2) => Ok(()),
+            Some(1) if !has_any(self.conn.schema(), LATER.as_slice()) => {
+                self.carry_out(Change::Migrate)?;
+                Ok(())
+            }
+            Some(version) if version > 2 => Err(OpenFault::Newer(version)),
+            _ => Err(OpenFault::NotOurs),
+        }
+    }
+
+    fn prepare(&mut self) -> Result<(), OpenFault>
+        ensures new_database { IsNew (held S.Store self.old).now.schema → HasCleanDisk (held S.Store self.new)
+            → OnOk result (IsFree (held S.Store self.old).now.schema
+            → IsMade (held S.Store self.old).now (held S.Store self.new).now
+            × ((held S.Store self.new).committed ≡ (held S.Store self.new).now)) }
+        ensures never_refused { IsNew (held S.Store self.old).now.schema → IfErr result IsStoreFault }
+        ensures foreign { has_any all_names (held S.Store self.old).now.schema ≡ true
+            → is_tagged (held S.Store self.old).now.schema ≡ false
+            → (result ≡ Err OpenFault.NotOurs) × (self.new ≡ self.old) }
+        ensures read { is_tagged (held S.Store self.old).now.schema ≡ true → HasCleanDisk (held S.Store self.new)
+            → OpensByReading (held S.Store self.old) (held S.Store self.new) result }
+        ensures kept { HasCleanDisk (held S.Store self.new) → IsTrue (held S.Store self.new).is_open
+            → OnErr result (ShowsAgain (held S.Store self.old) (held S.Store self.new)) }
+        ensures crash { Survives (held S.Store self.old) (held S.Store self.new)
+            (MayBeOpened (held S.Store self.old).now) }
+    {
+        if is_tagged(self.conn.schema()) {
+            return self.open_tagged();
+        }
+        if has_any(self.conn.schema(), ALL.as_slice()) {
+            return Err(OpenFault::NotOurs);
+        }
+        self.carry_out(Change::Make)?;
+        Ok(())
     }
 }
 
@@ -121,35 +182,36 @@ fn open_tagged<S: Alter>(conn: &mut Connection<S>) -> Result<(), OpenFault>
 /// with the tag (`ftd`, 2) and, where nothing has their names, two indexes by day. Where ftd_meta has exactly one row, with
 /// the tag `ftd`: version 2 is opened as it is; version 1 becomes version 2 in one transaction, with every account on Form
 /// 941, or is `NotOurs` where one of the three later names is taken; a greater version is `Newer`. All else is `NotOurs`.
-/// `Store` where memory is refused, where the database fails, and where it is in a transaction. A fault leaves the rows
-/// as they were. Tables of other names are left alone.
-pub fn prepare<S: Alter>(conn: &mut Connection<S>) -> Result<(), OpenFault>
-    ensures new_database { IsNew (state S.Store conn.old).now.schema → IsFree (state S.Store conn.old).now.schema
-        → HasCleanDisk (state S.Store conn.new) → OnOk result
-        (IsMade (state S.Store conn.old).now (state S.Store conn.new).now
-        × ((state S.Store conn.new).committed ≡ (state S.Store conn.new).now)) }
-    ensures never_refused { IsNew (state S.Store conn.old).now.schema → IfErr result IsStoreFault }
-    ensures foreign { has_any all_names (state S.Store conn.old).now.schema ≡ true
-        → is_tagged (state S.Store conn.old).now.schema ≡ false
-        → (result ≡ Err OpenFault.NotOurs) × (conn.new ≡ conn.old) }
-    ensures read { is_tagged (state S.Store conn.old).now.schema ≡ true → HasCleanDisk (state S.Store conn.new)
-        → OpensByReading (state S.Store conn.old) (state S.Store conn.new) result }
+/// `Store` where memory is refused, where the database fails, and where it is in a transaction. A fault gives the
+/// connection back with the same rows. Tables of other names are left alone.
+pub fn open<S: Alter>(conn: Connection<S>) -> Result<Connection<S>, NotOpened<S>>
+    ensures new_database { IsNew (state S.Store conn).now.schema → IsFree (state S.Store conn).now.schema
+        → IfOk result (λ it. HasCleanDisk (state S.Store it) → IsMade (state S.Store conn).now (state S.Store it).now
+        × ((state S.Store it).committed ≡ (state S.Store it).now)) }
+    ensures never_refused { IsNew (state S.Store conn).now.schema → IfErr result (λ e. IsStoreFault e.fault) }
+    ensures foreign { has_any all_names (state S.Store conn).now.schema ≡ true
+        → is_tagged (state S.Store conn).now.schema ≡ false
+        → IfOk result (λ it. ⊥) × IfErr result (λ e. (e.fault ≡ OpenFault.NotOurs) × (e.connection ≡ conn)) }
+    ensures read { is_tagged (state S.Store conn).now.schema ≡ true
+        → Ended S.Store result (λ now r. HasCleanDisk now → OpensByReading (state S.Store conn) now r) }
     ensures version { (metas : List MetaRow)
-        → Holds false (state S.Store conn.old).now (name_of Metas) (table_of Metas) (cells_of Metas) metas
-        → HasCleanDisk (state S.Store conn.new)
-        → Opens (state S.Store conn.old) (state S.Store conn.new) (HasVersion metas)
-            (has_any later_names (state S.Store conn.old).now.schema) result }
-    ensures kept { HasCleanDisk (state S.Store conn.new) → IsTrue (state S.Store conn.new).is_open
-        → OnErr result (ShowsAgain (state S.Store conn.old) (state S.Store conn.new)) }
-    ensures crash { Survives (state S.Store conn.old) (state S.Store conn.new)
-        (MayBeOpened (state S.Store conn.old).now) }
+        → Holds false (state S.Store conn).now (name_of Metas) (table_of Metas) (cells_of Metas) metas
+        → Ended S.Store result (λ now r. HasCleanDisk now → Opens (state S.Store conn) now (HasVersion metas)
+        (has_any later_names (state S.Store conn).now.schema) r) }
+    ensures kept { IfErr result (λ e. HasCleanDisk (state S.Store e.connection)
+        → IsTrue (state S.Store e.connection).is_open → ShowsAgain (state S.Store conn) (state S.Store e.connection)) }
+    ensures crash { Ended S.Store result (λ now _. Survives (state S.Store conn) now
+        (MayBeOpened (state S.Store conn).now)) }
 {
-    if is_tagged(conn.schema()) {
-        return open_tagged(conn);
+    let mut found = Found { conn };
+    match found.prepare() {
+        Ok(()) => {
+            let Found { conn } = found;
+            Ok(conn)
+        }
+        Err(fault) => {
+            let Found { conn: connection } = found;
+            Err(NotOpened { connection, fault })
+        }
     }
-    if has_any(conn.schema(), ALL.as_slice()) {
-        return Err(OpenFault::NotOurs);
-    }
-    carry_out(conn, Change::Make)?;
-    Ok(())
 }

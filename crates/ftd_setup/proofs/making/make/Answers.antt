@@ -1,4 +1,3 @@
-use Rattle.std.proofs.Common.{pos}
 use Rattle.ftd_sql.specs.States.{within}
 use Rattle.ftd_setup.specs.Versions.{IsNew, IsMade}
 use Rattle.ftd_sql.specs.Making.{IsFree}

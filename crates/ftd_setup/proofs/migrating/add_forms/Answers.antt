@@ -1,4 +1,4 @@
-use Rattle.std.proofs.Common.{◌≡◌, ◌+◌, ◌++◌, List, ◌∷◌, map, take, drop, get_or, drop-cons, add-one, arith, sym, ap, subst, length, ◌≤◌}
+use Rattle.std.proofs.Common.{◌≡◌, ◌+◌, ◌++◌, List, ◌∷◌, map, take, drop, get_or, drop-cons, add-one, arith, ap, subst, length}
 use Rattle.std.proofs.lemmas.List.{take_all, length-map}
 use Rattle.sqlite.specs.Order.{Row}
 use Rattle.ftd_schema.specs.declared.TableName.TheVariants.{Forms}

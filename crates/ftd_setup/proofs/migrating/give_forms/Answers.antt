@@ -1,10 +1,7 @@
-use Rattle.std.proofs.Common.{◌≡◌, sym, ◌∙◌}
-use Rattle.sqlite.specs.State.{Shown, IsUnchanged}
+use Rattle.std.proofs.Common.{◌∙◌}
 use Rattle.ftd_schema.specs.declared.TableName.TheVariants.{Accounts}
-use Rattle.ftd_schema.specs.Standing.{Stands}
 use Rattle.ftd_sql.specs.States.{within}
 use Rattle.ftd_sql.proofs.Asking.{lists_accounts}
-use Rattle.ftd_sql.proofs.Meanings.{lists_names}
 use Rattle.ftd_sql.proofs.Reading.{asking}
 use Rattle.ftd_setup.proofs.Made.{GivesForms, given_forms}
 use Rattle.ftd_setup.proofs.Stepping.{steps_then}

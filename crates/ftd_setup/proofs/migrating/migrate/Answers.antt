@@ -1,4 +1,3 @@
-use Rattle.std.proofs.Common.{sym}
 use Rattle.ftd_sql.specs.States.{within}
 use Rattle.ftd_setup.specs.Versions.{IsMigrated}
 use Rattle.ftd_setup.proofs.Made.{IsExtended, HasForms, extended, formed, migrated}

@@ -1,11 +1,7 @@
-use Rattle.std.proofs.Common.{◌≡◌, ℕ, pos, sym, subst, codes, map, Ok, ap}
-use Rattle.sqlite.specs.State.{Executes}
-use Rattle.ftd_schema.specs.declared.TableName.TheVariants.{Metas}
-use Rattle.ftd_schema.specs.Standing.{Tables, Stands}
+use Rattle.std.proofs.Common.{pos, codes}
 use Rattle.ftd_sql.specs.States.{within}
 use Rattle.ftd_sql.proofs.Meanings.{version_set}
 use Rattle.ftd_setup.proofs.Made.{SetsVersion}
-use Rattle.ftd_setup.proofs.Readings.{not_not}
 use Rattle.ftd_setup.proofs.Stepping.{steps_so}
 use Rattle.ftd_setup.proofs.migrating.set_version.Goals as goal
 

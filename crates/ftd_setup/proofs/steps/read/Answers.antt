@@ -13,6 +13,7 @@ returns-in-Err g c =
     record {
       step = record {
         same = c.query_all.ensures.same_reference;
+        mode = λ clean. tt;
         kept = λ clean. elim (c.in-Err.ensures.err clean) [ inl failed ↦ keeps_left old new (query_leaves c.args.sql.now _ old new c.in-Err.error failed) | inr late ↦ keeps_left old new (inl late.5) ];
         crash = c.query_all.ensures.survives;
         does = λ clean. tt;
@@ -27,6 +28,7 @@ returns-in-Ok g c =
     record {
       step = record {
         same = c.query_all.ensures.same_reference;
+        mode = λ clean. (same clean).0.mode;
         kept = λ clean. keeps_left old new (inl (same clean));
         crash = c.query_all.ensures.survives;
         does = λ clean. (c.in-Ok.ensures.ok clean, same clean);

@@ -1,0 +1,17 @@
+-- What is seen of a database that is being opened, and how the opening ended.
+use Rattle.std.specs.Prelude.{Result, Ok, Err}
+use Rattle.sqlite.specs.Store as store
+use Rattle.sqlite.specs.State.{State}
+use Rattle.sqlite.specs.Held.{state}
+use Rattle.sqlite.specs.declared.connection.Connection.{Connection}
+use Rattle.ftd_setup.specs.declared.opening.Found.{Found}
+use Rattle.ftd_setup.specs.declared.opening.NotOpened.{NotOpened}
+use Rattle.ftd_setup.specs.declared.opening.OpenFault.{OpenFault}
+
+abbrev pub held : {S : Type 0} → store.Ghosts S → Found S → State
+held g it = state g it.conn
+
+-- what is seen of the database then, and the outcome
+abbrev pub Ended : {S : Type 0} → store.Ghosts S → Result (Connection S) (NotOpened S) → (State → Result (Unit {0}) OpenFault → Type 0) → Type 0
+Ended g (Ok it) P = P (state g it) (Ok tt)
+Ended g (Err e) P = P (state g e.connection) (Err e.fault)
