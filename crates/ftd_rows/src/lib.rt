@@ -16,7 +16,7 @@ mod runs;
 mod years;
 
 pub use crate::accounts::Account;
-pub use crate::cells::{StoredDay, StoredFlag, StoredRule, StoredSchedule, stored};
+pub use crate::cells::{StoredCents, StoredDay, StoredFlag, StoredForm, StoredRule, StoredSchedule};
 pub use crate::day_sums::sums_of;
 pub use crate::faults::StoreFault;
 pub use crate::obligations::AccountObligation;

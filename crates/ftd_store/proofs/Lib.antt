@@ -1,1 +1,6 @@
+pub mod Going
+pub mod Beginning
 pub mod Replaced
+pub mod Telling
+pub mod Same
+pub mod Sums
