@@ -4,7 +4,7 @@ use Rattle.ftd_store.specs.declared.store.Store.{Store}
 use Rattle.std.proofs.Common.{refl, false, ◌≡◌, Result, Ok, Err, sym, subst, ◌∙◌, arith}
 use Rattle.std.proofs.lemmas.Bool.{false≢true}
 use Rattle.sqlite.specs.Store as store
-use Rattle.sqlite.specs.State.{KeepsCommit, HasCleanDisk}
+use Rattle.sqlite.specs.State.{State, KeepsCommit, HasCleanDisk}
 use Rattle.ftd_sql.specs.States.{CrashKeeps}
 use Rattle.ftd_rows.specs.declared.faults.StoreFault.{StoreFault}
 use Rattle.ftd_store.specs.declared.tx.Tx.{Tx}
@@ -66,6 +66,16 @@ then_fails g old mid new x e p q = record {
   kept = λ clean. keeps_then (shown g old) (shown g mid) (shown g new) (p.kept (omega (arith, q.crash.clean))) (q.kept clean);
   crash = crash_then (shown g old) (shown g mid) (shown g new) p.crash q.crash;
 }
+
+-- two calls, whatever comes of the second
+pub then_call : {S A B : Type 0} (g : store.Ghosts S) (old mid new : Tx S) (x : A) (result : Result B StoreFault) → Frame g old mid (Ok x) → Frame g mid new result → Frame g old new result
+then_call g old mid new x (Ok y) p q = then_goes g old mid new x y y p q
+then_call g old mid new x (Err e) p q = then_fails g old mid new x e p q
+
+-- a call that fails after another
+pub fails_after : {S A B : Type 0} (g : store.Ghosts S) (old mid new : Tx S) (x : A) (e : StoreFault) (result : Result B StoreFault) (Does : B → State → State → Tables → Type 0) → result ≡ Err e → Frame g old mid (Ok x) → Frame {A = B} g mid new (Err e)
+    → Calls g old new result Does
+fails_after {B = B} g old mid new x e result Does is p q = subst (λ r. Calls {A = B} g old new r Does) (sym is) (record { frame = then_fails g old mid new x e p q; does = λ clean. tt })
 
 -- two changes, one after the other
 pub then_writes : {S A B C : Type 0} (g : store.Ghosts S) (old mid new : Tx S) (x : A) (y : B) (z : C) (f h both : Tables → Tables) → ((t : Tables) (n : TableName) → h (f t) n ≡ both t n)

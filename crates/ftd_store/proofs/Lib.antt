@@ -4,3 +4,5 @@ pub mod Replaced
 pub mod Telling
 pub mod Same
 pub mod Sums
+pub mod YearRows
+pub mod Putting

@@ -1,17 +1,16 @@
 -- What a call tells of the rows, from the query that it runs; and what it makes of them, from its statement.
-use Rattle.std.proofs.Common.{◌≡◌, ◌<◌, ◌^◌, arith, length, ℕ, pos, List, [], ◌∷◌, map, Result, Ok, Err, Option, Bool, true, false, refl, sym, subst, ◌∙◌}
+use Rattle.std.proofs.Common.{◌≡◌, ◌<◌, ◌^◌, arith, length, ℕ, pos, List, [], ◌∷◌, map, Result, Ok, Err, Option, Bool, true, false, sym, subst, ◌∙◌}
 use Rattle.std.specs.Borrow.{MutBor}
 use Rattle.ftd_sql.specs.States.{CrashKeeps}
 use Rattle.std.specs.Prelude.{filter, min, IfOk, OnOk}
-use Rattle.std.specs.List.Sorted.{IsPermutation}
 use Rattle.sqlite.specs.Order.{Row}
 use Rattle.sqlite.specs.Store as store
-use Rattle.sqlite.specs.State.{State, HasCleanDisk, KeepsCommit, IsUnchanged, Shown, Executes}
+use Rattle.sqlite.specs.State.{HasCleanDisk, KeepsCommit, IsUnchanged, Shown, Executes}
 use Rattle.ftd_tables.specs.Kept.{changed}
-use Rattle.ftd_tables.specs.Order.{EachToNext}
 use Rattle.ftd_schema.specs.declared.TableName.{TableName}
 use Rattle.ftd_schema.specs.Rows.{RowOf}
 use Rattle.ftd_schema.specs.Standing.{Tables, Stands, with_rows}
+use Rattle.ftd_sql.proofs.Controls.{unchanged_then}
 use Rattle.ftd_sql.proofs.Meanings as meaning
 use Rattle.ftd_rows.specs.declared.faults.StoreFault.{StoreFault}
 use Rattle.ftd_rows.specs.Cells.{count_cells}
@@ -24,7 +23,7 @@ use Rattle.ftd_rows.proofs.Listed.{lists_shown}
 use Rattle.ftd_store.specs.declared.tx.Tx.{Tx}
 use Rattle.ftd_store.specs.declared.store.Store.{Store}
 use Rattle.ftd_store.specs.Seen.{seen, shown}
-use Rattle.ftd_store.proofs.Going.{fails, goes_on}
+use Rattle.ftd_store.proofs.Going.{fails, goes_on, then_goes}
 use Rattle.ftd_store.specs.Frame.{HasFailed, Frame, Queries, Reads, WritesOne}
 
 -- a query that fails
@@ -54,6 +53,17 @@ pub reads_on : {S A B : Type 0} (g : store.Ghosts S) (old new : Tx S) (x : A) (y
 reads_on g old new x y Fact More tells r = record {
   frame = goes_on g old new x y r.frame;
   does = λ clean t stands. let read = r.does clean t stands in (tells t read.0, read.1);
+}
+
+-- two readings, one after the other
+pub then_reads : {S A B C : Type 0} (g : store.Ghosts S) (old mid new : Tx S) (x : A) (y : B) (z : C) (First : A → Tables → Type 0) (Second : B → Tables → Type 0) (Both : C → Tables → Type 0) → ((t : Tables) → First x t → Second y t → Both z t)
+    → Reads g old mid (Ok x) First → Reads g mid new (Ok y) Second → Reads g old new (Ok z) Both
+then_reads g old mid new x y z First Second Both tells p q = record {
+  frame = then_goes g old mid new x y z p.frame q.frame;
+  does = λ clean t stands.
+      let one = p.does (omega (arith, q.frame.crash.clean)) t stands in
+      let two = q.does clean t (subst (λ db. Stands db t) (sym one.1.0.now_is) stands) in
+      (tells t one.0 two.0, unchanged_then (shown g old) (shown g mid) (shown g new) one.1 two.1);
 }
 
 -- the value of a key, or none

@@ -1,29 +1,33 @@
 -- What each writing call makes of the rows.
-use Rattle.std.specs.Prelude.{ℕ, ℤ, pos, false, not, List, [], ◌∷◌, ◌++◌, map, filter}
+use Rattle.std.specs.Prelude.{ℕ, pos, false, not, List, [], ◌∷◌, ◌++◌, map, filter}
 use Rattle.ftd_tables.specs.Kept.{changed}
 use Rattle.ftd_schema.specs.declared.TableName.{TableName}
-use Rattle.ftd_schema.specs.declared.TableName.TheVariants.{Accounts, ReportedQuarters, CalendarYears, Holidays, Years, Runs, Payments, Obligations, ReportedYears, AddedHolidays}
+use Rattle.ftd_schema.specs.declared.TableName.TheVariants.{Accounts, ReportedQuarters, CalendarYears, Holidays, Years, Runs, Payments, Obligations, Forms, ReportedYears, AddedHolidays}
 use Rattle.ftd_schema.specs.Rows.{RowOf, YearRow}
 use Rattle.ftd_schema.specs.Standing.{Tables, with_rows}
 use Rattle.ftd_sql.specs.Tests.{is_run, voided_run, is_payment, voided_payment, is_obligation_between, is_obligation, with_due, is_year}
 use Rattle.ftd_days.specs.Calendar.{year_of}
 use Rattle.ftd_days.specs.declared.cents.Cents.{Cents}
+use Rattle.ftd_rules.specs.declared.Form.{Form}
 use Rattle.ftd_rules.specs.declared.Obligation.{Obligation}
 use Rattle.ftd_rules.specs.declared.YearLine.{YearLine}
 use Rattle.ftd_rows.specs.declared.accounts.Account.{Account}
 use Rattle.ftd_rows.specs.declared.runs.PayRun.{PayRun}
 use Rattle.ftd_rows.specs.declared.payments.Payment.{Payment}
 use Rattle.ftd_rows.specs.Cells.{day_number}
-use Rattle.ftd_rows.specs.Rows.{account_row, reported_row, reported_year_row, calendar_year_row, holiday_row, year_row, run_row, payment_row, obligation_row}
+use Rattle.ftd_rows.specs.Rows.{account_row, form_row, reported_row, reported_year_row, calendar_year_row, holiday_row, year_row, run_row, payment_row, obligation_row}
 
 -- one more row in a table
 abbrev pub adding : (n : TableName) → RowOf n → Tables → Tables
 adding n row t = with_rows n (t n ++ row ∷ []) t
 
--- ---- accounts, and what they reported
+-- ---- accounts, their forms, and what they reported
 
 abbrev pub with_account : List ℕ → Account → Tables → Tables
 with_account name account = adding Accounts (account_row name account)
+
+abbrev pub with_form : List ℕ → Form → Tables → Tables
+with_form account form = adding Forms (form_row account form)
 
 abbrev pub with_reported : List ℕ → ℕ → Cents → Tables → Tables
 with_reported account quarter cents = adding ReportedQuarters (reported_row account quarter cents)
@@ -73,7 +77,11 @@ with_void_payment account number t = with_rows Payments (map (changed (is_paymen
 
 -- ---- obligations
 
--- the account's obligations with a first day between two days are gone, and these stand last
+-- the account's obligations with a first day between two days are gone
+abbrev pub without_obligations : List ℕ → ℕ → ℕ → Tables → Tables
+without_obligations account from to t = with_rows Obligations (filter (λ o. not (is_obligation_between account (day_number from) (day_number to) o)) (t Obligations)) t
+
+-- and these stand last
 abbrev pub with_obligations : List ℕ → ℕ → ℕ → List Obligation → Tables → Tables
 with_obligations account from to given t =
     with_rows Obligations (filter (λ o. not (is_obligation_between account (day_number from) (day_number to) o)) (t Obligations) ++ map (obligation_row account) given) t

@@ -1,14 +1,15 @@
 -- What each reading call tells of the rows.
-use Rattle.std.specs.Prelude.{◌≡◌, ℕ, ℤ, pos, false, List, [], ◌∷◌, filter, length, string_bytes, Option, None, Some, Vec}
+use Rattle.std.specs.Prelude.{◌≡◌, ℕ, ℤ, pos, false, List, [], ◌∷◌, filter, length, string_bytes, Option, None, Some, Vec, Bool, if◌then◌else◌}
 use Rattle.std.specs.List.{All}
-use Rattle.ftd_schema.specs.declared.TableName.TheVariants.{Accounts, ReportedQuarters, CalendarYears, Holidays, Years, Runs, Payments, Obligations, ReportedYears, AddedHolidays}
+use Rattle.ftd_schema.specs.declared.TableName.TheVariants.{Accounts, ReportedQuarters, CalendarYears, Holidays, Years, Runs, Payments, Obligations, Forms, ReportedYears, AddedHolidays}
 use Rattle.ftd_schema.specs.Rows.{HolidayRow, YearRow, PaymentRow, ObligationRow}
 use Rattle.ftd_schema.specs.Standing.{Tables}
-use Rattle.ftd_sql.specs.Tests.{is_account, is_reported, is_reported_year, is_calendar_year, is_holiday_of, is_year_of, is_run, is_run_of, is_live_run_between, is_payment, is_payment_of, is_live_payment_between, is_obligation_between, is_due_over}
+use Rattle.ftd_sql.specs.Tests.{is_account, is_form_of, is_reported, is_reported_year, is_calendar_year, is_holiday_of, is_year_of, is_run, is_run_of, is_live_run_between, is_payment, is_payment_of, is_live_payment_between, is_obligation_between, is_due_over}
 use Rattle.ftd_sql.specs.Orders.{HolidaysRise, YearsRise, RunsRise, PaymentsRise, ObligationsRise, AccountsRise}
 use Rattle.ftd_days.specs.Calendar.{quarter_year, quarter_number}
 use Rattle.ftd_days.specs.declared.cents.Cents.{Cents}
 use Rattle.ftd_rules.specs.declared.DaySum.{DaySum}
+use Rattle.ftd_rules.specs.declared.Form.{Form}
 use Rattle.ftd_rules.specs.declared.Obligation.{Obligation}
 use Rattle.ftd_rules.specs.declared.YearLine.{YearLine}
 use Rattle.ftd_rules.specs.Years.{AreOpenYears, OnlyFirstCarried}
@@ -18,16 +19,19 @@ use Rattle.ftd_rows.specs.declared.payments.Payment.{Payment}
 use Rattle.ftd_rows.specs.declared.payments.StoredPayment.{StoredPayment}
 use Rattle.ftd_rows.specs.declared.obligations.AccountObligation.{AccountObligation}
 use Rattle.ftd_rows.specs.Cells.{day_number}
-use Rattle.ftd_rows.specs.Rows.{account_row, reported_row, reported_year_row, calendar_year_row, holiday_row, year_row, run_row, payment_row, obligation_row}
+use Rattle.ftd_rows.specs.Rows.{account_row, form_row, reported_row, reported_year_row, calendar_year_row, holiday_row, year_row, run_row, payment_row, obligation_row}
 use Rattle.ftd_rows.specs.Reading.{rows_of}
 use Rattle.ftd_rows.specs.Lists.{Lists}
 use Rattle.ftd_rows.specs.DaySums.{ListsDaySums}
 use Rattle.ftd_rows.specs.Years.{FirstCarriedAs, HasFittingTurn}
 
--- ---- accounts, and what they reported
+-- ---- accounts, their forms, and what they reported
 
 abbrev pub FindsAccount : List ℕ → Option Account → Tables → Type 0
 FindsAccount name found t = filter (is_account name) (t Accounts) ≡ rows_of (account_row name) found
+
+abbrev pub FindsForm : List ℕ → Option Form → Tables → Type 0
+FindsForm account found t = filter (is_form_of account) (t Forms) ≡ rows_of (form_row account) found
 
 abbrev pub FindsReported : List ℕ → ℕ → Option Cents → Tables → Type 0
 FindsReported account quarter found t = filter (is_reported account (pos (quarter_year quarter)) (pos (quarter_number quarter))) (t ReportedQuarters) ≡ rows_of (reported_row account quarter) found
@@ -40,6 +44,10 @@ FindsReportedYear account year found t = filter (is_reported_year account (pos y
 -- the row is the holiday of the year
 abbrev pub IsHoliday : ℕ → HolidayRow → ℕ → Type 0
 IsHoliday year row day = row ≡ holiday_row year day
+
+-- the year's calendar was given, or it was not
+abbrev pub HasCalendar : ℕ → Bool → Tables → Type 0
+HasCalendar year there t = filter (is_calendar_year (pos year)) (t CalendarYears) ≡ (if there then calendar_year_row year ∷ [] else [])
 
 -- the year's calendar was given and these are its holidays, rising, or it was not given
 abbrev pub FindsCalendar : {A : Type 0} → ℕ → Option (Vec ℕ A) → Tables → Type 0

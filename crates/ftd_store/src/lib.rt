@@ -4,9 +4,15 @@
 //! is so where the disk below told no lie.
 #![tactic(auto)]
 
+mod accounts;
+mod calendars;
+mod obligations;
+mod payments;
+mod reported;
 mod runs;
 mod store;
 mod tx;
+mod years;
 
 pub use crate::store::Store;
 pub use crate::tx::Tx;

@@ -1,6 +1,6 @@
 //! A transaction over the desk's tables.
 
-ghost use Rattle.std.specs.Prelude.{◌≡◌, ◌<◌, ◌^◌, false, map, [], ◌∷◌, IsTrue, IfOk, OnOk, OnErr, Err, Ok};
+ghost use Rattle.std.specs.Prelude.{◌≡◌, ◌<◌, ◌^◌, false, if◌then◌else◌, map, [], ◌∷◌, IsTrue, IfOk, OnOk, OnErr, Err, Ok};
 ghost use Rattle.sqlite.specs.State.{HasCleanDisk, Survives, Shows, Executes};
 ghost use Rattle.sqlite.specs.Values.{bound};
 ghost use Rattle.ftd_tables.specs.TextKinds.{IsRowText, IsReadText};
@@ -84,6 +84,25 @@ impl<'store, S: Alter> Tx<'store, S> {
         }
     }
 
+    // runs a statement that changes one row or none, and answers whether it did; gives up where it changed more
+    pub(crate) fn change_any(
+        &mut self,
+        sql: &str,
+        params: &[ValueRef<'_>],
+    ) -> Result<bool, StoreFault>
+        requires of_rows { IsRowText sql.now }
+        ensures frame { Frame S.Store self.old self.new result }
+        ensures ran { HasCleanDisk (shown S.Store self.new) → IfOk result (λ changed.
+            Executes sql.now (bound params.now) (shown S.Store self.old) (shown S.Store self.new)
+            (Ok (if changed then 1 else 0))) }
+    {
+        match self.change(sql, params)? {
+            0 => Ok(false),
+            1 => Ok(true),
+            _ => self.stop(StoreFault::Failed),
+        }
+    }
+
     // runs a statement that changes exactly one row, or else gives up
     pub(crate) fn change_one(
         &mut self,
@@ -95,8 +114,7 @@ impl<'store, S: Alter> Tx<'store, S> {
         ensures ran { HasCleanDisk (shown S.Store self.new) → OnOk result
             (Executes sql.now (bound params.now) (shown S.Store self.old) (shown S.Store self.new) (Ok 1)) }
     {
-        let count = self.change(sql, params)?;
-        if count == 1 {
+        if self.change_any(sql, params)? {
             Ok(())
         } else {
             self.stop(StoreFault::Failed)

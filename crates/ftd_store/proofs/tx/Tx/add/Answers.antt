@@ -1,4 +1,4 @@
-use Rattle.std.proofs.Common.{Ok, ◌∙◌, ap, sym, subst}
+use Rattle.std.proofs.Common.{Ok, sym, subst}
 use Rattle.sqlite.specs.State.{Executes}
 use Rattle.sqlite.specs.Values.{bound}
 use Rattle.ftd_sql.specs.Making.{add_of}

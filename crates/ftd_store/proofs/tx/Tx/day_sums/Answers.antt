@@ -2,7 +2,6 @@ use Rattle.std.proofs.Common.{Ok, Vec, Global}
 use Rattle.ftd_rows.specs.declared.runs.PayRun.{PayRun}
 use Rattle.ftd_schema.specs.declared.TableName.TheVariants.{Runs}
 use Rattle.ftd_sql.specs.declared.texts.TheConstants.{LIST_RUNS}
-use Rattle.ftd_sql.specs.Tests.{is_live_run_between}
 use Rattle.ftd_sql.specs.Answers.{live_run_shown}
 use Rattle.ftd_sql.specs.Orders.{RunsRise}
 use Rattle.ftd_sql.proofs.Asking.{lists_runs}
@@ -25,7 +24,7 @@ returns-in-Ok g c =
     let to = day_number c.args.to in
     let runs : Vec PayRun Global = c.in_ok-runs.runs in
     let listed = lists g.S.Store c.args.self.now c.read_all.new.self (Ok runs) (λ xs. xs.items) Runs LIST_RUNS.now _ _ live_run_shown pay_run_cells RunsRise (IsLiveRun who) (runs_in_order who from to) (live_run_is who from to)
-        (rw (c.params-to_sql.ensures, c.params-to_sql-2.ensures, c.params-to_sql-3.ensures) at c.in_ok-runs.ensures.call) in
+    (rw (c.params-to_sql.ensures, c.params-to_sql-2.ensures, c.params-to_sql-3.ensures) at c.in_ok-runs.ensures.call) in
     record {
       call = reads_on g.S.Store c.args.self.now c.read_all.new.self runs c.in-Ok.sums _ _
           (λ t is. sums_listed who _ runs.items c.in-Ok.sums.items is (rw c.deref.ensures.value at c.in-Ok.ensures.same) c.in-Ok.ensures.positive (rw c.deref.ensures.value at c.in-Ok.ensures.rise)) listed;

@@ -1,0 +1,43 @@
+//! The accounts, and their forms.
+
+ghost use Rattle.ftd_store.specs.Changes.{with_account, with_form};
+ghost use Rattle.ftd_store.specs.Finds.{FindsAccount, FindsForm};
+ghost use Rattle.ftd_store.specs.Frame.{Reads, Writes};
+
+use crate::tx::Tx;
+use ftd_rows::{Account, StoreFault, StoredDay, StoredFlag, StoredForm};
+use ftd_rules::Form;
+use ftd_sql::texts;
+use sqlite::{Alter, params};
+
+impl<'store, S: Alter> Tx<'store, S> {
+    /// The account of the name, or None.
+    pub fn account(&mut self, name: &str) -> Result<Option<Account>, StoreFault>
+        ensures call { Reads S.Store self.old self.new result (FindsAccount name.now) }
+    {
+        self.read_only(texts::READ_ACCOUNT, params![name])
+    }
+
+    /// Adds an account. `Failed` where there is one of the name.
+    pub fn add_account(&mut self, name: &str, account: Account) -> Result<(), StoreFault>
+        ensures call { Writes S.Store self.old self.new result (with_account name.now account) }
+    {
+        let start = StoredDay(account.start);
+        let carried = StoredFlag(account.carried);
+        self.add(texts::ADD_ACCOUNT, params![name, start, carried])
+    }
+
+    /// The form of the account, or None where it has none.
+    pub fn form(&mut self, account: &str) -> Result<Option<Form>, StoreFault>
+        ensures call { Reads S.Store self.old self.new result (FindsForm account.now) }
+    {
+        self.read_only(texts::READ_FORM, params![account])
+    }
+
+    /// Adds the form of the account. `Failed` where it has one, and where the account is not there.
+    pub fn add_form(&mut self, account: &str, form: Form) -> Result<(), StoreFault>
+        ensures call { Writes S.Store self.old self.new result (with_form account.now form) }
+    {
+        self.add(texts::ADD_FORM, params![account, StoredForm(form)])
+    }
+}

@@ -1,0 +1,75 @@
+//! The calendars: the years that were given, and their holidays.
+
+ghost use Rattle.ftd_schema.specs.declared.TableName.TheVariants.{CalendarYears, Holidays};
+ghost use Rattle.ftd_rows.specs.Rows.{calendar_year_row, holiday_row};
+ghost use Rattle.ftd_store.specs.Changes.{adding, with_calendar, with_added_holiday};
+ghost use Rattle.ftd_store.specs.Finds.{HasCalendar, FindsCalendar, ListsAdded};
+ghost use Rattle.ftd_store.specs.Frame.{Reads, Writes};
+
+use crate::tx::Tx;
+use ftd_days::Day;
+use ftd_rows::{StoreFault, StoredDay};
+use ftd_sql::texts;
+use sqlite::{Alter, params};
+use std::alloc::Global;
+
+impl<'store, S: Alter> Tx<'store, S> {
+    // whether the year's calendar was given
+    fn has_calendar(&mut self, year: u32) -> Result<bool, StoreFault>
+        ensures call { Reads S.Store self.old self.new result (HasCalendar year) }
+    {
+        let found: Option<u32> = self.read_only(texts::READ_CALENDAR_YEAR, params![year])?;
+        Ok(found.is_some())
+    }
+
+    /// The holidays that the year was given with, rising, or None where its calendar was not given. Those that were added
+    /// later are not among them.
+    pub fn calendar(&mut self, alloc: Global, year: u32) -> Result<Option<Vec<Day>>, StoreFault>
+        ensures call { Reads S.Store self.old self.new result (FindsCalendar year) }
+    {
+        if !self.has_calendar(year)? {
+            return Ok(None);
+        }
+        let days = self.read_all(alloc, texts::LIST_HOLIDAYS, params![year])?;
+        Ok(Some(days))
+    }
+
+    fn add_calendar_year(&mut self, year: u32) -> Result<(), StoreFault>
+        ensures call { Writes S.Store self.old self.new result (adding CalendarYears (calendar_year_row year)) }
+    {
+        self.add(texts::ADD_CALENDAR_YEAR, params![year])
+    }
+
+    fn add_holiday(&mut self, year: u32, day: Day) -> Result<(), StoreFault>
+        ensures call { Writes S.Store self.old self.new result (adding Holidays (holiday_row year day)) }
+    {
+        self.add(texts::ADD_HOLIDAY, params![StoredDay(day), year])
+    }
+
+    /// Gives the year's calendar: the year itself, and its holidays. `Failed` where the year or one of the days is there
+    /// already.
+    pub fn add_calendar(&mut self, year: u32, days: &[Day]) -> Result<(), StoreFault>
+        ensures call { Writes S.Store self.old self.new result (with_calendar year days.now) }
+    {
+        self.add_calendar_year(year)?;
+        for day in days {
+            self.add_holiday(year, *day)?;
+        }
+        Ok(())
+    }
+
+    /// The holidays that were added to the year after its calendar was given, rising.
+    pub fn added(&mut self, alloc: Global, year: u32) -> Result<Vec<Day>, StoreFault>
+        ensures call { Reads S.Store self.old self.new result (ListsAdded year) }
+    {
+        self.read_all(alloc, texts::LIST_ADDED_HOLIDAYS, params![year])
+    }
+
+    /// Adds a holiday to its year. `Failed` where it was added before, and where the year's calendar was not given.
+    pub fn add_added(&mut self, day: Day) -> Result<(), StoreFault>
+        ensures call { Writes S.Store self.old self.new result (with_added_holiday day) }
+    {
+        let year = day.year();
+        self.add(texts::ADD_ADDED_HOLIDAY, params![StoredDay(day), year])
+    }
+}
