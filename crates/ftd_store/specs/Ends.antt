@@ -1,6 +1,7 @@
 -- How a transaction begins and ends.
 use Rattle.std.specs.Prelude.{◌≡◌, true, IsTrue}
 use Rattle.sqlite.specs.Effect.{Database}
+use Rattle.sqlite.specs.Tree.{Trees}
 use Rattle.sqlite.specs.State.{State, Shows}
 
 -- a transaction began: it shows the rows of the last commit
@@ -17,3 +18,7 @@ pub record LeavesRows (old new : State) : Type 0 where
 -- what is seen and what is committed are this database
 abbrev pub EndsAs : State → Database → Type 0
 EndsAs s db = (s.now ≡ db) × (s.committed ≡ db)
+
+-- a crash now leaves this database alone
+abbrev pub CrashLeaves : State → Database → Type 0
+CrashLeaves s db = (left : Trees) → s.may_leave left → left ≡ db.trees

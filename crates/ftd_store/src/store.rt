@@ -6,7 +6,7 @@ ghost use Rattle.sqlite.specs.State.{HasCleanDisk, KeepsCommit, Survives, Shows}
 ghost use Rattle.ftd_sql.specs.States.{CrashKeeps};
 ghost use Rattle.ftd_store.specs.Seen.{seen, shown};
 ghost use Rattle.ftd_store.specs.Frame.{HasFailed, Borrows};
-ghost use Rattle.ftd_store.specs.Ends.{Begins, LeavesRows, EndsAs};
+ghost use Rattle.ftd_store.specs.Ends.{Begins, LeavesRows, EndsAs, CrashLeaves};
 
 use crate::tx::Tx;
 use ftd_rows::StoreFault;
@@ -47,6 +47,7 @@ impl<S: Alter> Store<S> {
 
     pub(crate) fn finish(&mut self) -> Result<(), StoreFault>
         ensures ok { HasCleanDisk (seen S.Store self.new) → OnOk result (Shows (seen S.Store self.old) (seen S.Store self.new) (seen S.Store self.old).now (seen S.Store self.old).now false) }
+        ensures lasts { HasCleanDisk (seen S.Store self.new) → OnOk result (CrashLeaves (seen S.Store self.new) (seen S.Store self.old).now) }
         ensures kept { HasCleanDisk (seen S.Store self.new) → OnErr result (KeepsCommit (seen S.Store self.old) (seen S.Store self.new)) }
         ensures crash { Survives (seen S.Store self.old) (seen S.Store self.new) (λ left. left ≡ (seen S.Store self.old).now.trees) }
     {

@@ -12,7 +12,7 @@ ghost use Rattle.ftd_rows.specs.Cells.{count_cells};
 ghost use Rattle.ftd_rows.specs.Reading.{rows_of};
 ghost use Rattle.ftd_store.specs.Seen.{seen, shown};
 ghost use Rattle.ftd_store.specs.Frame.{Frame, Queries, Writes, HasFailed};
-ghost use Rattle.ftd_store.specs.Ends.{EndsAs};
+ghost use Rattle.ftd_store.specs.Ends.{EndsAs, CrashLeaves};
 ghost use Rattle.ftd_store.specs.Changes.{adding};
 
 use crate::store::Store;
@@ -43,10 +43,13 @@ impl<S: Alter> Drop for Tx<'_, S> {
 }
 
 impl<'store, S: Alter> Tx<'store, S> {
-    /// Makes the transaction's rows the store's. A fault leaves the rows from before `begin`.
+    /// Makes the transaction's rows the store's. With Ok a crash leaves these rows alone. A fault leaves the rows from
+    /// before `begin`, and a crash then leaves those or, where the fault came as the rows were written, the new ones.
     pub fn commit(self) -> Result<(), StoreFault>
         ensures ok { HasCleanDisk (seen S.Store self.exit.0.now) → OnOk result (Shows (shown S.Store self.entry)
             (seen S.Store self.exit.0.now) (shown S.Store self.entry).now (shown S.Store self.entry).now false) }
+        ensures lasts { HasCleanDisk (seen S.Store self.exit.0.now)
+            → OnOk result (CrashLeaves (seen S.Store self.exit.0.now) (shown S.Store self.entry).now) }
         ensures stopped { HasFailed self.entry → result ≡ Err StoreFault.Failed }
         ensures kept { HasCleanDisk (seen S.Store self.exit.0.now) → IsTrue (seen S.Store self.exit.0.now).is_open
             → OnErr result (EndsAs (seen S.Store self.exit.0.now) (shown S.Store self.entry).committed) }
