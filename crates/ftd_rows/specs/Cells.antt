@@ -11,6 +11,8 @@ use Rattle.ftd_rules.specs.declared.Rule.{Rule}
 use Rattle.ftd_rules.specs.declared.Rule.TheVariants as rule
 use Rattle.ftd_rules.specs.declared.Kind.{Kind}
 use Rattle.ftd_rules.specs.declared.Kind.TheVariants as kind
+use Rattle.ftd_rules.specs.declared.Form.{Form}
+use Rattle.ftd_rules.specs.declared.Form.TheVariants as form
 use Rattle.ftd_rules.specs.declared.Obligation.{Obligation}
 use Rattle.ftd_rows.specs.declared.accounts.Account.{Account}
 use Rattle.ftd_rows.specs.declared.runs.PayRun.{PayRun}
@@ -38,6 +40,10 @@ abbrev pub schedule_number : Kind → ℤ
 schedule_number kind.Monthly = pos 0
 schedule_number kind.Semiweekly = pos 1
 
+abbrev pub form_number : Form → ℤ
+form_number form.F941 = pos 0
+form_number form.F943 = pos 1
+
 -- ---- cells that are such values
 
 -- a day from 1900-01-01 to 2199-12-31
@@ -52,6 +58,9 @@ IsRuleCell v = (rule : Rule) × (v ≡ Int (rule_number rule))
 
 abbrev pub IsScheduleCell : Value → Type 0
 IsScheduleCell v = (kind : Kind) × (v ≡ Int (schedule_number kind))
+
+abbrev pub IsFormCell : Value → Type 0
+IsFormCell v = (form : Form) × (v ≡ Int (form_number form))
 
 -- a whole number from 0 on
 abbrev pub IsAmountCell : Value → Type 0
@@ -68,6 +77,9 @@ IsTextCell v = (t : List ℕ) × (v ≡ Text t) × IsUtf8 t
 
 abbrev pub account_cells : Account → Row
 account_cells a = Int (day_number a.start) ∷ Int (flag_number a.carried) ∷ []
+
+abbrev pub form_cells : Form → Row
+form_cells form = Int (form_number form) ∷ []
 
 abbrev pub cents_cells : Cents → Row
 cents_cells cents = Int (pos cents.0) ∷ []
@@ -103,6 +115,9 @@ year_cells y = Int (pos y.year) ∷ Int (pos y.lookback.0) ∷ Int (schedule_num
 
 abbrev pub IsAccountCells : Row → Type 0
 IsAccountCells row = (length row ≡ 2) × IsDayCell (column row 0) × IsFlagCell (column row 1)
+
+abbrev pub IsFormCells : Row → Type 0
+IsFormCells row = (length row ≡ 1) × IsFormCell (column row 0)
 
 abbrev pub IsCentsCells : Row → Type 0
 IsCentsCells row = (length row ≡ 1) × IsAmountCell (column row 0)

@@ -2,16 +2,20 @@
 use Rattle.std.specs.Prelude.{ℕ, ℤ, pos, Bool, List, option_map}
 use Rattle.ftd_days.specs.Calendar.{quarter_year, quarter_number}
 use Rattle.ftd_days.specs.declared.cents.Cents.{Cents}
+use Rattle.ftd_rules.specs.declared.Form.{Form}
 use Rattle.ftd_rules.specs.declared.Obligation.{Obligation}
 use Rattle.ftd_rules.specs.declared.YearLine.{YearLine}
-use Rattle.ftd_schema.specs.Rows.{AccountRow, ReportedQuarterRow, ReportedYearRow, CalendarYearRow, HolidayRow, YearRow, RunRow, PaymentRow, ObligationRow}
-use Rattle.ftd_rows.specs.Cells.{day_number, flag_number, rule_number, schedule_number}
+use Rattle.ftd_schema.specs.Rows.{AccountRow, FormRow, ReportedQuarterRow, ReportedYearRow, CalendarYearRow, HolidayRow, YearRow, RunRow, PaymentRow, ObligationRow}
+use Rattle.ftd_rows.specs.Cells.{day_number, flag_number, rule_number, schedule_number, form_number}
 use Rattle.ftd_rows.specs.declared.accounts.Account.{Account}
 use Rattle.ftd_rows.specs.declared.runs.PayRun.{PayRun}
 use Rattle.ftd_rows.specs.declared.payments.Payment.{Payment}
 
 abbrev pub account_row : List ℕ → Account → AccountRow
 account_row name a = record { name = name; start = day_number a.start; carried = flag_number a.carried }
+
+abbrev pub form_row : List ℕ → Form → FormRow
+form_row account form = record { account = account; form = form_number form }
 
 -- the total that an account reported for a quarter, and for a year
 abbrev pub reported_row : List ℕ → ℕ → Cents → ReportedQuarterRow

@@ -1,11 +1,12 @@
 //! The accounts, and what they reported.
 
-ghost use Rattle.ftd_rows.specs.Cells.{account_cells, cents_cells, IsAccountCells, IsCentsCells};
+ghost use Rattle.ftd_rows.specs.Cells.{account_cells, form_cells, cents_cells, IsAccountCells, IsFormCells, IsCentsCells};
 
-use crate::cells::{StoredDay, StoredFlag};
+use crate::cells::{StoredDay, StoredFlag, StoredForm};
 use crate::faults::StoreFault;
 use crate::reader::FromRow;
 use ftd_days::{Cents, Day};
+use ftd_rules::Form;
 use sqlite::Row;
 
 /// An employer's account.
@@ -32,6 +33,20 @@ impl FromRow for Account {
             start: start.0,
             carried: carried.0,
         })
+    }
+}
+
+impl FromRow for Form {
+    ghost shown = { form_cells };
+
+    ghost is_readable = { IsFormCells };
+
+    fn from_row(row: &Row) -> Result<Form, StoreFault> {
+        if row.column_count() != 1 {
+            return Err(StoreFault::Failed);
+        }
+        let form: StoredForm = row.get(0)?;
+        Ok(form.0)
     }
 }
 

@@ -3,11 +3,10 @@
 ghost use Rattle.std.specs.Prelude.{◌≡◌, ◌<◌, ◌^◌, pos};
 ghost use Rattle.sqlite.specs.Values.{narrow_refusal};
 ghost use Rattle.sqlite.specs.declared.types.Value.TheVariants.{Int};
-ghost use Rattle.ftd_rows.specs.Cells.{day_number, flag_number, rule_number, schedule_number, IsDayCell, IsFlagCell, IsRuleCell, IsScheduleCell};
-ghost use Rattle.ftd_rows.specs.Amounts.{IsStorable};
+ghost use Rattle.ftd_rows.specs.Cells.{day_number, flag_number, rule_number, schedule_number, form_number, IsDayCell, IsFlagCell, IsRuleCell, IsScheduleCell, IsFormCell};
 
 use ftd_days::{Cents, Day};
-use ftd_rules::{Kind, Rule};
+use ftd_rules::{Form, Kind, Rule};
 use sqlite::types::{FromSql, FromSqlError, ToSql, ValueRef};
 use std::alloc::Global;
 
@@ -135,10 +134,49 @@ impl FromSql for StoredSchedule {
     }
 }
 
-/// An amount as a cell holds it.
-pub fn stored(amount: Cents) -> i64
-    requires { IsStorable amount }
-    ensures { result ≡ pos amount.0 }
-{
-    amount.0 as i64
+/// A form, stored as 0 (941) or 1 (943).
+#[derive(Clone, Copy, Debug, PartialEq, Eq)]
+pub struct StoredForm(pub Form);
+
+impl<'a> ToSql<'a> for StoredForm {
+    ghost to_sql = { λ form. Int (form_number form.0) };
+
+    fn to_sql(self) -> ValueRef<'a> {
+        ValueRef::Int(match self.0 {
+            Form::F941 => 0,
+            Form::F943 => 1,
+        })
+    }
+}
+
+impl FromSql for StoredForm {
+    ghost reads_as = { λ v form. v ≡ Int (form_number form.0) };
+
+    ghost is_readable = { IsFormCell };
+
+    ghost refusal = { narrow_refusal };
+
+    fn column_result(_: Global, value: ValueRef<'_>) -> Result<StoredForm, FromSqlError> {
+        match value {
+            ValueRef::Int(0) => Ok(StoredForm(Form::F941)),
+            ValueRef::Int(1) => Ok(StoredForm(Form::F943)),
+            ValueRef::Int(_) => Err(FromSqlError::OutOfRange),
+            _ => Err(FromSqlError::InvalidType),
+        }
+    }
+}
+
+/// An amount of less than 2^63 cents, which is what a cell holds.
+#[derive(Clone, Copy, Debug, PartialEq, Eq)]
+pub struct StoredCents {
+    pub cents: Cents,
+    ghost small: { cents.0 < 2 ^ 63 },
+}
+
+impl<'a> ToSql<'a> for StoredCents {
+    ghost to_sql = { λ amount. Int (pos amount.cents.0) };
+
+    fn to_sql(self) -> ValueRef<'a> {
+        ValueRef::Int(self.cents.0 as i64)
+    }
 }

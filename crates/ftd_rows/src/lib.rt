@@ -16,11 +16,13 @@ mod runs;
 mod years;
 
 pub use crate::accounts::Account;
-pub use crate::cells::{StoredDay, StoredFlag, StoredRule, StoredSchedule, stored};
+pub use crate::cells::{
+    StoredCents, StoredDay, StoredFlag, StoredForm, StoredRule, StoredSchedule,
+};
 pub use crate::day_sums::sums_of;
 pub use crate::faults::StoreFault;
 pub use crate::obligations::AccountObligation;
 pub use crate::payments::{Payment, StoredPayment};
 pub use crate::reader::{FromRow, all, only};
 pub use crate::runs::{PayRun, StoredRun};
-pub use crate::years::{StoredYear, check_years, lines_of};
+pub use crate::years::{StoredYear, open_years, stored_turn};

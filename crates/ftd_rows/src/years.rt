@@ -65,6 +65,16 @@ impl FromRow for StoredYear {
     }
 }
 
+/// The turn as it is stored, NULL where there is none.
+pub fn stored_turn(turn: Option<Day>) -> Option<StoredDay>
+    ensures { turn ≡ option_map (λ day. day.0) result }
+{
+    match turn {
+        Some(day) => Some(StoredDay(day)),
+        None => None,
+    }
+}
+
 fn day_of(stored: Option<StoredDay>) -> Option<Day>
     ensures { result ≡ option_map (λ day. day.0) stored }
 {
@@ -74,9 +84,9 @@ fn day_of(stored: Option<StoredDay>) -> Option<Day>
     }
 }
 
-/// The years as lines, the first carried as the account is and no other. `Failed` where there are years and no account,
-/// `Memory` where there is none.
-pub fn lines_of(
+// the years as lines, the first carried as the account is and no other. `Failed` where there are years and no account,
+// `Memory` where there is none
+fn lines_of(
     alloc: Global,
     account: Option<Account>,
     years: &[StoredYear],
@@ -118,9 +128,9 @@ fn first_year(lines: &[YearLine]) -> u32
     }
 }
 
-/// Whether the years go on one by one within 2001 to 2098, and each turn lies in its year and beside a monthly opening.
-/// `Failed` where they do not.
-pub fn check_years(lines: &[YearLine]) -> Result<(), StoreFault>
+// whether the years go on one by one within 2001 to 2098, and each turn lies in its year and beside a monthly opening;
+// `Failed` where they do not
+fn check_years(lines: &[YearLine]) -> Result<(), StoreFault>
     ensures whole { OnOk result (AreOpenYears lines.now) }
     ensures turns { OnOk result (All HasFittingTurn lines.now) }
     ensures bad { IfErr result (λ e. (e ≡ StoreFault.Failed) × (AreOpenYears lines.now → ¬ All HasFittingTurn lines.now)) }
@@ -137,4 +147,24 @@ pub fn check_years(lines: &[YearLine]) -> Result<(), StoreFault>
         year += 1;
     }
     Ok(())
+}
+
+/// The years as lines, the first carried as the account is and no other. `Failed` where the years do not go on one by one
+/// within 2001 to 2098, where a turn lies outside its year or beside a semiweekly opening, and where there are years and
+/// no account; `Memory` where there is none.
+pub fn open_years(
+    alloc: Global,
+    account: Option<Account>,
+    years: &[StoredYear],
+) -> Result<Vec<YearLine>, StoreFault>
+    ensures lines { IfOk result (λ lines. lines.items ≡ year_lines (is_carried account) years.now) }
+    ensures there { OnOk result (account ≡ None → years.now ≡ []) }
+    ensures whole { IfOk result (λ lines. AreOpenYears lines.items) }
+    ensures turns { IfOk result (λ lines. All HasFittingTurn lines.items) }
+    ensures bad { result ≡ Err StoreFault.Failed → AreOpenYears (year_lines (is_carried account) years.now)
+        → All HasFittingTurn (year_lines (is_carried account) years.now) → (account ≡ None) × (years.now ≢ []) }
+{
+    let lines = lines_of(alloc, account, years)?;
+    check_years(&lines)?;
+    Ok(lines)
 }

@@ -1,3 +1,6 @@
 pub mod Seen
-pub mod Words
+pub mod Frame
+pub mod Ends
+pub mod Changes
+pub mod Finds
 pub mod Lending

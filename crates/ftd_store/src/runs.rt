@@ -1,135 +1,82 @@
 //! The pay runs of the accounts.
 
-ghost use Rattle.std.specs.Prelude.{◌≡◌, ◌++◌, false, filter, map, [], ◌∷◌, IfOk, IfErr, OnOk, OnErr, Err};
-ghost use Rattle.sqlite.specs.State.{HasCleanDisk};
-ghost use Rattle.ftd_tables.specs.Kept.{changed};
-ghost use Rattle.ftd_tables.specs.Rows.{Tables};
-ghost use Rattle.ftd_tables.specs.Places.{Stands};
-ghost use Rattle.ftd_texts.specs.Tests.{is_run, voided_run};
-ghost use Rattle.ftd_store.specs.Seen.{seen, shown};
-ghost use Rattle.ftd_setup.specs.States.{CrashKeeps};
-ghost use Rattle.ftd_store.specs.Words.{IsOne, Changes, Tells, Keeps, Goes, HasFailed, IsUntouched, BorrowsSame};
-ghost use Rattle.ftd_values.specs.Faults.{IsFault};
-ghost use Rattle.ftd_values.specs.Values.{rows_of, run_row, kept_run_row};
+ghost use Rattle.std.specs.Prelude.{pos, filter};
+ghost use Rattle.ftd_schema.specs.declared.TableName.TheVariants.{Runs};
+ghost use Rattle.ftd_sql.specs.Tests.{is_run};
+ghost use Rattle.ftd_rows.specs.Amounts.{HasStorableAmounts};
+ghost use Rattle.ftd_store.specs.Changes.{with_run, with_void_run};
+ghost use Rattle.ftd_store.specs.Finds.{FindsRun, CountsRuns, ListsLiability};
+ghost use Rattle.ftd_store.specs.Frame.{Reads, Writes, WritesOne};
 
-use crate::store::Store;
 use crate::tx::Tx;
-use ftd_values::{KeptRun, PayRun, StoreFault, only_run, whole};
+use ftd_days::Day;
+use ftd_rows::{PayRun, StoreFault, StoredCents, StoredDay, StoredFlag, StoredRun, sums_of};
+use ftd_rules::DaySum;
+use ftd_sql::texts;
 use sqlite::{Alter, params};
-
-impl<S: Alter> Store<S> {
-    #[tactic(auto, using(ftd_texts::proofs::AddRun::of_rows))]
-    fn add_run(&mut self, account: &str, number: u32, run: PayRun) -> Result<(), StoreFault>
-        ensures rows { HasCleanDisk (seen S.Store self.new) → OnOk result (Changes (seen S.Store self.old) (seen S.Store self.new) (λ t. record t { runs = t.runs ++ run_row account.now number run false ∷ [] })) }
-        ensures honest { HasCleanDisk (seen S.Store self.new) → HasCleanDisk (seen S.Store self.old) }
-        ensures kept { HasCleanDisk (seen S.Store self.new) → OnErr result (Keeps (seen S.Store self.old) (seen S.Store self.new)) }
-        ensures crash { CrashKeeps (seen S.Store self.old) (seen S.Store self.new) }
-        ensures why { IfErr result IsFault }
-    {
-        let payday = run.payday.number();
-        let fit = whole(run.fit)?;
-        let ss = whole(run.ss)?;
-        let medicare = whole(run.medicare)?;
-        self.change(
-            "INSERT INTO run (account, run, payday, fit, ss, medicare, voided) VALUES (?1, ?2, ?3, ?4, ?5, ?6, 0)",
-            params![account, number, payday, fit, ss, medicare],
-        )?;
-        Ok(())
-    }
-
-    #[tactic(auto, using(ftd_texts::proofs::ReadRun::of_reading))]
-    fn run(&mut self, account: &str, number: u32) -> Result<Option<KeptRun>, StoreFault>
-        ensures rows { HasCleanDisk (seen S.Store self.new) → IfOk result (λ found. Tells (seen S.Store self.old) (seen S.Store self.new) (λ t. filter (is_run account.now number) t.runs ≡ rows_of (kept_run_row account.now number) found)) }
-        ensures honest { HasCleanDisk (seen S.Store self.new) → HasCleanDisk (seen S.Store self.old) }
-        ensures kept { HasCleanDisk (seen S.Store self.new) → OnErr result (Keeps (seen S.Store self.old) (seen S.Store self.new)) }
-        ensures crash { CrashKeeps (seen S.Store self.old) (seen S.Store self.new) }
-        ensures why { IfErr result IsFault }
-    {
-        let rows = self.read(
-            "SELECT payday, fit, ss, medicare, voided FROM run WHERE account = ?1 AND run = ?2",
-            params![account, number],
-        )?;
-        only_run(&rows)
-    }
-
-    #[tactic(auto, using(ftd_texts::proofs::VoidRun::of_rows))]
-    fn void_run(&mut self, account: &str, number: u32) -> Result<(), StoreFault>
-        ensures rows { HasCleanDisk (seen S.Store self.new) → OnOk result (Changes (seen S.Store self.old) (seen S.Store self.new) (λ t. record t { runs = map (changed (is_run account.now number) voided_run) t.runs })) }
-        ensures there { HasCleanDisk (seen S.Store self.new) → OnOk result ((t : Tables) → Stands (seen S.Store self.old).now t → IsOne (filter (is_run account.now number) t.runs)) }
-        ensures honest { HasCleanDisk (seen S.Store self.new) → HasCleanDisk (seen S.Store self.old) }
-        ensures kept { HasCleanDisk (seen S.Store self.new) → OnErr result (Keeps (seen S.Store self.old) (seen S.Store self.new)) }
-        ensures crash { CrashKeeps (seen S.Store self.old) (seen S.Store self.new) }
-        ensures why { IfErr result IsFault }
-    {
-        let count = self.change(
-            "UPDATE run SET voided = 1 WHERE account = ?1 AND run = ?2",
-            params![account, number],
-        )?;
-        if count == 1 {
-            Ok(())
-        } else {
-            Err(StoreFault::Store)
-        }
-    }
-}
+use std::alloc::Global;
 
 impl<'store, S: Alter> Tx<'store, S> {
-    /// Adds a run of the account, which is not void. `Store` where the number is taken, where the account is not there, and
-    /// where an amount is 2^63 cents or more.
+    /// The account's run of the number, void or not, or None.
+    pub fn run(&mut self, account: &str, number: u32) -> Result<Option<StoredRun>, StoreFault>
+        ensures call { Reads S.Store self.old self.new result (FindsRun account.now number) }
+    {
+        self.read_only(texts::READ_RUN, params![account, number])
+    }
+
+    /// How many runs the account has, void ones too. `Failed` also where they are 2^32 or more.
+    pub fn count_runs(&mut self, account: &str) -> Result<u32, StoreFault>
+        ensures call { Reads S.Store self.old self.new result (CountsRuns account.now) }
+    {
+        self.count(texts::COUNT_RUNS, params![account])
+    }
+
+    /// Adds a run of the account, which is not void. `Failed` where the account has one of the number, and where the
+    /// account is not there.
     pub fn add_run(&mut self, account: &str, number: u32, run: PayRun) -> Result<(), StoreFault>
-        ensures same_reference { BorrowsSame self.old self.new }
-        ensures rows { HasCleanDisk (shown S.Store self.new) → OnOk result (Changes (shown S.Store self.old) (shown S.Store self.new) (λ t. record t { runs = t.runs ++ run_row account.now number run false ∷ [] })) }
-        ensures honest { HasCleanDisk (shown S.Store self.new) → HasCleanDisk (shown S.Store self.old) }
-        ensures goes { Goes self.old self.new result }
-        ensures stopped { HasFailed self.old → (result ≡ Err StoreFault.Store) × IsUntouched self.old self.new }
-        ensures kept { HasCleanDisk (shown S.Store self.new) → OnErr result (Keeps (shown S.Store self.old) (shown S.Store self.new)) }
-        ensures crash { CrashKeeps (shown S.Store self.old) (shown S.Store self.new) }
-        ensures why { IfErr result IsFault }
+        requires { HasStorableAmounts run }
+        ensures call { Writes S.Store self.old self.new result (with_run account.now number run) }
     {
-        if self.failed {
-            return Err(StoreFault::Store);
-        }
-        let added = self.store.add_run(account, number, run);
-        self.failed = added.is_err();
-        added
+        let payday = StoredDay(run.payday);
+        let fit = StoredCents { cents: run.fit };
+        let ss = StoredCents { cents: run.ss };
+        let medicare = StoredCents {
+            cents: run.medicare,
+        };
+        let voided = StoredFlag(false);
+        self.add(
+            texts::ADD_RUN,
+            params![account, number, payday, fit, ss, medicare, voided],
+        )
     }
 
-    /// The account's run of the number, void or not, or None. Nothing is changed.
-    pub fn run(&mut self, account: &str, number: u32) -> Result<Option<KeptRun>, StoreFault>
-        ensures same_reference { BorrowsSame self.old self.new }
-        ensures rows { HasCleanDisk (shown S.Store self.new) → IfOk result (λ found. Tells (shown S.Store self.old) (shown S.Store self.new) (λ t. filter (is_run account.now number) t.runs ≡ rows_of (kept_run_row account.now number) found)) }
-        ensures honest { HasCleanDisk (shown S.Store self.new) → HasCleanDisk (shown S.Store self.old) }
-        ensures goes { Goes self.old self.new result }
-        ensures stopped { HasFailed self.old → (result ≡ Err StoreFault.Store) × IsUntouched self.old self.new }
-        ensures kept { HasCleanDisk (shown S.Store self.new) → OnErr result (Keeps (shown S.Store self.old) (shown S.Store self.new)) }
-        ensures crash { CrashKeeps (shown S.Store self.old) (shown S.Store self.new) }
-        ensures why { IfErr result IsFault }
-    {
-        if self.failed {
-            return Err(StoreFault::Store);
-        }
-        let found = self.store.run(account, number);
-        self.failed = found.is_err();
-        found
-    }
-
-    /// Marks the account's run of the number as void, or leaves it so. `Store` where there is none.
+    /// Makes the account's run of the number void, or leaves it so. `Failed` where there is none.
     pub fn void_run(&mut self, account: &str, number: u32) -> Result<(), StoreFault>
-        ensures same_reference { BorrowsSame self.old self.new }
-        ensures rows { HasCleanDisk (shown S.Store self.new) → OnOk result (Changes (shown S.Store self.old) (shown S.Store self.new) (λ t. record t { runs = map (changed (is_run account.now number) voided_run) t.runs })) }
-        ensures there { HasCleanDisk (shown S.Store self.new) → OnOk result ((t : Tables) → Stands (shown S.Store self.old).now t → IsOne (filter (is_run account.now number) t.runs)) }
-        ensures honest { HasCleanDisk (shown S.Store self.new) → HasCleanDisk (shown S.Store self.old) }
-        ensures goes { Goes self.old self.new result }
-        ensures stopped { HasFailed self.old → (result ≡ Err StoreFault.Store) × IsUntouched self.old self.new }
-        ensures kept { HasCleanDisk (shown S.Store self.new) → OnErr result (Keeps (shown S.Store self.old) (shown S.Store self.new)) }
-        ensures crash { CrashKeeps (shown S.Store self.old) (shown S.Store self.new) }
-        ensures why { IfErr result IsFault }
+        ensures call { WritesOne S.Store self.old self.new result
+            (λ t. filter (is_run account.now (pos number)) (t Runs)) (with_void_run account.now number) }
     {
-        if self.failed {
-            return Err(StoreFault::Store);
+        self.change_one(texts::VOID_RUN, params![account, number])
+    }
+
+    /// The account's liability day by day, rising, for the paydays from `from` to `to`. Void runs and days on which
+    /// nothing is owed are left out. `Failed` also where the amounts of a day do not fit in a `u64` of cents.
+    pub fn day_sums(
+        &mut self,
+        alloc: Global,
+        account: &str,
+        from: Day,
+        to: Day,
+    ) -> Result<Vec<DaySum>, StoreFault>
+        ensures call { Reads S.Store self.old self.new result (ListsLiability account.now from to) }
+    {
+        let runs: Vec<PayRun> = self.read_all(
+            alloc,
+            texts::LIST_RUNS,
+            params![account, StoredDay(from), StoredDay(to)],
+        )?;
+        match sums_of(alloc, &runs) {
+            Ok(sums) => Ok(sums),
+            Err(fault) => self.stop(fault),
         }
-        let voided = self.store.void_run(account, number);
-        self.failed = voided.is_err();
-        voided
     }
 }

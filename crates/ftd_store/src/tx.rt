@@ -1,21 +1,28 @@
 //! A transaction over the desk's tables.
 
-ghost use Rattle.std.specs.Prelude.{◌≡◌, IsTrue, OnOk, OnErr, IfErr, Err};
-ghost use Rattle.sqlite.specs.State.{HasCleanDisk, Survives};
+ghost use Rattle.std.specs.Prelude.{◌≡◌, ◌<◌, ◌^◌, false, if◌then◌else◌, map, [], ◌∷◌, IsTrue, IfOk, OnOk, OnErr, Err, Ok};
+ghost use Rattle.sqlite.specs.State.{HasCleanDisk, Survives, Shows, Executes};
+ghost use Rattle.sqlite.specs.Values.{bound};
+ghost use Rattle.ftd_tables.specs.TextKinds.{IsRowText, IsReadText};
+ghost use Rattle.ftd_schema.specs.declared.TableName.{TableName};
+ghost use Rattle.ftd_schema.specs.Rows.{RowOf, cells_of};
+ghost use Rattle.ftd_sql.specs.States.{CrashKeeps};
+ghost use Rattle.ftd_sql.specs.Making.{add_of};
+ghost use Rattle.ftd_rows.specs.Cells.{count_cells};
+ghost use Rattle.ftd_rows.specs.Reading.{rows_of};
 ghost use Rattle.ftd_store.specs.Seen.{seen, shown};
-ghost use Rattle.ftd_setup.specs.States.{CrashKeeps};
-ghost use Rattle.ftd_store.specs.Words.{EndsAs, HasFailed};
-ghost use Rattle.ftd_values.specs.Faults.{IsFault};
+ghost use Rattle.ftd_store.specs.Frame.{Frame, Queries, Writes, HasFailed};
+ghost use Rattle.ftd_store.specs.Ends.{EndsAs, CrashLeaves};
+ghost use Rattle.ftd_store.specs.Changes.{adding};
 
 use crate::store::Store;
-use ftd_values::StoreFault;
-use sqlite::Alter;
+use ftd_rows::{FromRow, StoreFault, all, only};
+use sqlite::types::ValueRef;
+use sqlite::{Alter, Row};
+use std::alloc::Global;
 
-/// A transaction. Dropped before `commit`, it changes nothing.
-///
-/// Each call answers `Memory` where memory is refused, and `Store` where the database fails or has a row that is no value
-/// of its type; nothing is committed then. Once a call has failed, every later one answers `Store` and touches
-/// nothing, `commit` too. Days are whole days, amounts whole cents; a day or an amount is stored as `docs/FORMATS.md` says.
+/// A transaction. Dropped before `commit`, it changes nothing. A transaction of which a call failed has failed for good:
+/// each further call, and `commit`, answers `Failed`.
 pub struct Tx<'store, S: Alter> {
     pub(crate) store: &'store mut Store<S>,
     pub(crate) failed: bool,
@@ -23,9 +30,12 @@ pub struct Tx<'store, S: Alter> {
 
 impl<S: Alter> Drop for Tx<'_, S> {
     fn drop(self)
-        ensures undone { HasCleanDisk (seen S.Store self.exit.0.now) → IsTrue (seen S.Store self.exit.0.now).is_open → EndsAs (seen S.Store self.exit.0.now) (shown S.Store self.entry).committed }
+        ensures undone { HasCleanDisk (seen S.Store self.exit.0.now) → IsTrue (seen S.Store self.exit.0.now).is_open
+            → EndsAs (seen S.Store self.exit.0.now) (shown S.Store self.entry).committed }
+        ensures rests { (shown S.Store self.entry).in_transaction ≡ false → self.exit.0.now ≡ self.entry.store.now }
         ensures crash { CrashKeeps (shown S.Store self.entry) (seen S.Store self.exit.0.now) }
-        ensures opens { HasCleanDisk (seen S.Store self.exit.0.now) → IsTrue (seen S.Store self.exit.0.now).is_open → IsTrue (shown S.Store self.entry).is_open }
+        ensures opens { HasCleanDisk (seen S.Store self.exit.0.now) → IsTrue (seen S.Store self.exit.0.now).is_open
+            → IsTrue (shown S.Store self.entry).is_open }
     {
         let Tx { store, failed: _ } = self;
         store.undo();
@@ -33,20 +43,159 @@ impl<S: Alter> Drop for Tx<'_, S> {
 }
 
 impl<'store, S: Alter> Tx<'store, S> {
-    /// Makes the transaction's rows the store's. `Memory` and `Store` leave the rows from before `begin`.
+    /// Makes the transaction's rows the store's. With Ok a crash leaves these rows alone. A fault leaves the rows from
+    /// before `begin`, and a crash then leaves those or, where the fault came as the rows were written, the new ones.
     pub fn commit(self) -> Result<(), StoreFault>
-        ensures ok { HasCleanDisk (seen S.Store self.exit.0.now) → IsTrue (seen S.Store self.exit.0.now).is_open
-            → OnOk result (EndsAs (seen S.Store self.exit.0.now) (shown S.Store self.entry).now) }
-        ensures stopped { HasFailed self.entry → result ≡ Err StoreFault.Store }
-        ensures why { IfErr result IsFault }
-        ensures honest { HasCleanDisk (seen S.Store self.exit.0.now) → HasCleanDisk (shown S.Store self.entry) }
+        ensures ok { HasCleanDisk (seen S.Store self.exit.0.now) → OnOk result (Shows (shown S.Store self.entry)
+            (seen S.Store self.exit.0.now) (shown S.Store self.entry).now (shown S.Store self.entry).now false) }
+        ensures lasts { HasCleanDisk (seen S.Store self.exit.0.now)
+            → OnOk result (CrashLeaves (seen S.Store self.exit.0.now) (shown S.Store self.entry).now) }
+        ensures stopped { HasFailed self.entry → result ≡ Err StoreFault.Failed }
         ensures kept { HasCleanDisk (seen S.Store self.exit.0.now) → IsTrue (seen S.Store self.exit.0.now).is_open
             → OnErr result (EndsAs (seen S.Store self.exit.0.now) (shown S.Store self.entry).committed) }
-        ensures crash { Survives (shown S.Store self.entry) (seen S.Store self.exit.0.now) (λ left. left ≡ (shown S.Store self.entry).now.trees) }
+        ensures crash { Survives (shown S.Store self.entry) (seen S.Store self.exit.0.now)
+            (λ left. left ≡ (shown S.Store self.entry).now.trees) }
     {
         if self.failed {
-            return Err(StoreFault::Store);
+            return Err(StoreFault::Failed);
         }
         self.store.finish()
+    }
+
+    // a call that gives up
+    pub(crate) fn stop<A>(&mut self, fault: StoreFault) -> Result<A, StoreFault>
+        ensures err { result ≡ Err fault }
+        ensures touched { (self.new.store ≡ self.old.store) × HasFailed self.new }
+    {
+        self.failed = true;
+        Err(fault)
+    }
+
+    // runs a statement that changes rows
+    pub(crate) fn change(&mut self, sql: &str, params: &[ValueRef<'_>]) -> Result<usize, StoreFault>
+        requires of_rows { IsRowText sql.now }
+        ensures frame { Frame S.Store self.old self.new result }
+        ensures ran { HasCleanDisk (shown S.Store self.new) → IfOk result (λ count.
+            Executes sql.now (bound params.now) (shown S.Store self.old) (shown S.Store self.new) (Ok count)) }
+    {
+        if self.failed || self.store.conn.is_autocommit() {
+            return self.stop(StoreFault::Failed);
+        }
+        match self.store.conn.execute(sql, params) {
+            Ok(count) => Ok(count),
+            Err(error) => self.stop(StoreFault::from(error)),
+        }
+    }
+
+    // runs a statement that changes one row or none, and answers whether it did; gives up where it changed more
+    pub(crate) fn change_any(
+        &mut self,
+        sql: &str,
+        params: &[ValueRef<'_>],
+    ) -> Result<bool, StoreFault>
+        requires of_rows { IsRowText sql.now }
+        ensures frame { Frame S.Store self.old self.new result }
+        ensures ran { HasCleanDisk (shown S.Store self.new) → IfOk result (λ changed.
+            Executes sql.now (bound params.now) (shown S.Store self.old) (shown S.Store self.new)
+            (Ok (if changed then 1 else 0))) }
+    {
+        match self.change(sql, params)? {
+            0 => Ok(false),
+            1 => Ok(true),
+            _ => self.stop(StoreFault::Failed),
+        }
+    }
+
+    // runs a statement that changes exactly one row, or else gives up
+    pub(crate) fn change_one(
+        &mut self,
+        sql: &str,
+        params: &[ValueRef<'_>],
+    ) -> Result<(), StoreFault>
+        requires of_rows { IsRowText sql.now }
+        ensures frame { Frame S.Store self.old self.new result }
+        ensures ran { HasCleanDisk (shown S.Store self.new) → OnOk result
+            (Executes sql.now (bound params.now) (shown S.Store self.old) (shown S.Store self.new) (Ok 1)) }
+    {
+        if self.change_any(sql, params)? {
+            Ok(())
+        } else {
+            self.stop(StoreFault::Failed)
+        }
+    }
+
+    // adds the row whose cells are given to the table that the text is for
+    pub(crate) fn add(&mut self, sql: &str, params: &[ValueRef<'_>]) -> Result<(), StoreFault>
+        requires of_table { (table : TableName) × (sql.now ≡ add_of table) }
+        ensures call { (table : TableName) (row : RowOf table) → sql.now ≡ add_of table → bound params.now ≡ cells_of table row
+            → Writes S.Store self.old self.new result (adding table row) }
+    {
+        self.change(sql, params)?;
+        Ok(())
+    }
+
+    // runs a query
+    pub(crate) fn read(
+        &mut self,
+        sql: &str,
+        params: &[ValueRef<'_>],
+    ) -> Result<Vec<Row>, StoreFault>
+        requires of_reading { IsReadText sql.now }
+        ensures call { Queries S.Store self.old self.new result sql.now (bound params.now) (λ read rows. rows ≡ read.items) }
+    {
+        if self.failed {
+            return Err(StoreFault::Failed);
+        }
+        match self.store.conn.query_all(sql, params) {
+            Ok(rows) => Ok(rows),
+            Err(error) => self.stop(StoreFault::from(error)),
+        }
+    }
+
+    // runs a query that shows one row or none
+    pub(crate) fn read_only<T: FromRow>(
+        &mut self,
+        sql: &str,
+        params: &[ValueRef<'_>],
+    ) -> Result<Option<T>, StoreFault>
+        requires of_reading { IsReadText sql.now }
+        ensures call { Queries S.Store self.old self.new result sql.now (bound params.now)
+            (λ found rows. rows ≡ rows_of T.shown found) }
+    {
+        let rows = self.read(sql, params)?;
+        match only(&rows) {
+            Ok(found) => Ok(found),
+            Err(fault) => self.stop(fault),
+        }
+    }
+
+    // runs a query that shows rows in an order
+    pub(crate) fn read_all<T: FromRow + Drop>(
+        &mut self,
+        alloc: Global,
+        sql: &str,
+        params: &[ValueRef<'_>],
+    ) -> Result<Vec<T>, StoreFault>
+        requires of_reading { IsReadText sql.now }
+        ensures call { Queries S.Store self.old self.new result sql.now (bound params.now)
+            (λ listed rows. rows ≡ map T.shown listed.items) }
+    {
+        let rows = self.read(sql, params)?;
+        match all(alloc, &rows) {
+            Ok(listed) => Ok(listed),
+            Err(fault) => self.stop(fault),
+        }
+    }
+
+    // runs a query that counts rows
+    pub(crate) fn count(&mut self, sql: &str, params: &[ValueRef<'_>]) -> Result<u32, StoreFault>
+        requires of_reading { IsReadText sql.now }
+        ensures call { Queries S.Store self.old self.new result sql.now (bound params.now)
+            (λ count rows. (rows ≡ count_cells count ∷ []) × (count < 2 ^ 32)) }
+    {
+        match self.read_only(sql, params)? {
+            Some(count) => Ok(count),
+            None => self.stop(StoreFault::Failed),
+        }
     }
 }

@@ -1,0 +1,40 @@
+use Rattle.std.proofs.Common.{◌≡◌, List, ℕ, [], Err, take, refl, ap, ◌∙◌, append-nil, rules, arith}
+use Rattle.ftd_schema.specs.declared.TableName.{TableName}
+use Rattle.ftd_schema.specs.declared.TableName.TheVariants.{CalendarYears, Holidays}
+use Rattle.ftd_schema.specs.Standing.{Tables, with_rows}
+use Rattle.ftd_rows.specs.Rows.{calendar_year_row, holiday_row}
+use Rattle.ftd_store.specs.Changes.{adding, with_calendar}
+use Rattle.ftd_store.proofs.Going.{fails_after, then_writes, writes_same}
+use Rattle.ftd_store.proofs.Replaced.{one_more, all_taken}
+use Rattle.ftd_store.proofs.tx.Tx.add_calendar.Goals as goal
+
+-- the table with its own rows
+own : (t : Tables) (n : TableName) → t n ≡ with_rows Holidays (t Holidays) t n
+own t Holidays = refl
+own t n = refl
+
+pub loop-day-init : goal.loop-day-init
+loop-day-init g c =
+    let row = calendar_year_row c.args.year in
+    writes_same g.S.Store c.args.self.now c.add_calendar_year.new.self _ (adding CalendarYears row) (with_calendar c.args.year [])
+    (λ t n. own (adding CalendarYears row t) n ∙ ap (λ rows. with_rows Holidays rows (adding CalendarYears row t) n) (rw (append-nil (t Holidays)) refl)) c.in_ok-add_calendar_year.ensures.call
+
+pub returns-in_err-add_holiday : goal.returns-in_err-add_holiday
+returns-in_err-add_holiday g c =
+    let is : c.from_residual-in_err-add_holiday.result ≡ Err c.in_err-add_holiday.field-0.0 = search rules in
+    record { call = fails_after g.S.Store c.args.self.now c.loop-day.self c.add_holiday.new.self _ _ _ _ is c.loop-day.invariant.frame c.in_err-add_holiday.ensures.call.frame }
+
+pub loop-day-preserved : goal.loop-day-preserved
+loop-day-preserved g c =
+    let year = c.args.year in
+    let i = c.loop-day.day-index in
+    let xs : List ℕ = c.args.days.now in
+    let x : ℕ = c.day-item.result in
+    then_writes g.S.Store c.args.self.now c.loop-day.self c.add_holiday.new.self _ _ _ (with_calendar year (take i xs)) (adding Holidays (holiday_row year x)) _
+    (one_more Holidays (λ rows t. refl) (holiday_row year) (λ t. t Holidays) (adding CalendarYears (calendar_year_row year)) xs i x c.loop-day-test.true c.day-item.is) c.loop-day.invariant c.in_ok-add_holiday.ensures.call
+
+pub returns : goal.returns
+returns g c =
+    let xs : List ℕ = c.args.days.now in
+    let all = all_taken xs c.loop-day.day-index (omega (arith, c.loop-day-test.false)) in
+    record { call = writes_same g.S.Store c.args.self.now c.loop-day.self _ _ _ (λ t n. ap (λ days. with_calendar c.args.year days t n) all) c.loop-day.invariant }

@@ -1,0 +1,23 @@
+use Rattle.std.proofs.Common.{pos}
+use Rattle.ftd_schema.specs.declared.TableName.TheVariants.{Runs}
+use Rattle.ftd_sql.specs.declared.texts.TheConstants.{READ_RUN}
+use Rattle.ftd_sql.specs.Answers.{run_shown}
+use Rattle.ftd_sql.proofs.Asking.{reads_run}
+use Rattle.ftd_sql.proofs.Reading.{asking}
+use Rattle.ftd_sql.proofs.Meanings.{shows_run}
+use Rattle.ftd_rows.specs.Cells.{stored_run_cells}
+use Rattle.ftd_store.proofs.Same.{run_is}
+use Rattle.ftd_store.proofs.Telling.{finds}
+use Rattle.ftd_store.proofs.tx.Tx.run.Goals as goal
+
+pub read_only-requires : goal.read_only-requires
+read_only-requires g c = record { of_reading = asking Runs READ_RUN.now _ _ _ reads_run }
+
+pub returns : goal.returns
+returns g c =
+    let who = c.args.account.now in
+    let number = c.args.number in
+    record {
+      call = finds g.S.Store c.args.self.now c.read_only.new.self c.read_only.result Runs READ_RUN.now _ _ run_shown stored_run_cells _ (shows_run who (pos number)) (run_is who number)
+          (rw (c.params-to_sql.ensures, c.params-to_sql-2.ensures) at c.read_only.ensures.call);
+    }

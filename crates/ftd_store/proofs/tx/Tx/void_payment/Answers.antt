@@ -1,0 +1,17 @@
+use Rattle.std.proofs.Common.{pos}
+use Rattle.ftd_schema.specs.declared.TableName.TheVariants.{Payments}
+use Rattle.ftd_sql.specs.declared.texts.TheConstants.{VOID_PAYMENT}
+use Rattle.ftd_sql.proofs.Changing.{voids_payment}
+use Rattle.ftd_sql.proofs.Writing.{changing}
+use Rattle.ftd_sql.proofs.Meanings.{payment_voided}
+use Rattle.ftd_store.proofs.Telling.{changes_one}
+use Rattle.ftd_store.proofs.tx.Tx.void_payment.Goals as goal
+
+pub change_one-requires : goal.change_one-requires
+change_one-requires g c = record { of_rows = changing Payments VOID_PAYMENT.now _ _ _ _ voids_payment }
+
+pub returns : goal.returns
+returns g c = record {
+  call = changes_one g.S.Store c.args.self.now c.change_one.new.self c.change_one.result Payments VOID_PAYMENT.now _ _ _ (payment_voided c.args.account.now (pos c.args.number)) c.change_one.ensures.frame
+      (rw (c.params-to_sql.ensures, c.params-to_sql-2.ensures) at c.change_one.ensures.ran);
+}

@@ -1,0 +1,17 @@
+use Rattle.std.proofs.Common.{pos}
+use Rattle.ftd_schema.specs.declared.TableName.TheVariants.{Runs}
+use Rattle.ftd_sql.specs.declared.texts.TheConstants.{VOID_RUN}
+use Rattle.ftd_sql.proofs.Changing.{voids_run}
+use Rattle.ftd_sql.proofs.Writing.{changing}
+use Rattle.ftd_sql.proofs.Meanings.{run_voided}
+use Rattle.ftd_store.proofs.Telling.{changes_one}
+use Rattle.ftd_store.proofs.tx.Tx.void_run.Goals as goal
+
+pub change_one-requires : goal.change_one-requires
+change_one-requires g c = record { of_rows = changing Runs VOID_RUN.now _ _ _ _ voids_run }
+
+pub returns : goal.returns
+returns g c = record {
+  call = changes_one g.S.Store c.args.self.now c.change_one.new.self c.change_one.result Runs VOID_RUN.now _ _ _ (run_voided c.args.account.now (pos c.args.number)) c.change_one.ensures.frame
+      (rw (c.params-to_sql.ensures, c.params-to_sql-2.ensures) at c.change_one.ensures.ran);
+}

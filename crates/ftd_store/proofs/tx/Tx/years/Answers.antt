@@ -1,0 +1,43 @@
+use Rattle.std.proofs.Common.{Ok, Vec, Global, sym, subst}
+use Rattle.ftd_schema.specs.declared.TableName.TheVariants.{Years}
+use Rattle.ftd_sql.specs.declared.texts.TheConstants.{LIST_YEARS}
+use Rattle.ftd_sql.specs.Answers.{year_shown}
+use Rattle.ftd_sql.specs.Orders.{YearsRise}
+use Rattle.ftd_sql.proofs.Asking.{lists_years}
+use Rattle.ftd_sql.proofs.Reading.{asking}
+use Rattle.ftd_sql.proofs.Meanings.{years_in_order}
+use Rattle.ftd_rules.specs.declared.YearLine.{YearLine}
+use Rattle.ftd_rules.specs.Years.{OnlyFirstCarried}
+use Rattle.ftd_rows.specs.declared.years.StoredYear.{StoredYear}
+use Rattle.ftd_rows.specs.Cells.{year_cells}
+use Rattle.ftd_rows.specs.Lists.{Lists}
+use Rattle.ftd_rows.specs.Years.{is_carried, FirstCarriedAs}
+use Rattle.ftd_rows.proofs.OpenYears.{only_first_carried, carried_as}
+use Rattle.ftd_store.specs.Finds.{IsYear}
+use Rattle.ftd_store.proofs.Telling.{lists, then_reads}
+use Rattle.ftd_store.proofs.YearRows.{IsStoredYear, stored_year_is, lines_listed}
+use Rattle.ftd_store.proofs.tx.Tx.years.Goals as goal
+
+pub read_all-requires : goal.read_all-requires
+read_all-requires g c = record { of_reading = asking Years LIST_YEARS.now _ _ _ lists_years }
+
+pub returns-in-Ok : goal.returns-in-Ok
+returns-in-Ok g c =
+    let who = c.args.account.now in
+    let found = c.in_ok-found.found in
+    let stored : Vec StoredYear Global = c.in_ok-stored.stored in
+    let lines : Vec YearLine Global = c.in-Ok.lines in
+    let listed = lists g.S.Store c.account.new.self c.read_all.new.self (Ok stored) (λ xs. xs.items) Years LIST_YEARS.now _ _ year_shown year_cells YearsRise (IsStoredYear who) (years_in_order who) (stored_year_is who)
+    (rw c.params-to_sql.ensures at c.in_ok-stored.ensures.call) in
+    let is = rw c.deref.ensures.value at c.in-Ok.ensures.lines in
+    let there = rw c.deref.ensures.value at c.in-Ok.ensures.there in
+    record {
+      call = then_reads g.S.Store c.args.self.now c.account.new.self c.read_all.new.self found stored lines _ _ _
+          (λ t account years. record {
+            listed = subst (Lists YearsRise (IsYear who) _) (sym is) (lines_listed who (is_carried found) _ stored.items years);
+            whole = c.in-Ok.ensures.whole;
+            turns = c.in-Ok.ensures.turns;
+            first = subst (FirstCarriedAs who _) (sym is) (carried_as who found _ stored.items account there);
+            others = subst OnlyFirstCarried (sym is) (only_first_carried (is_carried found) stored.items);
+          }) c.in_ok-found.ensures.call listed;
+    }
