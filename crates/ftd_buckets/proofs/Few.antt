@@ -3,7 +3,8 @@ use Rattle.ftd_rules.specs.declared.Form.{Form}
 use Rattle.std.proofs.Common.{◌≡◌, ℕ, ◌+◌, ◌-◌, ◌<◌, ◌≤◌, ◌%◌, ◌⊎◌, inl, inr, List, [], ◌∷◌, length, refl, sym, ap, ◌∙◌, subst, arith}
 use Rattle.std.specs.Prelude.{min}
 use Rattle.std.proofs.lemmas.Bool.{lt-ltb, le-ltb}
-use Rattle.ftd_days.specs.Calendar.{month_of, month_start, interval_close}
+use Rattle.ftd_days.specs.Calendar.{month_of, month_start}
+use Rattle.ftd_days.specs.Private.Intervals.{interval_close}
 use Rattle.ftd_days.proofs.Months.{month_of_only, month_start-end}
 use Rattle.ftd_rules.specs.declared.Rule.{Rule}
 use Rattle.ftd_rules.specs.declared.YearLine.{YearLine}

@@ -2,15 +2,15 @@
 use Rattle.std.proofs.Common.{◌≡◌, ◌≢◌, ℕ, zero, suc, ◌+◌, ◌-◌, ◌<◌, ◌≤◌, ◌↔◌, ◌⊎◌, inl, inr, List, Bool, true, false, not, ◌&&◌, ◌||◌, refl, sym, ap, ◌∙◌, arith}
 use Rattle.std.specs.Prelude.{nat_lt, ◌==◌}
 use Rattle.std.proofs.lemmas.Bool.{false≢true, cases_Bool}
-use Rattle.ftd_days.specs.Calendar.{weekday_of, month_of, month_start, interval_close, last_day}
+use Rattle.ftd_days.specs.Calendar.{weekday_of, month_of, month_start, last_day}
+use Rattle.ftd_days.specs.Private.Intervals.{interval_close}
 use Rattle.ftd_days.specs.Business.{is_holiday, is_business, IsOnOrAfter, business_days, IsNthAfter}
 use Rattle.ftd_days.specs.Holidays.{IsWithHoliday}
 use Rattle.ftd_days.proofs.Years.{same_or_not, eq_same, eq_not}
 use Rattle.ftd_days.proofs.Business.{on_or_after_one, nth_after_one}
 use Rattle.ftd_rules.specs.declared.Rule.{Rule}
 use Rattle.ftd_rules.specs.declared.Rule.TheVariants.{Monthly, Semiweekly, NextDay}
-use Rattle.ftd_rules.specs.Due.{IsDue}
-use Rattle.ftd_rules.specs.Laws.{first_counted, IsCountedBusiness, EqualHolidays}
+use Rattle.ftd_rules.specs.Private.Due.{IsDueBy, IsCountedBy}
 use Rattle.ftd_rules.proofs.Cuts.{lt_or_le}
 use Rattle.ftd_rules.proofs.Resting.{due_from, due_same, from_later}
 
@@ -131,15 +131,15 @@ nth_moves before after added day n due new with h k = (
       absurd (omega arith)),
 )
 
-pub due_moves : (before after : List ℕ) (added : ℕ) (rule : Rule) (last due new : ℕ) → IsWithHoliday before added after → IsDue before rule last due → IsDue after rule last new
-    → (new ≡ due → ⊥) ↔ IsCountedBusiness before rule last due added
+pub due_moves : (before after : List ℕ) (added : ℕ) (rule : Rule) (last due new : ℕ) → IsWithHoliday before added after → IsDueBy before rule last due → IsDueBy after rule last new
+    → (new ≡ due → ⊥) ↔ IsCountedBy before rule last due added
 due_moves before after added Monthly last due new with h k = on_moves before after added (month_start (month_of last + 1) + 14) due new with h k
 due_moves before after added Semiweekly last due new with h k = nth_moves before after added (interval_close last) 3 due new with h k
 due_moves before after added NextDay last due new with h k = nth_moves before after added last 1 due new with h k
 
 -- a day before the last one or after the due date moves nothing
 pub due_stays : (before after : List ℕ) (added : ℕ) (rule : Rule) (last due : ℕ) → IsWithHoliday before added after → last ≤ last_day → (added < last) ⊎ (due < added)
-    → IsDue before rule last due → IsDue after rule last due
+    → IsDueBy before rule last due → IsDueBy after rule last due
 due_stays before after added rule last due with within out h =
     let from = from_later rule last within in
     due_same before after rule last due due

@@ -3,12 +3,15 @@ use Rattle.ftd_rules.specs.declared.Form.{Form}
 use Rattle.std.proofs.Common.{◌≡◌, ℕ, ◌+◌, ◌<◌, ◌≤◌, ◌↔◌, ◌⊎◌, inl, inr, List, [], ◌∷◌, refl, sym, ap, ◌∙◌, subst, arith}
 use Rattle.std.specs.Prelude.{nat_lt, None, Some, IsSomeAnd, MatchBool}
 use Rattle.std.proofs.lemmas.Bool.{lt-ltb, le-ltb}
-use Rattle.ftd_days.specs.Calendar.{month_of, interval_start, year_start}
+use Rattle.ftd_days.specs.Calendar.{month_of, year_start, IsClose}
+use Rattle.ftd_days.specs.Private.Intervals.{interval_start, interval_close}
+use Rattle.ftd_days.specs.Business.{IsNthAfter}
+use Rattle.ftd_days.proofs.Intervals.{close_is, close_only, interval_ends}
 use Rattle.ftd_days.specs.declared.cents.Cents.{Cents}
 use Rattle.ftd_rules.specs.declared.Kind.{Kind}
 use Rattle.ftd_rules.specs.declared.Kind.TheVariants as kind
 use Rattle.ftd_rules.specs.declared.Rule.{Rule}
-use Rattle.ftd_rules.specs.declared.Rule.TheVariants.{Monthly, Semiweekly}
+use Rattle.ftd_rules.specs.declared.Rule.TheVariants.{Monthly, Semiweekly, NextDay}
 use Rattle.ftd_rules.specs.declared.DaySum.{DaySum}
 use Rattle.ftd_rules.specs.declared.YearLine.{YearLine}
 use Rattle.ftd_rules.specs.declared.Obligation.{Obligation}
@@ -19,7 +22,9 @@ use Rattle.ftd_rules.specs.Stops.{Rise, IsLatestBefore, IsCountStart, AreStops}
 use Rattle.ftd_rules.specs.Years.{year_last, IsSemiweeklyOn, HasStatusOn}
 use Rattle.ftd_rules.specs.Periods.{SameRun, SharePeriod, IsPeriod}
 use Rattle.ftd_rules.specs.Obligations.{pieces, rule_of, IsObligation, AreObligations}
-use Rattle.ftd_rules.specs.Laws.{HasStatus}
+use Rattle.ftd_rules.specs.Due.{IsDue}
+use Rattle.ftd_rules.specs.Laws.{HasStatus, IsFirstCounted, IsCountedBusiness}
+use Rattle.ftd_rules.specs.Private.Due.{IsDueBy, first_counted, IsCountedBy}
 use Rattle.ftd_rules.specs.Private.Stops.{counted_from, IsStops}
 use Rattle.ftd_rules.specs.Private.Years.{semiweekly_from}
 use Rattle.ftd_rules.specs.Private.Periods.{rule_on, ShareRun, IsRun, HasRule}
@@ -172,7 +177,10 @@ run_is line a b kind.Monthly l m h same =
       | inl early ↦ rw (lt-ltb a (semiweekly_from line) early) same
       | inr late ↦ absurd (h ((semiweekly_is line a l m).1 late))
     ]
-run_is line a b kind.Semiweekly l m h same = let late = (semiweekly_is line a l m).0 h in rw (le-ltb a (semiweekly_from line) late) same
+run_is line a b kind.Semiweekly l m h same =
+    let late = (semiweekly_is line a l m).0 h in
+    let one : interval_close b ≡ interval_close a = sym (close_only b same.0 same.2) ∙ close_only a same.0 same.1 in
+    rw (le-ltb a (semiweekly_from line) late) ((interval_ends a b).0 one)
 
 -- the days of two in a year
 abbrev AreIn : YearLine → ℕ → Type 0
@@ -204,7 +212,8 @@ run_shared form line a b in_a in_b h =
             status = kind.Semiweekly;
             first = (status_is line a kind.Semiweekly in_a.0 in_a.1).1 its;
             second = (status_is line b kind.Semiweekly in_b.0 in_b.1).1 (h.1 ∙ its);
-            run = (let k = le-ltb a (semiweekly_from line) late in rw k at h.2);
+            run = (let k = le-ltb a (semiweekly_from line) late in let starts = rw k at h.2 in
+                (interval_close a, close_is a, rw (← ((interval_ends a b).1 starts)) (close_is b)));
           }
     ]
 
@@ -228,6 +237,31 @@ run_period form line a b h =
       λ day l m. (let e = h.3 day l m in ((λ s. e.0 (share_run form line a day first (l, m) s)), (λ w. run_shared form line a day first (l, m) (e.1 w)))),
     )
 
+-- ---- due dates
+
+pub due_by : (holidays : List ℕ) (rule : Rule) (last due : ℕ) → IsDue holidays rule last due → IsDueBy holidays rule last due
+due_by holidays Monthly last due h = h
+due_by holidays Semiweekly last due h = let one = close_only last h.0 h.1 in subst (λ (z : ℕ). IsNthAfter holidays z 3 due) one h.2
+due_by holidays NextDay last due h = h
+
+pub due_stated : (holidays : List ℕ) (rule : Rule) (last due : ℕ) → IsDueBy holidays rule last due → IsDue holidays rule last due
+due_stated holidays Monthly last due h = h
+due_stated holidays Semiweekly last due h = (interval_close last, close_is last, h)
+due_stated holidays NextDay last due h = h
+
+first_is : (rule : Rule) (last day : ℕ) → ((first : ℕ) × IsFirstCounted rule last first × (first ≤ day)) ↔ (first_counted rule last ≤ day)
+first_is Monthly last day = ((λ h. let e = h.1 in let l = h.2 in omega arith), (λ l. (first_counted Monthly last, refl, l)))
+first_is Semiweekly last day = (
+  (λ h. let l = h.2 in let e = h.1.2 in let one = close_only last h.1.0 h.1.1 in omega arith),
+  (λ l. (interval_close last + 1, (interval_close last, close_is last, refl), l)),
+)
+first_is NextDay last day = ((λ h. let e = h.1 in let l = h.2 in omega arith), (λ l. (last + 1, refl, l)))
+
+pub counted_stated : (holidays : List ℕ) (rule : Rule) (last due day : ℕ) → IsCountedBy holidays rule last due day ↔ IsCountedBusiness holidays rule last due day
+counted_stated holidays rule last due day =
+    let is = first_is rule last day in
+    ((λ h. (h.0, is.1 h.1, h.2)), (λ h. (h.0, is.0 h.1, h.2)))
+
 -- ---- obligations
 
 pub piece_owed : (form : Form) (lines : List YearLine) (sums : List DaySum) (holidays : List ℕ) (o : Obligation) → IsObligation form lines sums holidays o → IsOwedPiece form lines sums holidays o
@@ -245,7 +279,7 @@ piece_owed form lines sums holidays o h =
       piece = subst (λ (r : Rule). Has (pieces r h.period_first h.period_last h.stops) (o.first, o.last, o.rule)) rule h.piece;
       amount = h.amount;
       positive = h.positive;
-      due = h.due;
+      due = due_by holidays o.rule o.last o.due h.due;
     }
 
 pub owed_stated : (form : Form) (lines : List YearLine) (sums : List DaySum) (holidays : List ℕ) (o : Obligation) → IsOwedPiece form lines sums holidays o → IsObligation form lines sums holidays o
@@ -266,7 +300,7 @@ owed_stated form lines sums holidays o h =
       piece = subst (λ (r : Rule). Has (pieces r h.first h.last h.stops) (o.first, o.last, o.rule)) rule h.piece;
       amount = h.amount;
       positive = h.positive;
-      due = h.due;
+      due = due_stated holidays o.rule o.last o.due h.due;
     }
 
 pub rows_owed : (form : Form) (lines : List YearLine) (sums : List DaySum) (holidays : List ℕ) (rows : List Obligation) → AreObligations form lines sums holidays rows → AreOwedPieces form lines sums holidays rows

@@ -1,5 +1,6 @@
 -- Words that private contracts, invariants and proofs alone use. What the crate promises is said without
 -- them.
+pub mod Due
 pub mod Years
 pub mod Periods
 pub mod Stops

@@ -5,7 +5,7 @@ use Rattle.ftd_rules.specs.declared.DaySum.{DaySum}
 use Rattle.ftd_rules.specs.declared.YearLine.{YearLine}
 use Rattle.ftd_rules.specs.declared.Obligation.{Obligation}
 use Rattle.ftd_rules.specs.Liability.{liability}
-use Rattle.ftd_rules.specs.Due.{IsDue}
+use Rattle.ftd_rules.specs.Private.Due.{IsDueBy}
 use Rattle.ftd_rules.specs.Lists.{Has}
 use Rattle.ftd_rules.specs.Obligations.{pieces, ByFirstDay}
 use Rattle.ftd_rules.specs.Private.Stops.{IsStops}
@@ -25,7 +25,7 @@ pub record IsOwedPiece (form : Form) (lines : List YearLine) (sums : List DaySum
   pub piece : Has (pieces (rule_on (semiweekly_from line) first) first last stops) (o.first, o.last, o.rule)
   pub amount : o.cents.0 ≡ liability sums o.first o.last
   pub positive : 0 < o.cents.0
-  pub due : IsDue holidays o.rule o.last o.due
+  pub due : IsDueBy holidays o.rule o.last o.due
 
 -- the rows are the obligations, by first day
 pub record AreOwedPieces (form : Form) (lines : List YearLine) (sums : List DaySum) (holidays : List ℕ) (rows : List Obligation) : Type 0 where

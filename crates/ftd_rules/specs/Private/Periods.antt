@@ -1,7 +1,8 @@
 -- Deposit periods in a year whose first semiweekly day is known.
 use Rattle.std.specs.Prelude.{◌≡◌, ℕ, ◌≤◌, ◌↔◌, nat_lt, List, if◌then◌else◌}
 use Rattle.std.specs.Bool.{MatchBool}
-use Rattle.ftd_days.specs.Calendar.{month_of, interval_start, year_start}
+use Rattle.ftd_days.specs.Calendar.{month_of, year_start}
+use Rattle.ftd_days.specs.Private.Intervals.{interval_start}
 use Rattle.ftd_rules.specs.declared.Form.{Form}
 use Rattle.ftd_rules.specs.declared.Kind.{Kind}
 use Rattle.ftd_rules.specs.declared.Kind.TheVariants as kind

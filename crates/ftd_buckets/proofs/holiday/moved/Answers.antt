@@ -3,6 +3,7 @@ use Rattle.std.proofs.lemmas.Bool.Decides.{nat_tests}
 use Rattle.ftd_days.specs.Calendar.{last_day}
 use Rattle.ftd_days.specs.Holidays.{holidays_of}
 use Rattle.ftd_days.proofs.Months.{day_in_years}
+use Rattle.ftd_rules.proofs.Stated.{due_by, due_stated}
 use Rattle.ftd_rules.proofs.Moving.{due_stays}
 use Rattle.ftd_buckets.proofs.holiday.moved.Goals.{then-lt-via-then-lt, then-lt-via-else-lt+then-lt-2}
 use Rattle.ftd_buckets.proofs.holiday.moved.Goals as goal
@@ -16,4 +17,5 @@ returns-then-lt c = λ before with is.
       | then-lt-via-then-lt w ↦ inl (grind (arith, nat_tests, w.if-lt.true, c.lt.ensures))
       | then-lt-via-else-lt+then-lt-2 w ↦ inr (grind (arith, nat_tests, w.if-lt-2.true, w.lt-else-lt.ensures))
     ] in
-    due_stays before (holidays_of c.args.holidays.now) c.args.added o.rule o.last o.due with within out is
+    due_stated (holidays_of c.args.holidays.now) o.rule o.last o.due
+    (due_stays before (holidays_of c.args.holidays.now) c.args.added o.rule o.last o.due with within out (due_by before o.rule o.last o.due is))

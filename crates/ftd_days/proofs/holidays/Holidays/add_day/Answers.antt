@@ -9,7 +9,7 @@ use Rattle.ftd_days.specs.declared.holidays.Year.{Year}
 use Rattle.ftd_days.specs.Calendar.{year_of}
 use Rattle.ftd_days.specs.Business.{is_holiday}
 use Rattle.ftd_days.specs.Holidays.{YearDays, MayAddDay, AreYears, with_day, holidays_of, IsWithHoliday, calendar_of}
-use Rattle.ftd_days.specs.Given.{given_of}
+use Rattle.ftd_days.specs.Private.Given.{given_of}
 use Rattle.ftd_days.proofs.Years.{entry, calendar_first, find_place, find_none, adds_at, same_at, years_with, holiday_with}
 use Rattle.ftd_days.proofs.holidays.Holidays.add_day.Goals as goal
 
