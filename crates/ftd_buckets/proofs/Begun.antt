@@ -8,9 +8,11 @@ use Rattle.ftd_days.specs.Calendar.{year_start}
 use Rattle.ftd_days.specs.Business.{holidays_end}
 use Rattle.ftd_rules.specs.declared.YearLine.{YearLine}
 use Rattle.ftd_rules.specs.Lists.{Has}
-use Rattle.ftd_rules.specs.Years.{year_last, semiweekly_from, AreOpenYears}
+use Rattle.ftd_rules.specs.Years.{year_last, AreOpenYears}
+use Rattle.ftd_rules.specs.Private.Years.{semiweekly_from}
 use Rattle.ftd_rules.specs.Periods.{IsPeriod}
-use Rattle.ftd_rules.specs.Walk.{years_end, period_first, period_last}
+use Rattle.ftd_rules.specs.Private.Walk.{years_end, period_first, period_last}
+use Rattle.ftd_rules.proofs.Stated.{run_period}
 use Rattle.ftd_rules.proofs.Items.{head_item}
 use Rattle.ftd_buckets.proofs.Turns.{line_year}
 use Rattle.ftd_rules.proofs.Owed.{has_right}
@@ -36,7 +38,7 @@ day_period form line day y from to =
     let f2 = f.2 in
     let divides = year_divides form line y.0 y.1 y.2 in
     let x = divides day from to in
-    (period_is form line day f.0 (omega arith) divides from to, x.1, x.2)
+    (run_period form line (period_first form (semiweekly_from line) day) (period_last form (semiweekly_from line) day) (period_is form line day f.0 (omega arith) divides from to), x.1, x.2)
 
 pub last_has : (g : History) (line : YearLine) (later : List YearLine) → AreLast g (line ∷ later) → Has g.lines line
 last_has g line later last = subst (λ (z : List YearLine). Has z line) (sym last.1) (has_right last.0 (line ∷ later) line (inl refl))

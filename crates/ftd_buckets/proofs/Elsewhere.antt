@@ -13,9 +13,10 @@ use Rattle.ftd_rules.specs.declared.Rule.TheVariants.{Monthly}
 use Rattle.ftd_rules.specs.declared.Kind.TheVariants as kind
 use Rattle.ftd_rules.specs.Liability.{liability}
 use Rattle.ftd_rules.specs.Lists.{Has}
-use Rattle.ftd_rules.specs.Years.{IsTurn, year_last, semiweekly_from}
-use Rattle.ftd_rules.specs.Periods.{rule_on}
-use Rattle.ftd_rules.specs.Walk.{due_date, periods, period_first, period_last}
+use Rattle.ftd_rules.specs.Years.{IsTurn, year_last}
+use Rattle.ftd_rules.specs.Private.Years.{semiweekly_from}
+use Rattle.ftd_rules.specs.Private.Periods.{rule_on}
+use Rattle.ftd_rules.specs.Private.Walk.{due_date, periods, period_first, period_last}
 use Rattle.ftd_rules.proofs.Cuts.{lt_or_le}
 use Rattle.ftd_rules.proofs.Schedules.{year_facts, year_start-mono, year_divides, line_one, cases_turn, turn_is, from_turn, from_none}
 use Rattle.ftd_rules.proofs.Pieces.{IsYear}

@@ -11,8 +11,9 @@ use Rattle.ftd_rules.specs.declared.YearLine.{YearLine}
 use Rattle.ftd_rules.specs.declared.Obligation.{Obligation}
 use Rattle.ftd_rules.specs.Liability.{liability}
 use Rattle.ftd_rules.specs.Lists.{Has}
-use Rattle.ftd_rules.specs.Years.{given, year_last, semiweekly_from, TurnedBefore, HasSchedule}
-use Rattle.ftd_rules.specs.Walk.{due_date, AreOwed, periods}
+use Rattle.ftd_rules.specs.Years.{given, year_last, TurnedBefore}
+use Rattle.ftd_rules.specs.Private.Years.{semiweekly_from, IsScheduled}
+use Rattle.ftd_rules.specs.Private.Walk.{due_date, AreOwed, periods}
 use Rattle.ftd_rules.proofs.Schedules.{year_facts, year_divides, schedule_same, schedule_iff}
 use Rattle.ftd_rules.proofs.Lines.{line_equal}
 use Rattle.ftd_rules.proofs.Covering.{line_is}
@@ -44,7 +45,7 @@ holds_more form m n (Need repair window) l h = (let h1 = h.1 in (h.0, omega arit
 -- a later year, from its own sums
 pub year_settled : (form : Form) → (day : ℕ) (holidays : List ℕ) (before after : History) (s t : Settled) (turned : Bool) (sums : List DaySum) (new : YearLine) (added : List Obligation)
     → All (λ d. d < holidays_end) (holidays_of s.holidays.now) → (st : Stands form day holidays before after (repairing s (stage.Year turned))) → AreSumsOf after s.asked sums
-    → given new ≡ given st.old → HasSchedule (IsTrue turned) (liability sums) new
+    → given new ≡ given st.old → IsScheduled (IsTrue turned) (liability sums) new
     → AreOwed (due_date (holidays_of s.holidays.now)) (liability sums) (periods form (semiweekly_from new)) (year_start new.year) (year_last new.year + 1) added
     → t.lines.now ≡ s.lines.now → holidays_of t.holidays.now ≡ holidays_of s.holidays.now → t.from ≡ s.from → t.years.items ≡ s.years.items → t.rows.items ≡ s.rows.items ++ added
     → IsSettledYear form day holidays before after t new
@@ -65,8 +66,8 @@ year_settled form day holidays before after s t turned sums new added known0 st 
     let T : Type 0 = TurnedBefore after.lines old.year in
     let moved = schedule_same (IsTrue turned) (liability sums) M new (rw year (omega arith)) agree_new schedule in
     let mine = schedule_iff (IsTrue turned) T M new st.at.turned_if st.at.if_turned moved in
-    let Q : ℕ → Type 0 = λ z. HasSchedule (TurnedBefore after.lines z) M st.new in
-    let theirs : HasSchedule T M st.new = subst Q (sym st.common.year.same) (c.is_after.schedules st.new st.common.year.is_new) in
+    let Q : ℕ → Type 0 = λ z. IsScheduled (TurnedBefore after.lines z) M st.new in
+    let theirs : IsScheduled T M st.new = subst Q (sym st.common.year.same) (c.is_after.schedules st.new st.common.year.is_new) in
     let both : given new ≡ given st.new = e ∙ given_same day before after c old st.new st.common.year.is_old st.common.year.is_new st.common.year.same in
     let one : st.new ≡ new = sym (line_equal T M new st.new both mine theirs) in
     let has : Has after.lines new = subst (λ (z : YearLine). Has after.lines z) one st.common.year.is_new in

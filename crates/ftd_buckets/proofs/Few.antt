@@ -3,7 +3,8 @@ use Rattle.ftd_rules.specs.declared.Form.{Form}
 use Rattle.std.proofs.Common.{◌≡◌, ℕ, ◌+◌, ◌-◌, ◌<◌, ◌≤◌, ◌%◌, ◌⊎◌, inl, inr, List, [], ◌∷◌, length, refl, sym, ap, ◌∙◌, subst, arith}
 use Rattle.std.specs.Prelude.{min}
 use Rattle.std.proofs.lemmas.Bool.{lt-ltb, le-ltb}
-use Rattle.ftd_days.specs.Calendar.{month_of, month_start, interval_close}
+use Rattle.ftd_days.specs.Calendar.{month_of, month_start}
+use Rattle.ftd_days.specs.Private.Intervals.{interval_close}
 use Rattle.ftd_days.proofs.Months.{month_of_only, month_start-end}
 use Rattle.ftd_rules.specs.declared.Rule.{Rule}
 use Rattle.ftd_rules.specs.declared.YearLine.{YearLine}
@@ -12,9 +13,12 @@ use Rattle.ftd_rules.specs.Lists.{Has}
 use Rattle.ftd_rules.specs.Obligations.{ByFirstDay, pieces}
 use Rattle.ftd_rules.specs.Liability.{liability}
 use Rattle.ftd_rules.specs.Stops.{Rise, next_day_amount}
-use Rattle.ftd_rules.specs.Years.{semiweekly_from}
-use Rattle.ftd_rules.specs.Periods.{IsPeriod, rule_on, return_period_of, return_period_end}
-use Rattle.ftd_rules.specs.Walk.{period_last}
+use Rattle.ftd_rules.specs.Private.Years.{semiweekly_from}
+use Rattle.ftd_rules.specs.Periods.{IsPeriod, return_period_of, return_period_end}
+use Rattle.ftd_rules.specs.Private.Periods.{rule_on}
+use Rattle.ftd_rules.specs.Private.Walk.{period_last}
+use Rattle.ftd_rules.proofs.Stated.{period_run, piece_owed}
+use Rattle.ftd_rules.specs.Private.Periods.{IsRun}
 use Rattle.ftd_rules.proofs.Cuts.{lt_or_le, cuts_from_stops}
 use Rattle.ftd_rules.proofs.Schedules.{year_facts, year_only, line_one, cases_turn, turn_is, from_semiweekly, from_turn}
 use Rattle.ftd_rules.proofs.Covering.{line_is, piece_within, within_period, period_same}
@@ -88,7 +92,7 @@ one_row form h holidays line first last rows is has period monthly are =
     let begins : (o : Obligation) → Has rows o → (first ≤ o.first) × (o.first < first + 1) =
     λ o m.
     (let w = (are.all o).0 m in
-    let owed = w.0 in
+    let owed = piece_owed form h.lines h.sums holidays o w.0 in
     let w1 = w.1 in let w2 = w.2 in
     let y = line_is h.lines h.sums line is has in
     let z = line_is h.lines h.sums owed.line is owed.open_year in
@@ -99,8 +103,8 @@ one_row form h holidays line first last rows is has period monthly are =
     let years = is.years in
     let same_year = year_only owed.line.year line.year o.first z.0 z.1 y.0 y.1 (omega arith) (omega arith) (omega arith) (omega arith) in
     let one : owed.line ≡ line = line_one years.0 h.lines owed.line line years.2 owed.open_year has same_year in
-    let its = subst (λ (v : YearLine). IsPeriod form v owed.first owed.last) one owed.period in
-    let a = period_same form h.lines h.sums line o.first first last is has period w1 (omega arith) in
+    let its = subst (λ (v : YearLine). IsRun form v owed.first owed.last) one owed.period in
+    let a = period_same form h.lines h.sums line o.first first last is has (period_run form line first last period) w1 (omega arith) in
     let b = period_same form h.lines h.sums line o.first owed.first owed.last is has its i0 (omega arith) in
     let a0 = a.0 in let b0 = b.0 in let a1 = a.1 in let b1 = b.1 in (
       w1,

@@ -9,8 +9,8 @@ use Rattle.ftd_rules.specs.declared.YearLine.{YearLine}
 use Rattle.ftd_rules.specs.declared.Obligation.{Obligation}
 use Rattle.ftd_rules.specs.Liability.{liability}
 use Rattle.ftd_rules.specs.Lists.{Has}
-use Rattle.ftd_rules.specs.Years.{semiweekly_from}
-use Rattle.ftd_rules.specs.Walk.{due_date, AreOwed, periods, period_first, period_last}
+use Rattle.ftd_rules.specs.Private.Years.{semiweekly_from}
+use Rattle.ftd_rules.specs.Private.Walk.{due_date, AreOwed, periods, period_first, period_last}
 use Rattle.ftd_rules.proofs.Cuts.{lt_or_le}
 use Rattle.ftd_rules.proofs.Schedules.{year_facts, year_start-mono, year_divides, year_only, line_one}
 use Rattle.ftd_rules.proofs.Covering.{line_is}

@@ -4,7 +4,9 @@ use Rattle.std.proofs.Common.{◌≡◌, ℕ, ◌+◌, ◌<◌, ◌≤◌, inl, 
 use Rattle.ftd_days.specs.Calendar.{year_start}
 use Rattle.ftd_rules.specs.declared.YearLine.{YearLine}
 use Rattle.ftd_rules.specs.Lists.{Has}
-use Rattle.ftd_rules.specs.Years.{year_last, semiweekly_from}
+use Rattle.ftd_rules.specs.Years.{year_last, IsSemiweeklyOn}
+use Rattle.ftd_rules.specs.Private.Years.{semiweekly_from}
+use Rattle.ftd_rules.proofs.Stated.{period_run, semiweekly_is}
 use Rattle.ftd_rules.proofs.Cuts.{lt_or_le}
 use Rattle.ftd_rules.proofs.Schedules.{year_facts, year_start-mono, year_only, line_one}
 use Rattle.ftd_rules.proofs.Covering.{line_is, period_same}
@@ -65,8 +67,8 @@ only_period form day before after fed period line c m n of_day (inl first) =
     let same_year = year_only first.0.year line.year day z.0 z.1 y.0 y.1 (omega arith) (omega arith) (omega arith) (omega arith) in
     let one : first.0 ≡ line = line_one years.0 before.lines first.0 line years.2 first.1 m same_year in
     let its = subst (λ (v : YearLine). IsPeriodOf form v day fed) one first.2 in
-    let a = period_same form before.lines before.sums line day period.from period.to c.is_before m of_day.0 p3 p4 in
-    let b = period_same form before.lines before.sums line day fed.from fed.to c.is_before m its.0 its.1 its.2 in
+    let a = period_same form before.lines before.sums line day period.from period.to c.is_before m (period_run form line period.from period.to of_day.0) p3 p4 in
+    let b = period_same form before.lines before.sums line day fed.from fed.to c.is_before m (period_run form line fed.from fed.to its.0) its.1 its.2 in
     (b.0 ∙ sym a.0, b.1 ∙ sym a.1)
 only_period form day before after fed period line c m n of_day (inr (inl rest)) =
     let y = line_is before.lines before.sums line c.is_before m in
@@ -119,7 +121,7 @@ rows_of_period form day before after holidays fed patch line period is from to =
 
 pub one_at_most : (form : Form) (day : ℕ) (before after : History) (holidays : List ℕ) (fed : Window) (patch : Patch) (line : YearLine)
     → IsChange day before after → IsPatch form day before after holidays fed patch → IsLastNeeded form day before after fed → patch.years ≡ []
-    → Has before.lines line → year_start line.year ≤ day → day ≤ year_last line.year → patch.from < semiweekly_from line → length patch.rows ≤ 1
+    → Has before.lines line → year_start line.year ≤ day → day ≤ year_last line.year → (IsSemiweeklyOn line patch.from → ⊥) → length patch.rows ≤ 1
 one_at_most form day before after holidays fed patch line c is last none m from to monthly =
     elim (lt_or_le 1 (length patch.rows)) [
       | inr fine ↦ fine
@@ -136,7 +138,13 @@ one_at_most form day before after holidays fed patch line c is last none m from 
           let same = only_period form day before after fed period line c m n of_day last.needed in
           let begins : patch.from ≡ period.from = is.from in
           let rows = rows_of_period form day before after holidays fed patch line period is is.from same.1 in
-          let few = one_row form after holidays line period.from period.to patch.rows c.is_after n of_day.0 (omega arith) rows in
+          let some = of_day.0.0 in let low = of_day.0.1 in let high = of_day.0.2 in
+          let early : period.from < semiweekly_from line =
+          elim (lt_or_le period.from (semiweekly_from line)) [
+            | inl first ↦ first
+            | inr late ↦ absurd (monthly ((semiweekly_is line patch.from (omega arith) (omega arith)).1 (omega arith)))
+          ] in
+          let few = one_row form after holidays line period.from period.to patch.rows c.is_after n of_day.0 early rows in
           omega arith))
     ]
 

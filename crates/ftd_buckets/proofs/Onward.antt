@@ -8,7 +8,8 @@ use Rattle.ftd_days.specs.Calendar.{year_start}
 use Rattle.ftd_rules.specs.declared.YearLine.{YearLine}
 use Rattle.ftd_rules.specs.declared.Kind.{Kind}
 use Rattle.ftd_rules.specs.declared.Kind.TheVariants as kind
-use Rattle.ftd_rules.specs.Years.{YearsFrom, AreOpenYears, year_last, OpensSemiweekly}
+use Rattle.ftd_rules.specs.Years.{YearsFrom, AreOpenYears, year_last}
+use Rattle.ftd_rules.specs.Private.Years.{OpensBy}
 use Rattle.ftd_rules.proofs.Schedules.{years_top}
 use Rattle.ftd_rules.proofs.Covering.{line_is}
 use Rattle.ftd_buckets.specs.declared.Window.{Window}
@@ -67,7 +68,7 @@ onward_last form day holidays before after s new patch k r none from to rows yea
 
 pub onward_done : (form : Form) → (day : ℕ) (holidays : List ℕ) (before after : History) (s : Settled) (new : YearLine) (patch : Patch) (later : List YearLine) (next : YearLine) (opens : Kind)
     → (k : IsSettledYear form day holidays before after s new) → IsAtYearEnd s.lines.now s.asked.to new.year → later ≡ drop 1 s.lines.now → later ≡ next ∷ drop 1 later
-    → opens ≡ kind.Semiweekly ↔ OpensSemiweekly (IsTrue (is_some new.turn)) next → opens ≡ next.opening
+    → opens ≡ kind.Semiweekly ↔ OpensBy (IsTrue (is_some new.turn)) next → opens ≡ next.opening
     → patch.from ≡ s.from → patch.to ≡ s.asked.to → patch.rows ≡ s.rows.items → patch.years ≡ s.years.items ++ (new ∷ [])
     → IsPatch form day before after holidays s.asked patch × ((w : Window) → IsNeeded form day before after w → w.from ≤ s.asked.to)
 onward_done form day holidays before after s new patch later next opens k r back e is same from to rows years =
@@ -83,7 +84,7 @@ onward_done form day holidays before after s new patch later next opens k r back
 
 pub onward_next : (form : Form) → (day : ℕ) (holidays : List ℕ) (before after : History) (s : Settled) (new : YearLine) (later : List YearLine) (next : YearLine) (opens : Kind) (q : Repairing)
     → (k : IsSettledYear form day holidays before after s new) → IsAtYearEnd s.lines.now s.asked.to new.year → later ≡ drop 1 s.lines.now → later ≡ next ∷ drop 1 later
-    → opens ≡ kind.Semiweekly ↔ OpensSemiweekly (IsTrue (is_some new.turn)) next → (opens ≡ next.opening → ⊥)
+    → opens ≡ kind.Semiweekly ↔ OpensBy (IsTrue (is_some new.turn)) next → (opens ≡ next.opening → ⊥)
     → q.lines ≡ later → q.holidays ≡ holidays → q.from ≡ s.from → q.asked ≡ record { from = year_start next.year; to = year_last next.year }
     → q.rows ≡ s.rows.items → q.years ≡ s.years.items ++ (new ∷ []) → q.stage ≡ stage.Year (is_some new.turn)
     → Stands form day holidays before after q × IsNext form day before after s.asked q.asked

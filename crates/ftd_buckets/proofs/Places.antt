@@ -10,8 +10,10 @@ use Rattle.ftd_rules.specs.declared.YearLine.{YearLine}
 use Rattle.ftd_rules.specs.declared.Obligation.{Obligation}
 use Rattle.ftd_rules.specs.Liability.{liability}
 use Rattle.ftd_rules.specs.Lists.{Has}
-use Rattle.ftd_rules.specs.Years.{year_last, semiweekly_from}
-use Rattle.ftd_rules.specs.Walk.{due_date, Periods, IsOwedAt, RowsRise, AreOwed, Divides, periods}
+use Rattle.ftd_rules.specs.Years.{year_last}
+use Rattle.ftd_rules.specs.Private.Years.{semiweekly_from}
+use Rattle.ftd_rules.specs.Private.Walk.{due_date, Periods, IsOwedAt, RowsRise, AreOwed, Divides, periods}
+use Rattle.ftd_rules.proofs.Stated.{piece_owed, owed_stated}
 use Rattle.ftd_rules.proofs.DueDates.{due_is}
 use Rattle.ftd_rules.proofs.Cuts.{stops_from_cuts, cuts_from_stops}
 use Rattle.ftd_rules.proofs.Walk.{cuts_same, between_same}
@@ -68,8 +70,8 @@ pub owed_is_at : (form : Form) → (h : History) (holidays : List ℕ) (o : Obli
 owed_is_at form h holidays o known is =
     let years : (line : YearLine) → Has h.lines line → IsYear line = λ line k. line_is h.lines h.sums line is k in
     let e = obligation_is form h.lines h.sums holidays (due_date holidays) o (due_is holidays known) years in (
-      (λ k. (let w = e.1 k in (w.0, w.1, owed_here form (due_date holidays) h.sums w.0 o (years w.0 w.1) w.2))),
-      (λ w. (let w3 = w.2.1 in e.0 (w.0, w.1, (o.first, w.2.0, omega arith, w.2.2)))),
+      (λ k. (let w = e.1 (piece_owed form h.lines h.sums holidays o k) in (w.0, w.1, owed_here form (due_date holidays) h.sums w.0 o (years w.0 w.1) w.2))),
+      (λ w. (let w3 = w.2.1 in owed_stated form h.lines h.sums holidays o (e.0 (w.0, w.1, (o.first, w.2.0, omega arith, w.2.2))))),
     )
 
 -- it is owed wherever its deposit period and the liability there are the same
@@ -102,7 +104,7 @@ rows_are form h holidays line sums a b rows known is has from to divides agree o
                 let w1 = w.1 in let w2 = w.2 in
                 let r = rise_within a (b + 1) rows o owed.rise k in
                 let r1 = r.1 in let r2 = r.2 in
-                (e.0 (line, has, (w.0, omega arith, omega arith, w.3)), r.0, omega arith)),
+                (owed_stated form h.lines h.sums holidays o (e.0 (line, has, (w.0, omega arith, omega arith, w.3))), r.0, omega arith)),
             (λ k.
                 let k1 = k.1 in let k2 = k.2 in
                 let w = (owed_is_at form h holidays o known is).0 k.0 in

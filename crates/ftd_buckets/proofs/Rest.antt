@@ -14,8 +14,9 @@ use Rattle.ftd_rules.specs.declared.Obligation.{Obligation}
 use Rattle.ftd_rules.specs.declared.Kind.TheVariants as kind
 use Rattle.ftd_rules.specs.Liability.{liability}
 use Rattle.ftd_rules.specs.Lists.{Has}
-use Rattle.ftd_rules.specs.Years.{HasTurn, year_last, semiweekly_from}
-use Rattle.ftd_rules.specs.Walk.{due_date, AreOwed, Divides, periods, period_first, SumsRise}
+use Rattle.ftd_rules.specs.Years.{HasTurn, year_last}
+use Rattle.ftd_rules.specs.Private.Years.{semiweekly_from}
+use Rattle.ftd_rules.specs.Private.Walk.{due_date, AreOwed, Divides, periods, period_first, SumsRise}
 use Rattle.ftd_rules.proofs.Status.{month_at_least}
 use Rattle.ftd_rules.proofs.Schedules.{year_facts, year_divides, month_in_year, cases_turn, turn_is, from_turn, from_none}
 use Rattle.ftd_buckets.specs.declared.Window.{Window}

@@ -16,9 +16,10 @@ use Rattle.ftd_rules.specs.declared.Obligation.{Obligation}
 use Rattle.ftd_rules.specs.declared.Kind.TheVariants as kind
 use Rattle.ftd_rules.specs.Liability.{liability}
 use Rattle.ftd_rules.specs.Lists.{Has}
-use Rattle.ftd_rules.specs.Years.{year_last, semiweekly_from}
+use Rattle.ftd_rules.specs.Years.{year_last}
+use Rattle.ftd_rules.specs.Private.Years.{semiweekly_from}
 use Rattle.ftd_rules.specs.Periods.{IsPeriod}
-use Rattle.ftd_rules.specs.Walk.{due_date, Periods, AreOwed, Divides, periods, period_first, SumsRise}
+use Rattle.ftd_rules.specs.Private.Walk.{due_date, Periods, AreOwed, Divides, periods, period_first, SumsRise}
 use Rattle.ftd_rules.proofs.Walk.{liability_none}
 use Rattle.ftd_rules.proofs.Along.{upto, cut_here, cut_later, liability-append, liability_over}
 use Rattle.ftd_rules.proofs.Schedules.{year_facts, year_divides, cases_turn, turn_is, from_turn, from_none}

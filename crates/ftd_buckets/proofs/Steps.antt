@@ -8,7 +8,8 @@ use Rattle.ftd_rules.specs.declared.Kind.{Kind}
 use Rattle.ftd_rules.specs.declared.Kind.TheVariants as kind
 use Rattle.ftd_rules.specs.Liability.{liability}
 use Rattle.ftd_rules.specs.Lists.{Has}
-use Rattle.ftd_rules.specs.Years.{YearsFrom, given, year_last, TurnedBefore, OpensSemiweekly, HasSchedule}
+use Rattle.ftd_rules.specs.Years.{YearsFrom, given, year_last, TurnedBefore}
+use Rattle.ftd_rules.specs.Private.Years.{OpensBy, IsScheduled}
 use Rattle.ftd_rules.proofs.Schedules.{year_facts, year_start-mono, line_one}
 use Rattle.ftd_rules.proofs.Covering.{line_is}
 use Rattle.ftd_rules.proofs.Earlier.{counterpart}
@@ -76,13 +77,13 @@ pub record NextYear (before after : History) (old new next : YearLine) (rest : L
   pub if_turned : TurnedBefore after.lines next.year → IsTrue (is_some new.turn)
   pub opening : next_new.opening ≡ opens
 
-opens_same : (T U : Type 0) (L : ℕ → ℕ → ℕ) (line other : YearLine) (k : Kind) → given line ≡ given other → (T → U) → (U → T) → HasSchedule T L other → k ≡ kind.Semiweekly ↔ OpensSemiweekly U line → other.opening ≡ k
+opens_same : (T U : Type 0) (L : ℕ → ℕ → ℕ) (line other : YearLine) (k : Kind) → given line ≡ given other → (T → U) → (U → T) → IsScheduled T L other → k ≡ kind.Semiweekly ↔ OpensBy U line → other.opening ≡ k
 opens_same T U L line other k e f g h opens =
     let lookback : line.lookback.0 ≡ other.lookback.0 = ap (λ (z : ℕ × ℕ × Bool). z.1) e in
     let carried : line.carried ≡ other.carried = ap (λ (z : ℕ × ℕ × Bool). z.2) e in
-    let there : OpensSemiweekly U line → OpensSemiweekly T other =
+    let there : OpensBy U line → OpensBy T other =
     λ o. elim o [ inl a ↦ inl (omega arith) | inr b ↦ elim b [ inl c ↦ inr (inl (sym carried ∙ c)) | inr d ↦ inr (inr (g d)) ] ] in
-    let here : OpensSemiweekly T other → OpensSemiweekly U line =
+    let here : OpensBy T other → OpensBy U line =
     λ o. elim o [ inl a ↦ inl (omega arith) | inr b ↦ elim b [ inl c ↦ inr (inl (carried ∙ c)) | inr d ↦ inr (inr (f d)) ] ] in
     elim h [
       | inl semi ↦ semi.0 ∙ sym (opens.1 (here semi.1))
@@ -93,7 +94,7 @@ opens_same T U L line other k e f g h opens =
     ]
 
 pub next_of : (day : ℕ) (before after : History) → IsChange day before after → (old new next : YearLine) (rest : List YearLine) (opens : Kind) → IsYearOf before after old new
-    → AreLast before (old ∷ next ∷ rest) → opens ≡ kind.Semiweekly ↔ OpensSemiweekly (IsTrue (is_some new.turn)) next → NextYear before after old new next rest opens
+    → AreLast before (old ∷ next ∷ rest) → opens ≡ kind.Semiweekly ↔ OpensBy (IsTrue (is_some new.turn)) next → NextYear before after old new next rest opens
 next_of day before after c old new next rest opens year last is =
     let years = c.is_before.years in
     let afters = c.is_after.years in
@@ -108,7 +109,7 @@ next_of day before after c old new next rest opens year last is =
     let if_turned : TurnedBefore after.lines next.year → IsTrue (is_some new.turn) =
     λ t. (let t2 = t.2 in let one : t.0 ≡ new = line_one afters.0 after.lines t.0 new afters.2 t.1 year.is_new (omega arith) in
     subst (λ (z : YearLine). IsTrue (is_some z.turn)) one t.3) in
-    let P : ℕ → Type 0 = λ z. HasSchedule (TurnedBefore after.lines z) (liability after.sums) k.0 in
+    let P : ℕ → Type 0 = λ z. IsScheduled (TurnedBefore after.lines z) (liability after.sums) k.0 in
     let h = subst P (sym same) (c.is_after.schedules k.0 k.1) in
     record {
       next_new = k.0;

@@ -10,9 +10,11 @@ use Rattle.ftd_rules.specs.declared.YearLine.{YearLine}
 use Rattle.ftd_rules.specs.declared.Kind.{Kind}
 use Rattle.ftd_rules.specs.declared.Kind.TheVariants as kind
 use Rattle.ftd_rules.specs.Stops.{next_day_amount}
-use Rattle.ftd_rules.specs.Years.{IsTurn, HasTurn, given, year_last, semiweekly_from}
+use Rattle.ftd_rules.specs.Years.{IsTurn, HasTurn, given, year_last}
+use Rattle.ftd_rules.specs.Private.Years.{semiweekly_from}
 use Rattle.ftd_rules.specs.Periods.{IsPeriod}
-use Rattle.ftd_rules.specs.Walk.{years_end, period_first, period_last}
+use Rattle.ftd_rules.specs.Private.Walk.{years_end, period_first, period_last}
+use Rattle.ftd_rules.proofs.Stated.{period_run}
 use Rattle.ftd_rules.proofs.Cuts.{lt_or_le}
 use Rattle.ftd_rules.proofs.Status.{month_at_least}
 use Rattle.ftd_rules.proofs.Bridge.{period_only}
@@ -89,7 +91,7 @@ pub period_facts : (form : Form) → (line : YearLine) (a b : ℕ) → IsYear li
 period_facts form line a b y p =
     let f = year_facts line.year y.0 y.1 in
     let f2 = f.2 in
-    let only = period_only form line a b f.0 (omega arith) (year_divides form line y.0 y.1 y.2) p in
+    let only = period_only form line a b f.0 (omega arith) (year_divides form line y.0 y.1 y.2) (period_run form line a b p) in
     (only.0, only.1, p.0, p.1, p.2)
 
 -- a monthly one begins with its month and ends before the next

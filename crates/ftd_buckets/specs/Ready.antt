@@ -7,9 +7,10 @@ use Rattle.ftd_rules.specs.declared.YearLine.{YearLine}
 use Rattle.ftd_rules.specs.declared.DaySum.{DaySum}
 use Rattle.ftd_rules.specs.declared.Kind.TheVariants as kind
 use Rattle.ftd_rules.specs.declared.Obligation.{Obligation}
-use Rattle.ftd_rules.specs.Years.{AreOpenYears, year_last, semiweekly_from}
+use Rattle.ftd_rules.specs.Years.{AreOpenYears, year_last}
+use Rattle.ftd_rules.specs.Private.Years.{semiweekly_from}
 use Rattle.ftd_rules.specs.Periods.{IsPeriod}
-use Rattle.ftd_rules.specs.Walk.{SumsRise, period_first, Divides, periods}
+use Rattle.ftd_rules.specs.Private.Walk.{SumsRise, period_first, Divides, periods}
 use Rattle.ftd_buckets.specs.declared.Window.{Window}
 use Rattle.ftd_days.specs.Holidays.{holidays_of}
 use Rattle.ftd_buckets.specs.declared.state.Settled.{Settled}

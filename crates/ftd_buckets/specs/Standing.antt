@@ -7,8 +7,9 @@ use Rattle.ftd_rules.specs.Liability.{cents_of}
 use Rattle.ftd_rules.specs.declared.YearLine.{YearLine}
 use Rattle.ftd_rules.specs.declared.Obligation.{Obligation}
 use Rattle.ftd_rules.specs.Lists.{Has}
-use Rattle.ftd_rules.specs.Years.{year_last, semiweekly_from, TurnedBefore}
-use Rattle.ftd_rules.specs.Walk.{period_first}
+use Rattle.ftd_rules.specs.Years.{year_last, TurnedBefore}
+use Rattle.ftd_rules.specs.Private.Years.{semiweekly_from}
+use Rattle.ftd_rules.specs.Private.Walk.{period_first}
 use Rattle.ftd_buckets.specs.declared.Window.{Window}
 use Rattle.ftd_buckets.specs.declared.Patch.{Patch}
 use Rattle.ftd_buckets.specs.declared.state.Stage.{Stage}

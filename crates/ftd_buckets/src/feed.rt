@@ -5,8 +5,9 @@ ghost use Rattle.std.specs.List.{sum_by};
 ghost use Rattle.ftd_rules.specs.declared.YearLine.{YearLine};
 ghost use Rattle.ftd_rules.specs.Liability.{cents_of};
 ghost use Rattle.ftd_rules.specs.declared.Kind.TheVariants as kind;
-ghost use Rattle.ftd_rules.specs.Years.{OpensSemiweekly, year_last};
-ghost use Rattle.ftd_rules.specs.Walk.{SumsRise};
+ghost use Rattle.ftd_rules.specs.Years.{year_last};
+ghost use Rattle.ftd_rules.specs.Private.Years.{OpensBy};
+ghost use Rattle.ftd_rules.specs.Private.Walk.{SumsRise};
 ghost use Rattle.ftd_buckets.specs.Histories.{History};
 ghost use Rattle.ftd_buckets.specs.Ready.{IsReady, repairing, asking};
 ghost use Rattle.ftd_buckets.specs.Standing.{Stands, held};
@@ -237,7 +238,7 @@ impl<'a> Settled<'a> {
 
 /// How a year opens. `turned` says whether the year before it has a turn.
 fn opens(line: &YearLine, turned: bool) -> Kind
-    ensures { result ≡ kind.Semiweekly ↔ OpensSemiweekly (IsTrue turned) line.now }
+    ensures { result ≡ kind.Semiweekly ↔ OpensBy (IsTrue turned) line.now }
 {
     opening(line.lookback, line.carried || turned)
 }

@@ -7,7 +7,7 @@ ghost use Rattle.ftd_rules.specs.declared.YearLine.{YearLine};
 ghost use Rattle.ftd_rules.specs.declared.Obligation.{Obligation};
 ghost use Rattle.ftd_rules.specs.Lists.{Has};
 ghost use Rattle.ftd_rules.specs.Periods.{IsPeriod};
-ghost use Rattle.ftd_rules.specs.Years.{year_last, semiweekly_from};
+ghost use Rattle.ftd_rules.specs.Years.{year_last, IsSemiweeklyOn};
 ghost use Rattle.ftd_buckets.specs.declared.Window.{Window};
 ghost use Rattle.ftd_buckets.specs.declared.Patch.{Patch};
 ghost use Rattle.ftd_buckets.specs.Windows.{IsLastNeeded};
@@ -17,14 +17,14 @@ ghost use Rattle.ftd_buckets.specs.Patches.{AreRows, IsPatch};
 /// At most four obligations begin in a semiweekly deposit period.
 pub fn a_semiweekly_period_has_four_rows()
     ensures { (form : Form) (h : History) (holidays : List ℕ) (line : YearLine) (first last : ℕ) (rows : List Obligation) → IsHistory h → Has h.lines line
-        → IsPeriod form line first last → semiweekly_from line ≤ first → AreRows form h holidays first (last + 1) rows → length rows ≤ 4 }
+        → IsPeriod form line first last → IsSemiweeklyOn line first → AreRows form h holidays first (last + 1) rows → length rows ≤ 4 }
 {}
 
 /// At most one obligation begins in a monthly deposit period: a count that stops before its last day
 /// would have turned the year, and ended the period.
 pub fn a_monthly_period_has_one_row()
     ensures { (form : Form) (h : History) (holidays : List ℕ) (line : YearLine) (first last : ℕ) (rows : List Obligation) → IsHistory h → Has h.lines line
-        → IsPeriod form line first last → first < semiweekly_from line → AreRows form h holidays first (last + 1) rows → length rows ≤ 1 }
+        → IsPeriod form line first last → (IsSemiweeklyOn line first → ⊥) → AreRows form h holidays first (last + 1) rows → length rows ≤ 1 }
 {}
 
 /// A patch that changes no line has at most four rows, and at most one where the day's deposit period
@@ -37,5 +37,5 @@ pub fn a_patch_without_lines_is_small()
         → IsChange day before after → IsPatch form day before after holidays fed patch
         → IsLastNeeded form day before after fed → patch.years ≡ []
         → Has before.lines line → year_start line.year ≤ day → day ≤ year_last line.year
-        → patch.from < semiweekly_from line → length patch.rows ≤ 1 }
+        → (IsSemiweeklyOn line patch.from → ⊥) → length patch.rows ≤ 1 }
 {}

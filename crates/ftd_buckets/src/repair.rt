@@ -6,7 +6,7 @@ ghost use Rattle.ftd_days.specs.Holidays.{holidays_of};
 ghost use Rattle.ftd_rules.specs.declared.YearLine.{YearLine};
 ghost use Rattle.ftd_rules.specs.Liability.{cents_of};
 ghost use Rattle.ftd_rules.specs.Years.{AreOpenYears};
-ghost use Rattle.ftd_rules.specs.Walk.{SumsRise};
+ghost use Rattle.ftd_rules.specs.Private.Walk.{SumsRise};
 ghost use Rattle.ftd_buckets.specs.Histories.{History, IsChange, AreLast, BeginWith, TurnsWithin};
 ghost use Rattle.ftd_buckets.specs.Windows.{IsPeriodOf, IsNext, IsLastNeeded};
 ghost use Rattle.ftd_buckets.specs.Patches.{AreSumsOf, IsPatch};

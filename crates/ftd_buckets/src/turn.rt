@@ -7,7 +7,7 @@ ghost use Rattle.ftd_rules.specs.declared.Form.{Form};
 ghost use Rattle.ftd_rules.specs.declared.YearLine.{YearLine};
 ghost use Rattle.ftd_rules.specs.Liability.{liability, cents_of};
 ghost use Rattle.ftd_rules.specs.Periods.{IsPeriod};
-ghost use Rattle.ftd_rules.specs.Walk.{SumsRise};
+ghost use Rattle.ftd_rules.specs.Private.Walk.{SumsRise};
 ghost use Rattle.ftd_buckets.specs.Histories.{TurnsWithin};
 ghost use Rattle.ftd_buckets.specs.Turned.{IsYearChange, IsTurnNow, IsWithin, IsFirstTurn, IsMonthStart};
 

@@ -8,6 +8,7 @@ use Rattle.ftd_rules.specs.declared.DaySum.{DaySum}
 use Rattle.ftd_rules.specs.declared.Obligation.{Obligation}
 use Rattle.ftd_rules.specs.declared.Form.TheVariants.{F941}
 use Rattle.ftd_rules.specs.declared.YearLine.{YearLine}
+use Rattle.ftd_rules.specs.Liability.{run_liability}
 use Rattle.ftd_rules.specs.Years.{AreLines}
 use Rattle.ftd_rules.specs.Obligations.{AreObligations}
 use Rattle.ftd_rules.specs.Text.{obligation_text}
@@ -83,7 +84,7 @@ pub record FirstFault (account : List ℕ) (year : ℕ) (records : List Said) (f
 -- what a run adds to the liability of its payday: the income tax withheld and both shares of social
 -- security and of Medicare tax
 abbrev pub day_sum : Run → DaySum
-day_sum run = record { day = run.payday; cents = record { 0 = run.fit + run.ss + run.medicare } }
+day_sum run = record { day = run.payday; cents = record { 0 = run_liability run.fit run.ss run.medicare } }
 
 -- the line of an obligation
 abbrev pub line_text : Obligation → List ℕ

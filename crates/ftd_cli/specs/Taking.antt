@@ -5,6 +5,7 @@ use Rattle.std.specs.Map.{lookup}
 use Rattle.std.specs.BTreeMap.{is_at, insert_entry}
 use Rattle.std.specs.Ordering.{nat_cmp}
 use Rattle.ftd_rules.specs.declared.DaySum.{DaySum}
+use Rattle.ftd_rules.specs.Liability.{run_liability}
 use Rattle.ftd_cli.specs.Records.{HasHeader, Run, Said, pay_run, malformed, records_of}
 use Rattle.ftd_cli.specs.Plain.{FirstFault, IsCalendar, NoneAtFault, is_taken, most_runs, taken}
 use Rattle.ftd_cli.specs.declared.fault.PlainFault.{PlainFault}
@@ -56,7 +57,8 @@ pub record HasTaken (account : List ℕ) (year : ℕ) (records left : List Said)
 
 -- what a kept run adds to the liability of its payday
 abbrev pub sum_of : Kept → DaySum
-sum_of kept = record { day = kept.payday; cents = record { 0 = kept.fit.0 + kept.ss.0 + kept.medicare.0 } }
+sum_of kept =
+    record { day = kept.payday; cents = record { 0 = run_liability kept.fit.0 kept.ss.0 kept.medicare.0 } }
 
 -- its amounts are below 1,000,000,000.00
 pub record IsSmall (kept : Kept) : Type 0 where

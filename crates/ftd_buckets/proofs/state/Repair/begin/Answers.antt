@@ -1,8 +1,8 @@
 use Rattle.std.proofs.Common.{arith, ◌≡◌, refl, ◌∙◌, ap, drop}
 use Rattle.ftd_days.specs.Holidays.{holidays_of}
 use Rattle.ftd_rules.specs.declared.YearLine.{YearLine}
-use Rattle.ftd_rules.specs.Years.{semiweekly_from}
-use Rattle.ftd_rules.specs.Walk.{period_first, period_last}
+use Rattle.ftd_rules.specs.Private.Years.{semiweekly_from}
+use Rattle.ftd_rules.specs.Private.Walk.{period_first, period_last}
 use Rattle.ftd_rules.proofs.Schedules.{year_facts}
 use Rattle.ftd_buckets.specs.declared.Window.{Window}
 use Rattle.ftd_buckets.specs.declared.state.Stage.TheVariants as stage

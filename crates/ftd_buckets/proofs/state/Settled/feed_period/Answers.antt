@@ -1,11 +1,12 @@
 use Rattle.std.proofs.Common.{◌≡◌, ◌≤◌, ◌+◌, ℕ, List, refl, sym, ◌∙◌, subst, slice_index_or}
 use Rattle.std.specs.List.{sum_by}
 use Rattle.ftd_days.specs.Holidays.{holidays_of}
+use Rattle.ftd_rules.specs.Periods.{IsPeriod}
 use Rattle.ftd_rules.specs.declared.DaySum.{DaySum}
 use Rattle.ftd_rules.specs.declared.YearLine.{YearLine}
 use Rattle.ftd_rules.specs.Liability.{liability, cents_of}
-use Rattle.ftd_rules.specs.Years.{semiweekly_from}
-use Rattle.ftd_rules.specs.Walk.{due_date, AreOwed, periods}
+use Rattle.ftd_rules.specs.Private.Years.{semiweekly_from}
+use Rattle.ftd_rules.specs.Private.Walk.{due_date, AreOwed, periods}
 use Rattle.ftd_buckets.specs.declared.state.Settled.{Settled}
 use Rattle.ftd_buckets.specs.declared.state.Stage.TheVariants as stage
 use Rattle.ftd_buckets.specs.declared.state.Next.{Next}
@@ -128,3 +129,10 @@ returns-in-Changed-2 c =
           serves day holidays before after st agree
           (told s sums (slice_index_or s.lines.now 0 c.index-self-0.result) (now.Changed c.in-Changed.turn) c.in-Changed.ensures.now day holidays before after st agree (x ∙ line));
     }) c.feed_turned.ensures.holds c.feed_turned.ensures.serves
+
+pub turn_now-requires-clause-period : goal.turn_now-requires-clause-period
+turn_now-requires-clause-period c =
+    let h = c.requires.ready in
+    let s : Settled = c.args.self in
+    let x : slice_index_or s.lines.now 0 c.index-self-0.result ≡ h.line = rw h.lines_are refl in
+    (c.args.self.form, subst (λ (z : YearLine). IsPeriod c.args.self.form z s.asked.from s.asked.to) (sym x) h.at.0)

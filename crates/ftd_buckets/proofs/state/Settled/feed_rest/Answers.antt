@@ -5,8 +5,8 @@ use Rattle.ftd_rules.specs.declared.DaySum.{DaySum}
 use Rattle.std.proofs.lemmas.List.Sums.{sum_by-append}
 use Rattle.ftd_days.specs.Holidays.{holidays_of}
 use Rattle.ftd_rules.specs.Liability.{liability, cents_of}
-use Rattle.ftd_rules.specs.Walk.{due_date, AreOwed, periods}
-use Rattle.ftd_rules.specs.Years.{semiweekly_from}
+use Rattle.ftd_rules.specs.Private.Walk.{due_date, AreOwed, periods}
+use Rattle.ftd_rules.specs.Private.Years.{semiweekly_from}
 use Rattle.ftd_buckets.specs.declared.state.Settled.{Settled}
 use Rattle.ftd_buckets.specs.declared.state.Stage.TheVariants as stage
 use Rattle.ftd_buckets.specs.declared.state.Next.{Next}

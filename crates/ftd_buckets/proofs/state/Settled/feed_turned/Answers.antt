@@ -2,8 +2,9 @@ use Rattle.std.proofs.Common.{arith, ◌≡◌, ◌<◌, ◌+◌, ◌-◌, ℕ, 
 use Rattle.ftd_days.specs.Holidays.{holidays_of}
 use Rattle.ftd_rules.specs.declared.YearLine.{YearLine}
 use Rattle.ftd_rules.specs.Liability.{liability}
-use Rattle.ftd_rules.specs.Years.{year_last, semiweekly_from}
-use Rattle.ftd_rules.specs.Walk.{due_date, AreOwed, periods, period_first}
+use Rattle.ftd_rules.specs.Years.{year_last}
+use Rattle.ftd_rules.specs.Private.Years.{semiweekly_from}
+use Rattle.ftd_rules.specs.Private.Walk.{due_date, AreOwed, periods, period_first}
 use Rattle.ftd_rules.proofs.Along.{upto, upto_within, cut_here}
 use Rattle.ftd_rules.proofs.Schedules.{year_facts}
 use Rattle.ftd_buckets.specs.declared.Window.{Window}

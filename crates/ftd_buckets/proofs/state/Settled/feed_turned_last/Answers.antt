@@ -9,8 +9,9 @@ use Rattle.ftd_buckets.proofs.Turns.{line_year}
 use Rattle.std.specs.Prelude.{⊤}
 use Rattle.ftd_days.specs.Holidays.{holidays_of}
 use Rattle.ftd_rules.specs.Liability.{liability}
-use Rattle.ftd_rules.specs.Years.{year_last, semiweekly_from}
-use Rattle.ftd_rules.specs.Walk.{due_date, AreOwed, periods}
+use Rattle.ftd_rules.specs.Years.{year_last}
+use Rattle.ftd_rules.specs.Private.Years.{semiweekly_from}
+use Rattle.ftd_rules.specs.Private.Walk.{due_date, AreOwed, periods}
 use Rattle.ftd_buckets.specs.declared.state.Next.{Next}
 use Rattle.ftd_buckets.specs.declared.turn.TurnNow.TheVariants as now
 use Rattle.ftd_buckets.specs.Patches.{AreSumsOf}
