@@ -1,22 +1,24 @@
 -- How a database is told to be the desk's, and what it becomes when it is opened.
-use Rattle.std.specs.Prelude.{◌≡◌, ◌<◌, ◌≤◌, ◌&&◌, ℕ, pos, Bool, true, false, List, [], ◌∷◌, codes, map, Option, Some, None, Result, Ok, Err, IsErrAnd, ⊤, ◌⊎◌, is_some, option_and_then, slice_get}
+use Rattle.std.specs.Prelude.{◌≡◌, ◌<◌, ◌≤◌, ◌&&◌, ℕ, pos, Bool, true, false, List, [], ◌∷◌, codes, map, Option, Some, None, Result, Ok, Err, IsErrAnd, IfErr, OnOk, OnErr, IsTrue, ⊤, ◌⊎◌, is_some, option_and_then, slice_get}
 use Rattle.std.specs.List.Sorted.{IsPermutation}
 use Rattle.sqlite.specs.Effect.{Database}
 use Rattle.sqlite.specs.Order.{Row}
 use Rattle.sqlite.specs.Schema.{Schema}
-use Rattle.sqlite.specs.State.{State, Shown, IsUnchanged}
+use Rattle.sqlite.specs.State.{State, Shown, IsUnchanged, HasCleanDisk, Survives}
 use Rattle.sqlite.specs.Table.{Table}
 use Rattle.sqlite.specs.Tree.{Trees}
 use Rattle.sqlite.specs.Does.{lacks_sequence}
 use Rattle.sqlite.specs.declared.types.Value.TheVariants.{Int, Text}
 use Rattle.sqlite_schema.specs.Names.{table_named, column_named}
-use Rattle.ftd_tables.specs.Places.{KeepsTables}
+use Rattle.ftd_tables.specs.Places.{KeepsTables, Holds}
 use Rattle.ftd_schema.specs.declared.TableName.{TableName}
 use Rattle.ftd_schema.specs.declared.TableName.TheVariants.{Metas, Accounts, Forms, ReportedYears, AddedHolidays}
-use Rattle.ftd_schema.specs.Names.{all_names, later_names, has_any}
-use Rattle.ftd_schema.specs.Rows.{MetaRow, AccountRow, FormRow}
+use Rattle.ftd_schema.specs.Names.{name_of, all_names, later_names, has_any}
+use Rattle.ftd_schema.specs.Layout.{table_of}
+use Rattle.ftd_schema.specs.Rows.{cells_of, MetaRow, AccountRow, FormRow}
 use Rattle.ftd_schema.specs.Standing.{Tables, no_rows, with_rows, Stands, KeepsForeign, IsFirst, StandsAsFirst}
 use Rattle.ftd_sql.specs.Making.{IsFree}
+use Rattle.ftd_sql.specs.States.{ShowsAgain}
 use Rattle.ftd_sql.specs.declared.texts.TheConstants.{LIST_METAS}
 use Rattle.ftd_setup.specs.declared.opening.Change.{Change}
 use Rattle.ftd_setup.specs.declared.opening.Change.TheVariants.{Make, Migrate}
@@ -104,3 +106,18 @@ IsStoreFault e = ⊥
 -- the answer follows from what ftd_meta would show to a reading before
 abbrev pub OpensByReading : State → State → Result (Unit {0}) OpenFault → Type 0
 OpensByReading old new r = IsErrAnd r IsStoreFault ⊎ ((rows : List Row) × Shown LIST_METAS.now [] old old rows × Opens old new (ReadsVersion rows) (has_any later_names old.now.schema) r)
+
+-- how an opening ended: what the database was, what is seen of it then, and the answer
+pub record Opening (old new : State) (r : Result (Unit {0}) OpenFault) : Type 0 where
+  -- a new database is given the tables
+  pub new_database : IsNew old.now.schema → IsFree old.now.schema → HasCleanDisk new → OnOk r (IsMade old.now new.now × (new.committed ≡ new.now))
+  pub never_refused : IsNew old.now.schema → IfErr r IsStoreFault
+  -- where one of the names is taken, and ftd_meta can not be read, it is not the desk's
+  pub foreign : has_any all_names old.now.schema ≡ true → is_tagged old.now.schema ≡ false → r ≡ Err NotOurs
+  -- else what ftd_meta shows decides, and so do its rows where it is the desk's own table
+  pub read : is_tagged old.now.schema ≡ true → HasCleanDisk new → OpensByReading old new r
+  pub version : (metas : List MetaRow) → Holds false old.now (name_of Metas) (table_of Metas) (cells_of Metas) metas → HasCleanDisk new → Opens old new (HasVersion metas) (has_any later_names old.now.schema) r
+  -- whatever the fault, the rows are as they were
+  pub kept : HasCleanDisk new → IsTrue new.is_open → OnErr r (ShowsAgain old new)
+  -- a crash finds what it would have found, or version 2 in whole
+  pub crash : Survives old new (MayBeOpened old.now)

@@ -1,19 +1,15 @@
 //! Making a database the desk's.
 
-ghost use Rattle.std.specs.Prelude.{◌≡◌, List, true, false, [], IsTrue, IfOk, IfErr, OnOk, OnErr, Ok, Err};
+ghost use Rattle.std.specs.Prelude.{◌≡◌, true, false, [], IsTrue, IfOk, IfErr, OnOk, OnErr, Err};
 ghost use Rattle.sqlite.specs.State.{HasCleanDisk, IsUnchanged, Survives, Shown};
 ghost use Rattle.sqlite.specs.Held.{state};
-ghost use Rattle.ftd_tables.specs.Places.{Holds};
-ghost use Rattle.ftd_schema.specs.declared.TableName.TheVariants.{Metas};
-ghost use Rattle.ftd_schema.specs.Names.{name_of, all_names, later_names, has_any};
-ghost use Rattle.ftd_schema.specs.Rows.{MetaRow, cells_of};
-ghost use Rattle.ftd_schema.specs.Layout.{table_of};
+ghost use Rattle.ftd_schema.specs.Names.{all_names, has_any};
 ghost use Rattle.ftd_sql.specs.Making.{IsFree};
 ghost use Rattle.ftd_sql.specs.States.{CrashKeeps, ShowsAgain};
 ghost use Rattle.ftd_sql.specs.declared.texts.TheConstants.{LIST_METAS};
 ghost use Rattle.ftd_setup.specs.Ended.{held, Ended};
 ghost use Rattle.ftd_setup.specs.Steps.{Steps};
-ghost use Rattle.ftd_setup.specs.Versions.{IsNew, IsMade, is_tagged, HasVersion, Becomes, MayBecome, MayBeOpened, IsStoreFault, Opens, OpensByReading};
+ghost use Rattle.ftd_setup.specs.Versions.{IsNew, IsMade, is_tagged, Becomes, MayBecome, MayBeOpened, IsStoreFault, OpensByReading, Opening};
 
 use crate::making::{Indexes, make};
 use crate::migrating::migrate;
@@ -185,23 +181,9 @@ impl<S: Alter> Found<S> {
 /// `Store` where memory is refused, where the database fails, and where it is in a transaction. A fault gives the
 /// connection back with the same rows. Tables of other names are left alone.
 pub fn open<S: Alter>(conn: Connection<S>) -> Result<Connection<S>, NotOpened<S>>
-    ensures new_database { IsNew (state S.Store conn).now.schema → IsFree (state S.Store conn).now.schema
-        → IfOk result (λ it. HasCleanDisk (state S.Store it) → IsMade (state S.Store conn).now (state S.Store it).now
-        × ((state S.Store it).committed ≡ (state S.Store it).now)) }
-    ensures never_refused { IsNew (state S.Store conn).now.schema → IfErr result (λ e. IsStoreFault e.fault) }
-    ensures foreign { has_any all_names (state S.Store conn).now.schema ≡ true
-        → is_tagged (state S.Store conn).now.schema ≡ false
-        → IfOk result (λ it. ⊥) × IfErr result (λ e. (e.fault ≡ OpenFault.NotOurs) × (e.connection ≡ conn)) }
-    ensures read { is_tagged (state S.Store conn).now.schema ≡ true
-        → Ended S.Store result (λ now r. HasCleanDisk now → OpensByReading (state S.Store conn) now r) }
-    ensures version { (metas : List MetaRow)
-        → Holds false (state S.Store conn).now (name_of Metas) (table_of Metas) (cells_of Metas) metas
-        → Ended S.Store result (λ now r. HasCleanDisk now → Opens (state S.Store conn) now (HasVersion metas)
-        (has_any later_names (state S.Store conn).now.schema) r) }
-    ensures kept { IfErr result (λ e. HasCleanDisk (state S.Store e.connection)
-        → IsTrue (state S.Store e.connection).is_open → ShowsAgain (state S.Store conn) (state S.Store e.connection)) }
-    ensures crash { Ended S.Store result (λ now _. Survives (state S.Store conn) now
-        (MayBeOpened (state S.Store conn).now)) }
+    ensures ended { Ended S.Store result (Opening (state S.Store conn)) }
+    ensures untouched { has_any all_names (state S.Store conn).now.schema ≡ true
+        → is_tagged (state S.Store conn).now.schema ≡ false → IfErr result (λ e. e.connection ≡ conn) }
 {
     let mut found = Found { conn };
     match found.prepare() {
