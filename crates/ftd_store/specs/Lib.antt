@@ -4,3 +4,4 @@ pub mod Ends
 pub mod Changes
 pub mod Finds
 pub mod Lending
+pub mod Opened

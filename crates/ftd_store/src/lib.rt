@@ -7,6 +7,7 @@
 mod accounts;
 mod calendars;
 mod obligations;
+mod opening;
 mod payments;
 mod reported;
 mod runs;
@@ -16,6 +17,7 @@ mod years;
 
 pub use crate::store::Store;
 pub use crate::tx::Tx;
+pub use ftd_setup::{NotOpened, OpenFault};
 pub use ftd_rows::{
     Account, AccountObligation, PayRun, Payment, StoreFault, StoredPayment, StoredRun,
 };
