@@ -1,5 +1,5 @@
 #!/bin/sh
-# Writes a database with the store and reads it by sqlite3's command line: the file is whole, the nine tables have
+# Writes a database with the store and reads it by sqlite3's command line: the file is whole, the twelve tables have
 # their columns and types, and the rows are there. Run it at the top after
 # `cd crates/ftd_store_bench && rt run -- :memory: 10` has built the program. It needs Debian's sqlite3.
 set -eu
@@ -56,9 +56,16 @@ bucket|last_day|INTEGER|1|0
 bucket|rule|INTEGER|1|0
 bucket|cents|INTEGER|1|0
 bucket|due|INTEGER|1|0
-payment|payment_by_day
-run|run_by_payday
-ftd|1
+account_form|account|TEXT|1|1
+account_form|form|INTEGER|1|0
+reported_year|account|TEXT|1|1
+reported_year|cal_year|INTEGER|1|2
+reported_year|cents|INTEGER|1|0
+added_holiday|day|INT|1|1
+added_holiday|cal_year|INTEGER|1|0
+payment|ftd_payment_by_day
+run|ftd_run_by_payday
+ftd|2
 ash|19723|0
 ash|0|19723|100000|24800|5800|0
 ash|1|19956|100001|24800|5800|0

@@ -3,8 +3,8 @@
 
 Run it at the top after `cd crates/ftd_store_bench && rt run -- :memory: 10` has built the program. Both fill an
 account with 20,000 pay runs in one transaction, add a hundred more with a commit for each, and read the day sums of
-January a hundred times; in memory and in a file, with the indexes by day and without. It prints microseconds for an
-addition and for a reading (best of three), and checks that both read the same.
+January a hundred times, and count the runs a hundred times; in memory and in a file, with the indexes by day and without. It prints microseconds for an
+addition, a reading and a count (best of three), and checks that both read the same.
 """
 import os
 import sqlite3
@@ -22,8 +22,9 @@ CREATE TABLE run (account TEXT NOT NULL REFERENCES account(name), run INTEGER NO
   fit INTEGER NOT NULL, ss INTEGER NOT NULL, medicare INTEGER NOT NULL, voided INTEGER NOT NULL,
   PRIMARY KEY (account, run)) STRICT;
 """
-INDEX = "CREATE INDEX run_by_payday ON run (account, payday, run)"
+INDEX = "CREATE INDEX ftd_run_by_payday ON run (account, payday, run)"
 ADD = "INSERT INTO run (account, run, payday, fit, ss, medicare, voided) VALUES (?1, ?2, ?3, ?4, ?5, ?6, 0)"
+COUNT = "SELECT COUNT(*) FROM run WHERE account = ?1"
 READ = """SELECT payday, fit, ss, medicare FROM run WHERE account = ?1 AND payday >= ?2 AND payday <= ?3
   AND voided = 0 ORDER BY payday, run"""
 
@@ -60,8 +61,12 @@ def python(path, plain):
     for _ in range(TIMES):
         found = january(conn)
     reading = time.monotonic() - start
+    start = time.monotonic()
+    for _ in range(TIMES):
+        conn.execute(COUNT, ("ash",)).fetchone()
+    counting = time.monotonic() - start
     conn.close()
-    return adding * 1e6 / TIMES, reading * 1e6 / TIMES, found
+    return adding * 1e6 / TIMES, reading * 1e6 / TIMES, counting * 1e6 / TIMES, found
 
 
 def ours(path, plain):
@@ -69,8 +74,8 @@ def ours(path, plain):
     program = os.path.join(top, "crates", "ftd_store_bench", "out", "ftd_store_bench")
     words = [program, path, str(RUNS)] + (["plain"] if plain else [])
     done = subprocess.run(words, check=True, capture_output=True, text=True)
-    adding, reading = map(int, done.stderr.split())
-    return adding / TIMES, reading / TIMES, done.stdout
+    adding, reading, counting = map(int, done.stderr.split())
+    return adding / TIMES, reading / TIMES, counting / TIMES, done.stdout
 
 
 def best(run, in_file, plain):
@@ -78,7 +83,7 @@ def best(run, in_file, plain):
     for _ in range(3):
         with tempfile.TemporaryDirectory() as folder:
             tries.append(run(os.path.join(folder, "store.db") if in_file else ":memory:", plain))
-    return min(t[0] for t in tries), min(t[1] for t in tries), tries[0][2]
+    return *(min(t[k] for t in tries) for k in range(3)), tries[0][3]
 
 
 def main():
@@ -87,9 +92,9 @@ def main():
             where = "in a file" if in_file else "in memory"
             print(f"{where}, {'without' if plain else 'with'} the indexes")
             rows = [(name, *best(run, in_file, plain)) for name, run in (("store", ours), ("python", python))]
-            for name, adding, reading, _ in rows:
-                print(f"  {name:8} add a run and commit {adding:8.1f} us   day sums of a month {reading:8.1f} us")
-            print("  same sums" if rows[0][3] == rows[1][3] else "  THE SUMS DIFFER")
+            for name, adding, reading, counting, _ in rows:
+                print(f"  {name:8} add a run and commit {adding:8.1f} us   day sums of a month {reading:8.1f} us   count {counting:8.1f} us")
+            print("  same sums" if rows[0][4] == rows[1][4] else "  THE SUMS DIFFER")
 
 
 if __name__ == "__main__":

@@ -1,8 +1,11 @@
 //! Fills a store with so many pay runs of one account in one transaction, adds a hundred more with a commit for
-//! each, and reads the day sums of a month a hundred times. It prints what it read, and on standard error how long
-//! an addition and a reading took. The first argument is a file, or `:memory:`, the second the number of runs, and
+//! each, reads the day sums of a month a hundred times, and counts the runs a hundred times. It prints what it read, and
+//! on standard error how long an addition, a reading and a count took. The first argument is a file, or `:memory:`, the second the number of runs, and
 //! the third, if it is `plain`, takes the indexes away first.
 #![tactic(auto)]
+
+ghost use Rattle.std.specs.Prelude.{IfOk};
+ghost use Rattle.ftd_rows.specs.Amounts.{HasStorableAmounts};
 
 use anyhow::{Context, Result, bail};
 use ftd_days::{Cents, Day};
@@ -20,7 +23,9 @@ fn day(text: &str) -> Result<Day> {
 }
 
 /// The paydays go through the days of 2024, over and over.
-fn pay_run(number: u32) -> Result<PayRun> {
+fn pay_run(number: u32) -> Result<PayRun>
+    ensures { IfOk result HasStorableAmounts }
+{
     let first = day("2024-01-01")?;
     let place = (number as u64 * 7919 % 366) as i32;
     let payday = Day::from_number(first.number() + place).context("a payday")?;
@@ -67,10 +72,15 @@ fn january<S: Alter>(rt: &HostRuntime, store: &mut Store<S>) -> Result<(usize, u
     Ok((sums.len(), total))
 }
 
+fn counted<S: Alter>(store: &mut Store<S>) -> Result<u32> {
+    let mut tx = store.begin()?;
+    Ok(tx.count_runs("ash")?)
+}
+
 fn without_indexes<S: Alter + Drop>(store: Store<S>) -> Result<Store<S>> {
     let mut conn = store.close();
-    conn.execute("DROP INDEX run_by_payday", &[])?;
-    conn.execute("DROP INDEX payment_by_day", &[])?;
+    conn.execute("DROP INDEX ftd_run_by_payday", &[])?;
+    conn.execute("DROP INDEX ftd_payment_by_day", &[])?;
     opened(conn)
 }
 
@@ -103,8 +113,13 @@ fn measured<S: Alter + Drop>(
         found = january(rt, &mut store)?;
     }
     let reading = start.elapsed(rt)?.as_micros();
+    let start = Instant::now(rt)?;
+    for _ in 0..TIMES {
+        counted(&mut store)?;
+    }
+    let counting = start.elapsed(rt)?.as_micros();
     writeln!(rt.stdout(), "{} days, {} cents", found.0, found.1)?;
-    writeln!(rt.stderr(), "{adding} {reading}")?;
+    writeln!(rt.stderr(), "{adding} {reading} {counting}")?;
     Ok(())
 }
 

@@ -1,0 +1,17 @@
+//! Tests of the store, through its public calls.
+#![tactic(auto)]
+
+#[cfg(test)]
+mod ending;
+#[cfg(test)]
+mod files;
+#[cfg(test)]
+mod lists;
+#[cfg(test)]
+mod opening;
+#[cfg(test)]
+mod rows;
+#[cfg(test)]
+mod strange;
+#[cfg(test)]
+mod support;
