@@ -172,7 +172,7 @@ pub fn assessed(alloc: Global, account: &Account, holidays: &Holidays) -> Result
 }
 
 /// The obligations and the years of these sums.
-fn of_sums(
+pub fn of_sums(
     alloc: Global,
     form: Form,
     first: u32,

