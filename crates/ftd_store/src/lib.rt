@@ -6,6 +6,7 @@
 
 mod accounts;
 mod calendars;
+mod obligation_rows;
 mod obligations;
 mod opening;
 mod payments;
@@ -15,6 +16,7 @@ mod store;
 mod tx;
 mod years;
 
+pub use crate::obligation_rows::ObligationRows;
 pub use crate::store::Store;
 pub use crate::tx::Tx;
 pub use ftd_setup::{NotOpened, OpenFault};
