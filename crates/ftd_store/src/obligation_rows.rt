@@ -14,8 +14,8 @@ use ftd_rules::Obligation;
 use ftd_sql::texts;
 use sqlite::{Alter, Connection, Rows, params};
 
-/// The obligations of an account with a first day in a quarter, by first day. They borrow the store, are read one at a
-/// time, and may be left at any one.
+/// The obligations of an account with a first day in a quarter, by first day. They borrow the
+/// store, are read one at a time, and may be left at any one.
 pub struct ObligationRows<'store, S: Alter> {
     rows: Rows<'store, S>,
 }
@@ -42,17 +42,20 @@ impl<S: Alter> Store<S> {
 }
 
 impl<'store, S: Alter> Reader<'store, S> {
-    /// The obligations of the account with a first day in the quarter. A fault comes also where a transaction is under way.
-    /// Nothing is changed.
+    /// The obligations of the account with a first day in the quarter. A fault comes also where a
+    /// transaction is under way. Nothing is changed.
     pub fn rows_of(
         self,
         account: &str,
         quarter: Quarter,
     ) -> Result<ObligationRows<'store, S>, StoreFault>
-        ensures same_reference { IfOk result (λ it. it.rows.conn.ghost_name ≡ self.entry.conn.ghost_name) }
+        ensures same_reference { IfOk result
+            (λ it. it.rows.conn.ghost_name ≡ self.entry.conn.ghost_name) }
         ensures begun { IfOk result (λ it. HasCleanDisk (walked S.Store it)
-            → HasListed S.Store account.now quarter it [] × IsUnchanged (state S.Store self.entry.conn.now) (walked S.Store it)) }
-        ensures crash { IfOk result (λ it. CrashKeeps (state S.Store self.entry.conn.now) (walked S.Store it)) }
+            → HasListed S.Store account.now quarter it [] × IsUnchanged
+            (state S.Store self.entry.conn.now) (walked S.Store it)) }
+        ensures crash { IfOk result (λ it. CrashKeeps (state S.Store self.entry.conn.now)
+            (walked S.Store it)) }
     {
         let Reader { conn } = self;
         if !conn.is_autocommit() {
@@ -69,8 +72,10 @@ impl<'store, S: Alter> ObligationRows<'store, S> {
     /// The next obligation, or None where these were all. `Failed` where a row is no obligation.
     pub fn next(&mut self) -> Result<Option<Obligation>, StoreFault>
         ensures same_reference { self.new.rows.conn.ghost_name ≡ self.old.rows.conn.ghost_name }
-        ensures next { HasCleanDisk (walked S.Store self.new) → (account : List ℕ) (quarter : ℕ) (listed : List ObligationValue)
-            → HasListed S.Store account quarter self.old listed → IfOk result (Continues S.Store account quarter self.new listed) }
+        ensures next { HasCleanDisk (walked S.Store self.new)
+            → (account : List ℕ) (quarter : ℕ) (listed : List ObligationValue)
+            → HasListed S.Store account quarter self.old listed
+            → IfOk result (Continues S.Store account quarter self.new listed) }
         ensures same { HasCleanDisk (walked S.Store self.new)
             → OnOk result (IsUnchanged (walked S.Store self.old) (walked S.Store self.new)) }
         ensures crash { CrashKeeps (walked S.Store self.old) (walked S.Store self.new) }
