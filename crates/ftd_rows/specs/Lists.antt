@@ -1,5 +1,5 @@
 -- Rows that are listed in their order.
-use Rattle.std.specs.Prelude.{List, [], ◌∷◌}
+use Rattle.std.specs.Prelude.{List, [], ◌∷◌, ◌++◌}
 use Rattle.std.specs.List.Sorted.{IsPermutation}
 use Rattle.ftd_tables.specs.Order.{EachToNext}
 
@@ -16,3 +16,11 @@ pub record Lists {X Y : Type 0} (Rise : X → X → Type 0) (IsRowOf : X → Y �
   pub same : IsPermutation rows ordered
   pub rise : EachToNext Rise ordered
   pub pairs : Pairs IsRowOf ordered listed
+
+-- these are the values of the first of the rows, each once, in this order
+pub record ListsFirst {X Y : Type 0} (Rise : X → X → Type 0) (IsRowOf : X → Y → Type 0) (rows : List X) (listed : List Y) : Type 0 where
+  pub first : List X
+  pub rest : List X
+  pub same : IsPermutation rows (first ++ rest)
+  pub rise : EachToNext Rise (first ++ rest)
+  pub pairs : Pairs IsRowOf first listed

@@ -36,10 +36,14 @@ fn sum_of(run: PayRun) -> Result<DaySum, StoreFault>
 
 // adds an amount to the last sum where that is of the same day, or else after it
 fn add_sum(sums: &mut Vec<DaySum>, sum: DaySum) -> Result<(), StoreFault>
-    ensures adds { OnOk result ((day : ℕ) → liability sums.new.items day day ≡ liability sums.old.items day day + share day day sum) }
-    ensures positive { OnOk result (ArePositive sums.old.items → 0 < sum.cents.0 → ArePositive sums.new.items) }
-    ensures rise { OnOk result (All (λ s. s.day ≤ sum.day) sums.old.items → DaysRise sums.old.items → DaysRise sums.new.items) }
-    ensures until { OnOk result ((day : ℕ) → All (λ s. s.day ≤ day) sums.old.items → sum.day ≤ day → All (λ s. s.day ≤ day) sums.new.items) }
+    ensures adds { OnOk result ((day : ℕ)
+        → liability sums.new.items day day ≡ liability sums.old.items day day + share day day sum) }
+    ensures positive { OnOk result (ArePositive sums.old.items → 0 < sum.cents.0
+        → ArePositive sums.new.items) }
+    ensures rise { OnOk result (All (λ s. s.day ≤ sum.day) sums.old.items
+        → DaysRise sums.old.items → DaysRise sums.new.items) }
+    ensures until { OnOk result ((day : ℕ) → All (λ s. s.day ≤ day) sums.old.items
+        → sum.day ≤ day → All (λ s. s.day ≤ day) sums.new.items) }
 {
     match sums.last_mut() {
         Some(last) if last.day == sum.day => {
@@ -53,12 +57,14 @@ fn add_sum(sums: &mut Vec<DaySum>, sum: DaySum) -> Result<(), StoreFault>
     }
 }
 
-/// The day sums of pay runs in the order of their paydays: rising days, and none that is zero. `Failed` where an amount
-/// is more than a `u64` of cents, `Memory` where there is none.
+/// The day sums of pay runs in the order of their paydays: rising days, and none that is zero.
+/// `Failed` where an amount is more than a `u64` of cents, `Memory` where there is none.
 pub fn sums_of(alloc: Global, runs: &[PayRun]) -> Result<Vec<DaySum>, StoreFault>
-    ensures same { IfOk result (λ sums. (day : ℕ) → liability sums.items day day ≡ sum_by (owed_on day) runs.now) }
+    ensures same { IfOk result (λ sums. (day : ℕ) → liability sums.items day day ≡ sum_by
+        (owed_on day) runs.now) }
     ensures positive { IfOk result (λ sums. ArePositive sums.items) }
-    ensures rise { IfOk result (λ sums. IsNonDecreasingBy (λ r. r.payday) runs.now → DaysRise sums.items) }
+    ensures rise { IfOk result (λ sums. IsNonDecreasingBy (λ r. r.payday) runs.now
+        → DaysRise sums.items) }
 {
     let mut sums = Vec::new(alloc);
     for run in runs {

@@ -10,7 +10,8 @@ pub enum StoreFault {
     /// There was no memory.
     #[error("out of memory")]
     Memory,
-    /// The database failed, or has a row that is no value of its type, or an earlier call of the transaction failed.
+    /// The database failed, or has a row that is no value of its type, or an earlier call of the
+    /// transaction failed.
     #[error("the store failed")]
     Failed,
 }

@@ -1,7 +1,7 @@
 //! The desk's values as rows of the database, and back.
 //!
-//! Contracts say exactly which cells stand for the value that is read. A row that is no value of its type is answered
-//! as `StoreFault::Failed`.
+//! Contracts say exactly which cells stand for the value that is read. A row that is no value of
+//! its type is answered as `StoreFault::Failed`.
 #![tactic(auto)]
 
 mod accounts;

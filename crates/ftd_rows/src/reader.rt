@@ -24,8 +24,8 @@ pub trait FromRow: Sized {
         ensures bad { result ≡ Err StoreFault.Failed → ¬ is_readable row.now };
 }
 
-/// The value of an answer of no row or one. `Failed` where there are more rows, or where the row shows no value;
-/// `Memory` where there is none.
+/// The value of an answer of no row or one. `Failed` where there are more rows, or where the row
+/// shows no value; `Memory` where there is none.
 pub fn only<T: FromRow>(rows: &[Row]) -> Result<Option<T>, StoreFault>
     ensures value { IfOk result (λ found. rows.now ≡ rows_of T.shown found) }
     ensures bad { result ≡ Err StoreFault.Failed → ¬ IsAnswer T.is_readable rows.now }
@@ -37,7 +37,8 @@ pub fn only<T: FromRow>(rows: &[Row]) -> Result<Option<T>, StoreFault>
     }
 }
 
-/// The values of the rows, in their order. `Failed` where a row shows no value, `Memory` where there is none.
+/// The values of the rows, in their order. `Failed` where a row shows no value, `Memory` where
+/// there is none.
 pub fn all<T: FromRow + Drop>(alloc: Global, rows: &[Row]) -> Result<Vec<T>, StoreFault>
     ensures value { IfOk result (λ xs. rows.now ≡ map T.shown xs.items) }
     ensures bad { result ≡ Err StoreFault.Failed → ¬ All T.is_readable rows.now }

@@ -84,8 +84,8 @@ fn day_of(stored: Option<StoredDay>) -> Option<Day>
     }
 }
 
-// the years as lines, the first carried as the account is and no other. `Failed` where there are years and no account,
-// `Memory` where there is none
+// the years as lines, the first carried as the account is and no other. `Failed` where there are
+// years and no account, `Memory` where there is none
 fn lines_of(
     alloc: Global,
     account: Option<Account>,
@@ -119,7 +119,8 @@ fn turn_fits(line: &YearLine) -> bool
 
 // the first line's year; any year serves where there is none
 fn first_year(lines: &[YearLine]) -> u32
-    ensures some { (line : YearLine) (more : List YearLine) → lines.now ≡ line ∷ more → result ≡ line.year }
+    ensures some { (line : YearLine) (more : List YearLine) → lines.now ≡ line ∷ more
+        → result ≡ line.year }
     ensures none { lines.now ≡ [] → result ≡ 2001 }
 {
     match lines.first() {
@@ -128,12 +129,13 @@ fn first_year(lines: &[YearLine]) -> u32
     }
 }
 
-// whether the years go on one by one within 2001 to 2098, and each turn lies in its year and beside a monthly opening;
-// `Failed` where they do not
+// whether the years go on one by one within 2001 to 2098, and each turn lies in its year and beside
+// a monthly opening; `Failed` where they do not
 fn check_years(lines: &[YearLine]) -> Result<(), StoreFault>
     ensures whole { OnOk result (AreOpenYears lines.now) }
     ensures turns { OnOk result (All HasFittingTurn lines.now) }
-    ensures bad { IfErr result (λ e. (e ≡ StoreFault.Failed) × (AreOpenYears lines.now → ¬ All HasFittingTurn lines.now)) }
+    ensures bad { IfErr result (λ e. (e ≡ StoreFault.Failed) × (AreOpenYears lines.now
+        → ¬ All HasFittingTurn lines.now)) }
 {
     let first = first_year(lines);
     if first < 2001 || first > 2099 {
@@ -149,9 +151,9 @@ fn check_years(lines: &[YearLine]) -> Result<(), StoreFault>
     Ok(())
 }
 
-/// The years as lines, the first carried as the account is and no other. `Failed` where the years do not go on one by one
-/// within 2001 to 2098, where a turn lies outside its year or beside a semiweekly opening, and where there are years and
-/// no account; `Memory` where there is none.
+/// The years as lines, the first carried as the account is and no other. `Failed` where the years
+/// do not go on one by one within 2001 to 2098, where a turn lies outside its year or beside a
+/// semiweekly opening, and where there are years and no account; `Memory` where there is none.
 pub fn open_years(
     alloc: Global,
     account: Option<Account>,
@@ -161,8 +163,10 @@ pub fn open_years(
     ensures there { OnOk result (account ≡ None → years.now ≡ []) }
     ensures whole { IfOk result (λ lines. AreOpenYears lines.items) }
     ensures turns { IfOk result (λ lines. All HasFittingTurn lines.items) }
-    ensures bad { result ≡ Err StoreFault.Failed → AreOpenYears (year_lines (is_carried account) years.now)
-        → All HasFittingTurn (year_lines (is_carried account) years.now) → (account ≡ None) × (years.now ≢ []) }
+    ensures bad { result ≡ Err StoreFault.Failed → AreOpenYears (year_lines
+        (is_carried account) years.now)
+        → All HasFittingTurn (year_lines (is_carried account) years.now) → (account ≡ None)
+        × (years.now ≢ []) }
 {
     let lines = lines_of(alloc, account, years)?;
     check_years(&lines)?;

@@ -6,3 +6,4 @@ pub mod Same
 pub mod Sums
 pub mod YearRows
 pub mod Putting
+pub mod Walks

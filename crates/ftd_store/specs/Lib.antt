@@ -5,3 +5,5 @@ pub mod Changes
 pub mod Finds
 pub mod Lending
 pub mod Opened
+pub mod Walking
+pub mod RowsLending

@@ -22,8 +22,8 @@ impl<'store, S: Alter> Tx<'store, S> {
         Ok(found.is_some())
     }
 
-    /// The holidays that the year was given with, rising, or None where its calendar was not given. Those that were added
-    /// later are not among them.
+    /// The holidays that the year was given with, rising, or None where its calendar was not given.
+    /// Those that were added later are not among them.
     pub fn calendar(&mut self, alloc: Global, year: u32) -> Result<Option<Vec<Day>>, StoreFault>
         ensures call { Reads S.Store self.old self.new result (FindsCalendar year) }
     {
@@ -35,19 +35,21 @@ impl<'store, S: Alter> Tx<'store, S> {
     }
 
     fn add_calendar_year(&mut self, year: u32) -> Result<(), StoreFault>
-        ensures call { Writes S.Store self.old self.new result (adding CalendarYears (calendar_year_row year)) }
+        ensures call { Writes S.Store self.old self.new result (adding CalendarYears
+            (calendar_year_row year)) }
     {
         self.add(texts::ADD_CALENDAR_YEAR, params![year])
     }
 
     fn add_holiday(&mut self, year: u32, day: Day) -> Result<(), StoreFault>
-        ensures call { Writes S.Store self.old self.new result (adding Holidays (holiday_row year day)) }
+        ensures call { Writes S.Store self.old self.new result (adding Holidays
+            (holiday_row year day)) }
     {
         self.add(texts::ADD_HOLIDAY, params![StoredDay(day), year])
     }
 
-    /// Gives the year's calendar: the year itself, and its holidays. `Failed` where the year or one of the days is there
-    /// already.
+    /// Gives the year's calendar: the year itself, and its holidays. `Failed` where the year or one
+    /// of the days is there already.
     pub fn add_calendar(&mut self, year: u32, days: &[Day]) -> Result<(), StoreFault>
         ensures call { Writes S.Store self.old self.new result (with_calendar year days.now) }
     {
@@ -65,7 +67,8 @@ impl<'store, S: Alter> Tx<'store, S> {
         self.read_all(alloc, texts::LIST_ADDED_HOLIDAYS, params![year])
     }
 
-    /// Adds a holiday to its year. `Failed` where it was added before, and where the year's calendar was not given.
+    /// Adds a holiday to its year. `Failed` where it was added before, and where the year's
+    /// calendar was not given.
     pub fn add_added(&mut self, day: Day) -> Result<(), StoreFault>
         ensures call { Writes S.Store self.old self.new result (with_added_holiday day) }
     {

@@ -1,11 +1,12 @@
 //! The store of the desk: typed rows in the twelve tables of a database.
 //!
-//! Contracts see a store as what its connection shows, and that as a list of typed rows for each table. They say what
-//! is so where the disk below told no lie.
+//! Contracts see a store as what its connection shows, and that as a list of typed rows for each
+//! table. They say what is so where the disk below told no lie.
 #![tactic(auto)]
 
 mod accounts;
 mod calendars;
+mod obligation_rows;
 mod obligations;
 mod opening;
 mod payments;
@@ -15,6 +16,7 @@ mod store;
 mod tx;
 mod years;
 
+pub use crate::obligation_rows::{ObligationRows, Reader};
 pub use crate::store::Store;
 pub use crate::tx::Tx;
 pub use ftd_setup::{NotOpened, OpenFault};

@@ -27,7 +27,8 @@ impl<'store, S: Alter> Tx<'store, S> {
         from: Day,
         to: Day,
     ) -> Result<Vec<Obligation>, StoreFault>
-        ensures call { Reads S.Store self.old self.new result (ListsObligations account.now from to) }
+        ensures call { Reads S.Store self.old self.new result
+            (ListsObligations account.now from to) }
     {
         self.read_all(
             alloc,
@@ -37,7 +38,8 @@ impl<'store, S: Alter> Tx<'store, S> {
     }
 
     fn remove_obligations(&mut self, account: &str, from: Day, to: Day) -> Result<(), StoreFault>
-        ensures call { Writes S.Store self.old self.new result (without_obligations account.now from to) }
+        ensures call { Writes S.Store self.old self.new result
+            (without_obligations account.now from to) }
     {
         self.change(
             texts::REMOVE_OBLIGATIONS,
@@ -48,7 +50,8 @@ impl<'store, S: Alter> Tx<'store, S> {
 
     fn add_obligation(&mut self, account: &str, obligation: Obligation) -> Result<(), StoreFault>
         requires { IsStorable obligation.cents }
-        ensures call { Writes S.Store self.old self.new result (adding Obligations (obligation_row account.now obligation)) }
+        ensures call { Writes S.Store self.old self.new result (adding Obligations
+            (obligation_row account.now obligation)) }
     {
         let first = StoredDay(obligation.first);
         let last = StoredDay(obligation.last);
@@ -63,8 +66,9 @@ impl<'store, S: Alter> Tx<'store, S> {
         )
     }
 
-    /// Takes out the account's obligations with a first day from `from` to `to`, and adds the given ones in their order.
-    /// `Failed` where the account is not there, and where a first day is there already or comes twice.
+    /// Takes out the account's obligations with a first day from `from` to `to`, and adds the given
+    /// ones in their order. `Failed` where the account is not there, and where a first day is there
+    /// already or comes twice.
     pub fn replace_obligations(
         &mut self,
         account: &str,
@@ -73,7 +77,8 @@ impl<'store, S: Alter> Tx<'store, S> {
         given: &[Obligation],
     ) -> Result<(), StoreFault>
         requires { All (λ o. IsStorable o.cents) given.now }
-        ensures call { Writes S.Store self.old self.new result (with_obligations account.now from to given.now) }
+        ensures call { Writes S.Store self.old self.new result
+            (with_obligations account.now from to given.now) }
     {
         self.remove_obligations(account, from, to)?;
         for obligation in given {
@@ -82,7 +87,8 @@ impl<'store, S: Alter> Tx<'store, S> {
         Ok(())
     }
 
-    /// The obligations of all accounts that begin before the day and are due on it or later, by account and first day.
+    /// The obligations of all accounts that begin before the day and are due on it or later, by
+    /// account and first day.
     pub fn due_over(
         &mut self,
         alloc: Global,
@@ -93,10 +99,12 @@ impl<'store, S: Alter> Tx<'store, S> {
         self.read_all(alloc, texts::LIST_DUE_OVER, params![StoredDay(day)])
     }
 
-    /// Gives the account's obligation of the first day another due date. `Failed` where there is none.
+    /// Gives the account's obligation of the first day another due date. `Failed` where there is
+    /// none.
     pub fn move_due(&mut self, account: &str, first: Day, due: Day) -> Result<(), StoreFault>
         ensures call { WritesOne S.Store self.old self.new result
-            (λ t. filter (is_obligation account.now (day_number first)) (t Obligations)) (with_due_date account.now first due) }
+            (λ t. filter (is_obligation account.now (day_number first)) (t Obligations))
+            (with_due_date account.now first due) }
     {
         self.change_one(
             texts::SET_DUE,

@@ -34,8 +34,8 @@ impl<'store, S: Alter> Tx<'store, S> {
         self.count(texts::COUNT_PAYMENTS, params![account])
     }
 
-    /// Adds a payment of the account, which is not void. `Failed` where the account has one of the number, and where the
-    /// account is not there.
+    /// Adds a payment of the account, which is not void. `Failed` where the account has one of the
+    /// number, and where the account is not there.
     pub fn add_payment(
         &mut self,
         account: &str,
@@ -43,7 +43,8 @@ impl<'store, S: Alter> Tx<'store, S> {
         payment: Payment,
     ) -> Result<(), StoreFault>
         requires { IsStorable payment.cents }
-        ensures call { Writes S.Store self.old self.new result (with_payment account.now number payment) }
+        ensures call { Writes S.Store self.old self.new result
+            (with_payment account.now number payment) }
     {
         let paid = StoredDay(payment.paid);
         let for_day = StoredDay(payment.for_day);
@@ -57,15 +58,18 @@ impl<'store, S: Alter> Tx<'store, S> {
         )
     }
 
-    /// Makes the account's payment of the number void, or leaves it so. `Failed` where there is none.
+    /// Makes the account's payment of the number void, or leaves it so. `Failed` where there is
+    /// none.
     pub fn void_payment(&mut self, account: &str, number: u32) -> Result<(), StoreFault>
         ensures call { WritesOne S.Store self.old self.new result
-            (λ t. filter (is_payment account.now (pos number)) (t Payments)) (with_void_payment account.now number) }
+            (λ t. filter (is_payment account.now (pos number)) (t Payments))
+            (with_void_payment account.now number) }
     {
         self.change_one(texts::VOID_PAYMENT, params![account, number])
     }
 
-    /// The account's payments for the days from `from` to `to` that are not void, by day and number.
+    /// The account's payments for the days from `from` to `to` that are not void, by day and
+    /// number.
     pub fn payments_for(
         &mut self,
         alloc: Global,

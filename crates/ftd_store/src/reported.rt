@@ -21,7 +21,8 @@ impl<'store, S: Alter> Tx<'store, S> {
         self.read_only(texts::READ_REPORTED, params![account, year, number])
     }
 
-    /// Adds the total of the quarter. `Failed` where it has one, and where the account is not there.
+    /// Adds the total of the quarter. `Failed` where it has one, and where the account is not
+    /// there.
     pub fn add_reported(
         &mut self,
         account: &str,
@@ -29,7 +30,8 @@ impl<'store, S: Alter> Tx<'store, S> {
         cents: Cents,
     ) -> Result<(), StoreFault>
         requires { IsStorable cents }
-        ensures call { Writes S.Store self.old self.new result (with_reported account.now quarter cents) }
+        ensures call { Writes S.Store self.old self.new result
+            (with_reported account.now quarter cents) }
     {
         let year = quarter.year();
         let number = u32::from(quarter.number());
@@ -54,7 +56,8 @@ impl<'store, S: Alter> Tx<'store, S> {
         cents: Cents,
     ) -> Result<(), StoreFault>
         requires { IsStorable cents }
-        ensures call { Writes S.Store self.old self.new result (with_reported_year account.now year cents) }
+        ensures call { Writes S.Store self.old self.new result
+            (with_reported_year account.now year cents) }
     {
         self.add(
             texts::ADD_REPORTED_YEAR,

@@ -31,8 +31,8 @@ impl<'store, S: Alter> Tx<'store, S> {
         self.count(texts::COUNT_RUNS, params![account])
     }
 
-    /// Adds a run of the account, which is not void. `Failed` where the account has one of the number, and where the
-    /// account is not there.
+    /// Adds a run of the account, which is not void. `Failed` where the account has one of the
+    /// number, and where the account is not there.
     pub fn add_run(&mut self, account: &str, number: u32, run: PayRun) -> Result<(), StoreFault>
         requires { HasStorableAmounts run }
         ensures call { Writes S.Store self.old self.new result (with_run account.now number run) }
@@ -53,13 +53,15 @@ impl<'store, S: Alter> Tx<'store, S> {
     /// Makes the account's run of the number void, or leaves it so. `Failed` where there is none.
     pub fn void_run(&mut self, account: &str, number: u32) -> Result<(), StoreFault>
         ensures call { WritesOne S.Store self.old self.new result
-            (λ t. filter (is_run account.now (pos number)) (t Runs)) (with_void_run account.now number) }
+            (λ t. filter (is_run account.now (pos number)) (t Runs))
+            (with_void_run account.now number) }
     {
         self.change_one(texts::VOID_RUN, params![account, number])
     }
 
-    /// The account's liability day by day, rising, for the paydays from `from` to `to`. Void runs and days on which
-    /// nothing is owed are left out. `Failed` also where the amounts of a day do not fit in a `u64` of cents.
+    /// The account's liability day by day, rising, for the paydays from `from` to `to`. Void runs
+    /// and days on which nothing is owed are left out. `Failed` also where the amounts of a day do
+    /// not fit in a `u64` of cents.
     pub fn day_sums(
         &mut self,
         alloc: Global,

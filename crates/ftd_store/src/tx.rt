@@ -21,8 +21,8 @@ use sqlite::types::ValueRef;
 use sqlite::{Alter, Row};
 use std::alloc::Global;
 
-/// A transaction. Dropped before `commit`, it changes nothing. A transaction of which a call failed has failed for good:
-/// each further call, and `commit`, answers `Failed`.
+/// A transaction. Dropped before `commit`, it changes nothing. A transaction of which a call failed
+/// has failed for good: each further call, and `commit`, answers `Failed`.
 pub struct Tx<'store, S: Alter> {
     pub(crate) store: &'store mut Store<S>,
     pub(crate) failed: bool,
@@ -30,11 +30,14 @@ pub struct Tx<'store, S: Alter> {
 
 impl<S: Alter> Drop for Tx<'_, S> {
     fn drop(self)
-        ensures undone { HasCleanDisk (seen S.Store self.exit.0.now) → IsTrue (seen S.Store self.exit.0.now).is_open
+        ensures undone { HasCleanDisk (seen S.Store self.exit.0.now)
+            → IsTrue (seen S.Store self.exit.0.now).is_open
             → EndsAs (seen S.Store self.exit.0.now) (shown S.Store self.entry).committed }
-        ensures rests { (shown S.Store self.entry).in_transaction ≡ false → self.exit.0.now ≡ self.entry.store.now }
+        ensures rests { (shown S.Store self.entry).in_transaction ≡ false
+            → self.exit.0.now ≡ self.entry.store.now }
         ensures crash { CrashKeeps (shown S.Store self.entry) (seen S.Store self.exit.0.now) }
-        ensures opens { HasCleanDisk (seen S.Store self.exit.0.now) → IsTrue (seen S.Store self.exit.0.now).is_open
+        ensures opens { HasCleanDisk (seen S.Store self.exit.0.now)
+            → IsTrue (seen S.Store self.exit.0.now).is_open
             → IsTrue (shown S.Store self.entry).is_open }
     {
         let Tx { store, failed: _ } = self;
@@ -43,16 +46,22 @@ impl<S: Alter> Drop for Tx<'_, S> {
 }
 
 impl<'store, S: Alter> Tx<'store, S> {
-    /// Makes the transaction's rows the store's. With Ok a crash leaves these rows alone. A fault leaves the rows from
-    /// before `begin`, and a crash then leaves those or, where the fault came as the rows were written, the new ones.
+    /// Makes the transaction's rows the store's. With Ok a crash leaves these rows alone. A fault
+    /// leaves the rows from before `begin`, and a crash then leaves those or, where the fault came
+    /// as the rows were written, the new ones.
     pub fn commit(self) -> Result<(), StoreFault>
-        ensures ok { HasCleanDisk (seen S.Store self.exit.0.now) → OnOk result (Shows (shown S.Store self.entry)
-            (seen S.Store self.exit.0.now) (shown S.Store self.entry).now (shown S.Store self.entry).now false) }
+        ensures ok { HasCleanDisk (seen S.Store self.exit.0.now)
+            → OnOk result (Shows (shown S.Store self.entry)
+            (seen S.Store self.exit.0.now) (shown S.Store self.entry).now
+            (shown S.Store self.entry).now false) }
         ensures lasts { HasCleanDisk (seen S.Store self.exit.0.now)
-            → OnOk result (CrashLeaves (seen S.Store self.exit.0.now) (shown S.Store self.entry).now) }
+            → OnOk result (CrashLeaves (seen S.Store self.exit.0.now)
+            (shown S.Store self.entry).now) }
         ensures stopped { HasFailed self.entry → result ≡ Err StoreFault.Failed }
-        ensures kept { HasCleanDisk (seen S.Store self.exit.0.now) → IsTrue (seen S.Store self.exit.0.now).is_open
-            → OnErr result (EndsAs (seen S.Store self.exit.0.now) (shown S.Store self.entry).committed) }
+        ensures kept { HasCleanDisk (seen S.Store self.exit.0.now)
+            → IsTrue (seen S.Store self.exit.0.now).is_open
+            → OnErr result (EndsAs (seen S.Store self.exit.0.now)
+            (shown S.Store self.entry).committed) }
         ensures crash { Survives (shown S.Store self.entry) (seen S.Store self.exit.0.now)
             (λ left. left ≡ (shown S.Store self.entry).now.trees) }
     {
@@ -76,7 +85,8 @@ impl<'store, S: Alter> Tx<'store, S> {
         requires of_rows { IsRowText sql.now }
         ensures frame { Frame S.Store self.old self.new result }
         ensures ran { HasCleanDisk (shown S.Store self.new) → IfOk result (λ count.
-            Executes sql.now (bound params.now) (shown S.Store self.old) (shown S.Store self.new) (Ok count)) }
+            Executes sql.now (bound params.now) (shown S.Store self.old) (shown S.Store self.new)
+            (Ok count)) }
     {
         if self.failed || self.store.conn.is_autocommit() {
             return self.stop(StoreFault::Failed);
@@ -87,7 +97,8 @@ impl<'store, S: Alter> Tx<'store, S> {
         }
     }
 
-    // runs a statement that changes one row or none, and answers whether it did; gives up where it changed more
+    // runs a statement that changes one row or none, and answers whether it did; gives up where it
+    // changed more
     pub(crate) fn change_any(
         &mut self,
         sql: &str,
@@ -115,7 +126,8 @@ impl<'store, S: Alter> Tx<'store, S> {
         requires of_rows { IsRowText sql.now }
         ensures frame { Frame S.Store self.old self.new result }
         ensures ran { HasCleanDisk (shown S.Store self.new) → OnOk result
-            (Executes sql.now (bound params.now) (shown S.Store self.old) (shown S.Store self.new) (Ok 1)) }
+            (Executes sql.now (bound params.now) (shown S.Store self.old) (shown S.Store self.new)
+            (Ok 1)) }
     {
         if self.change_any(sql, params)? {
             Ok(())
@@ -127,7 +139,8 @@ impl<'store, S: Alter> Tx<'store, S> {
     // adds the row whose cells are given to the table that the text is for
     pub(crate) fn add(&mut self, sql: &str, params: &[ValueRef<'_>]) -> Result<(), StoreFault>
         requires of_table { (table : TableName) × (sql.now ≡ add_of table) }
-        ensures call { (table : TableName) (row : RowOf table) → sql.now ≡ add_of table → bound params.now ≡ cells_of table row
+        ensures call { (table : TableName) (row : RowOf table) → sql.now ≡ add_of table
+            → bound params.now ≡ cells_of table row
             → Writes S.Store self.old self.new result (adding table row) }
     {
         self.change(sql, params)?;
@@ -141,7 +154,8 @@ impl<'store, S: Alter> Tx<'store, S> {
         params: &[ValueRef<'_>],
     ) -> Result<Vec<Row>, StoreFault>
         requires of_reading { IsReadText sql.now }
-        ensures call { Queries S.Store self.old self.new result sql.now (bound params.now) (λ read rows. rows ≡ read.items) }
+        ensures call { Queries S.Store self.old self.new result sql.now (bound params.now)
+            (λ read rows. rows ≡ read.items) }
     {
         if self.failed {
             return Err(StoreFault::Failed);

@@ -13,9 +13,10 @@ use sqlite::{Alter, params};
 use std::alloc::Global;
 
 impl<'store, S: Alter> Tx<'store, S> {
-    /// The account's open years, by year; none where the account is not there and has none. `Failed` also where the years
-    /// have a gap or do not lie in 2001 to 2098, where a turn lies outside its year or beside a semiweekly opening, and
-    /// where there are years without their account.
+    /// The account's open years, by year; none where the account is not there and has none.
+    /// `Failed` also where the years have a gap or do not lie in 2001 to 2098, where a turn lies
+    /// outside its year or beside a semiweekly opening, and where there are years without their
+    /// account.
     pub fn years(&mut self, alloc: Global, account: &str) -> Result<Vec<YearLine>, StoreFault>
         ensures call { Reads S.Store self.old self.new result (ListsYears account.now) }
     {
@@ -27,8 +28,9 @@ impl<'store, S: Alter> Tx<'store, S> {
         }
     }
 
-    /// Puts the line as that of its year, in place of the one that is there or else last. Whether the account is
-    /// carried is not put: that stands with the account. `Failed` where the account is not there.
+    /// Puts the line as that of its year, in place of the one that is there or else last. Whether
+    /// the account is carried is not put: that stands with the account. `Failed` where the account
+    /// is not there.
     pub fn put_year(&mut self, account: &str, line: YearLine) -> Result<(), StoreFault>
         requires { IsStorable line.lookback }
         ensures call { Writes S.Store self.old self.new result (with_year account.now line) }
