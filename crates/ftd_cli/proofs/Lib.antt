@@ -3,7 +3,6 @@ pub mod Calendars
 pub mod Members
 pub mod ReadRows
 pub mod Said
-pub mod Spelled
 pub mod Sums
 pub mod TakingFacts
 pub mod WordFacts

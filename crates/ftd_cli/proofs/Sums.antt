@@ -15,7 +15,8 @@ use Rattle.ftd_rules.specs.declared.YearLine.{YearLine}
 use Rattle.ftd_rules.specs.Liability.{cents_of}
 use Rattle.ftd_rules.specs.Lists.{Has}
 use Rattle.ftd_rules.specs.Years.{LiesInYears, given, year_last}
-use Rattle.ftd_cli.specs.Fields.{is_account_name, run_number_of, day_of, cents_of as amount_of}
+use Rattle.ftd_cli.specs.Fields.{is_account_name, run_number_of}
+use Rattle.ftd_days.specs.Spelling.{day_of, cents_of as amount_of}
 use Rattle.ftd_cli.specs.Plain.{AtFault, FirstFault, IsCalendar, IsLookedAt, PlainFails, day_sum, is_taken, most_bytes, most_runs, taken, taken_run}
 use Rattle.ftd_cli.specs.declared.fault.PlainFault.{PlainFault}
 use Rattle.ftd_cli.specs.declared.fault.PlainFault.TheVariants as fault
@@ -23,7 +24,7 @@ use Rattle.ftd_cli.specs.Records.{Run, Said, pay_run, malformed, said_of, six_of
 use Rattle.ftd_cli.specs.Taking.{CalendarFails, IsSmall, TakesAll, TextFails, run_of, runs_of, sum_of}
 use Rattle.ftd_cli.specs.declared.runs.Kept.{Kept}
 use Rattle.ftd_cli.proofs.Members.{contains_from_has, has_from_contains, has_map, map_has, some_same}
-use Rattle.ftd_cli.proofs.Spelled.{cents_small}
+use Rattle.ftd_days.proofs.Spelling.{cents_small}
 
 -- ---- the sums are those of the runs
 pub same_sums : (account : List ℕ) (entries : List (ℕ × Kept)) → map sum_of (values_of entries) ≡ map day_sum (runs_of account entries)

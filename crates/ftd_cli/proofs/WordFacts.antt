@@ -8,7 +8,7 @@ use Rattle.std.specs.Str.Parse.{ParsesUnsigned, without_leading_plus, digits_val
 use Rattle.std.proofs.lemmas.Bool.Decides.{nat_tests}
 use Rattle.ftd_days.specs.Digits.{number_of}
 use Rattle.ftd_days.proofs.Numerals.{own}
-use Rattle.ftd_cli.specs.Fields.{day_of}
+use Rattle.ftd_days.specs.Spelling.{day_of}
 use Rattle.ftd_cli.specs.Words.{days_of, whole_number}
 
 -- ---- a whole number

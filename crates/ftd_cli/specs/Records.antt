@@ -2,7 +2,8 @@
 use Rattle.std.specs.Prelude.{◌≡◌, ℕ, List, [], ◌∷◌, map, Option, Some, None, codes, if◌then◌else◌}
 use Rattle.std.specs.List.{slice_get}
 use Rattle.csv.specs.Reading.{default_config, records, strip_bom}
-use Rattle.ftd_cli.specs.Fields.{is_account_name, run_number_of, day_of, cents_of}
+use Rattle.ftd_cli.specs.Fields.{is_account_name, run_number_of}
+use Rattle.ftd_days.specs.Spelling.{day_of, cents_of}
 
 -- a pay run: its employer's account name, its number, the day on which the wages are paid, the federal
 -- income tax withheld and both shares of social security and of Medicare tax

@@ -4,7 +4,8 @@ use Rattle.std.specs.List.{list_any}
 use Rattle.std.specs.Str.{all_ascii_digits, bytes_eq}
 use Rattle.std.specs.Str.Parse.{without_leading_plus}
 use Rattle.ftd_days.specs.Digits.{number_of}
-use Rattle.ftd_cli.specs.Fields.{is_account_name, day_of}
+use Rattle.ftd_cli.specs.Fields.{is_account_name}
+use Rattle.ftd_days.specs.Spelling.{day_of}
 use Rattle.ftd_cli.specs.declared.words.Argument.TheVariants as argument
 use Rattle.ftd_cli.specs.declared.words.Command.{Command}
 use Rattle.ftd_cli.specs.declared.words.Command.TheVariants as command

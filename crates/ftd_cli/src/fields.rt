@@ -2,7 +2,8 @@
 
 ghost use Rattle.std.specs.Prelude.{◌≡◌, option_map};
 ghost use Rattle.std.specs.List.{list_all};
-ghost use Rattle.ftd_cli.specs.Fields.{is_account_name, is_name_byte, run_number_of, day_of, cents_of};
+ghost use Rattle.ftd_cli.specs.Fields.{is_account_name, is_name_byte, run_number_of};
+ghost use Rattle.ftd_days.specs.Spelling.{day_of, cents_of};
 
 use ftd_days::digits::number;
 use ftd_days::{Cents, Day};
@@ -49,7 +50,7 @@ pub fn run_number(text: &[u8]) -> Option<u32>
 }
 
 /// The day that the text spells.
-#[tactic(auto, using(crate::proofs::Spelled::day_read))]
+#[tactic(auto, using(ftd_days::proofs::Spelling::day_read))]
 pub fn day(text: &[u8]) -> Option<Day>
     ensures { result ≡ day_of text.now }
 {

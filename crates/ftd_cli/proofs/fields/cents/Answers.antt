@@ -1,4 +1,4 @@
-use Rattle.ftd_cli.proofs.Spelled.{cents_read}
+use Rattle.ftd_days.proofs.Spelling.{cents_read}
 use Rattle.ftd_cli.proofs.fields.cents.Goals as goal
 
 pub returns : goal.returns

@@ -1,4 +1,4 @@
-use Rattle.ftd_cli.proofs.Spelled.{day_read}
+use Rattle.ftd_days.proofs.Spelling.{day_read}
 use Rattle.ftd_cli.proofs.fields.day.Goals as goal
 
 pub returns : goal.returns

@@ -1,4 +1,4 @@
--- The fields that spell days and amounts are exactly those that the functions of Fields read.
+-- The texts that spell days and amounts are exactly those that the functions of Spelling read.
 use Rattle.std.proofs.Common.{◌≡◌, ◌≢◌, ℕ, zero, suc, ◌+◌, ◌*◌, ◌<◌, ◌≤◌, inl, inr, List, [], ◌∷◌, length, take, drop, Option, Some, None, option_map, Bool, true, false, cond, refl, sym, ap, ◌∙◌, arith, length-take-le}
 use Rattle.std.specs.Prelude.{IfSome, ◌==◌, ◌&&◌, nat_lt, nat_le}
 use Rattle.std.specs.List.{prefix_len}
@@ -16,7 +16,7 @@ use Rattle.ftd_days.specs.declared.cents.Cents.{Cents}
 use Rattle.ftd_days.proofs.Numerals.{own, front_digits, front_within}
 use Rattle.ftd_days.proofs.Spelled.{cut_out}
 use Rattle.ftd_days.proofs.Years.{same_or_not, eq_same, eq_not}
-use Rattle.ftd_cli.specs.Fields.{day_among, day_of, fraction_of, cents_of}
+use Rattle.ftd_days.specs.Spelling.{day_among, day_of, fraction_of, cents_of}
 
 is_equal : (a b : ℕ) → (a == b) ≡ true → a ≡ b
 is_equal a b e = grind (arith, nat_tests)
@@ -66,14 +66,14 @@ among_none zero from day text e l h = absurd (omega arith)
 among_none (suc n) from day text e l h = among_less n from day text _ (bytes_eq (day_text from) text) refl e l h (λ f a b. among_none n (from + 1) day text f a b)
 
 -- what day_of reads is what the text spells
-day_spelled : (text : List ℕ) (day : ℕ) → day_of text ≡ Some day → SpellsDay text day
+pub day_spelled : (text : List ℕ) (day : ℕ) → day_of text ≡ Some day → SpellsDay text day
 unfolding day_of
 day_spelled text day e =
     let among = among_some (last_day + 1) 0 day text e in
     let before = among.before in
     record { within = omega arith; spelled = sym among.printed }
 
-day_missing : (text : List ℕ) (day : ℕ) → day_of text ≡ None → SpellsDay text day → ⊥
+pub day_missing : (text : List ℕ) (day : ℕ) → day_of text ≡ None → SpellsDay text day → ⊥
 unfolding day_of
 day_missing text day e s =
     let within = s.within in
@@ -144,7 +144,7 @@ cents_spelled text amount e = go (nat_lt 0 (prefix_len is_ascii_digit text)) (na
     go true false a b f = cc f
     go false few a b f = cc f
 
-spelled_cents : (text : List ℕ) (amount : ℕ) → SpellsCents text amount → cents_of text ≡ Some amount
+pub spelled_cents : (text : List ℕ) (amount : ℕ) → SpellsCents text amount → cents_of text ≡ Some amount
 unfolding cents_of
 spelled_cents text amount s =
     let parts = cut_out text amount s in
