@@ -24,19 +24,6 @@ fn a_dropped_transaction_leaves_no_account(rt: HostRuntime) -> Result<(), Fail> 
     Ok(())
 }
 
-#[test]
-fn a_committed_transaction_leaves_one(rt: HostRuntime) -> Result<(), Fail> {
-    let mut store = store(rt.alloc())?;
-    let mut tx = begin(&mut store)?;
-    enrol(&mut tx, "elm")?;
-    commit(tx)?;
-    assert!(rt; has(&mut store, "elm")?);
-    let mut conn = store.close();
-    assert!(rt; conn.is_autocommit());
-    assert_eq!(rt; number(&mut conn, "SELECT count(*) FROM account")?, 1);
-    Ok(())
-}
-
 fn accounts_refuse<S: Alter>(rt: &impl Abort, tx: &mut Tx<'_, S>) -> Result<(), Fail> {
     let stopped = StoreFault::Failed;
     assert_eq!(rt; tx.add_account("oak", account(false)?), Err(stopped));

@@ -186,19 +186,6 @@ fn enrol_with_obligations<S: Alter>(store: &mut Store<S>) -> Result<(), Fail> {
     replace(store, "ash", ["2024-01-01", "2024-12-31"], &given)
 }
 
-#[test]
-fn obligations_come_by_first_day(rt: HostRuntime) -> Result<(), Fail> {
-    let mut store = store(rt.alloc())?;
-    enrol_with_obligations(&mut store)?;
-    let all = obligations(&mut store, rt.alloc(), "elm", ["2024-05-01", "2024-06-01"])?;
-    assert_eq!(rt; all.as_slice(), [may()?, late_may()?, june()?].as_slice());
-    let one = obligations(&mut store, rt.alloc(), "elm", ["2024-05-02", "2024-05-31"])?;
-    assert_eq!(rt; one.as_slice(), [late_may()?].as_slice());
-    let none = obligations(&mut store, rt.alloc(), "elm", ["2024-05-23", "2024-05-31"])?;
-    assert!(rt; none.is_empty());
-    Ok(())
-}
-
 const RULES: &str =
     "SELECT first_day, last_day, rule, cents, due FROM bucket WHERE account = 'elm' ORDER BY first_day";
 

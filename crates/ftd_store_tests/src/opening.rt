@@ -1,7 +1,7 @@
 //! What is opened, made or migrated, what is refused, and what stays as it was.
 
 use crate::support::{batch, database, enrol_two, has, number, numbers, open, refused, store};
-use ftd_store::{OpenFault, StoreFault};
+use ftd_store::OpenFault;
 use sqlite::{Alter, Connection};
 use std::alloc::Global;
 use std::process::Abort;
@@ -251,18 +251,5 @@ fn tables_of_somebody_else_stay(rt: HostRuntime) -> Result<(), Fail> {
     assert_eq!(rt; number(&mut after, INDEXES)?, 1);
     let mut again = open(after)?;
     assert!(rt; has(&mut again, "ash")?);
-    Ok(())
-}
-
-#[test]
-fn a_database_in_a_transaction_is_not_opened(rt: HostRuntime) -> Result<(), Fail> {
-    let failed = OpenFault::Store(StoreFault::Failed);
-    let (why, mut after) = refused(database(rt.alloc(), "BEGIN")?)?;
-    assert_eq!(rt; why, failed);
-    assert!(rt; !after.is_autocommit());
-    assert_eq!(rt; number(&mut after, TABLES)?, 0);
-    let mut ours = store(rt.alloc())?.close();
-    batch(&mut ours, "BEGIN")?;
-    assert_eq!(rt; refused(ours)?.0, failed);
     Ok(())
 }
