@@ -2,9 +2,9 @@
 """Time of the store beside Python's sqlite3 with the same tables and statements.
 
 Run it at the top after `cd crates/ftd_store_bench && rt run -- :memory: 10` has built the program. Both fill an
-account with 20,000 pay runs in one transaction, add a hundred more with a commit for each, and read the day sums of
-January a hundred times, and count the runs a hundred times; in memory and in a file, with the indexes by day and without. It prints microseconds for an
-addition, a reading and a count (best of three), and checks that both read the same.
+account with 20,000 pay runs in one transaction, add a hundred more with a commit for each, read the day sums of January a
+hundred times and count the runs a hundred times; in memory and in a file, with the indexes by day and without. It prints
+microseconds for an addition, a reading and a count (best of three), and checks that both read the same.
 """
 import os
 import sqlite3
