@@ -6,7 +6,7 @@ use Rattle.sqlite_ast.specs.declared.Statement.TheVariants as written
 use Rattle.sqlite_schema.specs.declared.schema.Index.{Index}
 use Rattle.sqlite_tied.specs.Compute.{everything}
 use Rattle.ftd_tables.specs.Places.{KeepsTables}
-use Rattle.ftd_tables.specs.TextKinds.{Reads}
+use Rattle.ftd_tables.specs.TextKinds.{IsReadAs}
 use Rattle.ftd_tables.proofs.Indexing.{DefinesIndex, indexes_any, holds_beside, beside_keeps}
 use Rattle.ftd_schema.specs.declared.TableName.{TableName}
 use Rattle.ftd_schema.specs.declared.TableName.TheVariants.{Runs, Payments}
@@ -19,7 +19,7 @@ use Rattle.ftd_sql.specs.declared.texts.TheConstants.{INDEX_RUNS, INDEX_PAYMENTS
 -- the text is a CREATE INDEX on the table
 pub record Indexes (n : TableName) (text : List ℕ) : Type 0 where
   pub definition : Definition
-  pub reads : Reads text (written.CreateIndex definition)
+  pub reads : IsReadAs text (written.CreateIndex definition)
   pub named : definition.table ≡ name_of n
   pub defines : (tree : ℕ) → (i : Index) × DefinesIndex definition (table_of n tree) i
 

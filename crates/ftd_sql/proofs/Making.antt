@@ -11,7 +11,7 @@ use Rattle.sqlite_ast.specs.declared.Statement.TheVariants as written
 use Rattle.sqlite_schema.specs.Names.{same_name, table_named}
 use Rattle.sqlite_tied.specs.Compute.{everything}
 use Rattle.ftd_tables.specs.Places.{Holds, HasNoAction, IsUnnamed, KeepsTables}
-use Rattle.ftd_tables.specs.TextKinds.{Reads}
+use Rattle.ftd_tables.specs.TextKinds.{IsReadAs}
 use Rattle.ftd_tables.proofs.Creating.{Defines, creates_any}
 use Rattle.ftd_tables.proofs.Grown.{Grown, grown_one, grown_then, grown_keeps, grown_self, lacks_kept, starts, holds_on}
 use Rattle.ftd_schema.specs.declared.TableName.{TableName}
@@ -24,7 +24,7 @@ use Rattle.ftd_sql.specs.Making.{create_of, AreFree, AreEmpty}
 
 -- what the text says, with no look at a schema
 Says : TableName → Type 0
-Says n = (d : Definition) × Reads (create_of n) (written.CreateTable d) × Defines d (table_of n 0)
+Says n = (d : Definition) × IsReadAs (create_of n) (written.CreateTable d) × Defines d (table_of n 0)
 
 says : (n : TableName) → Says n
 unfolding everything Says

@@ -30,12 +30,12 @@ use Rattle.ftd_sql.proofs.Asking.{lists_metas, reads_account, lists_accounts, re
 use Rattle.ftd_sql.proofs.Changing.{sets_version, sets_year, voids_run, voids_payment, sets_due, removes_obligations}
 
 -- the text with these values shows the rows that pass the test
-abbrev pub Shows : (n : TableName) → List ℕ → Row → (RowOf n → Bool) → (RowOf n → Row) → Type 1
-Shows n text params test shown = (old new : State) (rows : List Row) (t : Tables) → Stands old.now t → Shown text params old new rows → IsPermutation (map shown (filter test (t n))) rows
+abbrev pub ShowsTested : (n : TableName) → List ℕ → Row → (RowOf n → Bool) → (RowOf n → Row) → Type 1
+ShowsTested n text params test shown = (old new : State) (rows : List Row) (t : Tables) → Stands old.now t → Shown text params old new rows → IsPermutation (map shown (filter test (t n))) rows
 
 -- and in an order
-abbrev pub Lists : (n : TableName) → List ℕ → Row → (RowOf n → Bool) → (RowOf n → Row) → (RowOf n → RowOf n → Type 0) → Type 1
-Lists n text params test shown R = (old new : State) (rows : List Row) (t : Tables) → Stands old.now t → Shown text params old new rows
+abbrev pub ListsTested : (n : TableName) → List ℕ → Row → (RowOf n → Bool) → (RowOf n → Row) → (RowOf n → RowOf n → Type 0) → Type 1
+ListsTested n text params test shown R = (old new : State) (rows : List Row) (t : Tables) → Stands old.now t → Shown text params old new rows
     → (ys : List (RowOf n)) × IsPermutation (filter test (t n)) ys × (rows ≡ map shown ys) × EachToNext R ys
 
 -- the text with these values shows how many rows pass the test
@@ -59,7 +59,7 @@ unfolding everything
 shows_metas old new rows metas l h =
     subst (λ ms. IsPermutation (map meta_shown ms) rows) (filter_all metas) (shows Metas LIST_METAS.now _ _ _ lists_metas [] (λ m. true) meta_shown (λ p. refl) (λ p. refl) old new rows metas l h)
 
-pub shows_account : (name : List ℕ) → Shows Accounts READ_ACCOUNT.now (name_given name) (is_account name) account_shown
+pub shows_account : (name : List ℕ) → ShowsTested Accounts READ_ACCOUNT.now (name_given name) (is_account name) account_shown
 unfolding everything
 shows_account name old new rows t stands h =
     shows Accounts READ_ACCOUNT.now _ _ _ reads_account (name_given name) (is_account name) account_shown (λ p. one_passes _ _ (text_is p.1.name name)) (λ p. refl) old new rows (t Accounts) (stands Accounts) h
@@ -71,75 +71,75 @@ lists_names old new rows t stands h =
     let found = lists Accounts LIST_ACCOUNTS.now _ _ _ lists_accounts [] (λ a. true) name_shown (λ p. refl) (λ p. refl) old new rows (t Accounts) (stands Accounts) h (λ a b. Unit {0}) (λ tree a b i j h. tt) in
     (found.0, subst (λ xs. IsPermutation xs found.0) (filter_all (t Accounts)) found.1, found.2)
 
-pub shows_form : (account : List ℕ) → Shows Forms READ_FORM.now (name_given account) (is_form_of account) form_shown
+pub shows_form : (account : List ℕ) → ShowsTested Forms READ_FORM.now (name_given account) (is_form_of account) form_shown
 unfolding everything
 shows_form account old new rows t stands h =
     shows Forms READ_FORM.now _ _ _ reads_form (name_given account) (is_form_of account) form_shown (λ p. one_passes _ _ (text_is p.1.account account)) (λ p. refl) old new rows (t Forms) (stands Forms) h
 
-pub shows_reported : (account : List ℕ) (year quarter : ℤ) → Shows ReportedQuarters READ_REPORTED.now (pair_given account year quarter) (is_reported account year quarter) reported_shown
+pub shows_reported : (account : List ℕ) (year quarter : ℤ) → ShowsTested ReportedQuarters READ_REPORTED.now (pair_given account year quarter) (is_reported account year quarter) reported_shown
 unfolding everything
 shows_reported account year quarter old new rows t stands h =
     shows ReportedQuarters READ_REPORTED.now _ _ _ reads_reported (pair_given account year quarter) (is_reported account year quarter) reported_shown (λ p. three_pass _ _ _ _ _ _ (text_is p.1.account account) (whole_is p.1.year year) (whole_is p.1.quarter quarter)) (λ p. refl) old new rows (t ReportedQuarters) (stands ReportedQuarters) h
 
-pub shows_reported_year : (account : List ℕ) (year : ℤ) → Shows ReportedYears READ_REPORTED_YEAR.now (key_given account year) (is_reported_year account year) reported_year_shown
+pub shows_reported_year : (account : List ℕ) (year : ℤ) → ShowsTested ReportedYears READ_REPORTED_YEAR.now (key_given account year) (is_reported_year account year) reported_year_shown
 unfolding everything
 shows_reported_year account year old new rows t stands h =
     shows ReportedYears READ_REPORTED_YEAR.now _ _ _ reads_reported_year (key_given account year) (is_reported_year account year) reported_year_shown (λ p. two_pass _ _ _ _ (text_is p.1.account account) (whole_is p.1.year year)) (λ p. refl) old new rows (t ReportedYears) (stands ReportedYears) h
 
-pub shows_calendar_year : (year : ℤ) → Shows CalendarYears READ_CALENDAR_YEAR.now (number_given year) (is_calendar_year year) calendar_year_shown
+pub shows_calendar_year : (year : ℤ) → ShowsTested CalendarYears READ_CALENDAR_YEAR.now (number_given year) (is_calendar_year year) calendar_year_shown
 unfolding everything
 shows_calendar_year year old new rows t stands h =
     shows CalendarYears READ_CALENDAR_YEAR.now _ _ _ reads_calendar_year (number_given year) (is_calendar_year year) calendar_year_shown (λ p. one_passes _ _ (whole_is p.1.year year)) (λ p. refl) old new rows (t CalendarYears) (stands CalendarYears) h
 
-pub shows_run : (account : List ℕ) (number : ℤ) → Shows Runs READ_RUN.now (key_given account number) (is_run account number) run_shown
+pub shows_run : (account : List ℕ) (number : ℤ) → ShowsTested Runs READ_RUN.now (key_given account number) (is_run account number) run_shown
 unfolding everything
 shows_run account number old new rows t stands h =
     shows Runs READ_RUN.now _ _ _ reads_run (key_given account number) (is_run account number) run_shown (λ p. two_pass _ _ _ _ (text_is p.1.account account) (whole_is p.1.number number)) (λ p. refl) old new rows (t Runs) (stands Runs) h
 
-pub shows_payment : (account : List ℕ) (number : ℤ) → Shows Payments READ_PAYMENT.now (key_given account number) (is_payment account number) payment_shown
+pub shows_payment : (account : List ℕ) (number : ℤ) → ShowsTested Payments READ_PAYMENT.now (key_given account number) (is_payment account number) payment_shown
 unfolding everything
 shows_payment account number old new rows t stands h =
     shows Payments READ_PAYMENT.now _ _ _ reads_payment (key_given account number) (is_payment account number) payment_shown (λ p. two_pass _ _ _ _ (text_is p.1.account account) (whole_is p.1.number number)) (λ p. refl) old new rows (t Payments) (stands Payments) h
 
 -- ---- in an order
 
-pub holidays_in_order : (year : ℤ) → Lists Holidays LIST_HOLIDAYS.now (number_given year) (is_holiday_of year) holiday_shown HolidaysRise
+pub holidays_in_order : (year : ℤ) → ListsTested Holidays LIST_HOLIDAYS.now (number_given year) (is_holiday_of year) holiday_shown HolidaysRise
 unfolding everything
 holidays_in_order year old new rows t stands h =
     lists Holidays LIST_HOLIDAYS.now _ _ _ lists_holidays (number_given year) (is_holiday_of year) holiday_shown (λ p. one_passes _ _ (whole_is p.1.year year)) (λ p. refl) old new rows (t Holidays) (stands Holidays) h
     HolidaysRise (λ tree a b i j h. one_rises a.day b.day h)
 
-pub added_holidays_in_order : (year : ℤ) → Lists AddedHolidays LIST_ADDED_HOLIDAYS.now (number_given year) (is_holiday_of year) holiday_shown HolidaysRise
+pub added_holidays_in_order : (year : ℤ) → ListsTested AddedHolidays LIST_ADDED_HOLIDAYS.now (number_given year) (is_holiday_of year) holiday_shown HolidaysRise
 unfolding everything
 added_holidays_in_order year old new rows t stands h =
     lists AddedHolidays LIST_ADDED_HOLIDAYS.now _ _ _ lists_added_holidays (number_given year) (is_holiday_of year) holiday_shown (λ p. one_passes _ _ (whole_is p.1.year year)) (λ p. refl) old new rows (t AddedHolidays) (stands AddedHolidays) h
     HolidaysRise (λ tree a b i j h. one_rises a.day b.day h)
 
-pub years_in_order : (account : List ℕ) → Lists Years LIST_YEARS.now (name_given account) (is_year_of account) year_shown YearsRise
+pub years_in_order : (account : List ℕ) → ListsTested Years LIST_YEARS.now (name_given account) (is_year_of account) year_shown YearsRise
 unfolding everything
 years_in_order account old new rows t stands h =
     lists Years LIST_YEARS.now _ _ _ lists_years (name_given account) (is_year_of account) year_shown (λ p. one_passes _ _ (text_is p.1.account account)) (λ p. refl) old new rows (t Years) (stands Years) h
     YearsRise (λ tree a b i j h. one_rises a.year b.year h)
 
-pub runs_in_order : (account : List ℕ) (from to : ℤ) → Lists Runs LIST_RUNS.now (pair_given account from to) (is_live_run_between account from to) live_run_shown RunsRise
+pub runs_in_order : (account : List ℕ) (from to : ℤ) → ListsTested Runs LIST_RUNS.now (pair_given account from to) (is_live_run_between account from to) live_run_shown RunsRise
 unfolding everything
 runs_in_order account from to old new rows t stands h =
     lists Runs LIST_RUNS.now _ _ _ lists_runs (pair_given account from to) (is_live_run_between account from to) live_run_shown (λ p. four_pass _ _ _ _ _ _ _ _ (text_is p.1.account account) (at_least_is p.1.payday from) (at_most_is p.1.payday to) (whole_is p.1.voided (pos 0))) (λ p. refl) old new rows (t Runs) (stands Runs) h
     RunsRise (λ tree a b i j h. two_rise a.payday b.payday a.number b.number h)
 
-pub payments_in_order : (account : List ℕ) (from to : ℤ) → Lists Payments LIST_PAYMENTS.now (pair_given account from to) (is_live_payment_between account from to) live_payment_shown PaymentsRise
+pub payments_in_order : (account : List ℕ) (from to : ℤ) → ListsTested Payments LIST_PAYMENTS.now (pair_given account from to) (is_live_payment_between account from to) live_payment_shown PaymentsRise
 unfolding everything
 payments_in_order account from to old new rows t stands h =
     lists Payments LIST_PAYMENTS.now _ _ _ lists_payments (pair_given account from to) (is_live_payment_between account from to) live_payment_shown (λ p. four_pass _ _ _ _ _ _ _ _ (text_is p.1.account account) (at_least_is p.1.for_day from) (at_most_is p.1.for_day to) (whole_is p.1.voided (pos 0))) (λ p. refl) old new rows (t Payments) (stands Payments) h
     PaymentsRise (λ tree a b i j h. two_rise a.for_day b.for_day a.number b.number h)
 
-pub obligations_in_order : (account : List ℕ) (from to : ℤ) → Lists Obligations LIST_OBLIGATIONS.now (pair_given account from to) (is_obligation_between account from to) obligation_shown ObligationsRise
+pub obligations_in_order : (account : List ℕ) (from to : ℤ) → ListsTested Obligations LIST_OBLIGATIONS.now (pair_given account from to) (is_obligation_between account from to) obligation_shown ObligationsRise
 unfolding everything
 obligations_in_order account from to old new rows t stands h =
     lists Obligations LIST_OBLIGATIONS.now _ _ _ lists_obligations (pair_given account from to) (is_obligation_between account from to) obligation_shown (λ p. three_pass _ _ _ _ _ _ (text_is p.1.account account) (at_least_is p.1.first from) (at_most_is p.1.first to)) (λ p. refl) old new rows (t Obligations) (stands Obligations) h
     ObligationsRise (λ tree a b i j h. one_rises a.first b.first h)
 
-pub due_over_in_order : (day : ℤ) → Lists Obligations LIST_DUE_OVER.now (number_given day) (is_due_over day) account_obligation_shown AccountsRise
+pub due_over_in_order : (day : ℤ) → ListsTested Obligations LIST_DUE_OVER.now (number_given day) (is_due_over day) account_obligation_shown AccountsRise
 unfolding everything
 due_over_in_order day old new rows t stands h =
     lists Obligations LIST_DUE_OVER.now _ _ _ lists_due_over (number_given day) (is_due_over day) account_obligation_shown (λ p. two_pass _ _ _ _ (below_is p.1.first day) (at_least_is p.1.due day)) (λ p. refl) old new rows (t Obligations) (stands Obligations) h

@@ -26,7 +26,7 @@ use Rattle.ftd_tables.specs.TextKinds.{IsReadText}
 use Rattle.ftd_tables.proofs.Counting.{count_query, counts_rows, greatest_count}
 use Rattle.ftd_tables.proofs.InOrder.{shows_in_order}
 use Rattle.ftd_tables.proofs.KeptLemmas.{plain_query}
-use Rattle.ftd_tables.specs.TextKinds.{Reads}
+use Rattle.ftd_tables.specs.TextKinds.{IsReadAs}
 use Rattle.ftd_tables.proofs.Meaning.{IsAccepted, Means}
 use Rattle.ftd_tables.proofs.OneRow.{Tests}
 use Rattle.ftd_tables.proofs.Phrase.{Phrase, Rows}
@@ -44,7 +44,7 @@ pub record Opens (name : List ℕ) (columns : List (Phrase × List ℕ)) (test :
 
 -- the text is a SELECT of these columns over the table, under these tests and in this order
 pub record Asks (n : TableName) (text : List ℕ) (columns : List Place) (tests : List Test) (order : List Place) : Type 0 where
-  pub reads : Reads text (written.Select (a_select (name_of n) (shown_of columns) (where_of tests) (order_of order)))
+  pub reads : IsReadAs text (written.Select (a_select (name_of n) (shown_of columns) (where_of tests) (order_of order)))
   pub opens : Opens (name_of n) (shown_of columns) (where_of tests) (order_of order)
   pub resolves : (tree : ℕ) → Resolves (table_of n tree) (name_of n) (shown_of columns) (where_of tests) (order_of order) (outs_of columns) (draft_of columns tests order tree)
   pub accepted : (tree : ℕ) → IsAccepted (table_of n tree) (query_of (draft_of columns tests order tree))
@@ -55,7 +55,7 @@ pub asking : (n : TableName) (text : List ℕ) (columns : List Place) (tests : L
 asking n text columns tests order a = (_, a.reads)
 
 means : (n : TableName) (text : List ℕ) (columns : List (Phrase × List ℕ)) (test : Option Phrase) (order : List (Phrase × Bool)) (outs : List Output) (draft : Draft) (query : Query) (s : Schema) (at tree : ℕ)
-    → Reads text (written.Select (a_select (name_of n) columns test order)) → Opens (name_of n) columns test order → Resolves (table_of n tree) (name_of n) columns test order outs draft → IsAccepted (table_of n tree) (query_of draft) → query_of draft ≡ query
+    → IsReadAs text (written.Select (a_select (name_of n) columns test order)) → Opens (name_of n) columns test order → Resolves (table_of n tree) (name_of n) columns test order outs draft → IsAccepted (table_of n tree) (query_of draft) → query_of draft ≡ query
     → IsAt s (name_of n) (table_of n tree) at → Means s text (Select (record { lets = []; body = query }) (map (λ (o : Output). o.name) outs))
 means n text columns test order outs draft query s at tree reads opens resolves accepted is_query place =
     subst (λ q. Means s text (Select (record { lets = []; body = q }) (map (λ (o : Output). o.name) outs))) is_query
@@ -88,7 +88,7 @@ module _ (n : TableName) (text : List ℕ) (columns : List Place) (tests : List 
 
 -- the text counts the rows of the table, under these tests
 pub record Counts (n : TableName) (text : List ℕ) (tests : List Test) : Type 0 where
-  pub reads : Reads text (written.Select (a_select (name_of n) ((Rows, codes "COUNT(*)") ∷ []) (where_of tests) []))
+  pub reads : IsReadAs text (written.Select (a_select (name_of n) ((Rows, codes "COUNT(*)") ∷ []) (where_of tests) []))
   pub opens : Opens (name_of n) ((Rows, codes "COUNT(*)") ∷ []) (where_of tests) []
   pub resolves : (tree : ℕ) → Resolves (table_of n tree) (name_of n) ((Rows, codes "COUNT(*)") ∷ []) (where_of tests) [] (count_out ∷ []) (count_draft tests tree)
   pub accepted : (tree : ℕ) → IsAccepted (table_of n tree) (query_of (count_draft tests tree))

@@ -32,7 +32,7 @@ use Rattle.sqlite_resolve.specs.Compile.{new_rows}
 use Rattle.sqlite_resolve.specs.Write.{simple, updated, deleted}
 use Rattle.ftd_tables.specs.Kept.{stored, changed}
 use Rattle.ftd_tables.specs.TextKinds.{IsRowText}
-use Rattle.ftd_tables.specs.TextKinds.{Reads}
+use Rattle.ftd_tables.specs.TextKinds.{IsReadAs}
 use Rattle.ftd_tables.proofs.Meaning.{IsAccepted, Means, inserts, deletes}
 use Rattle.ftd_tables.proofs.KeptLemmas.{plain_query}
 use Rattle.sqlite.specs.Command.TheVariants.{Update}
@@ -67,7 +67,7 @@ terms_given count = lit Null ∷ map (λ k. col 0 k) (numbered 0 count)
 
 -- the text that adds to the table is an INSERT of all its columns in their order
 pub record Adds (n : TableName) : Type 0 where
-  pub reads : Reads (add_of n) (written.Insert conflict.Abort (name_of n) (columns_given n) (values_given (length (columns_of n))) [] [])
+  pub reads : IsReadAs (add_of n) (written.Insert conflict.Abort (name_of n) (columns_given n) (values_given (length (columns_of n))) [] [])
   pub is : (s : Schema) (tree base : ℕ) → new_rows s (table_of n tree) base (columns_given n) (values_given (length (columns_of n))) ≡ Ok (Values (terms_given (length (columns_of n))) (suc (length (columns_of n))))
   pub cells : (x : RowOf n) (tree : ℕ) (db : Trees)
       → edited db (edit_of db (table_of n tree) [] Chosen 0 (value_rows (cells_of n x) (suc (length (columns_of n))) (length (terms_given (length (columns_of n))) / suc (length (columns_of n))) (terms_given (length (columns_of n))))) ≡ put_row (Int (next_rowid (db tree)) ∷ cells_of n x) (db tree)
@@ -87,8 +87,8 @@ adds_to Forms = record { reads = record { read = _; is = refl; said = refl; unti
 adds_to ReportedYears = record { reads = record { read = _; is = refl; said = refl; untimed = refl; whole = refl }; is = λ s tree base. refl; cells = λ x tree db. rw (cast_null, cast_int, cast_int) refl }
 adds_to AddedHolidays = record { reads = record { read = _; is = refl; said = refl; untimed = refl; whole = refl }; is = λ s tree base. refl; cells = λ x tree db. rw (cast_null, cast_int, cast_int) refl }
 
-pub adding : (n : TableName) → IsRowText (add_of n)
-adding n = (_, (adds_to n).reads, tt)
+pub add_is_row_text : (n : TableName) → IsRowText (add_of n)
+add_is_row_text n = (_, (adds_to n).reads, tt)
 
 -- a row is added to the table
 pub adds : (n : TableName) (x : RowOf n) (old new : State) (count : ℕ) (t : Tables) → Stands old.now t → Executes (add_of n) (cells_of n x) old new (Ok count)
@@ -109,7 +109,7 @@ adds n x old new count t stands h =
 -- the text is an UPDATE of the rows that pass the tests; the new row is what `project` computes
 pub record Changes (n : TableName) (text : List ℕ) (first : Test) (more : List Test) (sets : List (Phrase × List ℕ)) (project : List Term) : Type 0 where
   pub acts : IsTrue (is_rewritten n)
-  pub reads : Reads text (written.Update (name_of n) (map setting sets) (Some (say (joined first more))) [])
+  pub reads : IsReadAs text (written.Update (name_of n) (map setting sets) (Some (say (joined first more))) [])
   pub is : (tree : ℕ) → updated (alone (table_of n tree)) 0 (table_of n tree) (map setting sets) (Some (say (joined first more))) ≡ Ok (simple (Inner tree ∷ []) (filters_of (first ∷ more)) project)
   pub known : (tree : ℕ) → (knows (table_of n tree) (joined first more) ≡ true) × (all_known (table_of n tree) sets ≡ true)
   pub accepted : (tree : ℕ) → IsAccepted (table_of n tree) (query_of (simple (Inner tree ∷ []) (filters_of (first ∷ more)) project))
@@ -148,7 +148,7 @@ module _ (n : TableName) (text : List ℕ) (first : Test) (more : List Test) (se
 -- the text is a DELETE of the rows that pass the tests
 pub record Removes (n : TableName) (text : List ℕ) (first : Test) (more : List Test) : Type 0 where
   pub acts : IsTrue (is_rewritten n)
-  pub reads : Reads text (written.Delete (name_of n) (Some (say (joined first more))) [])
+  pub reads : IsReadAs text (written.Delete (name_of n) (Some (say (joined first more))) [])
   pub is : (tree : ℕ) → deleted (alone (table_of n tree)) 0 (table_of n tree) (Some (say (joined first more))) ≡ Ok (simple (Inner tree ∷ []) (filters_of (first ∷ more)) (col 1 0 ∷ []))
   pub known : (tree : ℕ) → knows (table_of n tree) (joined first more) ≡ true
   pub accepted : (tree : ℕ) → IsAccepted (table_of n tree) (query_of (simple (Inner tree ∷ []) (filters_of (first ∷ more)) (col 1 0 ∷ [])))

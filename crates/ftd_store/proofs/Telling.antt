@@ -68,7 +68,7 @@ then_reads g old mid new x y z First Second Both tells p q = record {
 
 -- the value of a key, or none
 pub finds : {S Y : Type 0} (g : store.Ghosts S) (old new : Tx S) (result : Result (Option Y) StoreFault) (n : TableName) (sql : List ℕ) (params : Row) (test : RowOf n → Bool) (see : RowOf n → Row) (seen : Y → Row) (row : Y → RowOf n)
-    → meaning.Shows n sql params test see → ((x : RowOf n) (y : Y) → test x ≡ true → see x ≡ seen y → x ≡ row y)
+    → meaning.ShowsTested n sql params test see → ((x : RowOf n) (y : Y) → test x ≡ true → see x ≡ seen y → x ≡ row y)
     → Queries g old new result sql params (λ found rows. rows ≡ rows_of seen found) → Reads g old new result (λ found t. filter test (t n) ≡ rows_of row found)
 finds g old new result n sql params test see seen row means same q =
     reads_by g old new result sql params _ _ (λ found rows t stands showed is. only_shown see seen row test (t n) found rows same (means (shown g old) (shown g new) rows t stands showed) is) q
@@ -76,7 +76,7 @@ finds g old new result n sql params test see seen row means same q =
 -- the values of some rows, in an order
 pub lists : {S A Y : Type 0} (g : store.Ghosts S) (old new : Tx S) (result : Result A StoreFault) (items : A → List Y) (n : TableName) (sql : List ℕ) (params : Row) (test : RowOf n → Bool) (see : RowOf n → Row) (seen : Y → Row)
     (Rise : RowOf n → RowOf n → Type 0) (IsRowOf : RowOf n → Y → Type 0)
-    → meaning.Lists n sql params test see Rise → ((x : RowOf n) (y : Y) → test x ≡ true → see x ≡ seen y → IsRowOf x y)
+    → meaning.ListsTested n sql params test see Rise → ((x : RowOf n) (y : Y) → test x ≡ true → see x ≡ seen y → IsRowOf x y)
     → Queries g old new result sql params (λ listed rows. rows ≡ map seen (items listed)) → Reads g old new result (λ listed t. Lists Rise IsRowOf (filter test (t n)) (items listed))
 lists g old new result items n sql params test see seen Rise IsRowOf means same q =
     reads_by g old new result sql params _ _ (λ listed rows t stands showed is.

@@ -1,19 +1,21 @@
 -- What a reading shows whose rows are given one at a time.
 use Rattle.std.proofs.Common.{◌≡◌, ℕ, ℤ, List, [], ◌∷◌, ◌++◌, map, Option, None, Some, Result, Ok, Err, inl, inr, refl, sym, ap, subst, ◌∙◌}
-use Rattle.std.specs.Prelude.{filter, IsSome}
+use Rattle.std.specs.Prelude.{filter, IsSome, IfOk, OnErr}
 use Rattle.sqlite.specs.Store as store
 use Rattle.sqlite.specs.Effect.{Database}
 use Rattle.sqlite.specs.Order.{Row}
 use Rattle.sqlite.specs.Listing.{understood}
-use Rattle.sqlite.specs.State.{State, Begins, Shown, IsUnchanged, IsStatement}
+use Rattle.sqlite.specs.State.{State, Begins, Shown, IsUnchanged, IsStatement, HasCleanDisk}
 use Rattle.sqlite.specs.Held.{Held, state}
-use Rattle.sqlite.specs.Given.{HasGiven, HasBegun, GivesOn, Advances, Returns, IsPlain}
+use Rattle.sqlite.specs.Given.{HasGiven, HasBegun, GivesOn, Advances, Returns, IsPlain, IsRefused}
+use Rattle.sqlite.specs.declared.error.Error.{Error}
 use Rattle.sqlite.proofs.Callers.{EndsIn, begins_shown, given_begin, command_of}
 use Rattle.sqlite_resolve.specs.declared.compiled.Compiled.{Compiled}
 use Rattle.sqlite.specs.Schema.{Schema}
 use Rattle.sqlite_resolve.specs.declared.error.CompileError.{CompileError}
 use Rattle.std.proofs.lemmas.Bool.{false≢true}
 use Rattle.ftd_tables.specs.TextKinds.{IsReadText}
+use Rattle.ftd_tables.proofs.Commits.{reading_commits_nothing}
 use Rattle.ftd_tables.proofs.Meaning.{select_plain}
 use Rattle.ftd_tables.proofs.Selects.{selects}
 use Rattle.ftd_rules.specs.declared.Obligation.{Obligation}
@@ -22,6 +24,9 @@ use Rattle.ftd_schema.specs.Standing.{Tables, Stands}
 use Rattle.ftd_sql.specs.declared.texts.TheConstants.{LIST_OBLIGATIONS}
 use Rattle.ftd_sql.specs.Answers.{obligation_shown}
 use Rattle.ftd_sql.specs.Given.{pair_given}
+use Rattle.ftd_sql.specs.States.{CrashKeeps}
+use Rattle.ftd_sql.proofs.Controls.{weaker}
+use Rattle.ftd_sql.proofs.Leaves.{query_leaves}
 use Rattle.ftd_sql.specs.Orders.{ObligationsRise}
 use Rattle.ftd_sql.specs.Tests.{is_obligation_between}
 use Rattle.ftd_sql.proofs.Asking.{lists_obligations}
@@ -29,7 +34,9 @@ use Rattle.ftd_sql.proofs.Meanings.{obligations_in_order}
 use Rattle.ftd_rows.specs.Cells.{obligation_cells}
 use Rattle.ftd_rows.specs.Lists.{Lists, ListsFirst}
 use Rattle.ftd_rows.proofs.Listed.{lists_shown, first_shown}
+use Rattle.ftd_store.specs.Ends.{IsSettled, LeavesRows}
 use Rattle.ftd_store.specs.Finds.{IsObligation}
+use Rattle.ftd_store.proofs.Beginning.{failed_rests}
 use Rattle.ftd_store.proofs.Same.{obligation_is}
 
 -- the query has no part that could go on for ever
@@ -55,6 +62,10 @@ first_listed account from to s same listed t stands begins =
     let read = obligations_in_order account from to s s _ t stands whole.1 in
     first_shown ObligationsRise (IsObligation account) (is_obligation_between account from to) obligation_shown obligation_cells (obligation_is account from to) (t Obligations) read.0 listed whole.0 read.1 read.3 read.2
 
+pub if_ok : {A E : Type 0} (r : Result A E) (P Q : A → Type 0) → ((x : A) → P x → Q x) → IfOk r P → IfOk r Q
+if_ok (Ok x) P Q so h = so x h
+if_ok (Err e) P Q so h = tt
+
 -- ---- a reading that is under way
 
 no_write : (s : Schema) (text : List ℕ) → IsReadText text → ¬ Returns (understood s text)
@@ -71,6 +82,12 @@ module _ {S : Type 0} (g : store.Ghosts S) where
   pub begun_reading : (text : List ℕ) (params : Row) (old new : Held S) → IsReadText text → HasBegun g text params old new → HasGiven g text params new [] × IsUnchanged (state g old) (state g new)
   begun_reading text params old new reads (inl h) = h
   begun_reading text params old new reads (inr h) = absurd (no_write old.schema text reads h.0)
+
+  -- a reading that does not begin leaves the rows
+  pub refused_rests : {X : Type 0} (text : List ℕ) (params : Row) (old new : Held S) (result : Result X Error) → IsReadText text → IsSettled (state g old)
+      → OnErr result (IsRefused g text params old result new) → OnErr result ((HasCleanDisk (state g new) → LeavesRows (state g old) (state g new)) × CrashKeeps (state g old) (state g new))
+  refused_rests text params old new (Ok x) reads settled h = tt
+  refused_rests text params old new (Err e) reads settled h = (λ clean. failed_rests (state g old) (state g new) settled (query_leaves text params (state g old) (state g new) e (h.err clean)), weaker _ _ _ (λ db. reading_commits_nothing _ text params db reads) h.survives)
 
   module _ (account : List ℕ) (from to : ℤ) (old new : Held S) (listed : List Obligation) (has : HasGiven g LIST_OBLIGATIONS.now (pair_given account from to) old (map obligation_cells listed)) where
     stays : IsUnchanged (state g old) (state g new) → IsUnchanged (state g new) (state g new)

@@ -9,6 +9,10 @@ pub record Begins (old new : State) : Type 0 where
   pub shows : Shows old new old.now old.committed true
   pub settled : old.now ≡ old.committed
 
+-- what is seen is what is committed
+abbrev pub IsSettled : State → Type 0
+IsSettled s = IsTrue s.is_open → s.now ≡ s.committed
+
 -- what is seen and what is committed are as they were
 pub record LeavesRows (old new : State) : Type 0 where
   pub was_open : IsTrue new.is_open → IsTrue old.is_open

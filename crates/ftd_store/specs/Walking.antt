@@ -3,6 +3,7 @@ use Rattle.std.specs.Prelude.{ℕ, ◌+◌, ◌-◌, List, [], ◌∷◌, ◌++�
 use Rattle.sqlite.specs.Store as store
 use Rattle.sqlite.specs.State.{State}
 use Rattle.sqlite.specs.Held.{state}
+use Rattle.sqlite.specs.declared.rows.stream.Rows.{Rows}
 use Rattle.sqlite.specs.Given.{HasGiven}
 use Rattle.ftd_days.specs.Calendar.{quarter_start}
 use Rattle.ftd_rules.specs.declared.Obligation.{Obligation}
@@ -28,13 +29,13 @@ module _ {S : Type 0} (g : store.Ghosts S) where
   walked it = state g it.rows.conn.now
 
   -- these obligations of the account's quarter have been given
-  abbrev pub HasListed : List ℕ → ℕ → ObligationRows S g → List Obligation → Type 0
-  HasListed account quarter it listed =
-      HasGiven g LIST_OBLIGATIONS.now (pair_given account (day_number (quarter_start quarter)) (day_number (quarter_start (quarter + 1) - 1))) it.rows.conn.now (map obligation_cells listed)
+  abbrev pub HasListed : List ℕ → ℕ → Rows S g → List Obligation → Type 0
+  HasListed account quarter rows listed =
+      HasGiven g LIST_OBLIGATIONS.now (pair_given account (day_number (quarter_start quarter)) (day_number (quarter_start (quarter + 1) - 1))) rows.conn.now (map obligation_cells listed)
 
   -- one more is given, and those so far are the first of the quarter; or they are all of it
-  abbrev pub Continues : List ℕ → ℕ → ObligationRows S g → List Obligation → Option Obligation → Type 0
-  Continues account quarter it listed (Some o) =
-      HasListed account quarter it (listed ++ o ∷ [])
-      × ((t : Tables) → Stands (walked it).now t → ListsFirst ObligationsRise (IsObligation account) (rows_in account quarter t) (listed ++ o ∷ []))
-  Continues account quarter it listed None = (t : Tables) → Stands (walked it).now t → Lists ObligationsRise (IsObligation account) (rows_in account quarter t) listed
+  abbrev pub Continues : List ℕ → ℕ → Rows S g → List Obligation → Option Obligation → Type 0
+  Continues account quarter rows listed (Some o) =
+      HasListed account quarter rows (listed ++ o ∷ [])
+      × ((t : Tables) → Stands (state g rows.conn.now).now t → ListsFirst ObligationsRise (IsObligation account) (rows_in account quarter t) (listed ++ o ∷ []))
+  Continues account quarter rows listed None = (t : Tables) → Stands (state g rows.conn.now).now t → Lists ObligationsRise (IsObligation account) (rows_in account quarter t) listed

@@ -8,10 +8,10 @@ mod files;
 #[cfg(test)]
 mod lists;
 #[cfg(test)]
-mod opening;
-#[cfg(test)]
 mod rows;
 #[cfg(test)]
 mod strange;
 #[cfg(test)]
 mod support;
+#[cfg(test)]
+mod walking;

@@ -124,21 +124,21 @@ fn the_runs_of_a_day_add_up(rt: HostRuntime) -> Result<(), Fail> {
     Ok(())
 }
 
-fn may() -> Result<Obligation, Fail>
+pub(crate) fn may() -> Result<Obligation, Fail>
     ensures { IfOk result (λ o. IsStorable o.cents) }
 {
     let days = ["2024-05-01", "2024-05-15", "2024-05-16"];
     obligation(days, Rule::NextDay, 10_500_000)
 }
 
-fn late_may() -> Result<Obligation, Fail>
+pub(crate) fn late_may() -> Result<Obligation, Fail>
     ensures { IfOk result (λ o. IsStorable o.cents) }
 {
     let days = ["2024-05-22", "2024-05-24", "2024-05-30"];
     obligation(days, Rule::Semiweekly, 5_000_000)
 }
 
-fn june() -> Result<Obligation, Fail>
+pub(crate) fn june() -> Result<Obligation, Fail>
     ensures { IfOk result (λ o. IsStorable o.cents) }
 {
     let days = ["2024-06-01", "2024-06-30", "2024-07-15"];
@@ -179,7 +179,7 @@ fn replace<S: Alter>(
 }
 
 /// Two accounts, each with the obligations of May and June.
-fn enrol_with_obligations<S: Alter>(store: &mut Store<S>) -> Result<(), Fail> {
+pub(crate) fn enrol_with_obligations<S: Alter>(store: &mut Store<S>) -> Result<(), Fail> {
     enrol_two(store)?;
     let given = [june()?, late_may()?, may()?];
     replace(store, "elm", ["2024-01-01", "2024-12-31"], &given)?;

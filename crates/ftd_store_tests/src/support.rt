@@ -6,7 +6,7 @@ ghost use Rattle.ftd_rows.specs.Amounts.{HasStorableAmounts, IsStorable};
 
 use ftd_days::{Cents, Day, Quarter};
 use ftd_rules::{Form, Obligation, Rule};
-use ftd_store::{Account, NotOpened, OpenFault, PayRun, Payment, Store, Tx};
+use ftd_store::{Account, NotOpened, PayRun, Payment, Store, Tx};
 use sqlite::{Alter, Connection, MemStore};
 use std::alloc::Global;
 use std::test::Fail;
@@ -65,13 +65,6 @@ pub(crate) fn obligation(days: [&str; 3], rule: Rule, cents: u32) -> Result<Obli
     })
 }
 
-/// A database in memory, in which a text was run.
-pub(crate) fn database(alloc: Global, sql: &str) -> Result<Connection<MemStore>, Fail> {
-    let mut conn = Connection::open_in_memory(alloc)?;
-    batch(&mut conn, sql)?;
-    Ok(conn)
-}
-
 pub(crate) fn batch<S: Alter>(conn: &mut Connection<S>, sql: &str) -> Result<(), Fail> {
     Ok(conn.execute_batch(sql)?)
 }
@@ -105,16 +98,6 @@ pub(crate) fn open<S: Alter + Drop>(conn: Connection<S>) -> Result<Store<S>, Fai
                 fault,
             },
         ) => Err(fault.into()),
-    }
-}
-
-/// Why the database is not opened, and the database.
-pub(crate) fn refused<S: Alter + Drop>(
-    conn: Connection<S>,
-) -> Result<(OpenFault, Connection<S>), Fail> {
-    match Store::open(conn) {
-        Ok(_) => Err("it was opened".into()),
-        Err(NotOpened { connection, fault }) => Ok((fault, connection)),
     }
 }
 

@@ -23,7 +23,7 @@ use Rattle.sqlite_resolve.specs.Compile.{small, timed, compiled, planned, meanin
 use Rattle.sqlite_resolve.specs.Program.{query, program}
 use Rattle.sqlite_resolve.specs.Write.{updated, deleted}
 use Rattle.sqlite_resolve.specs.Body.{table_at}
-use Rattle.ftd_tables.specs.TextKinds.{Reads}
+use Rattle.ftd_tables.specs.TextKinds.{IsReadAs}
 use Rattle.ftd_tables.proofs.Meaning.{select_plain}
 use Rattle.ftd_tables.specs.TextKinds.{IsOfRows, IsRowText, IsReadText}
 
@@ -85,7 +85,7 @@ of_rows s base (written.Savepoint _) k is h = elim is [ ]
 of_rows s base (written.Release _) k is h = elim is [ ]
 of_rows s base (written.RollbackTo _) k is h = elim is [ ]
 
-on_compiled : (s : Schema) (text : List ℕ) (st : Statement) (r : Reads text st) → IsOfRows st → (c : Compiled) → compiled s text ≡ Ok c → OnRows c.command
+on_compiled : (s : Schema) (text : List ℕ) (st : Statement) (r : IsReadAs text st) → IsOfRows st → (c : Compiled) → compiled s text ≡ Ok c → OnRows c.command
 unfolding compiled planned meaning
 on_compiled s text st r is c h = go (returning s base st) (command s [] base st) refl refl
   where

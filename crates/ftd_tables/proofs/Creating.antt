@@ -23,7 +23,7 @@ use Rattle.std.specs.Prelude.{is_some, ◌||◌}
 use Rattle.std.specs.List.{AllByRecursion, AllZip, list_any}
 use Rattle.sqlite.specs.Order.{Row}
 use Rattle.sqlite_catalog.specs.Listing.{IsTableRow}
-use Rattle.ftd_tables.specs.TextKinds.{Reads}
+use Rattle.ftd_tables.specs.TextKinds.{IsReadAs}
 use Rattle.ftd_tables.proofs.Meaning.{Means, means, refused}
 
 -- what the text defines, with no look at a schema
@@ -34,7 +34,7 @@ pub record Defines (d : Definition) (t : Table) : Type 0 where
   pub whole : (length t.computed == length t.stamps.places && not d.resolves) ≡ true
 
 -- a CREATE that is understood makes a table
-pub made : (s : Schema) (text : List ℕ) (d : Definition) (t : Table) (c : Compiled) → Reads text (written.CreateTable d) → Defines d t → understood s text ≡ Ok c → Means s text CreateTable
+pub made : (s : Schema) (text : List ℕ) (d : Definition) (t : Table) (c : Compiled) → IsReadAs text (written.CreateTable d) → Defines d t → understood s text ≡ Ok c → Means s text CreateTable
 unfolding timed returning command create_table creates
 made s text d t c r has ok = go (is_attached s d.name) (index_named s d.name) (option_or (table_named s d.name) (view_named s d.name)) refl refl refl
   where
@@ -44,7 +44,7 @@ made s text d t c r has ok = go (is_attached s d.name) (index_named s d.name) (o
     go false None (Some k) is-a is-y is-x = absurd (let e = refused s text (written.CreateTable d) Exists r refl (λ base. refl) (λ base. rw (is-a, has.fresh, is-y, is-x, has.must) refl) refl in cc)
     go false None None is-a is-y is-x = means s text (written.CreateTable d) CreateTable r refl (λ base. refl) (λ base. rw (is-a, has.fresh, is-y, is-x, has.is, has.whole) refl)
 
-defines : (text : List ℕ) (d : Definition) (t : Table) → Reads text (written.CreateTable d) → Defines d t → table_defined_by text ≡ Ok t
+defines : (text : List ℕ) (d : Definition) (t : Table) → IsReadAs text (written.CreateTable d) → Defines d t → table_defined_by text ≡ Ok t
 unfolding table_defined_by table_in
 defines text d t r has = rw (r.is, r.said, r.untimed, has.is) refl
 
@@ -74,7 +74,7 @@ unused s name h = go (table_named s name) refl h
     go (Some k) is e = absurd cc
 
 -- a CREATE that runs on any database finds its names free, and gives the table the next tree
-pub creates_any : (old new : State) (text : List ℕ) (d : Definition) (t : Table) (count : ℕ) → Reads text (written.CreateTable d) → Defines d t → lacks_sequence (created old.now.schema t) ≡ false → Executes text [] old new (Ok count)
+pub creates_any : (old new : State) (text : List ℕ) (d : Definition) (t : Table) (count : ℕ) → IsReadAs text (written.CreateTable d) → Defines d t → lacks_sequence (created old.now.schema t) ≡ false → Executes text [] old new (Ok count)
     → Made old.now new.now t
 unfolding ExecutesIn
 creates_any old new text d t count r has counted h =

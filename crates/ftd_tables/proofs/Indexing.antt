@@ -26,7 +26,7 @@ use Rattle.ftd_tables.specs.Kept.{Keeps}
 use Rattle.ftd_tables.specs.Places.{IsAt, IsSpared, Holds, KeepsTables}
 use Rattle.ftd_tables.proofs.Frames.{all_at}
 use Rattle.ftd_tables.proofs.Steps.{went, same_value}
-use Rattle.ftd_tables.specs.TextKinds.{Reads}
+use Rattle.ftd_tables.specs.TextKinds.{IsReadAs}
 use Rattle.ftd_tables.proofs.Meaning.{Means, means, refused}
 
 -- what the text defines on the table
@@ -37,7 +37,7 @@ pub record DefinesIndex (d : Definition) (t : Table) (i : Index) : Type 0 where
   pub is : define.index t d ≡ Ok i
 
 -- a CREATE INDEX that is understood makes an index on the table
-pub indexes : (s : Schema) (text : List ℕ) (d : Definition) (t : Table) (at : ℕ) (i : Index) (c : Compiled) → Reads text (written.CreateIndex d) → IsAt s d.table t at → DefinesIndex d t i → understood s text ≡ Ok c → Means s text (CreateIndex at)
+pub indexes : (s : Schema) (text : List ℕ) (d : Definition) (t : Table) (at : ℕ) (i : Index) (c : Compiled) → IsReadAs text (written.CreateIndex d) → IsAt s d.table t at → DefinesIndex d t i → understood s text ≡ Ok c → Means s text (CreateIndex at)
 unfolding timed returning command create_index creates
 indexes s text d t at i c r place has ok = go (index_named s d.name) (option_or (table_named s d.name) (view_named s d.name)) refl refl
   where
@@ -71,7 +71,7 @@ pub beside_keeps : (old new : Database) → Beside old new → KeepsTables old n
 beside_keeps old new b = λ name t at place. (at_beside old.schema new.schema name t at b.tables place, all_at (λ (v : Table). new.trees v.tree ≡ old.trees v.tree) old.schema.tables at t b.rows place.listed)
 
 -- a CREATE INDEX that runs leaves the tables and their rows
-pub indexes_any : (old new : State) (text : List ℕ) (d : Definition) (t : Table) (at : ℕ) (i : Index) (count : ℕ) → Reads text (written.CreateIndex d) → IsAt old.now.schema d.table t at → DefinesIndex d t i → Executes text [] old new (Ok count)
+pub indexes_any : (old new : State) (text : List ℕ) (d : Definition) (t : Table) (at : ℕ) (i : Index) (count : ℕ) → IsReadAs text (written.CreateIndex d) → IsAt old.now.schema d.table t at → DefinesIndex d t i → Executes text [] old new (Ok count)
     → Beside old.now new.now
 unfolding ExecutesIn
 indexes_any old new text d t at i count r place has h =

@@ -31,7 +31,7 @@ use Rattle.sqlite_resolve.specs.Write.{deleted, picked}
 use Rattle.sqlite_resolve.specs.Program.{program}
 use Rattle.sqlite_resolve.specs.Compile.{compiled, small, planned, meaning, command, returning, timed, shows, delete, insert, insert_or_abort, new_rows}
 use Rattle.ftd_tables.specs.Places.{IsAt}
-use Rattle.ftd_tables.specs.TextKinds.{Reads}
+use Rattle.ftd_tables.specs.TextKinds.{IsReadAs}
 use Rattle.ftd_tables.proofs.Phrase.{Phrase, say, knows, alone, lower_same}
 
 -- the text stands for this command
@@ -45,7 +45,7 @@ pub record Means (s : Schema) (text : List ℕ) (c : Command) : Type 0 where
 abbrev pub base_of : Parsed → ℕ
 base_of p = small p.names + small []
 
-pub means_at : (s : Schema) (text : List ℕ) (st : Statement) (c : Command) (r : Reads text st) → timed s [] st ≡ [] → returning s (base_of r.read) st ≡ Ok None → command s [] (base_of r.read) st ≡ Ok c → Means s text c
+pub means_at : (s : Schema) (text : List ℕ) (st : Statement) (c : Command) (r : IsReadAs text st) → timed s [] st ≡ [] → returning s (base_of r.read) st ≡ Ok None → command s [] (base_of r.read) st ≡ Ok c → Means s text c
 unfolding compiled planned meaning understood
 means_at s text st c r untimed bare gives = record { is = rw known refl; plain = rw known (refl, refl); unlisted = rw is refl; whole = rw known r.whole }
   where
@@ -58,11 +58,11 @@ means_at s text st c r untimed bare gives = record { is = rw known refl; plain =
     known : understood s text ≡ Ok found
     known = rw is refl
 
-pub means : (s : Schema) (text : List ℕ) (st : Statement) (c : Command) → Reads text st → timed s [] st ≡ [] → ((base : ℕ) → returning s base st ≡ Ok None) → ((base : ℕ) → command s [] base st ≡ Ok c) → Means s text c
+pub means : (s : Schema) (text : List ℕ) (st : Statement) (c : Command) → IsReadAs text st → timed s [] st ≡ [] → ((base : ℕ) → returning s base st ≡ Ok None) → ((base : ℕ) → command s [] base st ≡ Ok c) → Means s text c
 means s text st c r untimed bare gives = means_at s text st c r untimed (bare (base_of r.read)) (gives (base_of r.read))
 
 -- a text that is refused is not understood
-pub refused : (s : Schema) (text : List ℕ) (st : Statement) (e : CompileError) → Reads text st → timed s [] st ≡ [] → ((base : ℕ) → returning s base st ≡ Ok None) → ((base : ℕ) → command s [] base st ≡ Err e)
+pub refused : (s : Schema) (text : List ℕ) (st : Statement) (e : CompileError) → IsReadAs text st → timed s [] st ≡ [] → ((base : ℕ) → returning s base st ≡ Ok None) → ((base : ℕ) → command s [] base st ≡ Err e)
     → misses_table (Err e) ≡ false → understood s text ≡ Err e
 unfolding compiled planned meaning understood
 refused s text st e r untimed bare gives other = rw (is, other) refl
@@ -70,12 +70,12 @@ refused s text st e r untimed bare gives other = rw (is, other) refl
     is : compiled s text ≡ Err e
     is = rw (r.is, r.said, r.untimed, untimed, bare (small r.read.names + small []), gives (small r.read.names + small [])) refl
 
-command_plain : (x : Schema) (text : List ℕ) (q : Select) → Reads text (written.Select q) → (d : Compiled) (o : Checked Command) → command x [] 0 (written.Select q) ≡ o → compiled x text ≡ Ok d → (d.returning ≡ None) × (d.formats ≡ [])
+command_plain : (x : Schema) (text : List ℕ) (q : Select) → IsReadAs text (written.Select q) → (d : Compiled) (o : Checked Command) → command x [] 0 (written.Select q) ≡ o → compiled x text ≡ Ok d → (d.returning ≡ None) × (d.formats ≡ [])
 unfolding compiled planned meaning timed returning command
 command_plain x text q r d (Ok k) known is = let e = rw (r.is, r.said, r.untimed, known) at is in (cc, cc)
 command_plain x text q r d (Err k) known is = absurd (let e = rw (r.is, r.said, r.untimed, known) at is in cc)
 
-compiled_plain : (x : Schema) (text : List ℕ) (q : Select) → Reads text (written.Select q) → (d : Compiled) → compiled x text ≡ Ok d → (d.returning ≡ None) × (d.formats ≡ [])
+compiled_plain : (x : Schema) (text : List ℕ) (q : Select) → IsReadAs text (written.Select q) → (d : Compiled) → compiled x text ≡ Ok d → (d.returning ≡ None) × (d.formats ≡ [])
 compiled_plain x text q r d is = command_plain x text q r d (command x [] 0 (written.Select q)) refl is
 
 picked_plain : (o : Result Compiled CompileError) → ((d : Compiled) → o ≡ Ok d → (d.returning ≡ None) × (d.formats ≡ [])) → (c : Compiled) → if_select o ≡ Ok c → (c.returning ≡ None) × (c.formats ≡ [])
@@ -87,7 +87,7 @@ picked_plain (Ok d) each c e = go (is_select d.command) e
 picked_plain (Err k) each c e = absurd cc
 
 -- a SELECT that is understood, in whatever schema, is plain: it gives nothing back but its answer
-pub select_plain : (s : Schema) (text : List ℕ) (q : Select) → Reads text (written.Select q) → (c : Compiled) → understood s text ≡ Ok c → IsPlain (understood s text)
+pub select_plain : (s : Schema) (text : List ℕ) (q : Select) → IsReadAs text (written.Select q) → (c : Compiled) → understood s text ≡ Ok c → IsPlain (understood s text)
 unfolding understood
 select_plain s text q r c h = subst IsPlain (sym h) (go (misses_table (compiled s text)) h)
   where
@@ -114,7 +114,7 @@ delete_at : (s : Schema) (name : List ℕ) (test : Option Expr) (at : ℕ) (t : 
 unfolding delete
 delete_at s name test at t place = rw (place.named, place.listed) refl
 
-pub deletes : (s : Schema) (text name : List ℕ) (t : Table) (at : ℕ) (p : Phrase) (d : Draft) → IsAt s name t at → Reads text (written.Delete name (Some (say p)) []) → knows t p ≡ true
+pub deletes : (s : Schema) (text name : List ℕ) (t : Table) (at : ℕ) (p : Phrase) (d : Draft) → IsAt s name t at → IsReadAs text (written.Delete name (Some (say p)) []) → knows t p ≡ true
     → deleted (alone t) 0 t (Some (say p)) ≡ Ok d → IsAccepted t (query_of d) → Means s text (Delete at (record { lets = []; body = query_of d }))
 unfolding timed returning shows command
 deletes s text name t at p d place r known is accepted =
@@ -123,7 +123,7 @@ deletes s text name t at p d place r known is accepted =
 -- ---- INSERT .. VALUES
 
 pub inserts : (s : Schema) (text name : List ℕ) (t : Table) (at : ℕ) (columns : List Name) (rows : Rows) (source : Source) → IsAt s name t at → t.stamps.formats ≡ []
-    → Reads text (written.Insert conflict.Abort name columns rows [] []) → ((base : ℕ) → new_rows s t base columns rows ≡ Ok source) → Means s text (Insert at source)
+    → IsReadAs text (written.Insert conflict.Abort name columns rows [] []) → ((base : ℕ) → new_rows s t base columns rows ≡ Ok source) → Means s text (Insert at source)
 unfolding timed returning shows command insert_or_abort insert
 inserts s text name t at columns rows source place timeless r gives =
     means s text _ _ r (rw (place.named, place.listed, timeless) refl) (λ base. refl) (λ base. rw (place.named, place.listed, gives base) refl)

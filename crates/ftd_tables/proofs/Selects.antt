@@ -41,7 +41,7 @@ use Rattle.sqlite_resolve.specs.Select.{outermost, named, parts, assembled, havi
 use Rattle.sqlite_resolve.specs.Program.{query, program}
 use Rattle.sqlite_resolve.specs.Compile.{read, timed, returning, command}
 use Rattle.ftd_tables.specs.Places.{IsAt}
-use Rattle.ftd_tables.specs.TextKinds.{Reads}
+use Rattle.ftd_tables.specs.TextKinds.{IsReadAs}
 use Rattle.ftd_tables.proofs.Meaning.{IsAccepted, Means, means, program_is}
 use Rattle.sqlite_tied.specs.Compute.{everything}
 use Rattle.ftd_tables.proofs.Opened.{opened_ast, opened_select, opened_query}
@@ -237,7 +237,7 @@ pub record Resolves (t : Table) (name : Name) (columns : List (Phrase × Name)) 
 
 pub selects : (s : Schema) (text name : List ℕ) (t : Table) (at : ℕ) (columns : List (Phrase × Name)) (test : Option Phrase) (order : List (Phrase × Bool)) (q : ast.Select) (c : Core)
     (outs : List Output) (draft : Draft)
-    → IsAt s name t at → Reads text (written.Select q) → ast.out-Select q ≡ select_in c (map sort order) → out-Core c ≡ core_in name columns test
+    → IsAt s name t at → IsReadAs text (written.Select q) → ast.out-Select q ≡ select_in c (map sort order) → out-Core c ≡ core_in name columns test
     → Resolves t name columns test order outs draft → IsAccepted t (query_of draft)
     → Means s text (Select (record { lets = []; body = query_of draft }) (map (λ o. o.name) outs))
 unfolding timed returning command

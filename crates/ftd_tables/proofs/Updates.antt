@@ -18,7 +18,7 @@ use Rattle.sqlite_resolve.specs.Compile.{timed, returning, shows, command, updat
 use Rattle.sqlite_resolve.specs.Program.{program}
 use Rattle.ftd_tables.specs.Places.{IsAt}
 use Rattle.ftd_tables.proofs.Phrase.{Phrase, say, knows, here, alone, Alike, bind_same, lower_same, and_left, and_right}
-use Rattle.ftd_tables.specs.TextKinds.{Reads}
+use Rattle.ftd_tables.specs.TextKinds.{IsReadAs}
 use Rattle.ftd_tables.proofs.Meaning.{IsAccepted, Means, means, program_is}
 use Rattle.ftd_tables.proofs.Selects.{all_known}
 
@@ -66,7 +66,7 @@ update_at : (s : Schema) (name : List ℕ) (all : List (Name × Expr)) (test : O
 unfolding update
 update_at s name all test at t place = rw (place.named, place.listed) refl
 
-pub updates : (s : Schema) (text name : List ℕ) (t : Table) (at : ℕ) (all : List (Phrase × Name)) (p : Phrase) (d : Draft) → IsAt s name t at → Reads text (written.Update name (map setting all) (Some (say p)) [])
+pub updates : (s : Schema) (text name : List ℕ) (t : Table) (at : ℕ) (all : List (Phrase × Name)) (p : Phrase) (d : Draft) → IsAt s name t at → IsReadAs text (written.Update name (map setting all) (Some (say p)) [])
     → all_known t all ≡ true → knows t p ≡ true → updated (alone t) 0 t (map setting all) (Some (say p)) ≡ Ok d → IsAccepted t (query_of d) → Means s text (Update at (record { lets = []; body = query_of d }))
 unfolding timed returning shows command
 updates s text name t at all p d place r known_sets known is accepted =

@@ -8,7 +8,7 @@ use Rattle.sqlite_syntax.specs.declared.statement.Parsed.{Parsed}
 use Rattle.sqlite_resolve.specs.Compile.{first}
 
 -- the text is read as this statement
-pub record Reads (text : List ℕ) (statement : Statement) : Type 0 where
+pub record IsReadAs (text : List ℕ) (statement : Statement) : Type 0 where
   pub read : Parsed
   pub is : first text ≡ Ok read
   pub said : read.statement ≡ statement
@@ -24,7 +24,7 @@ IsOfRows (written.Delete name test []) = ⊤
 IsOfRows _ = ⊥
 
 abbrev pub IsRowText : List ℕ → Type 0
-IsRowText text = (st : Statement) × Reads text st × IsOfRows st
+IsRowText text = (st : Statement) × IsReadAs text st × IsOfRows st
 
 abbrev pub IsReadText : List ℕ → Type 0
-IsReadText text = (q : ast.Select) × Reads text (written.Select q)
+IsReadText text = (q : ast.Select) × IsReadAs text (written.Select q)

@@ -3,13 +3,13 @@ use Rattle.sqlite.specs.State.{Executes}
 use Rattle.sqlite.specs.Values.{bound}
 use Rattle.ftd_sql.specs.Making.{add_of}
 use Rattle.ftd_tables.specs.TextKinds.{IsRowText}
-use Rattle.ftd_sql.proofs.Writing.{adding, adds}
+use Rattle.ftd_sql.proofs.Writing.{add_is_row_text, adds}
 use Rattle.ftd_store.specs.Seen.{shown}
 use Rattle.ftd_store.proofs.Going.{goes_on}
 use Rattle.ftd_store.proofs.tx.Tx.add.Goals as goal
 
 pub change-requires : goal.change-requires
-change-requires g c = record { of_rows = subst IsRowText (sym c.requires.of_table.1) (adding c.requires.of_table.0) }
+change-requires g c = record { of_rows = subst IsRowText (sym c.requires.of_table.1) (add_is_row_text c.requires.of_table.0) }
 
 pub returns : goal.returns
 returns g c = record {
