@@ -139,7 +139,7 @@ yesterday-before-requires c =
     let n : YearLine = with_turn h.line c.args.turn in
     let new_line : with_turn (slice_index_or s.lines.now 0 c.index-self-0.result) c.args.turn ≡ n = ap (λ (z : YearLine). with_turn z c.args.turn) x in
     let first : c.period_of.result.first ≡ period_first c.args.self.form (semiweekly_from n) s.asked.to =
-    c.period_of.ensures.first ∙ ap (λ z. period_first c.args.self.form z s.asked.to) (c.first_semiweekly_day.ensures ∙ ap semiweekly_from new_line) in
+    c.period_of.ensures.first ∙ ap (λ z. period_first c.args.self.form z s.asked.to) (c.first_semiweekly_day.ensures.day ∙ ap semiweekly_from new_line) in
     let w = open_first c.args.self.form h.line s.asked.from s.asked.to c.args.turn cut in
     let w0 = w.0 in let w1 = w.1 in
     let pos : 0 < s.asked.from = omega arith in
@@ -191,7 +191,7 @@ add_rows-requires-clause-whole c =
     let n : YearLine = with_turn h.line c.args.turn in
     let new_line : with_turn (slice_index_or s.lines.now 0 c.index-self-0.result) c.args.turn ≡ n = ap (λ (z : YearLine). with_turn z c.args.turn) x in
     let first : c.period_of.result.first ≡ period_first c.args.self.form (semiweekly_from n) s.asked.to =
-    c.period_of.ensures.first ∙ ap (λ z. period_first c.args.self.form z s.asked.to) (c.first_semiweekly_day.ensures ∙ ap semiweekly_from new_line) in
+    c.period_of.ensures.first ∙ ap (λ z. period_first c.args.self.form z s.asked.to) (c.first_semiweekly_day.ensures.day ∙ ap semiweekly_from new_line) in
     let w = open_first c.args.self.form h.line s.asked.from s.asked.to c.args.turn cut in
     let w0 = w.0 in let w1 = w.1 in
     let pos : 0 < s.asked.from = omega arith in
@@ -233,7 +233,7 @@ need-requires c =
     let n : YearLine = with_turn h.line c.args.turn in
     let new_line : with_turn (slice_index_or s.lines.now 0 c.index-self-0.result) c.args.turn ≡ n = ap (λ (z : YearLine). with_turn z c.args.turn) x in
     let first : c.period_of.result.first ≡ period_first c.args.self.form (semiweekly_from n) s.asked.to =
-    c.period_of.ensures.first ∙ ap (λ z. period_first c.args.self.form z s.asked.to) (c.first_semiweekly_day.ensures ∙ ap semiweekly_from new_line) in
+    c.period_of.ensures.first ∙ ap (λ z. period_first c.args.self.form z s.asked.to) (c.first_semiweekly_day.ensures.day ∙ ap semiweekly_from new_line) in
     let w = open_first c.args.self.form h.line s.asked.from s.asked.to c.args.turn cut in
     let w0 = w.0 in let w1 = w.1 in
     let pos : 0 < s.asked.from = omega arith in
@@ -273,7 +273,7 @@ returns-clause-serves c =
     let n : YearLine = with_turn h.line c.args.turn in
     let new_line : with_turn (slice_index_or s.lines.now 0 c.index-self-0.result) c.args.turn ≡ n = ap (λ (z : YearLine). with_turn z c.args.turn) x in
     let first : c.period_of.result.first ≡ period_first c.args.self.form (semiweekly_from n) s.asked.to =
-    c.period_of.ensures.first ∙ ap (λ z. period_first c.args.self.form z s.asked.to) (c.first_semiweekly_day.ensures ∙ ap semiweekly_from new_line) in
+    c.period_of.ensures.first ∙ ap (λ z. period_first c.args.self.form z s.asked.to) (c.first_semiweekly_day.ensures.day ∙ ap semiweekly_from new_line) in
     let w = open_first c.args.self.form h.line s.asked.from s.asked.to c.args.turn cut in
     let w0 = w.0 in let w1 = w.1 in
     let pos : 0 < s.asked.from = omega arith in

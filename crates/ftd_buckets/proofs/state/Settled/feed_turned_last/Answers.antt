@@ -15,9 +15,9 @@ use Rattle.ftd_rules.specs.Private.Walk.{due_date, AreOwed, periods}
 use Rattle.ftd_buckets.specs.declared.state.Next.{Next}
 use Rattle.ftd_buckets.specs.declared.turn.TurnNow.TheVariants as now
 use Rattle.ftd_buckets.specs.Patches.{AreSumsOf}
-use Rattle.ftd_buckets.specs.Turned.{IsTurnNow}
+use Rattle.ftd_buckets.specs.Private.Turned.{IsTurnNow}
 use Rattle.ftd_buckets.specs.Standing.{Stands}
-use Rattle.ftd_buckets.specs.Answered.{Serves, IsSettledYear}
+use Rattle.ftd_buckets.specs.Private.Answered.{Serves, IsSettledYear}
 use Rattle.ftd_buckets.proofs.Onward.{same_line}
 use Rattle.ftd_buckets.proofs.Fed.{if_ok2, if_ok_true}
 use Rattle.ftd_buckets.proofs.Split.{Split, split_turn, cut_of, whole_last, last_settled}
