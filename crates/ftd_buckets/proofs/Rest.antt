@@ -24,7 +24,8 @@ use Rattle.ftd_buckets.specs.declared.state.Settled.{Settled}
 use Rattle.ftd_buckets.specs.declared.state.Stage.TheVariants as stage
 use Rattle.ftd_buckets.specs.Histories.{History, TurnsWithin}
 use Rattle.ftd_buckets.specs.Patches.{AreRows, AreSumsOf}
-use Rattle.ftd_buckets.specs.Ready.{repairing, with_turn, IsWhole, ReadyRest}
+use Rattle.ftd_buckets.specs.Ready.{repairing, ReadyRest}
+use Rattle.ftd_buckets.specs.Private.Ready.{with_turn, IsWhole}
 use Rattle.ftd_buckets.specs.Private.Turned.{IsFirstTurn, IsMonthStart}
 use Rattle.ftd_buckets.specs.Standing.{Stands, StandsIn}
 use Rattle.ftd_buckets.specs.Private.Answered.{IsSettledYear}

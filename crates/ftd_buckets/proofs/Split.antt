@@ -31,7 +31,8 @@ use Rattle.ftd_buckets.specs.declared.turn.TurnNow.TheVariants as now
 use Rattle.ftd_buckets.specs.Histories.{History, TurnsWithin}
 use Rattle.ftd_buckets.specs.Windows.{IsNext}
 use Rattle.ftd_buckets.specs.Patches.{AreRows, AreSumsOf}
-use Rattle.ftd_buckets.specs.Ready.{Repairing, repairing, with_turn, open_from, IsWhole, ReadyRest}
+use Rattle.ftd_buckets.specs.Ready.{Repairing, repairing, open_from, ReadyRest}
+use Rattle.ftd_buckets.specs.Private.Ready.{with_turn, IsWhole}
 use Rattle.ftd_buckets.specs.Private.Turned.{IsTurnNow, IsWithin}
 use Rattle.ftd_buckets.specs.Standing.{Stands, StandsIn}
 use Rattle.ftd_buckets.specs.Private.Answered.{IsSettledYear}

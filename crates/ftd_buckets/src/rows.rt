@@ -9,7 +9,7 @@ ghost use Rattle.ftd_rules.specs.Liability.{liability, cents_of, SumsRise};
 ghost use Rattle.ftd_rules.specs.Private.Years.{semiweekly_from};
 ghost use Rattle.ftd_rules.specs.Private.Walk.{due_date, AreOwed, periods};
 ghost use Rattle.ftd_buckets.specs.Histories.{TurnsWithin};
-ghost use Rattle.ftd_buckets.specs.Ready.{IsWhole};
+ghost use Rattle.ftd_buckets.specs.Private.Ready.{IsWhole};
 
 use ftd_days::{Day, Holidays};
 use ftd_rules::year::{add_days, first_semiweekly_day};

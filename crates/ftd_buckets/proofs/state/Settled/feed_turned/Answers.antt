@@ -11,7 +11,8 @@ use Rattle.ftd_buckets.specs.declared.Window.{Window}
 use Rattle.ftd_buckets.specs.declared.state.Settled.{Settled}
 use Rattle.ftd_buckets.specs.declared.state.Stage.TheVariants as stage
 use Rattle.ftd_buckets.specs.Histories.{TurnsWithin}
-use Rattle.ftd_buckets.specs.Ready.{Repairing, repairing, with_turn, IsWhole}
+use Rattle.ftd_buckets.specs.Ready.{Repairing, repairing}
+use Rattle.ftd_buckets.specs.Private.Ready.{with_turn, IsWhole}
 use Rattle.ftd_buckets.proofs.Begun.{ready_line}
 use Rattle.ftd_buckets.proofs.Onward.{same_line}
 use Rattle.ftd_buckets.proofs.Turns.{line_year}
