@@ -11,7 +11,7 @@ use Rattle.ftd_buckets.specs.Windows.{IsNext, IsLastNeeded}
 use Rattle.ftd_buckets.specs.Patches.{AreSumsOf, IsPatch}
 use Rattle.ftd_buckets.specs.Ready.{Repairing}
 use Rattle.ftd_buckets.specs.Standing.{Stands, IfDone, IfNeed, held}
-use Rattle.ftd_buckets.specs.Answered.{Answers}
+use Rattle.ftd_buckets.specs.Private.Answered.{Answers}
 use Rattle.ftd_buckets.proofs.Needed.{fed_needed}
 
 pub answer_asked : {E : Type 0} (r : Repairing) (sums : List DaySum) (answer : Result Next E) → IfOk answer (Answers r sums)

@@ -23,7 +23,7 @@ use Rattle.ftd_rules.proofs.Pieces.{IsYear}
 use Rattle.ftd_rules.proofs.Covering.{line_is}
 use Rattle.ftd_buckets.specs.Histories.{History, IsChange}
 use Rattle.ftd_buckets.specs.Patches.{IsOwed}
-use Rattle.ftd_buckets.specs.Turned.{IsYearChange}
+use Rattle.ftd_buckets.specs.Private.Turned.{IsYearChange}
 use Rattle.ftd_buckets.proofs.Turns.{turn_one, line_same}
 use Rattle.ftd_buckets.proofs.Places.{IsOwedHere, owed_is_at, owed_moves}
 use Rattle.ftd_buckets.proofs.Chain.{change_back, runs_apart, early_same, year_change}

@@ -25,7 +25,7 @@ use Rattle.ftd_buckets.specs.Histories.{History}
 use Rattle.ftd_buckets.specs.Patches.{AreRows, AreSumsOf}
 use Rattle.ftd_buckets.specs.Ready.{repairing}
 use Rattle.ftd_buckets.specs.Standing.{Stands, StandsIn}
-use Rattle.ftd_buckets.specs.Answered.{Holds, IsSettledYear}
+use Rattle.ftd_buckets.specs.Private.Answered.{Holds, IsSettledYear}
 use Rattle.ftd_buckets.proofs.Chain.{given_same}
 use Rattle.ftd_buckets.proofs.Places.{rows_are}
 use Rattle.ftd_buckets.proofs.Years.{rows_append}

@@ -21,7 +21,8 @@ use Rattle.ftd_buckets.specs.declared.state.Stage.TheVariants as stage
 use Rattle.ftd_buckets.specs.Histories.{History, IsChange}
 use Rattle.ftd_buckets.specs.Windows.{IsNeeded}
 use Rattle.ftd_buckets.specs.Patches.{IsOwed, AreSumsOf, IsPatch}
-use Rattle.ftd_buckets.specs.Ready.{repairing, IsWhole}
+use Rattle.ftd_buckets.specs.Ready.{repairing}
+use Rattle.ftd_buckets.specs.Private.Ready.{IsWhole}
 use Rattle.ftd_buckets.specs.Standing.{Stands}
 use Rattle.ftd_buckets.proofs.Chain.{change_back, later_same}
 use Rattle.ftd_buckets.proofs.Places.{rows_are}

@@ -21,7 +21,7 @@ use Rattle.ftd_buckets.specs.Windows.{IsNeeded, IsNext}
 use Rattle.ftd_buckets.specs.Patches.{IsPatch}
 use Rattle.ftd_buckets.specs.Ready.{Repairing}
 use Rattle.ftd_buckets.specs.Standing.{Stands}
-use Rattle.ftd_buckets.specs.Answered.{IsAtYearEnd, IsSettledYear}
+use Rattle.ftd_buckets.specs.Private.Answered.{IsAtYearEnd, IsSettledYear}
 use Rattle.ftd_buckets.proofs.Years.{none_after}
 use Rattle.ftd_buckets.proofs.Steps.{settled_done, settled_next, next_of, same_next}
 

@@ -12,11 +12,11 @@ use Rattle.ftd_rules.specs.declared.DaySum.{DaySum}
 use Rattle.ftd_rules.specs.declared.YearLine.{YearLine}
 use Rattle.ftd_rules.specs.declared.Obligation.{Obligation}
 use Rattle.ftd_rules.specs.declared.Kind.TheVariants as kind
-use Rattle.ftd_rules.specs.Liability.{liability}
+use Rattle.ftd_rules.specs.Liability.{liability, SumsRise}
 use Rattle.ftd_rules.specs.Lists.{Has}
 use Rattle.ftd_rules.specs.Years.{HasTurn, year_last}
 use Rattle.ftd_rules.specs.Private.Years.{semiweekly_from}
-use Rattle.ftd_rules.specs.Private.Walk.{due_date, AreOwed, Divides, periods, period_first, SumsRise}
+use Rattle.ftd_rules.specs.Private.Walk.{due_date, AreOwed, Divides, periods, period_first}
 use Rattle.ftd_rules.proofs.Status.{month_at_least}
 use Rattle.ftd_rules.proofs.Schedules.{year_facts, year_divides, month_in_year, cases_turn, turn_is, from_turn, from_none}
 use Rattle.ftd_buckets.specs.declared.Window.{Window}
@@ -24,10 +24,11 @@ use Rattle.ftd_buckets.specs.declared.state.Settled.{Settled}
 use Rattle.ftd_buckets.specs.declared.state.Stage.TheVariants as stage
 use Rattle.ftd_buckets.specs.Histories.{History, TurnsWithin}
 use Rattle.ftd_buckets.specs.Patches.{AreRows, AreSumsOf}
-use Rattle.ftd_buckets.specs.Ready.{repairing, with_turn, IsWhole, ReadyRest}
-use Rattle.ftd_buckets.specs.Turned.{IsFirstTurn, IsMonthStart}
+use Rattle.ftd_buckets.specs.Ready.{repairing, ReadyRest}
+use Rattle.ftd_buckets.specs.Private.Ready.{with_turn, IsWhole}
+use Rattle.ftd_buckets.specs.Private.Turned.{IsFirstTurn, IsMonthStart}
 use Rattle.ftd_buckets.specs.Standing.{Stands, StandsIn}
-use Rattle.ftd_buckets.specs.Answered.{IsSettledYear}
+use Rattle.ftd_buckets.specs.Private.Answered.{IsSettledYear}
 use Rattle.ftd_buckets.proofs.Turns.{month_total, line_same, line_year}
 use Rattle.ftd_buckets.proofs.Chain.{year_change}
 use Rattle.ftd_buckets.proofs.Places.{rows_are}

@@ -14,12 +14,12 @@ use Rattle.ftd_rules.specs.declared.Rule.{Rule}
 use Rattle.ftd_rules.specs.declared.YearLine.{YearLine}
 use Rattle.ftd_rules.specs.declared.Obligation.{Obligation}
 use Rattle.ftd_rules.specs.declared.Kind.TheVariants as kind
-use Rattle.ftd_rules.specs.Liability.{liability}
+use Rattle.ftd_rules.specs.Liability.{liability, SumsRise}
 use Rattle.ftd_rules.specs.Lists.{Has}
 use Rattle.ftd_rules.specs.Years.{year_last}
 use Rattle.ftd_rules.specs.Private.Years.{semiweekly_from}
 use Rattle.ftd_rules.specs.Periods.{IsPeriod}
-use Rattle.ftd_rules.specs.Private.Walk.{due_date, Periods, AreOwed, Divides, periods, period_first, SumsRise}
+use Rattle.ftd_rules.specs.Private.Walk.{due_date, Periods, AreOwed, Divides, periods, period_first}
 use Rattle.ftd_rules.proofs.Walk.{liability_none}
 use Rattle.ftd_rules.proofs.Along.{upto, cut_here, cut_later, liability-append, liability_over}
 use Rattle.ftd_rules.proofs.Schedules.{year_facts, year_divides, cases_turn, turn_is, from_turn, from_none}
@@ -31,10 +31,11 @@ use Rattle.ftd_buckets.specs.declared.turn.TurnNow.TheVariants as now
 use Rattle.ftd_buckets.specs.Histories.{History, TurnsWithin}
 use Rattle.ftd_buckets.specs.Windows.{IsNext}
 use Rattle.ftd_buckets.specs.Patches.{AreRows, AreSumsOf}
-use Rattle.ftd_buckets.specs.Ready.{Repairing, repairing, with_turn, open_from, IsWhole, ReadyRest}
-use Rattle.ftd_buckets.specs.Turned.{IsTurnNow, IsWithin}
+use Rattle.ftd_buckets.specs.Ready.{Repairing, repairing, open_from, ReadyRest}
+use Rattle.ftd_buckets.specs.Private.Ready.{with_turn, IsWhole}
+use Rattle.ftd_buckets.specs.Private.Turned.{IsTurnNow, IsWithin}
 use Rattle.ftd_buckets.specs.Standing.{Stands, StandsIn}
-use Rattle.ftd_buckets.specs.Answered.{IsSettledYear}
+use Rattle.ftd_buckets.specs.Private.Answered.{IsSettledYear}
 use Rattle.ftd_buckets.proofs.Turns.{line_same, line_year, period_facts, monthly_facts}
 use Rattle.ftd_buckets.proofs.Chain.{year_change}
 use Rattle.ftd_buckets.proofs.Places.{rise_within, rows_are}

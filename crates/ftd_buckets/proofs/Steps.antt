@@ -22,7 +22,7 @@ use Rattle.ftd_buckets.specs.Windows.{IsYearOf, IsNeeded, IsNext}
 use Rattle.ftd_buckets.specs.Patches.{AreRows, IsPatch}
 use Rattle.ftd_buckets.specs.Ready.{Repairing}
 use Rattle.ftd_buckets.specs.Standing.{Stands, AreChangedBefore}
-use Rattle.ftd_buckets.specs.Answered.{IsSettledYear}
+use Rattle.ftd_buckets.specs.Private.Answered.{IsSettledYear}
 use Rattle.ftd_buckets.proofs.Turns.{cases_kind}
 use Rattle.ftd_buckets.proofs.Chain.{change_back, later_same, opening_line}
 use Rattle.ftd_buckets.proofs.Begun.{last_has}

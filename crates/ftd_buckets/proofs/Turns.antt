@@ -21,7 +21,7 @@ use Rattle.ftd_rules.proofs.Bridge.{period_only}
 use Rattle.ftd_rules.proofs.Pieces.{IsYear}
 use Rattle.ftd_rules.proofs.Schedules.{year_facts, year_divides, cases_turn, turn_is, from_semiweekly, from_turn, from_none}
 use Rattle.ftd_buckets.specs.Histories.{TurnsWithin}
-use Rattle.ftd_buckets.specs.Turned.{IsYearChange}
+use Rattle.ftd_buckets.specs.Private.Turned.{IsYearChange}
 
 -- the liability of a day's month up to the day
 abbrev pub month_total : (ℕ → ℕ → ℕ) → ℕ → ℕ

@@ -10,24 +10,14 @@ use Rattle.ftd_rules.specs.declared.Obligation.{Obligation}
 use Rattle.ftd_rules.specs.Years.{AreOpenYears, year_last}
 use Rattle.ftd_rules.specs.Private.Years.{semiweekly_from}
 use Rattle.ftd_rules.specs.Periods.{IsPeriod}
-use Rattle.ftd_rules.specs.Private.Walk.{SumsRise, period_first, Divides, periods}
+use Rattle.ftd_rules.specs.Liability.{SumsRise}
+use Rattle.ftd_rules.specs.Private.Walk.{period_first, Divides, periods}
 use Rattle.ftd_buckets.specs.declared.Window.{Window}
 use Rattle.ftd_days.specs.Holidays.{holidays_of}
 use Rattle.ftd_buckets.specs.declared.state.Settled.{Settled}
 use Rattle.ftd_buckets.specs.declared.state.Stage.{Stage}
 use Rattle.ftd_buckets.specs.declared.state.Stage.TheVariants as stage
 use Rattle.ftd_buckets.specs.Histories.{TurnsWithin}
-
--- the line of a year under another turn
-abbrev pub with_turn : YearLine → Option ℕ → YearLine
-with_turn line turn = record { year = line.year; lookback = line.lookback; carried = line.carried; opening = line.opening; turn = turn }
-
--- the days are whole deposit periods of the year
-pub record IsWhole (form : Form) (line : YearLine) (first last : ℕ) : Type 0 where
-  pub from : year_start line.year ≤ first
-  pub to : last ≤ year_last line.year
-  pub some : first ≤ last + 1
-  pub divides : Divides (periods form (semiweekly_from line)) first last
 
 -- the window is a whole deposit period of the year, and nothing is settled
 abbrev pub ReadyPeriod : Form → YearLine → Window → List DaySum → Type 0
@@ -85,20 +75,6 @@ repairing s stage = record {
   years = s.years.items;
   held = s.held.items;
   stage = stage;
-}
-
--- the same with another window
-abbrev pub asking : Repairing → ℕ → ℕ → Repairing
-asking r from to = record {
-  form = r.form;
-  lines = r.lines;
-  holidays = r.holidays;
-  from = r.from;
-  asked = record { from = from; to = to };
-  rows = r.rows;
-  years = r.years;
-  held = r.held;
-  stage = r.stage;
 }
 
 -- the lines are of years without a gap, each turn in its year and beside a monthly opening, the first that

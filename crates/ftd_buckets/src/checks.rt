@@ -2,9 +2,9 @@
 
 ghost use Rattle.std.specs.Prelude.{◌≡◌, ℕ, ◌<◌, ◌≤◌, ◌↔◌, IsTrue, All};
 ghost use Rattle.ftd_days.specs.Calendar.{year_start};
-ghost use Rattle.ftd_rules.specs.Years.{AreOpenYears, YearsFrom, year_last};
-ghost use Rattle.ftd_rules.specs.Private.Walk.{SumsRise};
-ghost use Rattle.ftd_buckets.specs.Histories.{BeginWith, TurnsWithin};
+ghost use Rattle.ftd_rules.specs.Liability.{SumsRise};
+ghost use Rattle.ftd_rules.specs.Years.{YearsFrom, year_last};
+ghost use Rattle.ftd_buckets.specs.Histories.{MayBegin, TurnsWithin};
 
 use crate::Window;
 use ftd_days::Day;
@@ -15,21 +15,17 @@ use ftd_rules::{DaySum, Kind, YearLine};
 /// 2098 without a gap, the first that of the day, and each turn lies in its year and beside a monthly
 /// opening.
 pub fn may_begin(lines: &[YearLine], day: Day) -> bool
-    ensures years { IsTrue result → AreOpenYears lines.now }
-    ensures turns { IsTrue result → All TurnsWithin lines.now }
-    ensures first { IsTrue result → BeginWith day lines.now }
+    ensures { IsTrue result ↔ MayBegin day lines.now }
 {
     match lines {
         [] => false,
-        [first, ..] => is_in(first.year, day) && follow(first.year, lines) && turn_within(lines),
+        [first, ..] => is_in(first.year, day) && follow(first.year, lines),
     }
 }
 
 /// Whether the day is one of the year, a year of 2001 to 2098.
 fn is_in(year: u32, day: Day) -> bool
-    ensures from { IsTrue result → 2001 ≤ year }
-    ensures after { IsTrue result → year_start year ≤ day }
-    ensures before { IsTrue result → day ≤ year_last year }
+    ensures { IsTrue result ↔ ((2001 ≤ year) × (year ≤ 2098) × (year_start year ≤ day) × (day ≤ year_last year)) }
 {
     if year < 2001 || year > 2098 {
         return false;
@@ -37,29 +33,31 @@ fn is_in(year: u32, day: Day) -> bool
     first_day(year) <= day && day <= last_day(year)
 }
 
-/// Whether the lines are of the years from `year` on without a gap, none after 2098.
+/// Whether the lines are of the years from `year` on without a gap, none after 2098, each with its turn
+/// in its year and beside a monthly opening.
 fn follow(year: u32, lines: &[YearLine]) -> bool
-    ensures { IsTrue result → YearsFrom year lines.now }
+    requires { 2001 ≤ year }
+    ensures { IsTrue result ↔ (YearsFrom year lines.now × All TurnsWithin lines.now) }
 {
     match lines {
         [] => year <= 2099,
-        [line, later @ ..] => line.year == year && year <= 2098 && follow(year + 1, later),
+        [line, later @ ..] => is_line_of(year, line) && follow(year + 1, later),
     }
 }
 
-/// Whether each turn lies in its year and beside a monthly opening.
-fn turn_within(lines: &[YearLine]) -> bool
-    ensures { IsTrue result → All TurnsWithin lines.now }
+/// Whether the line is of the year, one up to 2098, with its turn in it and beside a monthly opening.
+fn is_line_of(year: u32, line: &YearLine) -> bool
+    requires { 2001 ≤ year }
+    ensures { IsTrue result ↔ ((line.now.year ≡ year) × (year ≤ 2098) × TurnsWithin line.now) }
 {
-    match lines {
-        [] => true,
-        [line, later @ ..] => turns(line) && turn_within(later),
-    }
+    line.year == year && year <= 2098 && turns_within(line)
 }
 
 /// Whether the line's turn, if it has one, lies in its year and beside a monthly opening.
-fn turns(line: &YearLine) -> bool
-    ensures { IsTrue result → TurnsWithin line.now }
+fn turns_within(line: &YearLine) -> bool
+    requires from { 2001 ≤ line.now.year }
+    requires to { line.now.year ≤ 2098 }
+    ensures { IsTrue result ↔ TurnsWithin line.now }
 {
     let Some(turn) = line.turn else {
         return true;

@@ -3,18 +3,18 @@
 ghost use Rattle.std.specs.Prelude.{◌≡◌, ℕ, ◌+◌, ◌<◌, ◌↔◌, IfOk, IsTrue, List, ◌∷◌};
 ghost use Rattle.std.specs.List.{sum_by};
 ghost use Rattle.ftd_rules.specs.declared.YearLine.{YearLine};
-ghost use Rattle.ftd_rules.specs.Liability.{cents_of};
+ghost use Rattle.ftd_rules.specs.Liability.{cents_of, SumsRise};
 ghost use Rattle.ftd_rules.specs.declared.Kind.TheVariants as kind;
 ghost use Rattle.ftd_rules.specs.Years.{year_last};
 ghost use Rattle.ftd_rules.specs.Private.Years.{OpensBy};
-ghost use Rattle.ftd_rules.specs.Private.Walk.{SumsRise};
 ghost use Rattle.ftd_buckets.specs.Histories.{History};
-ghost use Rattle.ftd_buckets.specs.Ready.{IsReady, repairing, asking};
+ghost use Rattle.ftd_buckets.specs.Ready.{IsReady, repairing};
+ghost use Rattle.ftd_buckets.specs.Private.Ready.{asking};
 ghost use Rattle.ftd_buckets.specs.Standing.{Stands, held};
 ghost use Rattle.ftd_buckets.specs.Patches.{AreSumsOf};
-ghost use Rattle.ftd_buckets.specs.Turned.{IsTurnNow, IsWithin};
+ghost use Rattle.ftd_buckets.specs.Private.Turned.{IsTurnNow, IsWithin};
 ghost use Rattle.ftd_buckets.specs.declared.turn.TurnNow.TheVariants as now;
-ghost use Rattle.ftd_buckets.specs.Answered.{Answers, Serves, Holds, IsAtYearEnd, IsSettledYear};
+ghost use Rattle.ftd_buckets.specs.Private.Answered.{Answers, Serves, Holds, IsAtYearEnd, IsSettledYear};
 ghost use Rattle.ftd_buckets.specs.declared.state.Stage.TheVariants as stage;
 ghost use Rattle.ftd_buckets.specs.declared.state.Next.TheVariants as Next;
 

@@ -4,9 +4,8 @@ ghost use Rattle.std.specs.Prelude.{◌≡◌, ℕ, ◌+◌, ◌<◌, ◌≤◌,
 ghost use Rattle.std.specs.List.{sum_by, All};
 ghost use Rattle.ftd_days.specs.Holidays.{holidays_of};
 ghost use Rattle.ftd_rules.specs.declared.YearLine.{YearLine};
-ghost use Rattle.ftd_rules.specs.Liability.{cents_of};
+ghost use Rattle.ftd_rules.specs.Liability.{cents_of, SumsRise};
 ghost use Rattle.ftd_rules.specs.Years.{AreOpenYears};
-ghost use Rattle.ftd_rules.specs.Private.Walk.{SumsRise};
 ghost use Rattle.ftd_buckets.specs.Histories.{History, IsChange, AreLast, BeginWith, TurnsWithin};
 ghost use Rattle.ftd_buckets.specs.Windows.{IsPeriodOf, IsNext, IsLastNeeded};
 ghost use Rattle.ftd_buckets.specs.Patches.{AreSumsOf, IsPatch};

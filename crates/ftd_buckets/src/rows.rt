@@ -5,11 +5,11 @@ ghost use Rattle.std.specs.List.{sum_by, All};
 ghost use Rattle.ftd_days.specs.Business.{holidays_end};
 ghost use Rattle.ftd_days.specs.Holidays.{holidays_of};
 ghost use Rattle.ftd_rules.specs.declared.Obligation.{Obligation};
-ghost use Rattle.ftd_rules.specs.Liability.{liability, cents_of};
+ghost use Rattle.ftd_rules.specs.Liability.{liability, cents_of, SumsRise};
 ghost use Rattle.ftd_rules.specs.Private.Years.{semiweekly_from};
-ghost use Rattle.ftd_rules.specs.Private.Walk.{SumsRise, due_date, AreOwed, periods};
+ghost use Rattle.ftd_rules.specs.Private.Walk.{due_date, AreOwed, periods};
 ghost use Rattle.ftd_buckets.specs.Histories.{TurnsWithin};
-ghost use Rattle.ftd_buckets.specs.Ready.{IsWhole};
+ghost use Rattle.ftd_buckets.specs.Private.Ready.{IsWhole};
 
 use ftd_days::{Day, Holidays};
 use ftd_rules::year::{add_days, first_semiweekly_day};

@@ -5,11 +5,10 @@ ghost use Rattle.ftd_days.specs.Calendar.{last_day};
 ghost use Rattle.std.specs.List.{sum_by};
 ghost use Rattle.ftd_rules.specs.declared.Form.{Form};
 ghost use Rattle.ftd_rules.specs.declared.YearLine.{YearLine};
-ghost use Rattle.ftd_rules.specs.Liability.{liability, cents_of};
+ghost use Rattle.ftd_rules.specs.Liability.{liability, cents_of, SumsRise};
 ghost use Rattle.ftd_rules.specs.Periods.{IsPeriod};
-ghost use Rattle.ftd_rules.specs.Private.Walk.{SumsRise};
 ghost use Rattle.ftd_buckets.specs.Histories.{TurnsWithin};
-ghost use Rattle.ftd_buckets.specs.Turned.{IsYearChange, IsTurnNow, IsWithin, IsFirstTurn, IsMonthStart};
+ghost use Rattle.ftd_buckets.specs.Private.Turned.{IsYearChange, IsTurnNow, IsWithin, IsFirstTurn, IsMonthStart};
 
 use crate::Window;
 use ftd_days::Day;

@@ -182,19 +182,10 @@ fn repaired(
 }
 
 #[test]
-fn windows_and_patches(rt: HostRuntime) -> Result<(), Fail> {
-    let alloc = rt.alloc();
-    let semiweekly = [line(2024, 6_000_000, Kind::Semiweekly, "")?];
-    let monthly = [line(2024, 0, Kind::Monthly, "")?];
-    let turned = [line(2024, 0, Kind::Monthly, "2024-05-22")?];
-
-    let text = repaired(
-        Form::F941,
-        alloc,
-        &semiweekly,
-        "2024-06-04",
-        &[("2024-06-03", 11_000_000), ("2024-06-04", 3_000_000)],
-    )?;
+fn a_semiweekly_period_is_one_window(rt: HostRuntime) -> Result<(), Fail> {
+    let lines = [line(2024, 6_000_000, Kind::Semiweekly, "")?];
+    let runs = [("2024-06-03", 11_000_000), ("2024-06-04", 3_000_000)];
+    let text = repaired(Form::F941, rt.alloc(), &lines, "2024-06-04", &runs)?;
     assert_eq!(rt;
         text.as_str(),
         "asks 2024-06-01..2024-06-04\n\
@@ -202,14 +193,14 @@ fn windows_and_patches(rt: HostRuntime) -> Result<(), Fail> {
          2024-06-01 2024-06-03 next-day 110000.00 2024-06-04\n\
          2024-06-04 2024-06-04 semiweekly 30000.00 2024-06-07\n"
     );
+    Ok(())
+}
 
-    let text = repaired(
-        Form::F941,
-        alloc,
-        &monthly,
-        "2024-07-05",
-        &[("2024-07-05", 5_000_001), ("2024-07-19", 4_999_999)],
-    )?;
+#[test]
+fn a_new_turn_asks_for_the_rest_of_the_year(rt: HostRuntime) -> Result<(), Fail> {
+    let lines = [line(2024, 0, Kind::Monthly, "")?];
+    let runs = [("2024-07-05", 5_000_001), ("2024-07-19", 4_999_999)];
+    let text = repaired(Form::F941, rt.alloc(), &lines, "2024-07-05", &runs)?;
     assert_eq!(rt;
         text.as_str(),
         "asks 2024-07-01..2024-07-31\n\
@@ -218,18 +209,18 @@ fn windows_and_patches(rt: HostRuntime) -> Result<(), Fail> {
          2024-07-01 2024-07-19 next-day 100000.00 2024-07-22\n\
          2024 monthly 2024-07-19\n"
     );
+    Ok(())
+}
 
-    let text = repaired(
-        Form::F941,
-        alloc,
-        &turned,
-        "2024-05-15",
-        &[
-            ("2024-05-08", 6_000_000),
-            ("2024-05-15", 4_500_000),
-            ("2024-05-22", 5_000_000),
-        ],
-    )?;
+#[test]
+fn an_earlier_turn_asks_for_the_rest_of_the_year(rt: HostRuntime) -> Result<(), Fail> {
+    let lines = [line(2024, 0, Kind::Monthly, "2024-05-22")?];
+    let runs = [
+        ("2024-05-08", 6_000_000),
+        ("2024-05-15", 4_500_000),
+        ("2024-05-22", 5_000_000),
+    ];
+    let text = repaired(Form::F941, rt.alloc(), &lines, "2024-05-15", &runs)?;
     assert_eq!(rt;
         text.as_str(),
         "asks 2024-05-01..2024-05-22\n\
@@ -239,14 +230,14 @@ fn windows_and_patches(rt: HostRuntime) -> Result<(), Fail> {
          2024-05-22 2024-05-24 semiweekly 50000.00 2024-05-30\n\
          2024 monthly 2024-05-15\n"
     );
+    Ok(())
+}
 
-    let text = repaired(
-        Form::F941,
-        alloc,
-        &monthly,
-        "2024-12-27",
-        &[("2024-12-27", 10_000_000)],
-    )?;
+#[test]
+fn a_turn_in_december_leaves_no_rest(rt: HostRuntime) -> Result<(), Fail> {
+    let lines = [line(2024, 0, Kind::Monthly, "")?];
+    let runs = [("2024-12-27", 10_000_000)];
+    let text = repaired(Form::F941, rt.alloc(), &lines, "2024-12-27", &runs)?;
     assert_eq!(rt;
         text.as_str(),
         "asks 2024-12-01..2024-12-31\n\
@@ -257,9 +248,16 @@ fn windows_and_patches(rt: HostRuntime) -> Result<(), Fail> {
     Ok(())
 }
 
+/// 100,000.00 in March of four years: what is left after the run of March 2022 is made void.
+const MARCHES: [(&str, u64); 4] = [
+    ("2023-03-15", 10_000_000),
+    ("2024-03-13", 10_000_000),
+    ("2025-03-12", 10_000_000),
+    ("2026-03-11", 10_000_000),
+];
+
 #[test]
-fn following_years(rt: HostRuntime) -> Result<(), Fail> {
-    let alloc = rt.alloc();
+fn each_following_year_opens_otherwise(rt: HostRuntime) -> Result<(), Fail> {
     let lines = [
         line(2022, 0, Kind::Monthly, "2022-03-16")?,
         line(2023, 400_000, Kind::Semiweekly, "")?,
@@ -267,13 +265,7 @@ fn following_years(rt: HostRuntime) -> Result<(), Fail> {
         line(2025, 400_000, Kind::Semiweekly, "")?,
         line(2026, 400_000, Kind::Monthly, "2026-03-11")?,
     ];
-    let runs = [
-        ("2023-03-15", 10_000_000),
-        ("2024-03-13", 10_000_000),
-        ("2025-03-12", 10_000_000),
-        ("2026-03-11", 10_000_000),
-    ];
-    let text = repaired(Form::F941, alloc, &lines, "2022-03-16", &runs)?;
+    let text = repaired(Form::F941, rt.alloc(), &lines, "2022-03-16", &MARCHES)?;
     assert_eq!(rt;
         text.as_str(),
         "asks 2022-03-01..2022-03-16\n\
@@ -293,13 +285,17 @@ fn following_years(rt: HostRuntime) -> Result<(), Fail> {
          2025 monthly 2025-03-12\n\
          2026 semiweekly\n"
     );
+    Ok(())
+}
 
+#[test]
+fn no_year_past_an_equal_opening_is_asked_for(rt: HostRuntime) -> Result<(), Fail> {
     let lines = [
         line(2022, 0, Kind::Monthly, "2022-03-16")?,
         line(2023, 400_000, Kind::Semiweekly, "")?,
         line(2024, 6_000_000, Kind::Semiweekly, "")?,
     ];
-    let text = repaired(Form::F941, alloc, &lines, "2022-03-16", &runs)?;
+    let text = repaired(Form::F941, rt.alloc(), &lines, "2022-03-16", &MARCHES)?;
     assert_eq!(rt;
         text.as_str(),
         "asks 2022-03-01..2022-03-16\n\

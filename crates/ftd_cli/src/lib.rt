@@ -10,8 +10,6 @@ mod reading;
 mod record;
 mod rows;
 mod runs;
-#[cfg(test)]
-mod tests;
 mod words;
 
 pub use crate::command::{MOST_INPUT, run_command};

@@ -3,8 +3,6 @@
 
 mod due_lists;
 mod port;
-#[cfg(test)]
-mod tests;
 mod values;
 mod writing;
 

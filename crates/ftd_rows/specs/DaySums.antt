@@ -1,21 +1,21 @@
 -- The liability of runs day by day.
-use Rattle.std.specs.Prelude.{◌≡◌, ◌<◌, ◌+◌, ◌==◌, if◌then◌else◌, ℕ, ℤ, List, false}
+use Rattle.std.specs.Prelude.{◌≡◌, ◌<◌, ◌==◌, if◌then◌else◌, ℕ, ℤ, List, false}
 use Rattle.std.specs.List.{All, sum_by}
 use Rattle.ftd_tables.specs.Order.{EachToNext}
 use Rattle.ftd_schema.specs.Rows.{RunRow}
 use Rattle.ftd_rules.specs.declared.DaySum.{DaySum}
-use Rattle.ftd_rules.specs.Liability.{liability}
+use Rattle.ftd_rules.specs.Liability.{run_liability, liability}
 use Rattle.ftd_rows.specs.declared.runs.PayRun.{PayRun}
 use Rattle.ftd_rows.specs.Rows.{run_row}
 use Rattle.ftd_rows.specs.Lists.{Lists}
 
 -- the liability that a run makes: on its payday, all that was withheld and both halves
 abbrev pub run_sum : PayRun → DaySum
-run_sum r = record { day = r.payday; cents = record { 0 = r.fit.0 + r.ss.0 + r.medicare.0 } }
+run_sum r = record { day = r.payday; cents = record { 0 = run_liability r.fit.0 r.ss.0 r.medicare.0 } }
 
 -- what is owed for the run, where it was paid on the day, in cents
 abbrev pub owed_on : ℕ → PayRun → ℕ
-owed_on day r = if r.payday == day then (r.fit.0 + r.ss.0 + r.medicare.0) else 0
+owed_on day r = if r.payday == day then run_liability r.fit.0 r.ss.0 r.medicare.0 else 0
 
 -- the days of the sums rise, and none comes twice
 abbrev pub DaysRise : List DaySum → Type 0

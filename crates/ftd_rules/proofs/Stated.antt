@@ -19,7 +19,7 @@ use Rattle.ftd_rules.specs.Lists.{Has}
 use Rattle.ftd_rules.specs.Liability.{liability}
 use Rattle.ftd_rules.specs.Lookback.{lookback_quarters, IsLookback}
 use Rattle.ftd_rules.specs.Stops.{Rise, IsLatestBefore, IsCountStart, AreStops}
-use Rattle.ftd_rules.specs.Years.{year_last, IsSemiweeklyOn, HasStatusOn}
+use Rattle.ftd_rules.specs.Years.{year_last, IsDayOf, IsSemiweeklyOn, HasStatusOn}
 use Rattle.ftd_rules.specs.Periods.{SameRun, SharePeriod, IsPeriod}
 use Rattle.ftd_rules.specs.Obligations.{pieces, rule_of, IsObligation, AreObligations}
 use Rattle.ftd_rules.specs.Due.{IsDue}
@@ -182,18 +182,14 @@ run_is line a b kind.Semiweekly l m h same =
     let one : interval_close b ≡ interval_close a = sym (close_only b same.0 same.2) ∙ close_only a same.0 same.1 in
     rw (le-ltb a (semiweekly_from line) late) ((interval_ends a b).0 one)
 
--- the days of two in a year
-abbrev AreIn : YearLine → ℕ → Type 0
-AreIn line day = (year_start line.year ≤ day) × (day ≤ year_last line.year)
-
-share_run : (form : Form) (line : YearLine) (a b : ℕ) → AreIn line a → AreIn line b → SharePeriod form line a b → ShareRun form (semiweekly_from line) a b
+pub share_run : (form : Form) (line : YearLine) (a b : ℕ) → IsDayOf line a → IsDayOf line b → SharePeriod form line a b → ShareRun form (semiweekly_from line) a b
 share_run form line a b in_a in_b h = (
   h.return_period,
   (status_is line b h.status in_b.0 in_b.1).0 h.second ∙ sym ((status_is line a h.status in_a.0 in_a.1).0 h.first),
   run_is line a b h.status in_a.0 in_a.1 h.first h.run,
 )
 
-run_shared : (form : Form) (line : YearLine) (a b : ℕ) → AreIn line a → AreIn line b → ShareRun form (semiweekly_from line) a b → SharePeriod form line a b
+pub run_shared : (form : Form) (line : YearLine) (a b : ℕ) → IsDayOf line a → IsDayOf line b → ShareRun form (semiweekly_from line) a b → SharePeriod form line a b
 run_shared form line a b in_a in_b h =
     elim (lt_or_le a (semiweekly_from line)) [
       | inl early ↦
@@ -220,7 +216,7 @@ run_shared form line a b in_a in_b h =
 pub period_run : (form : Form) (line : YearLine) (a b : ℕ) → IsPeriod form line a b → IsRun form line a b
 period_run form line a b h =
     let some = h.0 in let from = h.1 in let to = h.2 in
-    let first : AreIn line a = (from, omega arith) in (
+    let first : IsDayOf line a = (from, omega arith) in (
       some,
       from,
       to,
@@ -230,7 +226,7 @@ period_run form line a b h =
 pub run_period : (form : Form) (line : YearLine) (a b : ℕ) → IsRun form line a b → IsPeriod form line a b
 run_period form line a b h =
     let some = h.0 in let from = h.1 in let to = h.2 in
-    let first : AreIn line a = (from, omega arith) in (
+    let first : IsDayOf line a = (from, omega arith) in (
       some,
       from,
       to,

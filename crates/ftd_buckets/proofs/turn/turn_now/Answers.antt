@@ -15,14 +15,14 @@ first_semiweekly_day-requires-clause-turn c = (line_year c.args.line.now c.requi
 pub turn_of-requires-clause-begins : goal.turn_of-requires-clause-begins
 turn_of-requires-clause-begins c =
     let k : c.args.period.from < c.first_semiweekly_day.result = grind (arith, nat_tests, c.if-le.false, c.le.ensures) in
-    let monthly = rw c.first_semiweekly_day.ensures at k in
+    let monthly = rw c.first_semiweekly_day.ensures.day at k in
     let y = line_year c.args.line.now c.requires.from c.requires.to c.requires.turn in
     (month_of c.args.period.from, (monthly_facts c.requires.period.0 c.args.line.now c.args.period.from c.args.period.to y.0 c.requires.period.1 monthly).0)
 
 pub returns-then-le-clause-now : goal.returns-then-le-clause-now
 returns-then-le-clause-now c = λ before after day new change from to agree.
     let k : c.first_semiweekly_day.result ≤ c.args.period.from = grind (arith, nat_tests, c.if-le.true, c.le.ensures) in
-    let semi = rw c.first_semiweekly_day.ensures at k in
+    let semi = rw c.first_semiweekly_day.ensures.day at k in
     let line : YearLine = c.args.line.now in
     let y = line_year line c.requires.from c.requires.to c.requires.turn in
     let shown : Shown c.requires.period.0 before after (liability c.args.sums.now) day line new c.args.period.from c.args.period.to =
@@ -32,7 +32,7 @@ returns-then-le-clause-now c = λ before after day new change from to agree.
 pub returns-then-eq-clause-now : goal.returns-then-eq-clause-now
 returns-then-eq-clause-now c = λ before after day new change from to agree.
     let k : c.args.period.from < c.first_semiweekly_day.result = grind (arith, nat_tests, c.if-le.false, c.le.ensures) in
-    let monthly = rw c.first_semiweekly_day.ensures at k in
+    let monthly = rw c.first_semiweekly_day.ensures.day at k in
     let line : YearLine = c.args.line.now in
     let y = line_year line c.requires.from c.requires.to c.requires.turn in
     let shown : Shown c.requires.period.0 before after (liability c.args.sums.now) day line new c.args.period.from c.args.period.to =
@@ -44,7 +44,7 @@ returns-then-eq-clause-now c = λ before after day new change from to agree.
 pub returns-else-eq-clause-now : goal.returns-else-eq-clause-now
 returns-else-eq-clause-now c = λ before after day new change from to agree.
     let k : c.args.period.from < c.first_semiweekly_day.result = grind (arith, nat_tests, c.if-le.false, c.le.ensures) in
-    let monthly = rw c.first_semiweekly_day.ensures at k in
+    let monthly = rw c.first_semiweekly_day.ensures.day at k in
     let line : YearLine = c.args.line.now in
     let y = line_year line c.requires.from c.requires.to c.requires.turn in
     let shown : Shown c.requires.period.0 before after (liability c.args.sums.now) day line new c.args.period.from c.args.period.to =
@@ -57,7 +57,7 @@ returns-else-eq-clause-now c = λ before after day new change from to agree.
 pub returns-then-eq-2-clause-now : goal.returns-then-eq-2-clause-now
 returns-then-eq-2-clause-now c = λ before after day new change from to agree.
     let k : c.args.period.from < c.first_semiweekly_day.result = grind (arith, nat_tests, c.if-le.false, c.le.ensures) in
-    let monthly = rw c.first_semiweekly_day.ensures at k in
+    let monthly = rw c.first_semiweekly_day.ensures.day at k in
     let line : YearLine = c.args.line.now in
     let y = line_year line c.requires.from c.requires.to c.requires.turn in
     let shown : Shown c.requires.period.0 before after (liability c.args.sums.now) day line new c.args.period.from c.args.period.to =
@@ -71,7 +71,7 @@ returns-then-eq-2-clause-now c = λ before after day new change from to agree.
 pub returns-else-eq-2-clause-now : goal.returns-else-eq-2-clause-now
 returns-else-eq-2-clause-now c = λ before after day new change from to agree.
     let k : c.args.period.from < c.first_semiweekly_day.result = grind (arith, nat_tests, c.if-le.false, c.le.ensures) in
-    let monthly = rw c.first_semiweekly_day.ensures at k in
+    let monthly = rw c.first_semiweekly_day.ensures.day at k in
     let line : YearLine = c.args.line.now in
     let y = line_year line c.requires.from c.requires.to c.requires.turn in
     let shown : Shown c.requires.period.0 before after (liability c.args.sums.now) day line new c.args.period.from c.args.period.to =

@@ -48,7 +48,7 @@ invariant_of-repair c =
       lines_are = l.are;
       years = c.requires.years;
       turns = c.requires.turns;
-      at = (rw (c.period_of-period.ensures.first, c.period_of-period.ensures.last, c.first_semiweekly_day.ensures) p.0, c.new-held.ensures.items);
+      at = (rw (c.period_of-period.ensures.first, c.period_of-period.ensures.last, c.first_semiweekly_day.ensures.day) p.0, c.new-held.ensures.items);
     }
 
 pub returns-clause-window : goal.returns-clause-window
@@ -57,15 +57,15 @@ returns-clause-window c =
     let l = first_line c.args.lines.now x (begin_some c.args.day c.args.lines.now c.requires.first) c.index-lines-0.is c.requires.years c.requires.turns in
     let w = begin_with c.args.day c.args.lines.now x c.requires.first l.are in
     let p = day_period c.args.form x c.args.day l.year w.0 w.1 in
-    (x, drop 1 c.args.lines.now, l.are, rw (c.period_of-period.ensures.first, c.period_of-period.ensures.last, c.first_semiweekly_day.ensures) p)
+    (x, drop 1 c.args.lines.now, l.are, rw (c.period_of-period.ensures.first, c.period_of-period.ensures.last, c.first_semiweekly_day.ensures.day) p)
 
 pub returns-clause-stands : goal.returns-clause-stands
 returns-clause-stands c = λ before after change last.
     let x : YearLine = c.index-lines-0.result in
     let l = first_line c.args.lines.now x (begin_some c.args.day c.args.lines.now c.requires.first) c.index-lines-0.is c.requires.years c.requires.turns in
     let w = begin_with c.args.day c.args.lines.now x c.requires.first l.are in
-    let first : c.period_of-period.result.first ≡ period_first c.args.form (semiweekly_from x) c.args.day = c.period_of-period.ensures.first ∙ ap (λ s. period_first c.args.form s c.args.day) c.first_semiweekly_day.ensures in
-    let to : c.period_of-period.result.last ≡ period_last c.args.form (semiweekly_from x) c.args.day = c.period_of-period.ensures.last ∙ ap (λ s. period_last c.args.form s c.args.day) c.first_semiweekly_day.ensures in
+    let first : c.period_of-period.result.first ≡ period_first c.args.form (semiweekly_from x) c.args.day = c.period_of-period.ensures.first ∙ ap (λ s. period_first c.args.form s c.args.day) c.first_semiweekly_day.ensures.day in
+    let to : c.period_of-period.result.last ≡ period_last c.args.form (semiweekly_from x) c.args.day = c.period_of-period.ensures.last ∙ ap (λ s. period_last c.args.form s c.args.day) c.first_semiweekly_day.ensures.day in
     let asked : ◌≡◌ {A = Window} (record { from = c.period_of-period.result.first; to = c.period_of-period.result.last }) (record { from = period_first c.args.form (semiweekly_from x) c.args.day; to = period_last c.args.form (semiweekly_from x) c.args.day }) =
     λ i. record { from = first i; to = to i } in
     let r : Repairing = record {

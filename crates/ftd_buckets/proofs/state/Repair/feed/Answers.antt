@@ -2,7 +2,7 @@ use Rattle.std.proofs.Common.{◌≡◌, sym, ap, ◌∙◌, subst}
 use Rattle.std.specs.Prelude.{IfOk}
 use Rattle.ftd_buckets.specs.declared.state.Stage.TheVariants as stage
 use Rattle.ftd_buckets.specs.Ready.{Repairing, repairing}
-use Rattle.ftd_buckets.specs.Answered.{Answers}
+use Rattle.ftd_buckets.specs.Private.Answered.{Answers}
 use Rattle.ftd_buckets.proofs.Answering.{answer_asked, answer_form, answer_held, answer_need, answer_done}
 use Rattle.ftd_buckets.proofs.state.Repair.feed.Goals as goal
 

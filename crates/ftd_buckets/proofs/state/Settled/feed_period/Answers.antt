@@ -14,10 +14,11 @@ use Rattle.ftd_buckets.specs.declared.turn.TurnNow.{TurnNow}
 use Rattle.ftd_buckets.specs.declared.turn.TurnNow.TheVariants as now
 use Rattle.ftd_buckets.specs.Histories.{History}
 use Rattle.ftd_buckets.specs.Patches.{AreSumsOf}
-use Rattle.ftd_buckets.specs.Ready.{repairing, IsWhole}
-use Rattle.ftd_buckets.specs.Turned.{IsYearChange, IsTurnNow}
+use Rattle.ftd_buckets.specs.Ready.{repairing}
+use Rattle.ftd_buckets.specs.Private.Ready.{IsWhole}
+use Rattle.ftd_buckets.specs.Private.Turned.{IsYearChange, IsTurnNow}
 use Rattle.ftd_buckets.specs.Standing.{Stands}
-use Rattle.ftd_buckets.specs.Answered.{Answers, Serves, Holds}
+use Rattle.ftd_buckets.specs.Private.Answered.{Answers, Serves, Holds}
 use Rattle.ftd_buckets.proofs.Begun.{ready_line}
 use Rattle.ftd_buckets.proofs.Onward.{same_line}
 use Rattle.ftd_buckets.proofs.Chain.{year_change}

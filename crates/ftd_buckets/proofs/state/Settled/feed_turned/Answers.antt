@@ -11,7 +11,8 @@ use Rattle.ftd_buckets.specs.declared.Window.{Window}
 use Rattle.ftd_buckets.specs.declared.state.Settled.{Settled}
 use Rattle.ftd_buckets.specs.declared.state.Stage.TheVariants as stage
 use Rattle.ftd_buckets.specs.Histories.{TurnsWithin}
-use Rattle.ftd_buckets.specs.Ready.{Repairing, repairing, with_turn, IsWhole}
+use Rattle.ftd_buckets.specs.Ready.{Repairing, repairing}
+use Rattle.ftd_buckets.specs.Private.Ready.{with_turn, IsWhole}
 use Rattle.ftd_buckets.proofs.Begun.{ready_line}
 use Rattle.ftd_buckets.proofs.Onward.{same_line}
 use Rattle.ftd_buckets.proofs.Turns.{line_year}
@@ -139,7 +140,7 @@ yesterday-before-requires c =
     let n : YearLine = with_turn h.line c.args.turn in
     let new_line : with_turn (slice_index_or s.lines.now 0 c.index-self-0.result) c.args.turn ≡ n = ap (λ (z : YearLine). with_turn z c.args.turn) x in
     let first : c.period_of.result.first ≡ period_first c.args.self.form (semiweekly_from n) s.asked.to =
-    c.period_of.ensures.first ∙ ap (λ z. period_first c.args.self.form z s.asked.to) (c.first_semiweekly_day.ensures ∙ ap semiweekly_from new_line) in
+    c.period_of.ensures.first ∙ ap (λ z. period_first c.args.self.form z s.asked.to) (c.first_semiweekly_day.ensures.day ∙ ap semiweekly_from new_line) in
     let w = open_first c.args.self.form h.line s.asked.from s.asked.to c.args.turn cut in
     let w0 = w.0 in let w1 = w.1 in
     let pos : 0 < s.asked.from = omega arith in
@@ -191,7 +192,7 @@ add_rows-requires-clause-whole c =
     let n : YearLine = with_turn h.line c.args.turn in
     let new_line : with_turn (slice_index_or s.lines.now 0 c.index-self-0.result) c.args.turn ≡ n = ap (λ (z : YearLine). with_turn z c.args.turn) x in
     let first : c.period_of.result.first ≡ period_first c.args.self.form (semiweekly_from n) s.asked.to =
-    c.period_of.ensures.first ∙ ap (λ z. period_first c.args.self.form z s.asked.to) (c.first_semiweekly_day.ensures ∙ ap semiweekly_from new_line) in
+    c.period_of.ensures.first ∙ ap (λ z. period_first c.args.self.form z s.asked.to) (c.first_semiweekly_day.ensures.day ∙ ap semiweekly_from new_line) in
     let w = open_first c.args.self.form h.line s.asked.from s.asked.to c.args.turn cut in
     let w0 = w.0 in let w1 = w.1 in
     let pos : 0 < s.asked.from = omega arith in
@@ -233,7 +234,7 @@ need-requires c =
     let n : YearLine = with_turn h.line c.args.turn in
     let new_line : with_turn (slice_index_or s.lines.now 0 c.index-self-0.result) c.args.turn ≡ n = ap (λ (z : YearLine). with_turn z c.args.turn) x in
     let first : c.period_of.result.first ≡ period_first c.args.self.form (semiweekly_from n) s.asked.to =
-    c.period_of.ensures.first ∙ ap (λ z. period_first c.args.self.form z s.asked.to) (c.first_semiweekly_day.ensures ∙ ap semiweekly_from new_line) in
+    c.period_of.ensures.first ∙ ap (λ z. period_first c.args.self.form z s.asked.to) (c.first_semiweekly_day.ensures.day ∙ ap semiweekly_from new_line) in
     let w = open_first c.args.self.form h.line s.asked.from s.asked.to c.args.turn cut in
     let w0 = w.0 in let w1 = w.1 in
     let pos : 0 < s.asked.from = omega arith in
@@ -273,7 +274,7 @@ returns-clause-serves c =
     let n : YearLine = with_turn h.line c.args.turn in
     let new_line : with_turn (slice_index_or s.lines.now 0 c.index-self-0.result) c.args.turn ≡ n = ap (λ (z : YearLine). with_turn z c.args.turn) x in
     let first : c.period_of.result.first ≡ period_first c.args.self.form (semiweekly_from n) s.asked.to =
-    c.period_of.ensures.first ∙ ap (λ z. period_first c.args.self.form z s.asked.to) (c.first_semiweekly_day.ensures ∙ ap semiweekly_from new_line) in
+    c.period_of.ensures.first ∙ ap (λ z. period_first c.args.self.form z s.asked.to) (c.first_semiweekly_day.ensures.day ∙ ap semiweekly_from new_line) in
     let w = open_first c.args.self.form h.line s.asked.from s.asked.to c.args.turn cut in
     let w0 = w.0 in let w1 = w.1 in
     let pos : 0 < s.asked.from = omega arith in

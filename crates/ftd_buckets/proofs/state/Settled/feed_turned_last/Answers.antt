@@ -3,7 +3,8 @@ use Rattle.ftd_rules.specs.declared.YearLine.{YearLine}
 use Rattle.ftd_buckets.specs.declared.state.Settled.{Settled}
 use Rattle.ftd_buckets.specs.declared.state.Stage.TheVariants as stage
 use Rattle.ftd_buckets.specs.Histories.{History, TurnsWithin}
-use Rattle.ftd_buckets.specs.Ready.{repairing, with_turn, IsWhole}
+use Rattle.ftd_buckets.specs.Ready.{repairing}
+use Rattle.ftd_buckets.specs.Private.Ready.{with_turn, IsWhole}
 use Rattle.ftd_buckets.proofs.Begun.{ready_line}
 use Rattle.ftd_buckets.proofs.Turns.{line_year}
 use Rattle.std.specs.Prelude.{⊤}
@@ -15,9 +16,9 @@ use Rattle.ftd_rules.specs.Private.Walk.{due_date, AreOwed, periods}
 use Rattle.ftd_buckets.specs.declared.state.Next.{Next}
 use Rattle.ftd_buckets.specs.declared.turn.TurnNow.TheVariants as now
 use Rattle.ftd_buckets.specs.Patches.{AreSumsOf}
-use Rattle.ftd_buckets.specs.Turned.{IsTurnNow}
+use Rattle.ftd_buckets.specs.Private.Turned.{IsTurnNow}
 use Rattle.ftd_buckets.specs.Standing.{Stands}
-use Rattle.ftd_buckets.specs.Answered.{Serves, IsSettledYear}
+use Rattle.ftd_buckets.specs.Private.Answered.{Serves, IsSettledYear}
 use Rattle.ftd_buckets.proofs.Onward.{same_line}
 use Rattle.ftd_buckets.proofs.Fed.{if_ok2, if_ok_true}
 use Rattle.ftd_buckets.proofs.Split.{Split, split_turn, cut_of, whole_last, last_settled}

@@ -8,7 +8,7 @@ use Rattle.ftd_buckets.specs.declared.state.Stage.TheVariants as stage
 use Rattle.ftd_buckets.specs.declared.state.Next.{Next}
 use Rattle.ftd_buckets.specs.Histories.{History}
 use Rattle.ftd_buckets.specs.Ready.{repairing}
-use Rattle.ftd_buckets.specs.Answered.{Answers, Serves, Holds, IsSettledYear}
+use Rattle.ftd_buckets.specs.Private.Answered.{Answers, Serves, Holds, IsSettledYear}
 use Rattle.ftd_buckets.proofs.Begun.{ready_line}
 use Rattle.ftd_buckets.proofs.Onward.{same_line}
 use Rattle.ftd_buckets.proofs.Fed.{if_ok2, holds_more, year_settled}

@@ -1,4 +1,4 @@
--- Words that only private contracts use: what a repair has answered.
+-- What a repair has answered.
 use Rattle.ftd_rules.specs.declared.Form.{Form}
 use Rattle.std.specs.Prelude.{◌≡◌, ℕ, ◌+◌, ◌<◌, ◌≤◌, List, ◌∷◌}
 use Rattle.std.specs.List.{sum_by, All}

@@ -4,8 +4,8 @@ ghost use Rattle.std.specs.Prelude.{◌≡◌, ◌<◌, IfOk};
 ghost use Rattle.std.specs.List.{sum_by};
 ghost use Rattle.ftd_reports.specs.DueLists.{amount_of};
 
-use crate::{Port, PortFault, Source, Target, WriteFault, due_list};
 use ftd_days::{Cents, Day, Quarter};
+use ftd_reports::{Port, PortFault, Source, Target, WriteFault, due_list};
 use ftd_rules::{DueRow, Obligation, Rule, Verdict};
 use std::alloc::{AllocError, Global};
 use std::io::{Error, ErrorKind, Read, Write};

@@ -1,6 +1,6 @@
 //! Worked examples, and the faults of `plain` and of the command line.
 
-use crate::{CommandFault, MOST_INPUT, PlainFault, USAGE, plain, read_words, run_command};
+use ftd_cli::{CommandFault, MOST_INPUT, PlainFault, USAGE, plain, read_words, run_command};
 use ftd_days::Day;
 use std::alloc::Global;
 use std::test::Fail;
