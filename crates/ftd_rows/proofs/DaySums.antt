@@ -6,7 +6,7 @@ use Rattle.ftd_days.proofs.Years.{eq_same, eq_not}
 use Rattle.ftd_rules.specs.declared.DaySum.{DaySum}
 use Rattle.ftd_rules.specs.Liability.{share}
 use Rattle.ftd_rules.proofs.Walk.{share_before, share_after, share_in}
-use Rattle.ftd_rows.specs.declared.runs.PayRun.{PayRun}
+use Rattle.ftd_rules.specs.declared.run.PayRun.{PayRun}
 use Rattle.ftd_rows.specs.DaySums.{owed_on, run_sum}
 
 -- a sum of zero adds nothing to a day

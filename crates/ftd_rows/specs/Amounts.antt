@@ -1,7 +1,7 @@
 -- Amounts that a cell holds.
 use Rattle.std.specs.Prelude.{◌<◌, ◌^◌}
 use Rattle.ftd_days.specs.declared.cents.Cents.{Cents}
-use Rattle.ftd_rows.specs.declared.runs.PayRun.{PayRun}
+use Rattle.ftd_rules.specs.declared.run.PayRun.{PayRun}
 
 -- the amount is less than 2^63 cents
 abbrev pub IsStorable : Cents → Type 0

@@ -15,10 +15,9 @@ use Rattle.ftd_rules.specs.declared.Form.{Form}
 use Rattle.ftd_rules.specs.declared.Form.TheVariants as form
 use Rattle.ftd_rules.specs.declared.Obligation.{Obligation}
 use Rattle.ftd_rows.specs.declared.accounts.Account.{Account}
-use Rattle.ftd_rows.specs.declared.runs.PayRun.{PayRun}
-use Rattle.ftd_rows.specs.declared.runs.StoredRun.{StoredRun}
-use Rattle.ftd_rows.specs.declared.payments.Payment.{Payment}
-use Rattle.ftd_rows.specs.declared.payments.StoredPayment.{StoredPayment}
+use Rattle.ftd_rules.specs.declared.run.PayRun.{PayRun}
+use Rattle.ftd_rules.specs.declared.run.Voidable.{Voidable}
+use Rattle.ftd_rules.specs.declared.payment.Payment.{Payment}
 use Rattle.ftd_rows.specs.declared.obligations.AccountObligation.{AccountObligation}
 use Rattle.ftd_rows.specs.declared.years.StoredYear.{StoredYear}
 
@@ -93,14 +92,14 @@ day_cells day = Int (day_number day) ∷ []
 abbrev pub pay_run_cells : PayRun → Row
 pay_run_cells r = Int (day_number r.payday) ∷ Int (pos r.fit.0) ∷ Int (pos r.ss.0) ∷ Int (pos r.medicare.0) ∷ []
 
-abbrev pub stored_run_cells : StoredRun → Row
-stored_run_cells r = Int (day_number r.run.payday) ∷ Int (pos r.run.fit.0) ∷ Int (pos r.run.ss.0) ∷ Int (pos r.run.medicare.0) ∷ Int (flag_number r.voided) ∷ []
+abbrev pub stored_run_cells : Voidable PayRun → Row
+stored_run_cells r = Int (day_number r.value.payday) ∷ Int (pos r.value.fit.0) ∷ Int (pos r.value.ss.0) ∷ Int (pos r.value.medicare.0) ∷ Int (flag_number r.voided) ∷ []
 
 abbrev pub payment_cells : Payment → Row
 payment_cells p = Int (day_number p.for_day) ∷ Int (day_number p.paid) ∷ Int (pos p.cents.0) ∷ []
 
-abbrev pub stored_payment_cells : StoredPayment → Row
-stored_payment_cells p = Int (day_number p.payment.paid) ∷ Int (day_number p.payment.for_day) ∷ Int (pos p.payment.cents.0) ∷ Int (flag_number p.voided) ∷ []
+abbrev pub stored_payment_cells : Voidable Payment → Row
+stored_payment_cells p = Int (day_number p.value.paid) ∷ Int (day_number p.value.for_day) ∷ Int (pos p.value.cents.0) ∷ Int (flag_number p.voided) ∷ []
 
 abbrev pub obligation_cells : Obligation → Row
 obligation_cells o = Int (day_number o.first) ∷ Int (day_number o.last) ∷ Int (rule_number o.rule) ∷ Int (pos o.cents.0) ∷ Int (day_number o.due) ∷ []

@@ -5,7 +5,7 @@ use Rattle.ftd_tables.specs.Order.{EachToNext}
 use Rattle.ftd_schema.specs.Rows.{RunRow}
 use Rattle.ftd_rules.specs.declared.DaySum.{DaySum}
 use Rattle.ftd_rules.specs.Liability.{run_liability, liability}
-use Rattle.ftd_rows.specs.declared.runs.PayRun.{PayRun}
+use Rattle.ftd_rules.specs.declared.run.PayRun.{PayRun}
 use Rattle.ftd_rows.specs.Rows.{run_row}
 use Rattle.ftd_rows.specs.Lists.{Lists}
 

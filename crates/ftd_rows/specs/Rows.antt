@@ -8,8 +8,8 @@ use Rattle.ftd_rules.specs.declared.YearLine.{YearLine}
 use Rattle.ftd_schema.specs.Rows.{AccountRow, FormRow, ReportedQuarterRow, ReportedYearRow, CalendarYearRow, HolidayRow, YearRow, RunRow, PaymentRow, ObligationRow}
 use Rattle.ftd_rows.specs.Cells.{day_number, flag_number, rule_number, schedule_number, form_number}
 use Rattle.ftd_rows.specs.declared.accounts.Account.{Account}
-use Rattle.ftd_rows.specs.declared.runs.PayRun.{PayRun}
-use Rattle.ftd_rows.specs.declared.payments.Payment.{Payment}
+use Rattle.ftd_rules.specs.declared.run.PayRun.{PayRun}
+use Rattle.ftd_rules.specs.declared.payment.Payment.{Payment}
 
 abbrev pub account_row : List ℕ → Account → AccountRow
 account_row name a = record { name = name; start = day_number a.start; carried = flag_number a.carried }

@@ -7,9 +7,8 @@ ghost use Rattle.ftd_rules.specs.Liability.{share, liability};
 ghost use Rattle.ftd_rows.specs.DaySums.{DaysRise, ArePositive, owed_on, run_sum};
 
 use crate::faults::StoreFault;
-use crate::runs::PayRun;
 use ftd_days::Cents;
-use ftd_rules::DaySum;
+use ftd_rules::{DaySum, PayRun};
 use std::alloc::Global;
 
 // two amounts together

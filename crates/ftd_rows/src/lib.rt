@@ -22,7 +22,5 @@ pub use crate::cells::{
 pub use crate::day_sums::sums_of;
 pub use crate::faults::StoreFault;
 pub use crate::obligations::AccountObligation;
-pub use crate::payments::{Payment, StoredPayment};
 pub use crate::reader::{FromRow, all, only};
-pub use crate::runs::{PayRun, StoredRun};
 pub use crate::years::{StoredYear, open_years, stored_turn};

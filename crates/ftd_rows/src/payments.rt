@@ -5,26 +5,9 @@ ghost use Rattle.ftd_rows.specs.Cells.{payment_cells, stored_payment_cells, IsPa
 use crate::cells::{StoredDay, StoredFlag};
 use crate::faults::StoreFault;
 use crate::reader::FromRow;
-use ftd_days::{Cents, Day};
+use ftd_days::Cents;
+use ftd_rules::{Payment, Voidable};
 use sqlite::Row;
-
-/// A payment.
-#[derive(Clone, Copy, Debug, PartialEq, Eq)]
-pub struct Payment {
-    /// The day on which it was made.
-    pub paid: Day,
-    /// The day whose liability it is for.
-    pub for_day: Day,
-    pub cents: Cents,
-}
-
-/// A payment as it is stored.
-#[derive(Clone, Copy, Debug, PartialEq, Eq)]
-pub struct StoredPayment {
-    pub payment: Payment,
-    /// Whether it was made void.
-    pub voided: bool,
-}
 
 // The day that it is for, the day on which it was made, and its amount.
 impl FromRow for Payment {
@@ -48,12 +31,12 @@ impl FromRow for Payment {
 }
 
 // The day on which it was made, the day that it is for, its amount, and whether it is void.
-impl FromRow for StoredPayment {
+impl FromRow for Voidable<Payment> {
     ghost shown = { stored_payment_cells };
 
     ghost is_readable = { IsStoredPaymentCells };
 
-    fn from_row(row: &Row) -> Result<StoredPayment, StoreFault> {
+    fn from_row(row: &Row) -> Result<Voidable<Payment>, StoreFault> {
         if row.column_count() != 4 {
             return Err(StoreFault::Failed);
         }
@@ -61,13 +44,13 @@ impl FromRow for StoredPayment {
         let for_day: StoredDay = row.get(1)?;
         let cents = row.get(2)?;
         let voided: StoredFlag = row.get(3)?;
-        let payment = Payment {
+        let value = Payment {
             paid: paid.0,
             for_day: for_day.0,
             cents: Cents(cents),
         };
-        Ok(StoredPayment {
-            payment,
+        Ok(Voidable {
+            value,
             voided: voided.0,
         })
     }

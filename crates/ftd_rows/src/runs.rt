@@ -5,25 +5,9 @@ ghost use Rattle.ftd_rows.specs.Cells.{pay_run_cells, stored_run_cells, IsPayRun
 use crate::cells::{StoredDay, StoredFlag};
 use crate::faults::StoreFault;
 use crate::reader::FromRow;
-use ftd_days::{Cents, Day};
+use ftd_days::Cents;
+use ftd_rules::{PayRun, Voidable};
 use sqlite::Row;
-
-/// A pay run: the withheld income tax, and both halves of social security and Medicare tax.
-#[derive(Clone, Copy, Debug, PartialEq, Eq)]
-pub struct PayRun {
-    pub payday: Day,
-    pub fit: Cents,
-    pub ss: Cents,
-    pub medicare: Cents,
-}
-
-/// A pay run as it is stored.
-#[derive(Clone, Copy, Debug, PartialEq, Eq)]
-pub struct StoredRun {
-    pub run: PayRun,
-    /// Whether it was made void.
-    pub voided: bool,
-}
 
 impl FromRow for PayRun {
     ghost shown = { pay_run_cells };
@@ -47,12 +31,12 @@ impl FromRow for PayRun {
     }
 }
 
-impl FromRow for StoredRun {
+impl FromRow for Voidable<PayRun> {
     ghost shown = { stored_run_cells };
 
     ghost is_readable = { IsStoredRunCells };
 
-    fn from_row(row: &Row) -> Result<StoredRun, StoreFault> {
+    fn from_row(row: &Row) -> Result<Voidable<PayRun>, StoreFault> {
         if row.column_count() != 5 {
             return Err(StoreFault::Failed);
         }
@@ -61,14 +45,14 @@ impl FromRow for StoredRun {
         let ss = row.get(2)?;
         let medicare = row.get(3)?;
         let voided: StoredFlag = row.get(4)?;
-        let run = PayRun {
+        let value = PayRun {
             payday: payday.0,
             fit: Cents(fit),
             ss: Cents(ss),
             medicare: Cents(medicare),
         };
-        Ok(StoredRun {
-            run,
+        Ok(Voidable {
+            value,
             voided: voided.0,
         })
     }

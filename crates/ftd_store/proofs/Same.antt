@@ -12,10 +12,9 @@ use Rattle.ftd_rules.specs.declared.Form.{Form}
 use Rattle.ftd_rules.specs.declared.Obligation.{Obligation}
 use Rattle.ftd_rows.specs.declared.accounts.Account.{Account}
 use Rattle.ftd_rows.specs.declared.obligations.AccountObligation.{AccountObligation}
-use Rattle.ftd_rows.specs.declared.payments.Payment.{Payment}
-use Rattle.ftd_rows.specs.declared.payments.StoredPayment.{StoredPayment}
-use Rattle.ftd_rows.specs.declared.runs.PayRun.{PayRun}
-use Rattle.ftd_rows.specs.declared.runs.StoredRun.{StoredRun}
+use Rattle.ftd_rules.specs.declared.payment.Payment.{Payment}
+use Rattle.ftd_rules.specs.declared.run.PayRun.{PayRun}
+use Rattle.ftd_rules.specs.declared.run.Voidable.{Voidable}
 use Rattle.ftd_rows.specs.Cells.{day_number, flag_number, rule_number, form_number, account_cells, form_cells, cents_cells, count_cells, day_cells, stored_run_cells, pay_run_cells, stored_payment_cells, payment_cells, obligation_cells, account_obligation_cells}
 use Rattle.ftd_rows.specs.Rows.{account_row, form_row, reported_row, reported_year_row, calendar_year_row, run_row, payment_row}
 use Rattle.ftd_rows.specs.DaySums.{IsLiveRun}
@@ -72,15 +71,15 @@ holiday_is year x day passes h =
 
 -- ---- runs
 
-pub run_is : (account : List ℕ) (number : ℕ) (x : RunRow) (r : StoredRun) → is_run account (pos number) x ≡ true → run_shown x ≡ stored_run_cells r → x ≡ run_row account (pos number) r.run r.voided
+pub run_is : (account : List ℕ) (number : ℕ) (x : RunRow) (r : Voidable PayRun) → is_run account (pos number) x ≡ true → run_shown x ≡ stored_run_cells r → x ≡ run_row account (pos number) r.value r.voided
 run_is account number x r passes h =
     let a = both (bytes_eq x.account account) (int_eq x.number (pos number)) passes in
     let who = same_bytes x.account account a.0 in
     let which = same_int x.number (pos number) a.1 in
-    let payday : x.payday ≡ day_number r.run.payday = cc in
-    let fit : x.fit ≡ pos r.run.fit.0 = cc in
-    let ss : x.ss ≡ pos r.run.ss.0 = cc in
-    let medicare : x.medicare ≡ pos r.run.medicare.0 = cc in
+    let payday : x.payday ≡ day_number r.value.payday = cc in
+    let fit : x.fit ≡ pos r.value.fit.0 = cc in
+    let ss : x.ss ≡ pos r.value.ss.0 = cc in
+    let medicare : x.medicare ≡ pos r.value.medicare.0 = cc in
     let voided : x.voided ≡ flag_number r.voided = cc in
     rw (who, which, payday, fit, ss, medicare, voided) refl
 
@@ -99,14 +98,14 @@ live_run_is account from to x r passes h =
 
 -- ---- payments
 
-pub payment_is : (account : List ℕ) (number : ℕ) (x : PaymentRow) (p : StoredPayment) → is_payment account (pos number) x ≡ true → payment_shown x ≡ stored_payment_cells p → x ≡ payment_row account (pos number) p.payment p.voided
+pub payment_is : (account : List ℕ) (number : ℕ) (x : PaymentRow) (p : Voidable Payment) → is_payment account (pos number) x ≡ true → payment_shown x ≡ stored_payment_cells p → x ≡ payment_row account (pos number) p.value p.voided
 payment_is account number x p passes h =
     let a = both (bytes_eq x.account account) (int_eq x.number (pos number)) passes in
     let who = same_bytes x.account account a.0 in
     let which = same_int x.number (pos number) a.1 in
-    let paid : x.paid ≡ day_number p.payment.paid = cc in
-    let for_day : x.for_day ≡ day_number p.payment.for_day = cc in
-    let cents : x.cents ≡ pos p.payment.cents.0 = cc in
+    let paid : x.paid ≡ day_number p.value.paid = cc in
+    let for_day : x.for_day ≡ day_number p.value.for_day = cc in
+    let cents : x.cents ≡ pos p.value.cents.0 = cc in
     let voided : x.voided ≡ flag_number p.voided = cc in
     rw (who, which, paid, for_day, cents, voided) refl
 

@@ -9,7 +9,7 @@ use Rattle.ftd_schema.specs.Rows.{RunRow}
 use Rattle.ftd_sql.specs.Orders.{RunsRise}
 use Rattle.ftd_rules.specs.declared.DaySum.{DaySum}
 use Rattle.ftd_rules.specs.Liability.{liability}
-use Rattle.ftd_rows.specs.declared.runs.PayRun.{PayRun}
+use Rattle.ftd_rules.specs.declared.run.PayRun.{PayRun}
 use Rattle.ftd_rows.specs.Cells.{day_number}
 use Rattle.ftd_rows.specs.Rows.{run_row}
 use Rattle.ftd_rows.specs.Lists.{Pairs, Lists}

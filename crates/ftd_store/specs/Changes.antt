@@ -12,8 +12,8 @@ use Rattle.ftd_rules.specs.declared.Form.{Form}
 use Rattle.ftd_rules.specs.declared.Obligation.{Obligation}
 use Rattle.ftd_rules.specs.declared.YearLine.{YearLine}
 use Rattle.ftd_rows.specs.declared.accounts.Account.{Account}
-use Rattle.ftd_rows.specs.declared.runs.PayRun.{PayRun}
-use Rattle.ftd_rows.specs.declared.payments.Payment.{Payment}
+use Rattle.ftd_rules.specs.declared.run.PayRun.{PayRun}
+use Rattle.ftd_rules.specs.declared.payment.Payment.{Payment}
 use Rattle.ftd_rows.specs.Cells.{day_number}
 use Rattle.ftd_rows.specs.Rows.{account_row, form_row, reported_row, reported_year_row, calendar_year_row, holiday_row, year_row, run_row, payment_row, obligation_row}
 

@@ -14,9 +14,9 @@ use Rattle.ftd_rules.specs.declared.Obligation.{Obligation}
 use Rattle.ftd_rules.specs.declared.YearLine.{YearLine}
 use Rattle.ftd_rules.specs.Years.{AreOpenYears, OnlyFirstCarried}
 use Rattle.ftd_rows.specs.declared.accounts.Account.{Account}
-use Rattle.ftd_rows.specs.declared.runs.StoredRun.{StoredRun}
-use Rattle.ftd_rows.specs.declared.payments.Payment.{Payment}
-use Rattle.ftd_rows.specs.declared.payments.StoredPayment.{StoredPayment}
+use Rattle.ftd_rules.specs.declared.run.PayRun.{PayRun}
+use Rattle.ftd_rules.specs.declared.run.Voidable.{Voidable}
+use Rattle.ftd_rules.specs.declared.payment.Payment.{Payment}
 use Rattle.ftd_rows.specs.declared.obligations.AccountObligation.{AccountObligation}
 use Rattle.ftd_rows.specs.Cells.{day_number}
 use Rattle.ftd_rows.specs.Rows.{account_row, form_row, reported_row, reported_year_row, calendar_year_row, holiday_row, year_row, run_row, payment_row, obligation_row}
@@ -77,8 +77,8 @@ pub record ListsYears {A : Type 0} (account : List ℕ) (lines : Vec YearLine A)
 
 -- ---- runs
 
-abbrev pub FindsRun : List ℕ → ℕ → Option StoredRun → Tables → Type 0
-FindsRun account number found t = filter (is_run account (pos number)) (t Runs) ≡ rows_of (λ r. run_row account (pos number) r.run r.voided) found
+abbrev pub FindsRun : List ℕ → ℕ → Option (Voidable PayRun) → Tables → Type 0
+FindsRun account number found t = filter (is_run account (pos number)) (t Runs) ≡ rows_of (λ r. run_row account (pos number) r.value r.voided) found
 
 abbrev pub CountsRuns : List ℕ → ℕ → Tables → Type 0
 CountsRuns account count t = count ≡ length (filter (is_run_of account) (t Runs))
@@ -89,8 +89,8 @@ ListsLiability account from to sums t = ListsDaySums RunsRise account (filter (i
 
 -- ---- payments
 
-abbrev pub FindsPayment : List ℕ → ℕ → Option StoredPayment → Tables → Type 0
-FindsPayment account number found t = filter (is_payment account (pos number)) (t Payments) ≡ rows_of (λ p. payment_row account (pos number) p.payment p.voided) found
+abbrev pub FindsPayment : List ℕ → ℕ → Option (Voidable Payment) → Tables → Type 0
+FindsPayment account number found t = filter (is_payment account (pos number)) (t Payments) ≡ rows_of (λ p. payment_row account (pos number) p.value p.voided) found
 
 abbrev pub CountsPayments : List ℕ → ℕ → Tables → Type 0
 CountsPayments account count t = count ≡ length (filter (is_payment_of account) (t Payments))

@@ -19,7 +19,5 @@ mod years;
 pub use crate::obligation_rows::{ObligationRows, Reader};
 pub use crate::store::Store;
 pub use crate::tx::Tx;
-pub use ftd_rows::{
-    Account, AccountObligation, PayRun, Payment, StoreFault, StoredPayment, StoredRun,
-};
+pub use ftd_rows::{Account, AccountObligation, StoreFault};
 pub use ftd_setup::{NotOpened, OpenFault};

@@ -10,7 +10,8 @@ ghost use Rattle.ftd_store.specs.Frame.{Reads, Writes, WritesOne};
 
 use crate::tx::Tx;
 use ftd_days::Day;
-use ftd_rows::{Payment, StoreFault, StoredCents, StoredDay, StoredFlag, StoredPayment};
+use ftd_rows::{StoreFault, StoredCents, StoredDay, StoredFlag};
+use ftd_rules::{Payment, Voidable};
 use ftd_sql::texts;
 use sqlite::{Alter, params};
 use std::alloc::Global;
@@ -21,7 +22,7 @@ impl<'store, S: Alter> Tx<'store, S> {
         &mut self,
         account: &str,
         number: u32,
-    ) -> Result<Option<StoredPayment>, StoreFault>
+    ) -> Result<Option<Voidable<Payment>>, StoreFault>
         ensures call { Reads S.Store self.old self.new result (FindsPayment account.now number) }
     {
         self.read_only(texts::READ_PAYMENT, params![account, number])

@@ -10,15 +10,19 @@ ghost use Rattle.ftd_store.specs.Frame.{Reads, Writes, WritesOne};
 
 use crate::tx::Tx;
 use ftd_days::Day;
-use ftd_rows::{PayRun, StoreFault, StoredCents, StoredDay, StoredFlag, StoredRun, sums_of};
-use ftd_rules::DaySum;
+use ftd_rows::{StoreFault, StoredCents, StoredDay, StoredFlag, sums_of};
+use ftd_rules::{DaySum, PayRun, Voidable};
 use ftd_sql::texts;
 use sqlite::{Alter, params};
 use std::alloc::Global;
 
 impl<'store, S: Alter> Tx<'store, S> {
     /// The account's run of the number, void or not, or None.
-    pub fn run(&mut self, account: &str, number: u32) -> Result<Option<StoredRun>, StoreFault>
+    pub fn run(
+        &mut self,
+        account: &str,
+        number: u32,
+    ) -> Result<Option<Voidable<PayRun>>, StoreFault>
         ensures call { Reads S.Store self.old self.new result (FindsRun account.now number) }
     {
         self.read_only(texts::READ_RUN, params![account, number])

@@ -9,7 +9,8 @@ ghost use Rattle.ftd_rows.specs.Amounts.{HasStorableAmounts};
 
 use anyhow::{Context, Result, bail};
 use ftd_days::{Cents, Day};
-use ftd_store::{Account, PayRun, Store};
+use ftd_rules::PayRun;
+use ftd_store::{Account, Store};
 use sqlite::{Alter, Connection};
 use std::env;
 use std::io::Write;

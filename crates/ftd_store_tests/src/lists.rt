@@ -7,8 +7,8 @@ use crate::support::{
     begin, commit, day, enrol, enrol_two, numbers, obligation, payment, run, store,
 };
 use ftd_days::Cents;
-use ftd_rules::{DaySum, Obligation, Rule};
-use ftd_store::{Payment, Store, Tx};
+use ftd_rules::{DaySum, Obligation, Payment, Rule};
+use ftd_store::{Store, Tx};
 use sqlite::Alter;
 use std::alloc::Global;
 use std::test::Fail;

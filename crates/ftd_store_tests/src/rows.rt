@@ -6,8 +6,8 @@ use crate::support::{
     account, begin, commit, day, enrol, enrol_two, numbers, payment, quarter, run, store,
 };
 use ftd_days::{Cents, Day};
-use ftd_rules::{Form, Kind, YearLine};
-use ftd_store::{Store, StoreFault, StoredPayment, StoredRun, Tx};
+use ftd_rules::{Form, Kind, PayRun, Payment, Voidable, YearLine};
+use ftd_store::{Store, StoreFault, Tx};
 use sqlite::{Alter, Connection};
 use std::alloc::Global;
 use std::process::Abort;
@@ -113,9 +113,9 @@ fn holidays_come_rising(rt: HostRuntime) -> Result<(), Fail> {
 }
 
 /// A run of 806.00, void or not.
-fn stored_run(voided: bool) -> Result<Option<StoredRun>, Fail> {
-    let run = run("2024-05-08", [50_000, 24_800, 5_800])?;
-    Ok(Some(StoredRun { run, voided }))
+fn stored_run(voided: bool) -> Result<Option<Voidable<PayRun>>, Fail> {
+    let value = run("2024-05-08", [50_000, 24_800, 5_800])?;
+    Ok(Some(Voidable { value, voided }))
 }
 
 fn add_runs<S: Alter>(rt: &impl Abort, tx: &mut Tx<'_, S>) -> Result<(), Fail> {
@@ -160,9 +160,9 @@ fn a_void_run_is_marked_and_nothing_else(rt: HostRuntime) -> Result<(), Fail> {
 }
 
 /// A payment of 806.00, void or not.
-fn stored_payment(voided: bool) -> Result<Option<StoredPayment>, Fail> {
-    let payment = payment("2024-06-17", "2024-05-08", 80_600)?;
-    Ok(Some(StoredPayment { payment, voided }))
+fn stored_payment(voided: bool) -> Result<Option<Voidable<Payment>>, Fail> {
+    let value = payment("2024-06-17", "2024-05-08", 80_600)?;
+    Ok(Some(Voidable { value, voided }))
 }
 
 fn add_payments<S: Alter>(rt: &impl Abort, tx: &mut Tx<'_, S>) -> Result<(), Fail> {

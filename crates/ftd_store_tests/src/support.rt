@@ -5,8 +5,8 @@ ghost use Rattle.std.specs.Prelude.{IfOk};
 ghost use Rattle.ftd_rows.specs.Amounts.{HasStorableAmounts, IsStorable};
 
 use ftd_days::{Cents, Day, Quarter};
-use ftd_rules::{Form, Obligation, Rule};
-use ftd_store::{Account, NotOpened, PayRun, Payment, Store, Tx};
+use ftd_rules::{Form, Obligation, PayRun, Payment, Rule};
+use ftd_store::{Account, NotOpened, Store, Tx};
 use sqlite::{Alter, Connection, MemStore};
 use std::alloc::Global;
 use std::test::Fail;

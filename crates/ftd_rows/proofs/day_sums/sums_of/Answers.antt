@@ -3,7 +3,7 @@ use Rattle.std.proofs.lemmas.List.{get_or_default}
 use Rattle.std.proofs.lemmas.List.Sums.{sum_by_more}
 use Rattle.ftd_rules.specs.declared.DaySum.{DaySum}
 use Rattle.ftd_rules.specs.Liability.{share}
-use Rattle.ftd_rows.specs.declared.runs.PayRun.{PayRun}
+use Rattle.ftd_rules.specs.declared.run.PayRun.{PayRun}
 use Rattle.ftd_rows.specs.DaySums.{run_sum}
 use Rattle.ftd_rows.specs.DaySums.{owed_on}
 use Rattle.ftd_rows.proofs.DaySums.{share_none, owed_is}

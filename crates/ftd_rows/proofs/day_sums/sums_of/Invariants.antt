@@ -2,7 +2,7 @@ use Rattle.std.proofs.Common.{◌≡◌, ◌<◌, ◌≤◌, ℕ, take, length, 
 use Rattle.std.specs.List.{All, sum_by}
 use Rattle.std.specs.List.Sorted.{IsNonDecreasingBy}
 use Rattle.ftd_rules.specs.Liability.{liability}
-use Rattle.ftd_rows.specs.declared.runs.PayRun.{PayRun}
+use Rattle.ftd_rules.specs.declared.run.PayRun.{PayRun}
 use Rattle.ftd_rows.specs.DaySums.{DaysRise, ArePositive, owed_on}
 use Rattle.ftd_rows.proofs.day_sums.sums_of.Given as goal
 

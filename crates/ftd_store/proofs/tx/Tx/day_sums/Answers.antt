@@ -1,5 +1,5 @@
 use Rattle.std.proofs.Common.{Ok, Vec, Global}
-use Rattle.ftd_rows.specs.declared.runs.PayRun.{PayRun}
+use Rattle.ftd_rules.specs.declared.run.PayRun.{PayRun}
 use Rattle.ftd_schema.specs.declared.TableName.TheVariants.{Runs}
 use Rattle.ftd_sql.specs.declared.texts.TheConstants.{LIST_RUNS}
 use Rattle.ftd_sql.specs.Answers.{live_run_shown}
