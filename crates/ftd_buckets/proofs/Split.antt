@@ -19,17 +19,18 @@ use Rattle.ftd_rules.specs.Lists.{Has}
 use Rattle.ftd_rules.specs.Years.{year_last}
 use Rattle.ftd_rules.specs.Private.Years.{semiweekly_from}
 use Rattle.ftd_rules.specs.Periods.{IsPeriod}
-use Rattle.ftd_rules.specs.Private.Walk.{due_date, Periods, AreOwed, Divides, periods, period_first}
+use Rattle.ftd_rules.specs.Private.Walk.{due_date, Periods, AreOwed, Divides, periods, period_first, period_last}
 use Rattle.ftd_rules.proofs.Walk.{liability_none}
 use Rattle.ftd_rules.proofs.Along.{upto, cut_here, cut_later, liability-append, liability_over}
 use Rattle.ftd_rules.proofs.Schedules.{year_facts, year_divides, cases_turn, turn_is, from_turn, from_none}
 use Rattle.ftd_rules.proofs.Pieces.{IsYear, by_first_day}
+use Rattle.ftd_rules.proofs.Covering.{line_is}
 use Rattle.ftd_buckets.specs.declared.Window.{Window}
 use Rattle.ftd_buckets.specs.declared.state.Settled.{Settled}
 use Rattle.ftd_buckets.specs.declared.state.Stage.TheVariants as stage
 use Rattle.ftd_buckets.specs.declared.turn.TurnNow.TheVariants as now
 use Rattle.ftd_buckets.specs.Histories.{History, TurnsWithin}
-use Rattle.ftd_buckets.specs.Windows.{IsNext}
+use Rattle.ftd_buckets.specs.Windows.{IsPeriodOf, IsNext}
 use Rattle.ftd_buckets.specs.Patches.{AreRows, AreSumsOf}
 use Rattle.ftd_buckets.specs.Ready.{Repairing, repairing, open_from, ReadyRest}
 use Rattle.ftd_buckets.specs.Private.Ready.{with_turn, IsWhole}
@@ -37,6 +38,7 @@ use Rattle.ftd_buckets.specs.Private.Turned.{IsTurnNow, IsWithin}
 use Rattle.ftd_buckets.specs.Standing.{Stands, StandsIn}
 use Rattle.ftd_buckets.specs.Private.Answered.{IsSettledYear}
 use Rattle.ftd_buckets.proofs.Turns.{line_same, line_year, period_facts, monthly_facts}
+use Rattle.ftd_buckets.proofs.Begun.{day_period}
 use Rattle.ftd_buckets.proofs.Chain.{year_change}
 use Rattle.ftd_buckets.proofs.Places.{rise_within, rows_are}
 use Rattle.ftd_buckets.proofs.Joined.{divides_from, divides_before, first_first}
@@ -315,6 +317,12 @@ turned_next form day holidays before after s turn sums added first r known0 st a
           ] in
           open_at ∙ sym (rw (lt-ltb b (semiweekly_from st.new) monthly) refl)
     ] in
+    let new_year = line_is after.lines after.sums st.new c.is_after st.common.year.is_new in
+    let starts : year_start st.new.year ≡ year_start old.year = ap year_start (sym same) in
+    let ends : year_last st.new.year ≡ year_last old.year = ap year_last (sym same) in
+    let open_now : IsPeriodOf form st.new b (record { from = first; to = period_last form (semiweekly_from st.new) b }) =
+    subst (λ (z : ℕ). IsPeriodOf form st.new b (record { from = z; to = period_last form (semiweekly_from st.new) b })) (sym first_new)
+    (day_period form st.new b new_year (omega arith) (omega arith)) in
     let w_from : r.asked.from ≡ b + 1 = ap (λ (v : Window). v.from) window in
     let w_to : r.asked.to ≡ year_last old.year = ap (λ (v : Window). v.to) window in
     let empty : s.rows.items ++ added ≡ added = ap (λ z. z ++ added) st.at.rows in
@@ -331,7 +339,8 @@ turned_next form day holidays before after s turn sums added first r known0 st a
           to = w_to;
           some = omega arith;
           differs = told.0;
-          is_first = first_new;
+          last = period_last form (semiweekly_from st.new) b;
+          is_open = open_now;
           reached = omega arith;
           is_turn = told.1;
           sums = rw held agree_back;

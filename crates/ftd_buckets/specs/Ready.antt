@@ -8,10 +8,9 @@ use Rattle.ftd_rules.specs.declared.DaySum.{DaySum}
 use Rattle.ftd_rules.specs.declared.Kind.TheVariants as kind
 use Rattle.ftd_rules.specs.declared.Obligation.{Obligation}
 use Rattle.ftd_rules.specs.Years.{AreOpenYears, year_last}
-use Rattle.ftd_rules.specs.Private.Years.{semiweekly_from}
 use Rattle.ftd_rules.specs.Periods.{IsPeriod}
 use Rattle.ftd_rules.specs.Liability.{SumsRise}
-use Rattle.ftd_rules.specs.Private.Walk.{period_first, Divides, periods}
+use Rattle.ftd_rules.specs.Private.Walk.{period_first}
 use Rattle.ftd_buckets.specs.declared.Window.{Window}
 use Rattle.ftd_days.specs.Holidays.{holidays_of}
 use Rattle.ftd_buckets.specs.declared.state.Settled.{Settled}

@@ -8,8 +8,6 @@ use Rattle.ftd_rules.specs.declared.YearLine.{YearLine}
 use Rattle.ftd_rules.specs.declared.Obligation.{Obligation}
 use Rattle.ftd_rules.specs.Lists.{Has}
 use Rattle.ftd_rules.specs.Years.{year_last, TurnedBefore}
-use Rattle.ftd_rules.specs.Private.Years.{semiweekly_from}
-use Rattle.ftd_rules.specs.Private.Walk.{period_first}
 use Rattle.ftd_buckets.specs.declared.Window.{Window}
 use Rattle.ftd_buckets.specs.declared.Patch.{Patch}
 use Rattle.ftd_buckets.specs.declared.state.Stage.{Stage}
@@ -57,8 +55,8 @@ pub record AtPeriod (form : Form) (day : ℕ) (s : Repairing) (old : YearLine) :
   pub from : s.from ≡ s.asked.from
   pub rows : s.rows ≡ []
 
--- the rest of the day's year is asked for, whose turn differs. The rows are those that begin before the
--- first day of the open deposit period.
+-- the rest of the day's year is asked for, whose turn differs. The open deposit period is that of the last
+-- day fed, after the change; the rows are those that begin before its first day.
 pub record AtRest (form : Form) (day : ℕ) (holidays : List ℕ) (after : History) (s : Repairing) (old new : YearLine) (first : ℕ) (turn : Option ℕ) : Type 0 where
   pub of_day : (year_start old.year ≤ day) × (day ≤ year_last old.year)
   pub period : Window
@@ -67,7 +65,8 @@ pub record AtRest (form : Form) (day : ℕ) (holidays : List ℕ) (after : Histo
   pub to : s.asked.to ≡ year_last old.year
   pub some : s.asked.from ≤ s.asked.to
   pub differs : old.turn ≡ new.turn → ⊥
-  pub is_first : first ≡ period_first form (semiweekly_from new) period.to
+  pub last : ℕ
+  pub is_open : IsPeriodOf form new period.to (record { from = first; to = last })
   pub reached : s.from ≤ first
   pub is_turn : MatchOption turn (IfSome new.turn (λ turn. period.to < turn)) (λ turn. new.turn ≡ Some turn)
   pub sums : AreSumsOf after (record { from = first; to = period.to }) s.held

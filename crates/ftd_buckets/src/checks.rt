@@ -1,6 +1,6 @@
 //! Tests for what `Repair` asks of its callers.
 
-ghost use Rattle.std.specs.Prelude.{◌≡◌, ℕ, ◌<◌, ◌≤◌, ◌↔◌, IsTrue, All};
+ghost use Rattle.std.specs.Prelude.{◌≡◌, ◌<◌, ◌≤◌, ◌↔◌, IsTrue, All};
 ghost use Rattle.ftd_days.specs.Calendar.{year_start};
 ghost use Rattle.ftd_rules.specs.Liability.{SumsRise};
 ghost use Rattle.ftd_rules.specs.Years.{YearsFrom, year_last};

@@ -1,6 +1,6 @@
 -- The deposit period of a day in closed form, from any first semiweekly day, and the days that share it.
 use Rattle.ftd_rules.specs.declared.Form.{Form}
-use Rattle.std.proofs.Common.{◌≡◌, ℕ, ◌+◌, ◌<◌, ◌≤◌, ◌↔◌, inl, inr, ◌∙◌, ap, arith}
+use Rattle.std.proofs.Common.{◌≡◌, ℕ, ◌+◌, ◌≤◌, ◌↔◌, inl, inr, ◌∙◌, ap, arith}
 use Rattle.std.specs.Prelude.{nat_lt, MatchOption, if◌then◌else◌}
 use Rattle.std.proofs.lemmas.Bool.{lt-ltb, le-ltb}
 use Rattle.ftd_rules.specs.declared.Kind.{Kind}
@@ -11,7 +11,7 @@ use Rattle.ftd_rules.specs.Years.{year_last, IsOpenYear, IsDayOf, IsSemiweeklyFr
 use Rattle.ftd_rules.specs.Obligations.{rule_of}
 use Rattle.ftd_rules.specs.Periods.{SharePeriod}
 use Rattle.ftd_rules.specs.Private.Years.{semiweekly_from}
-use Rattle.ftd_rules.specs.Private.Periods.{rule_on, ShareRun}
+use Rattle.ftd_rules.specs.Private.Periods.{rule_on}
 use Rattle.ftd_rules.specs.Private.Walk.{period_first, period_last}
 use Rattle.ftd_rules.proofs.Cuts.{lt_or_le}
 use Rattle.ftd_rules.proofs.Schedules.{cases_turn, from_none, from_turn, year_facts}

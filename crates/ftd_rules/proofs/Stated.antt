@@ -1,9 +1,9 @@
 -- The definitions in the words of the walk: stops, status, deposit periods, obligations and lookback totals.
 use Rattle.ftd_rules.specs.declared.Form.{Form}
-use Rattle.std.proofs.Common.{◌≡◌, ℕ, ◌+◌, ◌<◌, ◌≤◌, ◌↔◌, ◌⊎◌, inl, inr, List, [], ◌∷◌, refl, sym, ap, ◌∙◌, subst, arith}
-use Rattle.std.specs.Prelude.{nat_lt, None, Some, IsSomeAnd, MatchBool}
+use Rattle.std.proofs.Common.{◌≡◌, ℕ, ◌+◌, ◌<◌, ◌≤◌, ◌↔◌, ◌⊎◌, inl, inr, List, [], ◌∷◌, refl, sym, ◌∙◌, subst, arith}
+use Rattle.std.specs.Prelude.{nat_lt, MatchBool}
 use Rattle.std.proofs.lemmas.Bool.{lt-ltb, le-ltb}
-use Rattle.ftd_days.specs.Calendar.{month_of, year_start, IsClose}
+use Rattle.ftd_days.specs.Calendar.{month_of, year_start}
 use Rattle.ftd_days.specs.Private.Intervals.{interval_start, interval_close}
 use Rattle.ftd_days.specs.Business.{IsNthAfter}
 use Rattle.ftd_days.proofs.Intervals.{close_is, close_only, interval_ends}
@@ -18,7 +18,7 @@ use Rattle.ftd_rules.specs.declared.Obligation.{Obligation}
 use Rattle.ftd_rules.specs.Lists.{Has}
 use Rattle.ftd_rules.specs.Liability.{liability}
 use Rattle.ftd_rules.specs.Lookback.{lookback_quarters, IsLookback}
-use Rattle.ftd_rules.specs.Stops.{Rise, IsLatestBefore, IsCountStart, AreStops}
+use Rattle.ftd_rules.specs.Stops.{Rise, IsCountStart, AreStops}
 use Rattle.ftd_rules.specs.Years.{year_last, IsDayOf, IsSemiweeklyOn, HasStatusOn}
 use Rattle.ftd_rules.specs.Periods.{SameRun, SharePeriod, IsPeriod}
 use Rattle.ftd_rules.specs.Obligations.{pieces, rule_of, IsObligation, AreObligations}

@@ -1,5 +1,4 @@
-use Rattle.std.proofs.Common.{arith, ◌≡◌, ◌+◌, ◌≤◌, ℕ, List, take, get_or}
-use Rattle.std.specs.List.{sum_by}
+use Rattle.std.proofs.Common.{arith, List}
 use Rattle.std.proofs.lemmas.List.Sums.{sum_by_more, sum_by_more_le_part}
 use Rattle.ftd_rules.specs.declared.payment.Payment.{Payment}
 use Rattle.ftd_rules.specs.Payments.{counts_by, payment_cents}
