@@ -1,0 +1,4 @@
+pub mod Deciding
+pub mod Adding
+pub mod Leaving
+pub mod Others

@@ -7,6 +7,7 @@
 
 mod checks;
 mod entries;
+pub mod laws;
 mod limits;
 mod lists;
 mod replies;
