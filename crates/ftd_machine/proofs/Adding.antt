@@ -6,7 +6,8 @@ use Rattle.std.proofs.lemmas.List.Elements.{filter-append}
 use Rattle.std.proofs.lemmas.Slice.Eq.{bytes_eq-Decides}
 use Rattle.ftd_machine.specs.declared.entries.Account.{Account}
 use Rattle.ftd_machine.specs.declared.entries.Voidable.{Voidable}
-use Rattle.ftd_machine.specs.State.{Enrolled, Entry, is_named, is_of}
+use Rattle.std.specs.Option.{option_or}
+use Rattle.ftd_machine.specs.State.{Enrolled, Entry, is_named, account_of, is_of}
 use Rattle.ftd_machine.specs.Step.{with_account, with_entry, with_voided, voided_if}
 
 -- ---- names
@@ -86,3 +87,19 @@ voided_own (e ∷ xs) name key =
         ≡ with_voided (cond b (e ∷ filter (is_of name) xs) (filter (is_of name) xs)) name key
     own_step name key e xs true same = ap (λ ys. voided_if name key e ∷ ys) same
     own_step name key e xs false same = same
+
+-- an account more is the one of its name, unless there was one
+find_own : (p : Enrolled → Bool) (xs : List Enrolled) (x : Enrolled) → p x ≡ true
+    → option_map account_of (find p (xs ++ x ∷ [])) ≡ option_or (option_map account_of (find p xs)) (Some x.account)
+find_own p [] x e = rw e refl
+find_own p (y ∷ xs) x e = found_own (p y) (find_own p xs x e)
+  where
+    found_own : (b : Bool) → option_map account_of (find p (xs ++ x ∷ [])) ≡ option_or (option_map account_of (find p xs)) (Some x.account)
+        → option_map account_of (cond b (Some y) (find p (xs ++ x ∷ []))) ≡ option_or (option_map account_of (cond b (Some y) (find p xs))) (Some x.account)
+    found_own true same = refl
+    found_own false same = same
+
+pub account_own : (xs : List Enrolled) (name : List ℕ) (account : Account)
+    → option_map account_of (find (is_named name) (with_account xs name account))
+    ≡ option_or (option_map account_of (find (is_named name) xs)) (Some account)
+account_own xs name account = find_own (is_named name) xs _ (own_name name)

@@ -2,3 +2,8 @@ pub mod Deciding
 pub mod Adding
 pub mod Leaving
 pub mod Others
+pub mod Own
+pub mod Heads
+pub mod Keeping
+pub mod Again
+pub mod Repeats
