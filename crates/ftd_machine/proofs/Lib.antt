@@ -7,3 +7,5 @@ pub mod Heads
 pub mod Keeping
 pub mod Again
 pub mod Repeats
+pub mod Single
+pub mod Answered
