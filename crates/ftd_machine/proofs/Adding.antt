@@ -27,7 +27,7 @@ other_name a b other = other_as a b (bytes_eq a b) refl other
 
 -- ---- one more
 
-filter_more : {X : Type 0} (p : X → Bool) (xs : List X) (x : X) (b : Bool) → p x ≡ b
+pub filter_more : {X : Type 0} (p : X → Bool) (xs : List X) (x : X) (b : Bool) → p x ≡ b
     → filter p (xs ++ x ∷ []) ≡ cond b (filter p xs ++ x ∷ []) (filter p xs)
 filter_more p xs x true e = filter-append p xs (x ∷ []) ∙ (rw e refl)
 filter_more p xs x false e = filter-append p xs (x ∷ []) ∙ (rw e (append-nil (filter p xs)))

@@ -108,3 +108,36 @@ pub stays_done : (holds after : Bool) (Q Q' : List (Option Answer)) → (holds �
     → Stays (done_if holds ∷ Q) (done_if after ∷ Q')
 stays_done true after Q Q' still firm = record { still = λ e. rw (still refl) refl }
 stays_done false after Q Q' still firm = record { still = λ e. absurd (firm.never e) }
+
+-- ---- what a list tells that passes
+
+pub record Gives (P : List (Option Answer)) (Fact : Type 0) : Type 0 where
+  pub fact : first_of P ≡ None → Fact
+
+pub gives_needs : (holds : Bool) (refusal : Refusal) (Q : List (Option Answer)) → Gives (needs holds refusal ∷ Q) (holds ≡ true)
+gives_needs true refusal Q = record { fact = λ e. refl }
+gives_needs false refusal Q = record { fact = λ e. absurd cc }
+
+pub gives_done : (holds : Bool) (Q : List (Option Answer)) → Gives (done_if holds ∷ Q) (holds ≡ false)
+gives_done true Q = record { fact = λ e. absurd cc }
+gives_done false Q = record { fact = λ e. refl }
+
+pub gives_new : {X : Type 0} (o : Option X) (same : X → Bool) (refusal : Refusal) (Q : List (Option Answer)) → Gives (is_new o same refusal ∷ Q) (o ≡ None)
+gives_new (Some x) same refusal Q = record { fact = λ e. absurd cc }
+gives_new None same refusal Q = record { fact = λ e. refl }
+
+pub skip_needs : (holds : Bool) (refusal : Refusal) (Q : List (Option Answer)) (Fact : Type 0) → Gives Q Fact → Gives (needs holds refusal ∷ Q) Fact
+skip_needs true refusal Q Fact g = record { fact = λ e. g.fact e }
+skip_needs false refusal Q Fact g = record { fact = λ e. absurd cc }
+
+pub skip_finds : {X : Type 0} (o : Option X) (refusal : Refusal) (Q : List (Option Answer)) (Fact : Type 0) → Gives Q Fact → Gives (finds o refusal ∷ Q) Fact
+skip_finds (Some x) refusal Q Fact g = record { fact = λ e. g.fact e }
+skip_finds None refusal Q Fact g = record { fact = λ e. absurd cc }
+
+pub skip_new : {X : Type 0} (o : Option X) (same : X → Bool) (refusal : Refusal) (Q : List (Option Answer)) (Fact : Type 0) → Gives Q Fact → Gives (is_new o same refusal ∷ Q) Fact
+skip_new (Some x) same refusal Q Fact g = record { fact = λ e. absurd cc }
+skip_new None same refusal Q Fact g = record { fact = λ e. g.fact e }
+
+pub skip_done : (holds : Bool) (Q : List (Option Answer)) (Fact : Type 0) → Gives Q Fact → Gives (done_if holds ∷ Q) Fact
+skip_done true Q Fact g = record { fact = λ e. absurd cc }
+skip_done false Q Fact g = record { fact = λ e. g.fact e }

@@ -9,3 +9,5 @@ pub mod Again
 pub mod Repeats
 pub mod Single
 pub mod Answered
+pub mod Soundness
+pub mod Alike

@@ -128,10 +128,10 @@ extends_account s name account = record {
   payments = keeps_same s.payments;
 }
 
-abbrev is_year : ℕ → YearDays → Bool
+abbrev pub is_year : ℕ → YearDays → Bool
 is_year year g = g.year == year
 
-calendar_still : (s : State) (year : ℕ) (days : List ℕ) (other : ℕ) (x : List ℕ)
+pub calendar_still : (s : State) (year : ℕ) (days : List ℕ) (other : ℕ) (x : List ℕ)
     → calendar_at s other ≡ Some x → calendar_at (record s { calendars = s.calendars ++ record { year = year; days = days } ∷ [] }) other ≡ Some x
 calendar_still s year days other x there = found_append days_of (is_year other) s.calendars _ x there
 
@@ -247,7 +247,7 @@ extends_void_payment s name number = record {
   payments = keeps_voided s.payments name number;
 }
 
-some_still : {X : Type 0} (o p : Option X) → ((x : X) → o ≡ Some x → p ≡ Some x) → is_some o ≡ true → is_some p ≡ true
+pub some_still : {X : Type 0} (o p : Option X) → ((x : X) → o ≡ Some x → p ≡ Some x) → is_some o ≡ true → is_some p ≡ true
 some_still (Some x) p still e = rw (still x refl) refl
 some_still None p still e = absurd cc
 

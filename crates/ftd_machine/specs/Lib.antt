@@ -8,4 +8,5 @@ pub mod Posting
 pub mod Asking
 pub mod Step
 pub mod Runs
+pub mod Sound
 pub mod Laws

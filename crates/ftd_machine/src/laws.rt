@@ -4,7 +4,8 @@ ghost use Rattle.std.specs.Prelude.{◌≡◌, ℕ, ◌∷◌, ◌++◌, length,
 ghost use Rattle.ftd_machine.specs.State.{State, entries_of};
 ghost use Rattle.ftd_machine.specs.Checks.{Answer};
 ghost use Rattle.ftd_machine.specs.Step.{Step};
-ghost use Rattle.ftd_machine.specs.Runs.{IsRun};
+ghost use Rattle.ftd_machine.specs.Runs.{IsRun, IsReached};
+ghost use Rattle.ftd_machine.specs.Sound.{IsSound};
 ghost use Rattle.ftd_machine.specs.Laws.{is_change, Names, AgreeOn, IsRepeat};
 ghost use Rattle.ftd_machine.specs.declared.requests.Request.{Request};
 
@@ -24,14 +25,34 @@ pub fn other_accounts_stay()
         → entries_of next account ≡ entries_of s account }
 {}
 
-/// What a request that names an account is answered, and what is kept of the account then, follows from
-/// the account's own entries, the calendars and the added holidays: each answer of a state is one of
-/// every state that agrees on these, and they agree afterwards.
-#[tactic(auto, using(crate::proofs::Own::follows))]
+/// Each state that requests lead to from an empty desk is sound, and a step leaves a sound state sound.
+pub fn reached_states_are_sound()
+    ensures step { (s : State) (request : Request) (answer : Answer) (next : State)
+        → Step s request answer next → IsSound s → IsSound next }
+    ensures reached { (s : State) → IsReached s → IsSound s }
+{}
+
+/// In a sound state, as each is that requests lead to, a request has one answer and one next state.
+#[tactic(auto, using(crate::proofs::Alike::answers_once))]
+pub fn a_request_has_one_answer()
+    ensures { (s : State) (request : Request) (answer other : Answer) (next after : State) → IsSound s
+        → Step s request answer next → Step s request other after
+        → (answer ≡ other) × (next ≡ after) }
+{}
+
+/// What a request that names an account is answered, and what is kept of the account then, rests on the
+/// account's own entries, the calendars and the added holidays.
 pub fn replies_rest_on_own_rows()
-    ensures { (s t : State) (request : Request) (answer : Answer) (next : State) (account : List ℕ)
+    // Each answer of a state is one of every state that agrees on these, and they agree afterwards.
+    ensures each { (s t : State) (request : Request) (answer : Answer) (next : State) (account : List ℕ)
         → Names request account → AgreeOn account s t → Step s request answer next
-        → (other : State) × Step t request answer other × AgreeOn account next other }
+        → (after : State) × Step t request answer after × AgreeOn account next after }
+
+    // So sound states that agree give equal replies.
+    ensures equal { (s t : State) (request : Request) (answer other : Answer) (next after : State) (account : List ℕ)
+        → IsSound t → Names request account → AgreeOn account s t
+        → Step s request answer next → Step t request other after
+        → (answer ≡ other) × AgreeOn account next after }
 {}
 
 /// In any list, a request that was answered Done or Posted is answered Already, or by a fault, at each
