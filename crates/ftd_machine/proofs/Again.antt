@@ -1,14 +1,9 @@
 -- A request that was done is answered Already from then on.
-use Rattle.std.proofs.Common.{◌≡◌, ◌∙◌, inl, inr, refl, sym, ap, subst, ℕ, ◌+◌, ◌==◌, ◌||◌, Bool, true, false, List, [], ◌∷◌, ◌++◌, length, Option, None, Some, Ok, Err, bytes_eq}
-use Rattle.std.specs.Prelude.{nat_lt, nat_le, is_some, find, option_map}
-use Rattle.std.specs.Option.{option_or}
-use Rattle.std.specs.List.{list_any}
+use Rattle.std.proofs.Common.{◌≡◌, refl, sym, subst, ℕ, ◌==◌, Bool, true, false, List, [], ◌∷◌, Option, None, Some}
+use Rattle.std.specs.Prelude.{nat_le}
 use Rattle.std.proofs.lemmas.Bool.{eq-eqb}
-use Rattle.std.proofs.lemmas.List.Folds.{find-append, list_any-append}
-use Rattle.std.proofs.lemmas.List.Elements.{filter-append}
-use Rattle.ftd_days.specs.Calendar.{year_of, quarter_year, quarter_start}
+use Rattle.ftd_days.specs.Calendar.{year_of}
 use Rattle.ftd_days.specs.Business.{is_holiday}
-use Rattle.ftd_days.specs.Holidays.{YearDays}
 use Rattle.ftd_days.specs.declared.cents.Cents.{Cents}
 use Rattle.ftd_rules.specs.declared.Form.{Form}
 use Rattle.ftd_rules.specs.declared.Form.TheVariants.{F941, F943}
@@ -16,16 +11,13 @@ use Rattle.ftd_machine.specs.declared.entries.Account.{Account}
 use Rattle.ftd_machine.specs.declared.entries.PayRun.{PayRun}
 use Rattle.ftd_machine.specs.declared.entries.Payment.{Payment}
 use Rattle.ftd_machine.specs.declared.entries.Voidable.{Voidable}
-use Rattle.ftd_machine.specs.Limits.{is_account_name, is_between, is_amount, is_number, is_calendar, most_entries, most_holidays}
-use Rattle.ftd_machine.specs.State.{State, Enrolled, Entry, Entries, entries_of, is_named, account_of, is_of, kept_at, is_open, is_given, calendar_at, added_in}
-use Rattle.ftd_machine.specs.Checks.{Answer, first_of, needs, done_if, finds, meets, is_new, Decides}
-use Rattle.ftd_machine.specs.Requests.{is_form, same_flag, same_account, same_amount, same_run, same_payment, same_days, is_voided, is_on, starts_before, has_started, has_started_in, days_of_year, enrol_checks, calendar_checks, add_holiday_checks, report_checks, report_year_checks, open_year_checks, post_checks, void_checks, pay_checks, void_payment_checks, status_checks, due_list_checks, schedule_b_checks}
+use Rattle.ftd_machine.specs.Limits.{is_account_name}
+use Rattle.ftd_machine.specs.Checks.{first_of, finds, meets}
+use Rattle.ftd_machine.specs.Requests.{is_form, same_flag, same_account, same_amount, same_run, same_payment, same_days, is_voided, is_on, days_of_year, enrol_checks, calendar_checks, add_holiday_checks, report_checks, report_year_checks, open_year_checks, post_checks, void_checks, pay_checks, void_payment_checks}
 use Rattle.ftd_machine.specs.declared.replies.Refusal.{Refusal}
-use Rattle.ftd_machine.specs.declared.replies.Refusal.TheVariants.{BadName, BadYear, BadDay, BadCents, BadCalendar, BadNumber, UnknownAccount, AccountDiffers, CalendarDiffers, QuarterDiffers, RunDiffers, PaymentDiffers, UnknownRun, UnknownPayment, BeforeStart, CalendarMissing, YearNotOpen, TooManyRuns, TooManyPayments, WrongForm, YearDiffers}
-use Rattle.ftd_machine.specs.declared.requests.Request.{Request}
-use Rattle.ftd_machine.specs.declared.requests.Request.TheVariants.{Enrol, Calendar, AddHoliday, Report, ReportYear, OpenYear, Post, Void, Pay, VoidPay, Status, DueList, ScheduleB}
+use Rattle.ftd_machine.specs.declared.replies.Refusal.TheVariants.{UnknownAccount, AccountDiffers, CalendarDiffers, QuarterDiffers, RunDiffers, PaymentDiffers, UnknownRun, UnknownPayment, CalendarMissing, YearDiffers}
 use Rattle.ftd_machine.proofs.Adding.{own_name}
-use Rattle.ftd_machine.proofs.Heads.{done_before, Quiet, quiet_none, quiet_needs, quiet_finds, Turns, turns_needs, turns_finds, turns_new, turns_done, Firm, firm_none, firm_needs, firm_finds, Stays, stays_needs, stays_finds, stays_new, stays_done}
+use Rattle.ftd_machine.proofs.Heads.{quiet_none, quiet_needs, quiet_finds, Turns, turns_needs, turns_finds, turns_new, turns_done, firm_none, firm_needs, firm_finds, Stays, stays_needs, stays_finds, stays_new, stays_done}
 use Rattle.ftd_machine.proofs.Keeping.{IsStill}
 
 -- ---- equal content

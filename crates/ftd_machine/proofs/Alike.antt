@@ -1,5 +1,5 @@
 -- States that agree on an account's entries give the same reply.
-use Rattle.std.proofs.Common.{◌≡◌, ◌∙◌, sym, subst, ℕ, List}
+use Rattle.std.proofs.Common.{◌≡◌, subst, ℕ, List}
 use Rattle.ftd_machine.specs.State.{State}
 use Rattle.ftd_machine.specs.Checks.{Answer}
 use Rattle.ftd_machine.specs.Step.{Step}

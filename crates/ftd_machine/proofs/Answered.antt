@@ -1,14 +1,13 @@
 -- A step has one answer and one next state.
 use Rattle.std.proofs.Common.{◌≡◌, ◌∙◌, inl, inr, refl, sym, ap, subst, ℕ, List, Option, None, Some, Ok, Err}
 use Rattle.std.specs.Prelude.{unwrap_or}
-use Rattle.ftd_days.specs.declared.cents.Cents.{Cents}
 use Rattle.ftd_machine.specs.declared.entries.PayRun.{PayRun}
 use Rattle.ftd_machine.specs.declared.entries.Voidable.{Voidable}
 use Rattle.ftd_machine.specs.State.{State, Entries, entries_of, holidays}
 use Rattle.ftd_machine.specs.History.{form_of}
-use Rattle.ftd_machine.specs.Checks.{Answer, first_of, Decides}
+use Rattle.ftd_machine.specs.Checks.{Answer, Decides}
 use Rattle.ftd_machine.specs.Posting.{IsPosted}
-use Rattle.ftd_machine.specs.Step.{Step, OpensNext, may_open}
+use Rattle.ftd_machine.specs.Step.{Step, OpensNext}
 use Rattle.ftd_machine.specs.declared.replies.Reply.TheVariants.{Done}
 use Rattle.ftd_machine.specs.declared.requests.Request.{Request}
 use Rattle.ftd_machine.specs.declared.requests.Request.TheVariants.{Enrol, Calendar, AddHoliday, Report, ReportYear, OpenYear, Post, Void, Pay, VoidPay, Status, DueList, ScheduleB}

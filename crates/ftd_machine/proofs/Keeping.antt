@@ -1,15 +1,14 @@
 -- What is kept stays: no request takes an entry back.
-use Rattle.std.proofs.Common.{◌≡◌, ◌∙◌, refl, sym, ap, subst, ℕ, ◌==◌, ◌&&◌, ◌||◌, Bool, true, false, cond, List, [], ◌∷◌, ◌++◌, map, filter, Option, None, Some, bytes_eq}
+use Rattle.std.proofs.Common.{◌≡◌, ◌∙◌, refl, ap, subst, ℕ, ◌==◌, Bool, true, false, cond, List, [], ◌∷◌, ◌++◌, filter, Option, None, Some, bytes_eq}
 use Rattle.std.specs.Prelude.{find, option_map, is_some, unwrap_or}
 use Rattle.std.specs.Option.{option_or}
-use Rattle.std.specs.List.{list_any}
 use Rattle.std.proofs.lemmas.Bool.{eq-eqb}
 use Rattle.std.proofs.lemmas.List.Elements.{filter-append}
-use Rattle.std.proofs.lemmas.List.Folds.{find-append, list_any-append}
+use Rattle.std.proofs.lemmas.List.Folds.{find-append}
 use Rattle.ftd_machine.specs.declared.entries.Voidable.{Voidable}
 use Rattle.ftd_machine.specs.State.{Entry, is_of, has_key, content_of, kept_at}
 use Rattle.ftd_machine.specs.Step.{with_entry, with_voided, voided_if, is_under, voided}
-use Rattle.ftd_machine.proofs.Adding.{own_name, entry_own}
+use Rattle.ftd_machine.proofs.Adding.{entry_own}
 
 -- ---- under a key
 

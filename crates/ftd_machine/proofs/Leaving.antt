@@ -1,5 +1,5 @@
 -- An answer that tells of no change leaves the state.
-use Rattle.std.proofs.Common.{◌≡◌, inl, inr, ℕ, List, true, false, Option, None, Some, Ok, Err}
+use Rattle.std.proofs.Common.{◌≡◌, inl, inr, ℕ, List, false, Option, None, Some, Ok}
 use Rattle.std.proofs.lemmas.Bool.{true≢false}
 use Rattle.ftd_machine.specs.State.{State, Entries}
 use Rattle.ftd_machine.specs.Checks.{Answer, Decides}

@@ -1,5 +1,5 @@
 -- Two states that agree on an account's entries answer the same to what names it.
-use Rattle.std.proofs.Common.{◌≡◌, ◌∙◌, inl, inr, refl, sym, ap, subst, ℕ, ◌+◌, length, List, Option, None, Some, Ok, Err}
+use Rattle.std.proofs.Common.{◌≡◌, ◌∙◌, inl, inr, refl, sym, ap, subst, ℕ, ◌+◌, length, List, Option, None, Some, Ok}
 use Rattle.std.specs.Option.{option_or}
 use Rattle.ftd_days.specs.Calendar.{year_of, quarter_year}
 use Rattle.ftd_days.specs.declared.cents.Cents.{Cents}

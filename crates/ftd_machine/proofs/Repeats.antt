@@ -1,6 +1,6 @@
 -- In any list a request that was done is answered Already from then on, or by a fault.
-use Rattle.std.proofs.Common.{◌≡◌, ◌∙◌, ◌⊎◌, inl, inr, refl, sym, ap, subst, ℕ, ◌+◌, ◌==◌, ◌||◌, Bool, true, false, List, [], ◌∷◌, ◌++◌, length, filter, Option, None, Some, Ok, Err, arith, length-append}
-use Rattle.std.specs.Prelude.{is_some, find, option_map, unwrap_or}
+use Rattle.std.proofs.Common.{◌≡◌, ◌∙◌, inl, inr, refl, sym, ap, subst, ℕ, ◌+◌, ◌==◌, ◌||◌, Bool, true, false, List, [], ◌∷◌, ◌++◌, length, filter, Option, None, Some, Ok, arith, length-append}
+use Rattle.std.specs.Prelude.{is_some, unwrap_or}
 use Rattle.std.specs.List.{list_any}
 use Rattle.std.proofs.lemmas.Bool.{true≢false}
 use Rattle.std.proofs.lemmas.List.Folds.{list_any-append}
@@ -13,22 +13,21 @@ use Rattle.ftd_machine.specs.declared.entries.Account.{Account}
 use Rattle.ftd_machine.specs.declared.entries.PayRun.{PayRun}
 use Rattle.ftd_machine.specs.declared.entries.Payment.{Payment}
 use Rattle.ftd_machine.specs.declared.entries.Voidable.{Voidable}
-use Rattle.ftd_machine.specs.State.{State, Enrolled, Entry, Entries, entries_of, is_named, account_of, is_of, kept_at, is_open, is_given, calendar_at, days_of, added_in, holidays}
+use Rattle.ftd_machine.specs.State.{State, entries_of, is_named, account_of, kept_at, is_open, is_given, calendar_at, days_of, added_in, holidays}
 use Rattle.ftd_machine.specs.Checks.{Answer, first_of, Decides}
 use Rattle.ftd_machine.specs.Requests.{days_of_year, enrol_checks, calendar_checks, add_holiday_checks, report_checks, report_year_checks, open_year_checks, post_checks, void_checks, pay_checks, void_payment_checks, status_checks, due_list_checks, schedule_b_checks}
-use Rattle.ftd_machine.specs.Posting.{IsPosted}
 use Rattle.ftd_machine.specs.Asking.{IsStatus, IsDueList, IsScheduleB}
 use Rattle.ftd_machine.specs.Step.{Step, OpensNext, may_open, taken, with_account, with_entry, with_voided}
-use Rattle.ftd_machine.specs.Runs.{IsFault, Goes, IsRun}
+use Rattle.ftd_machine.specs.Runs.{Goes, IsRun}
 use Rattle.ftd_machine.specs.Laws.{is_change, IsRepeat}
 use Rattle.ftd_machine.specs.declared.replies.Reply.TheVariants.{Done, Already}
 use Rattle.ftd_machine.specs.declared.requests.Request.{Request}
 use Rattle.ftd_machine.specs.declared.requests.Request.TheVariants.{Enrol, Calendar, AddHoliday, Report, ReportYear, OpenYear, Post, Void, Pay, VoidPay, Status, DueList, ScheduleB}
 use Rattle.ftd_machine.proofs.Deciding.{either}
 use Rattle.ftd_machine.proofs.Leaving.{asked_leaves}
-use Rattle.ftd_machine.proofs.Adding.{own_name, account_own}
-use Rattle.ftd_machine.proofs.Heads.{done_before, IsNoChange, Quiet, quiet_none, quiet_needs, quiet_finds, Turns, Firm, firm_none, firm_needs, firm_finds, Stays}
-use Rattle.ftd_machine.proofs.Keeping.{found_append, found_last, same_key, kept_own, kept_some, Keeps, keeps_entry, IsStill, KeepsVoidable, keeps_same, keeps_more, keeps_voided, voided_kept}
+use Rattle.ftd_machine.proofs.Adding.{own_name}
+use Rattle.ftd_machine.proofs.Heads.{done_before, Quiet, quiet_none, quiet_needs, quiet_finds, Turns, Firm, firm_none, firm_needs, firm_finds, Stays}
+use Rattle.ftd_machine.proofs.Keeping.{found_append, found_last, same_key, kept_own, kept_some, Keeps, keeps_entry, KeepsVoidable, keeps_same, keeps_more, keeps_voided, voided_kept}
 use Rattle.ftd_machine.proofs.Again.{enrol_turns, enrol_stays, report_turns, report_stays, report_year_turns, report_year_stays, open_turns, open_stays, post_turns, post_stays, void_turns, void_stays, pay_turns, pay_stays, void_payment_turns, void_payment_stays, calendar_turns, calendar_stays, holiday_turns, holiday_stays}
 
 -- the checks of a request in a state

@@ -1,14 +1,12 @@
 -- A state and a request have one answer.
-use Rattle.std.proofs.Common.{◌≡◌, ◌∙◌, ◌⊎◌, inl, inr, refl, sym, ap, subst, ℕ, ◌+◌, ◌<◌, ◌≤◌, Bool, true, false, List, [], ◌∷◌, ◌++◌, map, length, Option, None, Some, Ok, Err, arith}
+use Rattle.std.proofs.Common.{◌≡◌, ◌∙◌, ◌⊎◌, inl, inr, refl, sym, ap, subst, ℕ, ◌<◌, Bool, true, false, List, [], ◌∷◌, ◌++◌, map, length, Some, Ok, arith}
 use Rattle.std.specs.Prelude.{unwrap_or}
 use Rattle.std.proofs.lemmas.Bool.{true≢false}
-use Rattle.ftd_days.specs.Calendar.{year_of}
 use Rattle.ftd_days.specs.declared.cents.Cents.{Cents}
 use Rattle.ftd_rules.specs.declared.Form.{Form}
 use Rattle.ftd_rules.specs.declared.Form.TheVariants.{F941, F943}
 use Rattle.ftd_rules.specs.declared.Kind.{Kind}
 use Rattle.ftd_rules.specs.declared.Kind.TheVariants as kind
-use Rattle.ftd_rules.specs.declared.DaySum.{DaySum}
 use Rattle.ftd_rules.specs.declared.YearLine.{YearLine}
 use Rattle.ftd_rules.specs.declared.Obligation.{Obligation}
 use Rattle.ftd_rules.specs.declared.verdict.DueRow.{DueRow}
@@ -21,11 +19,11 @@ use Rattle.ftd_rules.proofs.Stated.{lookback_together, rows_owed}
 use Rattle.ftd_rules.proofs.Lines.{lines_one}
 use Rattle.ftd_rules.proofs.Schedules.{line_one}
 use Rattle.ftd_rules.proofs.Only.{rows_one, obligations_one}
-use Rattle.ftd_machine.specs.State.{State, Entries, entries_of}
-use Rattle.ftd_machine.specs.History.{start_of, form_of, is_carried, figures, live_sums, IsLookbackOn, HasLookback, IsMissingOn, LacksFigure, AreCarried, year_of_line, year_of_entry, AreLinesOf, AreOwed}
+use Rattle.ftd_machine.specs.State.{Entries}
+use Rattle.ftd_machine.specs.History.{start_of, form_of, is_carried, figures, live_sums, IsLookbackOn, HasLookback, IsMissingOn, AreCarried, year_of_line, AreLinesOf, AreOwed}
 use Rattle.ftd_machine.specs.Checks.{Answer}
 use Rattle.ftd_machine.specs.Posting.{AreOnlyIn, Spans, Differ, IsPosted}
-use Rattle.ftd_machine.specs.Asking.{IsByLookback, IsTurnBefore, HasNoTurnBefore, IsReason, IsStatus, IsDueRow, first_of_row, IsDueList, IsLiableDay, day_of_sum, IsScheduleB}
+use Rattle.ftd_machine.specs.Asking.{IsTurnBefore, HasNoTurnBefore, IsReason, IsStatus, IsDueRow, first_of_row, IsDueList, day_of_sum, IsScheduleB}
 use Rattle.ftd_machine.specs.declared.replies.Reason.{Reason}
 use Rattle.ftd_machine.specs.declared.replies.Reason.TheVariants as reason
 use Rattle.ftd_machine.specs.declared.replies.Reply.TheVariants.{Posted, Status, Due, Days}

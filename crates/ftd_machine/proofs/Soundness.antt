@@ -1,5 +1,5 @@
 -- Each step leaves the state sound.
-use Rattle.std.proofs.Common.{◌≡◌, ◌∙◌, ◌⊎◌, inl, inr, refl, sym, ap, subst, ℕ, ◌+◌, ◌-◌, ◌<◌, ◌≤◌, ◌==◌, ◌||◌, ◌&&◌, Bool, true, false, cond, List, [], ◌∷◌, ◌++◌, map, filter, length, Option, None, Some, Ok, arith, bytes_eq}
+use Rattle.std.proofs.Common.{◌≡◌, ◌∙◌, ◌⊎◌, inl, inr, refl, sym, ap, subst, ℕ, ◌+◌, ◌-◌, ◌≤◌, ◌==◌, ◌||◌, ◌&&◌, Bool, true, false, cond, List, [], ◌∷◌, ◌++◌, map, filter, length, Option, None, Some, Ok, arith, bytes_eq}
 use Rattle.std.specs.Prelude.{find, option_map, is_some, nat_le}
 use Rattle.std.proofs.lemmas.Bool.{true≢false, eqb-true, leb-true}
 use Rattle.ftd_days.specs.Calendar.{year_of}
@@ -12,13 +12,12 @@ use Rattle.ftd_machine.specs.declared.entries.PayRun.{PayRun}
 use Rattle.ftd_machine.specs.declared.entries.Payment.{Payment}
 use Rattle.ftd_machine.specs.declared.entries.Voidable.{Voidable}
 use Rattle.ftd_machine.specs.Limits.{is_between, is_calendar}
-use Rattle.ftd_machine.specs.State.{State, nothing, Enrolled, Entry, Entries, entries_of, is_named, account_of, is_of, has_key, content_of, kept_at, is_open, is_given, calendar_at, days_of}
+use Rattle.ftd_machine.specs.State.{State, nothing, Entry, entries_of, is_named, account_of, is_of, has_key, content_of, kept_at, is_open, is_given, calendar_at, days_of}
 use Rattle.ftd_machine.specs.History.{figure_of, figures, year_of_entry}
-use Rattle.ftd_machine.specs.Checks.{Answer, first_of, needs, done_if, finds, is_new, Decides}
+use Rattle.ftd_machine.specs.Checks.{Answer, first_of, Decides}
 use Rattle.ftd_machine.specs.Step.{Step, OpensNext, may_open, taken, with_account, with_entry, with_voided, voided_if, voided, is_under}
 use Rattle.ftd_machine.specs.Sound.{AreDistinct, name_of, year_of_calendar, place_of, FollowFrom, Follow, IsSound}
 use Rattle.ftd_machine.specs.Runs.{Goes, IsRun, IsReached}
-use Rattle.ftd_machine.specs.declared.replies.Refusal.{Refusal}
 use Rattle.ftd_machine.specs.declared.replies.Reply.TheVariants.{Done}
 use Rattle.ftd_machine.specs.declared.requests.Request.{Request}
 use Rattle.ftd_machine.specs.declared.requests.Request.TheVariants.{Enrol, Calendar, AddHoliday, Report, ReportYear, OpenYear, Post, Void, Pay, VoidPay, Status, DueList, ScheduleB}

@@ -6,14 +6,17 @@ use ftd_rules::Form;
 use std::alloc::Global;
 use std::test::Fail;
 
+/// The day that a text spells.
 pub fn day(text: &str) -> Result<Day, Fail> {
     Ok(Day::read(text.as_bytes()).ok_or("a day")?)
 }
 
+/// The quarter that a text spells.
 pub fn quarter(text: &str) -> Result<Quarter, Fail> {
     Ok(Quarter::read(text.as_bytes()).ok_or("a quarter")?)
 }
 
+/// The amount that a text spells.
 pub fn cents(text: &str) -> Result<Cents, Fail> {
     Ok(Cents::read(text.as_bytes()).ok_or("an amount")?)
 }
@@ -27,6 +30,7 @@ pub fn account(start: &str, form: Form) -> Result<Account, Fail> {
     })
 }
 
+/// The days that texts spell.
 pub fn days(alloc: Global, texts: &[&str]) -> Result<Vec<Day>, Fail> {
     let mut days = Vec::new(alloc);
     for text in texts {
