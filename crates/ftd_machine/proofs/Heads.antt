@@ -1,6 +1,7 @@
 -- Lists of checks of which the first decides, head by head: which of them answer that the request was done
 -- before, and when.
 use Rattle.std.proofs.Common.{◌≡◌, refl, if◌then◌else◌, Bool, true, false, List, [], ◌∷◌, Option, None, Some, Ok, Err}
+use Rattle.std.specs.Prelude.{is_some}
 use Rattle.ftd_machine.specs.Checks.{Answer, first_of, needs, done_if, finds, is_new}
 use Rattle.ftd_machine.specs.Laws.{is_change}
 use Rattle.ftd_machine.specs.declared.replies.Reply.TheVariants.{Already}
@@ -117,6 +118,10 @@ pub record Gives (P : List (Option Answer)) (Fact : Type 0) : Type 0 where
 pub gives_needs : (holds : Bool) (refusal : Refusal) (Q : List (Option Answer)) → Gives (needs holds refusal ∷ Q) (holds ≡ true)
 gives_needs true refusal Q = record { fact = λ e. refl }
 gives_needs false refusal Q = record { fact = λ e. absurd cc }
+
+pub gives_finds : {X : Type 0} (o : Option X) (refusal : Refusal) (Q : List (Option Answer)) → Gives (finds o refusal ∷ Q) (is_some o ≡ true)
+gives_finds (Some x) refusal Q = record { fact = λ e. refl }
+gives_finds None refusal Q = record { fact = λ e. absurd cc }
 
 pub gives_done : (holds : Bool) (Q : List (Option Answer)) → Gives (done_if holds ∷ Q) (holds ≡ false)
 gives_done true Q = record { fact = λ e. absurd cc }

@@ -9,5 +9,6 @@ pub mod Again
 pub mod Repeats
 pub mod Single
 pub mod Answered
+pub mod Few
 pub mod Soundness
 pub mod Alike

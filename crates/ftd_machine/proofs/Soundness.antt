@@ -1,6 +1,6 @@
 -- Each step leaves the state sound.
 use Rattle.std.proofs.Common.{◌≡◌, ◌∙◌, ◌⊎◌, inl, inr, refl, sym, ap, subst, ℕ, ◌+◌, ◌-◌, ◌≤◌, ◌==◌, ◌||◌, ◌&&◌, Bool, true, false, cond, List, [], ◌∷◌, ◌++◌, map, filter, length, Option, None, Some, Ok, arith, bytes_eq}
-use Rattle.std.specs.Prelude.{find, option_map, is_some, nat_le}
+use Rattle.std.specs.Prelude.{find, option_map, is_some, nat_le, nat_lt}
 use Rattle.std.proofs.lemmas.Bool.{true≢false, eqb-true, leb-true}
 use Rattle.ftd_days.specs.Calendar.{year_of}
 use Rattle.ftd_days.specs.Holidays.{YearDays}
@@ -12,8 +12,9 @@ use Rattle.ftd_machine.specs.declared.entries.PayRun.{PayRun}
 use Rattle.ftd_machine.specs.declared.entries.Payment.{Payment}
 use Rattle.ftd_machine.specs.declared.entries.Voidable.{Voidable}
 use Rattle.ftd_machine.specs.Limits.{is_between, is_calendar}
-use Rattle.ftd_machine.specs.State.{State, nothing, Entry, entries_of, is_named, account_of, is_of, has_key, content_of, kept_at, is_open, is_given, calendar_at, days_of}
+use Rattle.ftd_machine.specs.State.{State, nothing, Entry, entries_of, is_named, account_of, is_of, has_key, content_of, kept_at, is_open, is_given, calendar_at, days_of, added_in}
 use Rattle.ftd_machine.specs.History.{figure_of, figures, year_of_entry}
+use Rattle.ftd_machine.specs.Requests.{days_of_year}
 use Rattle.ftd_machine.specs.Checks.{Answer, first_of, Decides}
 use Rattle.ftd_machine.specs.Step.{Step, OpensNext, may_open, taken, with_account, with_entry, with_voided, voided_if, voided, is_under}
 use Rattle.ftd_machine.specs.Sound.{AreDistinct, name_of, year_of_calendar, place_of, FollowFrom, Follow, IsSound}
@@ -23,11 +24,12 @@ use Rattle.ftd_machine.specs.declared.requests.Request.{Request}
 use Rattle.ftd_machine.specs.declared.requests.Request.TheVariants.{Enrol, Calendar, AddHoliday, Report, ReportYear, OpenYear, Post, Void, Pay, VoidPay, Status, DueList, ScheduleB}
 use Rattle.ftd_machine.proofs.Deciding.{either}
 use Rattle.ftd_machine.proofs.Leaving.{asked_leaves}
-use Rattle.ftd_machine.proofs.Heads.{Gives, gives_needs, gives_done, gives_new, skip_needs, skip_finds, skip_new, skip_done}
+use Rattle.ftd_machine.proofs.Heads.{Gives, gives_finds, gives_needs, gives_done, gives_new, skip_needs, skip_finds, skip_new, skip_done}
 use Rattle.ftd_machine.proofs.Adding.{own_name, same_name, filter_more}
 use Rattle.ftd_machine.proofs.Keeping.{same_key, keeps_entry}
 use Rattle.ftd_machine.proofs.Repeats.{checks_of, is_year, calendar_still, some_still}
 use Rattle.ftd_machine.proofs.Single.{IsOnce}
+use Rattle.ftd_machine.proofs.Few.{few_given, few_added}
 
 -- ---- members
 
@@ -153,6 +155,8 @@ sound_account s name account none sound = record {
   in_turn = sound.in_turn;
   paydays = sound.paydays;
   paid_days = sound.paid_days;
+  added_days = sound.added_days;
+  few = sound.few;
 }
 
 given_still : (s : State) (year : ℕ) (days : List ℕ) (other : ℕ) → is_given s other ≡ true
@@ -178,6 +182,10 @@ sound_calendar s year days none between fits sound = record {
   in_turn = sound.in_turn;
   paydays = sound.paydays;
   paid_days = sound.paid_days;
+  added_days = λ d has. given_still s year days (year_of d) (sound.added_days d has);
+  few = few_given s sound.few year days fits (λ c has. (sound.are_calendars c has).1)
+      (λ c has same. found_none days_of (is_year year) s.calendars none c has (ap (λ k. k == year) same ∙ same_key year))
+      sound.added_days (ap is_some none);
 }
 
 sound_reported : (s : State) (name : List ℕ) (key : ℕ) (cents : Cents) → kept_at key (entries_of s name).reported ≡ None → IsSound s
@@ -195,6 +203,8 @@ sound_reported s name key cents none sound = record {
   in_turn = sound.in_turn;
   paydays = sound.paydays;
   paid_days = sound.paid_days;
+  added_days = sound.added_days;
+  few = sound.few;
 }
 
 sound_reported_year : (s : State) (name : List ℕ) (key : ℕ) (cents : Cents) → kept_at key (entries_of s name).reported_years ≡ None → IsSound s
@@ -212,10 +222,14 @@ sound_reported_year s name key cents none sound = record {
   in_turn = sound.in_turn;
   paydays = sound.paydays;
   paid_days = sound.paid_days;
+  added_days = sound.added_days;
+  few = sound.few;
 }
 
-sound_added : (s : State) (day : ℕ) → IsSound s → IsSound (record s { added_days = s.added_days ++ day ∷ [] })
-sound_added s day sound = record {
+sound_added : (s : State) (day : ℕ) → is_given s (year_of day) ≡ true
+    → nat_lt (length (days_of_year (calendar_at s (year_of day)) (added_in s (year_of day)))) 60 ≡ true → IsSound s
+    → IsSound (record s { added_days = s.added_days ++ day ∷ [] })
+sound_added s day given room sound = record {
   accounts = sound.accounts;
   calendars = sound.calendars;
   reported = sound.reported;
@@ -228,6 +242,11 @@ sound_added s day sound = record {
   in_turn = sound.in_turn;
   paydays = sound.paydays;
   paid_days = sound.paid_days;
+  added_days = λ d has. elim (has_last s.added_days day d has) [
+    | inl here ↦ sound.added_days d here
+    | inr is ↦ subst (λ x. is_given s (year_of x) ≡ true) (sym is) given
+  ];
+  few = few_added s sound.few day sound.calendars (λ c has. (sound.are_calendars c has).1) room;
 }
 
 -- ---- years that follow one another
@@ -329,6 +348,8 @@ sound_open s name year between given next first fresh sound = record {
       (turn_step s name year other (bytes_eq name other) refl (at_least_one year between) first fresh sound);
   paydays = λ e has. open_still s name year e.name _ (sound.paydays e has);
   paid_days = λ e has. open_still s name year e.name _ (sound.paid_days e has);
+  added_days = sound.added_days;
+  few = sound.few;
 }
 
 -- ---- runs and payments
@@ -358,6 +379,8 @@ sound_run s name number value none there sound = record {
     | inr is ↦ subst (λ (x : Entry (Voidable PayRun)). is_open (entries_of s x.name) (year_of x.content.value.payday) ≡ true) (sym is) there
   ];
   paid_days = sound.paid_days;
+  added_days = sound.added_days;
+  few = sound.few;
 }
 
 sound_void_run : (s : State) (name : List ℕ) (number : ℕ) → IsSound s → IsSound (record s { runs = with_voided s.runs name number })
@@ -380,6 +403,8 @@ sound_void_run s name number sound = record {
       ap (is_open (entries_of s from.0.name)) day ∙ sound.paydays from.0 from.1 in
       subst (λ (x : Entry (Voidable PayRun)). is_open (entries_of s x.name) (year_of x.content.value.payday) ≡ true) (sym from.2) was;
   paid_days = sound.paid_days;
+  added_days = sound.added_days;
+  few = sound.few;
 }
 
 sound_payment : (s : State) (name : List ℕ) (number : ℕ) (value : Payment) → kept_at number (entries_of s name).payments ≡ None
@@ -400,6 +425,8 @@ sound_payment s name number value none there sound = record {
     | inl here ↦ sound.paid_days e here
     | inr is ↦ subst (λ (x : Entry (Voidable Payment)). is_open (entries_of s x.name) (year_of x.content.value.for_day) ≡ true) (sym is) there
   ];
+  added_days = sound.added_days;
+  few = sound.few;
 }
 
 sound_void_payment : (s : State) (name : List ℕ) (number : ℕ) → IsSound s → IsSound (record s { payments = with_voided s.payments name number })
@@ -422,6 +449,8 @@ sound_void_payment s name number sound = record {
       let was : is_open (entries_of s from.0.name) (year_of (voided_if name number from.0).content.value.for_day) ≡ true =
       ap (is_open (entries_of s from.0.name)) day ∙ sound.paid_days from.0 from.1 in
       subst (λ (x : Entry (Voidable Payment)). is_open (entries_of s x.name) (year_of x.content.value.for_day) ≡ true) (sym from.2) was;
+  added_days = sound.added_days;
+  few = sound.few;
 }
 
 -- ---- a step
@@ -482,7 +511,11 @@ step_sound s (Calendar year days) answer next step sound =
     let none : Gives P (calendar_at s year ≡ None) = skip_needs _ _ _ _ (skip_needs _ _ _ _ (gives_new _ _ _ _)) in
     done_sound s answer next sound P _ step (λ e. sound_calendar s year days (none.fact e) (between.fact e) (fits.fact e) sound)
 step_sound s (AddHoliday day) answer next step sound =
-    done_sound s answer next sound (checks_of s (AddHoliday day)) _ step (λ e. sound_added s day sound)
+    let P = checks_of s (AddHoliday day) in
+    let given : Gives P (is_given s (year_of day) ≡ true) = skip_needs _ _ _ _ (skip_done _ _ _ (gives_finds _ _ _)) in
+    let room : Gives P (nat_lt (length (days_of_year (calendar_at s (year_of day)) (added_in s (year_of day)))) 60 ≡ true) =
+    skip_needs _ _ _ _ (skip_done _ _ _ (skip_finds _ _ _ _ (gives_needs _ _ []))) in
+    done_sound s answer next sound P _ step (λ e. sound_added s day (given.fact e) (room.fact e) sound)
 step_sound s (Report name quarter cents) answer next step sound =
     let none : Gives (checks_of s (Report name quarter cents)) (kept_at quarter (entries_of s name).reported ≡ None) =
     skip_needs _ _ _ _ (skip_needs _ _ _ _ (skip_needs _ _ _ _ (skip_finds _ _ _ _ (skip_needs _ _ _ _ (gives_new _ _ _ _))))) in
@@ -541,6 +574,7 @@ nothing_sound = record {
   in_turn = λ name. tt;
   paydays = λ e has. absurd has;
   paid_days = λ e has. absurd has;
+  added_days = λ d has. absurd has; few = λ year. omega arith;
 }
 
 goes_sound : (s : State) (request : Request) (answer : Answer) (next : State) → Goes s request answer next → IsSound s → IsSound next

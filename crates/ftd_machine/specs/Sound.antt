@@ -1,13 +1,13 @@
 -- What is so of every state that requests lead to.
 use Rattle.std.specs.Prelude.{◌≡◌, ℕ, ◌+◌, true, List, [], ◌∷◌, map, filter}
 use Rattle.ftd_days.specs.Calendar.{year_of}
-use Rattle.ftd_days.specs.Holidays.{YearDays}
+use Rattle.ftd_days.specs.Holidays.{YearDays, AreFew}
 use Rattle.ftd_rules.specs.Lists.{Has}
 use Rattle.ftd_machine.specs.declared.entries.PayRun.{PayRun}
 use Rattle.ftd_machine.specs.declared.entries.Payment.{Payment}
 use Rattle.ftd_machine.specs.declared.entries.Voidable.{Voidable}
 use Rattle.ftd_machine.specs.Limits.{is_between, is_calendar}
-use Rattle.ftd_machine.specs.State.{State, Enrolled, Entry, entries_of, is_of, is_open, is_given}
+use Rattle.ftd_machine.specs.State.{State, Enrolled, holidays, Entry, entries_of, is_of, is_open, is_given}
 use Rattle.ftd_machine.specs.History.{year_of_entry}
 
 -- no two have the same key
@@ -55,3 +55,7 @@ pub record IsSound (s : State) : Type 0 where
       → is_open (entries_of s e.name) (year_of e.content.value.payday) ≡ true
   pub paid_days : (e : Entry (Voidable Payment)) → Has s.payments e
       → is_open (entries_of s e.name) (year_of e.content.value.for_day) ≡ true
+
+  -- each added holiday is of a year whose calendar is given, and no year has more than 60 holidays
+  pub added_days : (day : ℕ) → Has s.added_days day → is_given s (year_of day) ≡ true
+  pub few : AreFew (holidays s)
