@@ -120,10 +120,13 @@ module _ (s : State) (few : AreFew (holidays s)) where
       sizes : (o : Option (List ℕ)) (added : List ℕ) → length (days_of_year o added) ≡ size o + length added
       sizes None added = omega arith
       sizes (Some given) added = length-append given added
+
       counted : count year (holidays_of s.calendars ++ (s.added_days ++ day ∷ [])) ≡ count year (holidays_of s.calendars) + (count year s.added_days + count year (day ∷ []))
       counted = count_append year (holidays_of s.calendars) (s.added_days ++ day ∷ []) ∙ ap (λ n. count year (holidays_of s.calendars) + n) (count_append year s.added_days (day ∷ []))
+
       before : count year (holidays_of s.calendars) + count year s.added_days ≤ 60
       before = let both = count_append year (holidays_of s.calendars) s.added_days in let all = few year in omega arith
+
       one_more : (b : Bool) → lies_in year day ≡ b → count year (holidays_of s.calendars ++ (s.added_days ++ day ∷ [])) ≤ 60
       one_more true e =
           let is : year_of day ≡ year = eqb-true (year_of day) year e in
@@ -148,12 +151,14 @@ module _ (s : State) (few : AreFew (holidays s)) where
     where
       c : YearDays
       c = record { year = new; days = days }
+
       counted : count year (holidays_of (s.calendars ++ record { year = new; days = days } ∷ []) ++ s.added_days)
           ≡ (count year (holidays_of s.calendars) + (count year days + count year [])) + count year s.added_days
       counted =
           count_append year (holidays_of (s.calendars ++ record { year = new; days = days } ∷ [])) s.added_days
           ∙ ap (λ xs. count year xs + count year s.added_days) (given_append s.calendars (record { year = new; days = days } ∷ []))
           ∙ ap (λ n. n + count year s.added_days) (count_append year (holidays_of s.calendars) (days ++ []) ∙ ap (λ n. count year (holidays_of s.calendars) + n) (count_append year days []))
+
       one_more : (b : Bool) → (new == year) ≡ b → count year (holidays_of (s.calendars ++ record { year = new; days = days } ∷ []) ++ s.added_days) ≤ 60
       one_more true e =
           let is : new ≡ year = eqb-true new year e in

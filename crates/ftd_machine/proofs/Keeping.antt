@@ -7,7 +7,7 @@ use Rattle.std.proofs.lemmas.List.Elements.{filter-append}
 use Rattle.std.proofs.lemmas.List.Folds.{find-append}
 use Rattle.ftd_machine.specs.declared.entries.Voidable.{Voidable}
 use Rattle.ftd_machine.specs.State.{Entry, is_of, has_key, content_of, kept_at}
-use Rattle.ftd_machine.specs.Step.{with_entry, with_voided, voided_if, is_under, voided}
+use Rattle.ftd_machine.specs.Step.{with_entry, with_voided, voided_if, is_under, as_voided}
 use Rattle.ftd_machine.proofs.Adding.{entry_own}
 
 -- ---- under a key
@@ -77,7 +77,7 @@ pub keeps_more : {X : Type 0} (xs : List (Entry (Voidable X))) (own : List ℕ) 
 keeps_more xs own number more name key v is = (v, keeps_entry xs own number more name key v is, (refl, λ e. e))
 
 -- what is under the name and the key is voided
-void_content : {X : Type 0} (under : Bool) (v : Voidable X) → IsStill v (cond under (voided v) v)
+void_content : {X : Type 0} (under : Bool) (v : Voidable X) → IsStill v (cond under (as_voided v) v)
 void_content true v = (refl, λ e. refl)
 void_content false v = (refl, λ e. e)
 
@@ -116,7 +116,7 @@ void_found : {X : Type 0} (name : List ℕ) (key : ℕ) (e : Entry (Voidable X))
     → option_map content_of (cond found (Some e) o) ≡ Some v
     → (option_map content_of o ≡ Some v → IsVoidAt key ys) → IsVoidAt key (voided_if name key e ∷ ys)
 void_found name key e o ys v true mine here is later =
-    (voided e.content, rw (here, mine) refl, refl)
+    (as_voided e.content, rw (here, mine) refl, refl)
 void_found name key e o ys v false mine here is later =
     let rest = later is in (rest.0, rw here rest.1, rest.2)
 

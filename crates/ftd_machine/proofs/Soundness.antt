@@ -16,7 +16,7 @@ use Rattle.ftd_machine.specs.State.{State, nothing, Entry, entries_of, is_named,
 use Rattle.ftd_machine.specs.History.{figure_of, figures, year_of_entry}
 use Rattle.ftd_machine.specs.Requests.{days_of_year}
 use Rattle.ftd_machine.specs.Checks.{Answer, first_of, Decides}
-use Rattle.ftd_machine.specs.Step.{Step, OpensNext, may_open, taken, with_account, with_entry, with_voided, voided_if, voided, is_under}
+use Rattle.ftd_machine.specs.Step.{Step, OpensNext, may_open, taken, with_account, with_entry, with_voided, voided_if, as_voided, is_under}
 use Rattle.ftd_machine.specs.Sound.{AreDistinct, name_of, year_of_calendar, place_of, FollowFrom, Follow, IsSound}
 use Rattle.ftd_machine.specs.Runs.{Goes, IsRun, IsReached}
 use Rattle.ftd_machine.specs.declared.replies.Reply.TheVariants.{Done}
@@ -357,7 +357,7 @@ sound_open s name year between given next first fresh sound = record {
 still_value : {X : Type 0} (name : List ℕ) (key : ℕ) (e : Entry (Voidable X)) → (voided_if name key e).content.value ≡ e.content.value
 still_value name key e = value_as (is_under name key e) e.content
   where
-    value_as : {X : Type 0} (b : Bool) (v : Voidable X) → (cond b (voided v) v).value ≡ v.value
+    value_as : {X : Type 0} (b : Bool) (v : Voidable X) → (cond b (as_voided v) v).value ≡ v.value
     value_as true v = refl
     value_as false v = refl
 
@@ -574,7 +574,8 @@ nothing_sound = record {
   in_turn = λ name. tt;
   paydays = λ e has. absurd has;
   paid_days = λ e has. absurd has;
-  added_days = λ d has. absurd has; few = λ year. omega arith;
+  added_days = λ d has. absurd has;
+  few = λ year. omega arith;
 }
 
 goes_sound : (s : State) (request : Request) (answer : Answer) (next : State) → Goes s request answer next → IsSound s → IsSound next

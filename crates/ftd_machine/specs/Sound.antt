@@ -47,7 +47,8 @@ pub record IsSound (s : State) : Type 0 where
       → (is_between 2001 2099 c.year ≡ true) × (is_calendar c.year c.days ≡ true)
   -- each open year is one of 2001 to 2098, and its calendar and that of the next year are given
   pub opened : (e : Entry (Unit {0})) → Has s.open_years e
-      → (is_between 2001 2098 e.key ≡ true) × (is_given s e.key ≡ true) × (is_given s (e.key + 1) ≡ true)
+      → (is_between 2001 2098 e.key ≡ true)
+      × (is_given s e.key ≡ true) × (is_given s (e.key + 1) ≡ true)
   -- the open years of an account follow one another
   pub in_turn : (name : List ℕ) → Follow (map year_of_entry (filter (is_of name) s.open_years))
   -- each payday, and each day that a payment is for, lies in an open year of its account
@@ -55,7 +56,6 @@ pub record IsSound (s : State) : Type 0 where
       → is_open (entries_of s e.name) (year_of e.content.value.payday) ≡ true
   pub paid_days : (e : Entry (Voidable Payment)) → Has s.payments e
       → is_open (entries_of s e.name) (year_of e.content.value.for_day) ≡ true
-
   -- each added holiday is of a year whose calendar is given, and no year has more than 60 holidays
   pub added_days : (day : ℕ) → Has s.added_days day → is_given s (year_of day) ≡ true
   pub few : AreFew (holidays s)

@@ -35,12 +35,12 @@ taken value = record { value = value; voided = false }
 abbrev pub is_under : {X : Type 0} → List ℕ → ℕ → Entry X → Bool
 is_under name key e = is_of name e && has_key key e
 
-abbrev pub voided : {X : Type 0} → Voidable X → Voidable X
-voided v = record { value = v.value; voided = true }
+abbrev pub as_voided : {X : Type 0} → Voidable X → Voidable X
+as_voided v = record { value = v.value; voided = true }
 
 abbrev pub voided_if : {X : Type 0} → List ℕ → ℕ → Entry (Voidable X) → Entry (Voidable X)
 voided_if name key e =
-    let content = if is_under name key e then voided e.content else e.content in
+    let content = if is_under name key e then as_voided e.content else e.content in
     record { name = e.name; key = e.key; content = content }
 
 abbrev pub with_voided
