@@ -1,7 +1,7 @@
 -- No year has more than 60 holidays, those of its calendar and those added to it.
-use Rattle.std.proofs.Common.{◌≡◌, ◌∙◌, inl, inr, refl, sym, ap, subst, ℕ, ◌+◌, ◌<◌, ◌≤◌, ◌==◌, ◌&&◌, Bool, true, false, cond, List, [], ◌∷◌, ◌++◌, filter, length, Option, None, Some, arith, append_assoc, length-append}
-use Rattle.std.specs.Prelude.{find, option_map, is_some, nat_le, nat_lt, count_by}
-use Rattle.std.specs.List.{sum_by, list_all}
+use Rattle.std.proofs.Common.{◌≡◌, ◌∙◌, inl, inr, refl, sym, ap, subst, ℕ, ◌+◌, ◌<◌, ◌≤◌, ◌==◌, ◌&&◌, Bool, true, false, cond, List, [], ◌∷◌, ◌++◌, length, Option, None, Some, arith, append_assoc, length-append}
+use Rattle.std.specs.Prelude.{find, option_map, nat_le, nat_lt, count_by}
+use Rattle.std.specs.List.{list_all}
 use Rattle.std.proofs.lemmas.Bool.{true≢false, eqb-true, leb-true, ltb-true}
 use Rattle.std.proofs.lemmas.List.Sums.{sum_by-append, sum_by-cons, count_by-le-length, length-filter}
 use Rattle.ftd_days.specs.Calendar.{year_of}

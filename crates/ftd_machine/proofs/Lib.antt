@@ -12,3 +12,4 @@ pub mod Answered
 pub mod Few
 pub mod Soundness
 pub mod Alike
+pub mod Examples
