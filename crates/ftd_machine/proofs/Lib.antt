@@ -1,0 +1,15 @@
+pub mod Deciding
+pub mod Adding
+pub mod Leaving
+pub mod Others
+pub mod Own
+pub mod Heads
+pub mod Keeping
+pub mod Again
+pub mod Repeats
+pub mod Single
+pub mod Answered
+pub mod Few
+pub mod Soundness
+pub mod Alike
+pub mod Examples

@@ -1,0 +1,44 @@
+-- Words of the laws on requests.
+use Rattle.std.specs.Prelude.{◌≡◌, ◌⊎◌, ℕ, Bool, true, false, List, Ok, Err}
+use Rattle.ftd_machine.specs.State.{State, entries_of}
+use Rattle.ftd_machine.specs.Checks.{Answer}
+use Rattle.ftd_machine.specs.Runs.{IsFault}
+use Rattle.ftd_machine.specs.declared.replies.Reply.TheVariants as reply
+use Rattle.ftd_machine.specs.declared.requests.Request.{Request}
+use Rattle.ftd_machine.specs.declared.requests.Request.TheVariants.{Enrol, Calendar, AddHoliday, Report, ReportYear, OpenYear, Post, Void, Pay, VoidPay, Status, DueList, ScheduleB}
+
+-- the request was done, or its run was posted or voided
+abbrev pub is_change : Answer → Bool
+is_change (Ok reply.Done) = true
+is_change (Ok (reply.Posted from to removed added)) = true
+is_change (Ok reply.Already) = false
+is_change (Ok (reply.Status kind reason)) = false
+is_change (Ok (reply.Due rows)) = false
+is_change (Ok (reply.Days sums)) = false
+is_change (Err refusal) = false
+
+-- the request names the account; a calendar and an added holiday name none
+abbrev pub Names : Request → List ℕ → Type 0
+Names (Enrol name start carried form) account = name ≡ account
+Names (Calendar year days) account = ⊥
+Names (AddHoliday day) account = ⊥
+Names (Report name quarter cents) account = name ≡ account
+Names (ReportYear name year cents) account = name ≡ account
+Names (OpenYear name year) account = name ≡ account
+Names (Post name number payday fit ss medicare) account = name ≡ account
+Names (Void name number) account = name ≡ account
+Names (Pay name number paid for_day cents) account = name ≡ account
+Names (VoidPay name number) account = name ≡ account
+Names (Status name day) account = name ≡ account
+Names (DueList name quarter as_of) account = name ≡ account
+Names (ScheduleB name quarter) account = name ≡ account
+
+-- two states agree on the entries of an account, on the calendars and on the added holidays
+pub record AgreeOn (account : List ℕ) (s t : State) : Type 0 where
+  pub own : entries_of t account ≡ entries_of s account
+  pub calendars : t.calendars ≡ s.calendars
+  pub added_days : t.added_days ≡ s.added_days
+
+-- what was asked for was done before, or there was a fault
+abbrev pub IsRepeat : Answer → Type 0
+IsRepeat answer = (answer ≡ Ok reply.Already) ⊎ IsFault answer

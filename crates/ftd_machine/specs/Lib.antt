@@ -1,0 +1,12 @@
+pub mod Limits
+pub mod Refusals
+pub mod State
+pub mod History
+pub mod Checks
+pub mod Requests
+pub mod Posting
+pub mod Asking
+pub mod Step
+pub mod Runs
+pub mod Sound
+pub mod Laws

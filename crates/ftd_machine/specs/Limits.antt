@@ -1,0 +1,46 @@
+-- The names of accounts, and the limits of what a request may say.
+use Rattle.std.specs.Prelude.{ℕ, ◌==◌, ◌||◌, ◌&&◌, nat_le, nat_lt, Bool, false, List, [], ◌∷◌, length, drop, zip}
+use Rattle.std.specs.Char.{is_ascii_lowercase, is_ascii_digit}
+use Rattle.std.specs.List.{list_all}
+use Rattle.ftd_days.specs.Calendar.{year_of}
+use Rattle.ftd_days.specs.declared.cents.Cents.{Cents}
+
+-- a lower-case letter, a digit or a hyphen
+abbrev pub is_name_byte : ℕ → Bool
+is_name_byte byte = is_ascii_lowercase byte || is_ascii_digit byte || (byte == 45)
+
+-- an account name: 1 to 20 bytes, a lower-case letter, then lower-case letters, digits and hyphens
+unfoldable pub is_account_name : List ℕ → Bool
+is_account_name [] = false
+is_account_name (first ∷ others) =
+    is_ascii_lowercase first && nat_lt (length others) 20 && list_all is_name_byte others
+
+-- the year is one of these
+abbrev pub is_between : ℕ → ℕ → ℕ → Bool
+is_between from to year = nat_le from year && nat_le year to
+
+-- an amount that a request may name: at most 999,999,999.99
+abbrev pub is_amount : Cents → Bool
+is_amount cents = nat_le cents.0 99_999_999_999
+
+-- the number of a run or of a payment
+abbrev pub is_number : ℕ → Bool
+is_number number = nat_le 1 number && nat_le number 999_999_999
+
+-- the most holidays of a year, those that were given and those that were added
+abbrev pub most_holidays : ℕ
+most_holidays = 60
+
+-- each day is before the next
+abbrev pub are_rising : List ℕ → Bool
+are_rising days = list_all (λ (day, next). nat_lt day next) (zip days (drop 1 days))
+
+-- a calendar: at most 60 days of the year, rising
+abbrev pub is_calendar : ℕ → List ℕ → Bool
+is_calendar year days =
+    nat_le (length days) most_holidays
+    && (list_all (λ day. year_of day == year) days && are_rising days)
+
+-- the most runs of an account, and the most payments, voided ones too
+abbrev pub most_entries : ℕ
+most_entries = 20_000

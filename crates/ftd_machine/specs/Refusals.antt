@@ -1,0 +1,31 @@
+-- The numbers of the refusals.
+use Rattle.std.specs.Prelude.{ℕ}
+use Rattle.ftd_machine.specs.declared.replies.Refusal.{Refusal}
+use Rattle.ftd_machine.specs.declared.replies.Refusal.TheVariants.{BadName, BadYear, BadDay, BadCents, BadCalendar, BadNumber, UnknownAccount, AccountDiffers, CalendarDiffers, QuarterDiffers, RunDiffers, PaymentDiffers, UnknownRun, UnknownPayment, BeforeStart, CalendarMissing, QuarterMissing, YearNotOpen, TooManyRuns, TooManyPayments, Memory, Store, WrongForm, YearDiffers, YearMissing}
+
+abbrev pub number_of : Refusal → ℕ
+number_of BadName = 1
+number_of BadYear = 2
+number_of BadDay = 3
+number_of BadCents = 4
+number_of BadCalendar = 5
+number_of BadNumber = 6
+number_of UnknownAccount = 7
+number_of AccountDiffers = 8
+number_of CalendarDiffers = 9
+number_of QuarterDiffers = 10
+number_of RunDiffers = 11
+number_of PaymentDiffers = 12
+number_of UnknownRun = 13
+number_of UnknownPayment = 14
+number_of BeforeStart = 15
+number_of (CalendarMissing year) = 16
+number_of (QuarterMissing quarter) = 17
+number_of (YearNotOpen year) = 18
+number_of TooManyRuns = 19
+number_of TooManyPayments = 20
+number_of Memory = 21
+number_of Store = 22
+number_of WrongForm = 23
+number_of YearDiffers = 24
+number_of (YearMissing year) = 25

@@ -1,0 +1,197 @@
+-- What the desk answers to each request, and what it keeps then.
+use Rattle.std.specs.Prelude.{◌≡◌, ◌⊎◌, ◌||◌, ◌&&◌, ℕ, ◌-◌, ◌+◌, ◌==◌, Bool, true, false, List, [], ◌∷◌, ◌++◌, length, map, Option, Some, Ok, Err, if◌then◌else◌}
+use Rattle.ftd_days.specs.Calendar.{year_of, quarter_year}
+use Rattle.ftd_days.specs.declared.cents.Cents.{Cents}
+use Rattle.ftd_machine.specs.declared.entries.Account.{Account}
+use Rattle.ftd_rules.specs.declared.run.PayRun.{PayRun}
+use Rattle.ftd_rules.specs.declared.payment.Payment.{Payment}
+use Rattle.ftd_rules.specs.declared.run.Voidable.{Voidable}
+use Rattle.ftd_machine.specs.State.{State, Enrolled, Entries, Entry, holidays, calendar_at, is_given, added_in, entries_of, is_of, has_key, kept_at, is_open}
+use Rattle.ftd_machine.specs.History.{HasLookback, LacksFigure}
+use Rattle.ftd_machine.specs.Checks.{Answer, first_of, needs, Decides}
+use Rattle.ftd_machine.specs.Requests.{enrol_checks, calendar_checks, add_holiday_checks, report_checks, report_year_checks, open_year_checks, post_checks, void_checks, pay_checks, void_payment_checks, status_checks, due_list_checks, schedule_b_checks}
+use Rattle.ftd_machine.specs.Posting.{IsPosted}
+use Rattle.ftd_machine.specs.Asking.{IsStatus, IsDueList, IsScheduleB}
+use Rattle.ftd_machine.specs.declared.replies.Reply.TheVariants as reply
+use Rattle.ftd_machine.specs.declared.replies.Refusal.{Refusal}
+use Rattle.ftd_machine.specs.declared.replies.Refusal.TheVariants.{YearNotOpen}
+use Rattle.ftd_machine.specs.declared.requests.Request.{Request}
+use Rattle.ftd_machine.specs.declared.requests.Request.TheVariants.{Enrol, Calendar, AddHoliday, Report, ReportYear, OpenYear, Post, Void, Pay, VoidPay, Status, DueList, ScheduleB}
+
+-- an account more, under its name
+abbrev pub with_account : List Enrolled → List ℕ → Account → List Enrolled
+with_account accounts name account = accounts ++ record { name = name; account = account } ∷ []
+
+-- an entry more of an account, under a key
+abbrev pub with_entry : {X : Type 0} → List (Entry X) → List ℕ → ℕ → X → List (Entry X)
+with_entry entries name key content =
+    entries ++ record { name = name; key = key; content = content } ∷ []
+
+-- a run or a payment that is taken, and is live
+abbrev pub taken : {X : Type 0} → X → Voidable X
+taken value = record { value = value; voided = false }
+
+-- the account's entry under the key is voided, and stays in its place
+abbrev pub is_under : {X : Type 0} → List ℕ → ℕ → Entry X → Bool
+is_under name key e = is_of name e && has_key key e
+
+abbrev pub as_voided : {X : Type 0} → Voidable X → Voidable X
+as_voided v = record { value = v.value; voided = true }
+
+abbrev pub voided_if : {X : Type 0} → List ℕ → ℕ → Entry (Voidable X) → Entry (Voidable X)
+voided_if name key e =
+    let content = if is_under name key e then as_voided e.content else e.content in
+    record { name = e.name; key = e.key; content = content }
+
+abbrev pub with_voided
+    : {X : Type 0} → List (Entry (Voidable X)) → List ℕ → ℕ → List (Entry (Voidable X))
+with_voided entries name key = map (voided_if name key) entries
+
+-- years are opened one after the other: the first, or one whose year before is open
+abbrev pub may_open : Entries → ℕ → List (Option Answer)
+may_open own year =
+    needs ((length own.open_years == 0) || is_open own (year - 1)) (YearNotOpen (year - 1)) ∷ []
+
+module _ (s : State) (answer : Answer) (new : State) where
+  -- the first check that answers decides, and if all pass, what stands last
+  abbrev pub Checks : List (Option Answer) → Type 0 → Type 0
+  Checks checks Else = Decides (first_of checks) s answer new Else
+
+  -- the request is done, and this is kept then
+  abbrev pub IsDone : State → Type 0
+  IsDone after = (answer ≡ Ok reply.Done) × (new ≡ after)
+
+  -- the request is refused, and nothing changes
+  abbrev pub IsRefused : Refusal → Type 0
+  IsRefused refusal = (answer ≡ Err refusal) × (new ≡ s)
+
+  -- an account is enrolled
+  abbrev pub Enrols : List ℕ → Account → Type 0
+  Enrols name account =
+      let own = entries_of s name in
+      Checks (enrol_checks name account own.account)
+      (IsDone (record s { accounts = with_account s.accounts name account }))
+
+  -- the calendar of a year is taken
+  abbrev pub Takes : ℕ → List ℕ → Type 0
+  Takes year days =
+      Checks (calendar_checks year days (calendar_at s year))
+      (IsDone (record s { calendars = s.calendars ++ record { year = year; days = days } ∷ [] }))
+
+  -- a holiday is added to a year. The calendar stays as it was given.
+  abbrev pub Adds : ℕ → Type 0
+  Adds day =
+      let year = year_of day in
+      Checks (add_holiday_checks day (calendar_at s year) (added_in s year))
+      (IsDone (record s { added_days = s.added_days ++ day ∷ [] }))
+
+  -- the figure of a quarter is taken
+  abbrev pub Reports : List ℕ → ℕ → Cents → Type 0
+  Reports name quarter cents =
+      let own = entries_of s name in
+      Checks (report_checks name quarter cents own.account (kept_at quarter own.reported))
+      (IsDone (record s { reported = with_entry s.reported name quarter cents }))
+
+  -- the figure of a year is taken
+  abbrev pub ReportsYear : List ℕ → ℕ → Cents → Type 0
+  ReportsYear name year cents =
+      let own = entries_of s name in
+      Checks (report_year_checks name year cents own.account (kept_at year own.reported_years))
+      (IsDone (record s { reported_years = with_entry s.reported_years name year cents }))
+
+  -- a year is opened: a figure of its lookback period is missing, which is named; or else the year
+  -- before has to be opened first, or it is done
+  abbrev pub OpensNext : List ℕ → ℕ → Type 0
+  OpensNext name year =
+      let own = entries_of s name in
+      ((refusal : Refusal) × LacksFigure own year refusal × IsRefused refusal)
+      ⊎ ((total : Cents) × HasLookback own year total
+      × Checks (may_open own year)
+      (IsDone (record s { open_years = with_entry s.open_years name year tt })))
+
+  abbrev pub Opens : List ℕ → ℕ → Type 0
+  Opens name year =
+      let own = entries_of s name in
+      let there = is_open own year in
+      let next = is_given s (year + 1) in
+      Checks (open_year_checks name year own.account there (is_given s year) next)
+      (OpensNext name year)
+
+  -- a pay run is taken, and the obligations that differ are told
+  abbrev pub Posts : List ℕ → ℕ → PayRun → Type 0
+  Posts name number run =
+      let own = entries_of s name in
+      let there = is_open own (year_of run.payday) in
+      let known = kept_at number own.runs in
+      Checks (post_checks name number run own.account known there (length own.runs))
+      ((new ≡ record s { runs = with_entry s.runs name number (taken run) })
+      × IsPosted (holidays s) own (entries_of new name) run.payday answer)
+
+  -- a pay run is voided, and the obligations that differ are told
+  abbrev pub Voids : List ℕ → ℕ → Type 0
+  Voids name number =
+      let own = entries_of s name in
+      let known = kept_at number own.runs in
+      Checks (void_checks name number own.account known)
+      ((run : Voidable PayRun) × (known ≡ Some run)
+      × (new ≡ record s { runs = with_voided s.runs name number })
+      × IsPosted (holidays s) own (entries_of new name) run.value.payday answer)
+
+  -- a payment is taken
+  abbrev pub Pays : List ℕ → ℕ → Payment → Type 0
+  Pays name number payment =
+      let own = entries_of s name in
+      let there = is_open own (year_of payment.for_day) in
+      let known = kept_at number own.payments in
+      Checks (pay_checks name number payment own.account known there (length own.payments))
+      (IsDone (record s { payments = with_entry s.payments name number (taken payment) }))
+
+  -- a payment is voided
+  abbrev pub VoidsPayment : List ℕ → ℕ → Type 0
+  VoidsPayment name number =
+      let own = entries_of s name in
+      Checks (void_payment_checks name number own.account (kept_at number own.payments))
+      (IsDone (record s { payments = with_voided s.payments name number }))
+
+  -- the deposit schedule of a day is told
+  abbrev pub TellsStatus : List ℕ → ℕ → Type 0
+  TellsStatus name day =
+      let own = entries_of s name in
+      Checks (status_checks name day own.account (is_open own (year_of day)))
+      ((new ≡ s) × IsStatus own day answer)
+
+  -- the due list of a quarter is told
+  abbrev pub TellsDue : List ℕ → ℕ → ℕ → Type 0
+  TellsDue name quarter as_of =
+      let own = entries_of s name in
+      let there = is_open own (quarter_year quarter) in
+      Checks (due_list_checks name quarter as_of own.account there)
+      ((new ≡ s) × IsDueList (holidays s) own quarter as_of answer)
+
+  -- the liability of a quarter is told, day by day
+  abbrev pub TellsDays : List ℕ → ℕ → Type 0
+  TellsDays name quarter =
+      let own = entries_of s name in
+      let there = is_open own (quarter_year quarter) in
+      Checks (schedule_b_checks name quarter own.account there)
+      ((new ≡ s) × IsScheduleB own quarter answer)
+
+-- the desk that keeps s answers this to the request, and keeps the new state then
+abbrev pub Step : State → Request → Answer → State → Type 0
+Step s (Enrol name start carried form) answer new =
+    Enrols s answer new name (record { start = start; carried = carried; form = form })
+Step s (Calendar year days) answer new = Takes s answer new year days
+Step s (AddHoliday day) answer new = Adds s answer new day
+Step s (Report name quarter cents) answer new = Reports s answer new name quarter cents
+Step s (ReportYear name year cents) answer new = ReportsYear s answer new name year cents
+Step s (OpenYear name year) answer new = Opens s answer new name year
+Step s (Post name number payday fit ss medicare) answer new =
+    let run : PayRun = record { payday = payday; fit = fit; ss = ss; medicare = medicare } in
+    Posts s answer new name number run
+Step s (Void name number) answer new = Voids s answer new name number
+Step s (Pay name number paid for_day cents) answer new =
+    Pays s answer new name number (record { paid = paid; for_day = for_day; cents = cents })
+Step s (VoidPay name number) answer new = VoidsPayment s answer new name number
+Step s (Status name day) answer new = TellsStatus s answer new name day
+Step s (DueList name quarter as_of) answer new = TellsDue s answer new name quarter as_of
+Step s (ScheduleB name quarter) answer new = TellsDays s answer new name quarter

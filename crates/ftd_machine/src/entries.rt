@@ -1,0 +1,16 @@
+//! What a request gives the desk to keep.
+
+use ftd_days::Day;
+use ftd_rules::Form;
+
+/// An employer's account.
+#[derive(Clone, Copy, Debug, PartialEq, Eq)]
+pub struct Account {
+    /// The employer's first day.
+    pub start: Day,
+    /// Whether the account comes into its first open year as semiweekly, having reached 100,000.00
+    /// the year before.
+    pub carried: bool,
+    /// The return that the employer files.
+    pub form: Form,
+}

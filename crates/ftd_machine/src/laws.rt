@@ -1,0 +1,74 @@
+//! What follows from the definitions alone: each function's contract is a law, its body is empty.
+
+ghost use Rattle.std.specs.Prelude.{◌≡◌, ℕ, ◌∷◌, ◌++◌, length, List, true, false};
+ghost use Rattle.ftd_machine.specs.State.{State, entries_of};
+ghost use Rattle.ftd_machine.specs.Checks.{Answer};
+ghost use Rattle.ftd_machine.specs.Step.{Step};
+ghost use Rattle.ftd_machine.specs.Runs.{IsRun, IsReached};
+ghost use Rattle.ftd_machine.specs.Sound.{IsSound};
+ghost use Rattle.ftd_machine.specs.Laws.{is_change, Names, AgreeOn, IsRepeat};
+ghost use Rattle.ftd_machine.specs.declared.requests.Request.{Request};
+
+/// A refusal, the answer that a request was done before, and the answer to a question leave
+/// everything as it was.
+#[tactic(auto, using(crate::proofs::Leaving::leaves))]
+pub fn refusals_change_nothing()
+    ensures { (s : State) (request : Request) (answer : Answer) (next : State)
+        → Step s request answer next → is_change answer ≡ false → next ≡ s }
+{}
+
+/// A request leaves the entries of each account that it does not name.
+#[tactic(auto, using(crate::proofs::Others::others))]
+pub fn other_accounts_stay()
+    ensures { (s : State) (request : Request) (answer : Answer) (next : State) (account : List ℕ)
+        → Step s request answer next → (Names request account → ⊥)
+        → entries_of next account ≡ entries_of s account }
+{}
+
+/// Each state that requests lead to from an empty desk is sound, and a step leaves a sound state
+/// sound.
+pub fn reached_states_are_sound()
+    ensures step { (s : State) (request : Request) (answer : Answer) (next : State)
+        → Step s request answer next → IsSound s → IsSound next }
+    ensures reached { (s : State) → IsReached s → IsSound s }
+{}
+
+/// In a sound state, as each is that requests lead to, a request has one answer and one next state.
+#[tactic(auto, using(crate::proofs::Alike::answers_once))]
+pub fn a_request_has_one_answer()
+    ensures { (s : State) (request : Request) (answer other : Answer) (next after : State)
+        → IsSound s → Step s request answer next → Step s request other after
+        → (answer ≡ other) × (next ≡ after) }
+{}
+
+/// What a request that names an account is answered, and what is kept of the account then, rests on
+/// the account's own entries, the calendars and the added holidays.
+pub fn replies_rest_on_own_rows()
+    // Each answer of a state is one of every state that agrees on these, and they agree afterwards.
+    ensures each { (s t : State) (request : Request) (answer : Answer) (next : State)
+        (account : List ℕ) → Names request account → AgreeOn account s t
+        → Step s request answer next
+        → (after : State) × Step t request answer after × AgreeOn account next after }
+
+    // So sound states that agree give equal replies.
+    ensures equal { (s t : State) (request : Request) (answer other : Answer)
+        (next after : State) (account : List ℕ) → IsSound t → Names request account
+        → AgreeOn account s t → Step s request answer next → Step t request other after
+        → (answer ≡ other) × AgreeOn account next after }
+{}
+
+/// In any list, a request that was answered Done or Posted is answered Already, or by a fault, at
+/// each later place; and the list without that place has the same other answers, and ends in the
+/// same state.
+#[tactic(auto, using(crate::proofs::Repeats::repeats))]
+pub fn a_repeat_changes_nothing()
+    ensures { (s end : State) (before between after : List Request) (request : Request)
+        (answers_before answers_between answers_after : List Answer) (answer again : Answer)
+        → length answers_before ≡ length before → length answers_between ≡ length between
+        → IsRun s (before ++ request ∷ between ++ request ∷ after)
+        (answers_before ++ answer ∷ answers_between ++ again ∷ answers_after) end
+        → is_change answer ≡ true
+        → IsRepeat again
+        × IsRun s (before ++ request ∷ between ++ after)
+        (answers_before ++ answer ∷ answers_between ++ answers_after) end }
+{}

@@ -1,0 +1,25 @@
+//! The deposit desk as a machine: what may be asked of it, what it answers, and what it keeps.
+//!
+//! The definitions stand in `specs/`: `State` is what is kept, `Requests` has the checks of each
+//! request in their order, and `Step` says what a request is answered and what is kept then. The
+//! functions here are the checks, decided without a store; contracts see a request as its values.
+#![tactic(auto)]
+
+mod checks;
+mod entries;
+pub mod laws;
+mod limits;
+mod lists;
+mod replies;
+mod requests;
+
+pub use crate::checks::{
+    Answer, add_holiday_check, calendar_check, due_list_check, enrol_check, open_year_check,
+    pay_check, post_check, report_check, report_year_check, schedule_b_check, status_check,
+    void_check, void_payment_check,
+};
+pub use crate::entries::Account;
+pub use crate::limits::{MOST_ENTRIES, MOST_HOLIDAYS, is_account_name};
+pub use crate::lists::{AccountName, DaySums, Days, DueRows};
+pub use crate::replies::{Reason, Refusal, Reply};
+pub use crate::requests::Request;

@@ -1,0 +1,94 @@
+//! The names of accounts, and the limits of what a request may say.
+
+ghost use Rattle.std.specs.Prelude.{◌≡◌, ◌+◌, ◌==◌, nat_lt};
+ghost use Rattle.std.specs.List.{list_all};
+ghost use Rattle.ftd_days.specs.Calendar.{quarter_start, year_of};
+ghost use Rattle.ftd_machine.specs.Limits.{is_account_name, is_name_byte, is_between, is_amount, is_number, are_rising, is_calendar};
+
+use ftd_days::{Cents, Day, Quarter};
+
+/// The most runs of an account, and the most payments, voided ones too.
+pub const MOST_ENTRIES: u32 = 20_000;
+
+/// The most holidays of a year, those that were given and those that were added.
+pub const MOST_HOLIDAYS: usize = 60;
+
+/// The largest amount that a request may name, in cents.
+const MOST_CENTS: u64 = 99_999_999_999;
+
+/// Whether the text is the name of an account: 1 to 20 bytes, a lower-case ASCII letter and then
+/// lower-case letters, digits and hyphens.
+#[tactic(auto, unfolding(crate::specs::Limits::is_account_name))]
+pub fn is_account_name(text: &[u8]) -> bool
+    ensures { result ≡ is_account_name text.now }
+{
+    let Some((first, others)) = text.split_first() else {
+        return false;
+    };
+    first.is_ascii_lowercase() && others.len() < 20 && are_name_bytes(others)
+}
+
+/// Whether each byte may stand in a name after the first.
+fn are_name_bytes(bytes: &[u8]) -> bool
+    ensures { result ≡ list_all is_name_byte bytes.now }
+{
+    bytes.iter().all(|byte| is_name_byte(*byte))
+}
+
+/// Whether the byte may stand in a name after the first.
+fn is_name_byte(byte: u8) -> bool
+    ensures { result ≡ is_name_byte byte }
+{
+    byte.is_ascii_lowercase() || byte.is_ascii_digit() || byte == b'-'
+}
+
+/// Whether the year is one of these.
+pub(crate) fn is_between(from: u32, to: u32, year: u32) -> bool
+    ensures { result ≡ is_between from to year }
+{
+    from <= year && year <= to
+}
+
+/// Whether a request may name the amount.
+pub(crate) fn is_amount(cents: Cents) -> bool
+    ensures { result ≡ is_amount cents }
+{
+    cents.0 <= MOST_CENTS
+}
+
+/// Whether it is the number of a run or of a payment.
+pub(crate) fn is_number(number: u32) -> bool
+    ensures { result ≡ is_number number }
+{
+    1 <= number && number <= 999_999_999
+}
+
+/// Whether each day is before the next.
+fn are_rising(days: &[Day]) -> bool
+    ensures { result ≡ are_rising days.now }
+{
+    days.iter()
+        .zip(days.iter().skip(1))
+        .all(|(day, next)| day < next)
+}
+
+/// Whether each day lies in the year.
+fn are_in_year(year: u32, days: &[Day]) -> bool
+    ensures { result ≡ list_all (λ day. year_of day == year) days.now }
+{
+    days.iter().all(|day| day.year() == year)
+}
+
+/// Whether the days are a calendar of the year: at most 60 of its days, rising.
+pub(crate) fn is_calendar(year: u32, days: &[Day]) -> bool
+    ensures { result ≡ is_calendar year days.now }
+{
+    days.len() <= MOST_HOLIDAYS && are_in_year(year, days) && are_rising(days)
+}
+
+/// Whether the day comes before the quarter ends, or on its last day.
+pub(crate) fn is_before_end(day: Day, quarter: Quarter) -> bool
+    ensures { result ≡ nat_lt day (quarter_start (quarter + 1)) }
+{
+    day <= quarter.last()
+}

@@ -1,0 +1,165 @@
+//! What the desk answers.
+
+ghost use Rattle.std.specs.Prelude.{◌≡◌};
+
+use crate::lists::{DaySums, DueRows};
+use ftd_days::{Day, Quarter};
+use ftd_rules::Kind;
+use thiserror::Error;
+
+/// Why an account has its deposit schedule on a day.
+#[derive(Clone, Copy, Debug, PartialEq, Eq)]
+pub enum Reason {
+    /// By the year's lookback total.
+    Lookback,
+    /// The account reached 100,000.00 within a month on this day, in this year or the year before.
+    Turned(Day),
+    /// The account came in as semiweekly.
+    Carried,
+}
+
+/// What the desk answers where it does not refuse.
+#[derive(Drop)]
+pub enum Reply {
+    /// What was asked for is done.
+    Done,
+    /// What was asked for was done before.
+    Already,
+    /// The obligations that went and those that came: the least first day and the greatest last day
+    /// among them, and how many there are of each. Where there are none, both days are the payday.
+    Posted {
+        from: Day,
+        to: Day,
+        removed: u32,
+        added: u32,
+    },
+    /// The deposit schedule of a day.
+    Status {
+        kind: Kind,
+        reason: Reason,
+    },
+    /// The rows of a due list, by first day.
+    Due(DueRows),
+    /// The days of a quarter that have liability, by day.
+    Days(DaySums),
+}
+
+/// Why the desk refuses a request. It prints with its number, and 16, 17, 18 and 25 with what they
+/// name: `refused 17 QuarterMissing 2024Q2`.
+#[derive(Clone, Copy, Debug, PartialEq, Eq, Error)]
+pub enum Refusal {
+    /// The text is no account name: 1 to 20 bytes, a lower-case letter, then lower-case letters,
+    /// digits and hyphens.
+    #[error("refused 1 BadName")]
+    BadName,
+    /// The year, or that of the quarter, is out of the request's range.
+    #[error("refused 2 BadYear")]
+    BadYear,
+    /// The day's year is out of the request's range.
+    #[error("refused 3 BadDay")]
+    BadDay,
+    /// An amount is above 999,999,999.99, or a payment is of nothing.
+    #[error("refused 4 BadCents")]
+    BadCents,
+    /// The days don't rise, lie outside the year or are more than 60.
+    #[error("refused 5 BadCalendar")]
+    BadCalendar,
+    /// The number of a run or payment is not 1 to 999,999,999.
+    #[error("refused 6 BadNumber")]
+    BadNumber,
+    /// The account is not enrolled.
+    #[error("refused 7 UnknownAccount")]
+    UnknownAccount,
+    /// The account is enrolled with other content.
+    #[error("refused 8 AccountDiffers")]
+    AccountDiffers,
+    /// The year's calendar was given with other days.
+    #[error("refused 9 CalendarDiffers")]
+    CalendarDiffers,
+    /// The quarter is reported with another amount.
+    #[error("refused 10 QuarterDiffers")]
+    QuarterDiffers,
+    /// The run's number is taken by another run.
+    #[error("refused 11 RunDiffers")]
+    RunDiffers,
+    /// The payment's number is taken by another payment.
+    #[error("refused 12 PaymentDiffers")]
+    PaymentDiffers,
+    /// There is no run of that number.
+    #[error("refused 13 UnknownRun")]
+    UnknownRun,
+    /// There is no payment of that number.
+    #[error("refused 14 UnknownPayment")]
+    UnknownPayment,
+    /// What the request is for lies before the employer's first day.
+    #[error("refused 15 BeforeStart")]
+    BeforeStart,
+    /// The calendar of this year is not given.
+    #[error("refused 16 CalendarMissing {0}")]
+    CalendarMissing(u32),
+    /// This quarter of the lookback period is not reported.
+    #[error("refused 17 QuarterMissing {0}")]
+    QuarterMissing(Quarter),
+    /// This year of the account is not open.
+    #[error("refused 18 YearNotOpen {0}")]
+    YearNotOpen(u32),
+    /// The account has 20,000 runs, voided ones too.
+    #[error("refused 19 TooManyRuns")]
+    TooManyRuns,
+    /// The account has 20,000 payments, voided ones too.
+    #[error("refused 20 TooManyPayments")]
+    TooManyPayments,
+    /// There was no memory. Nothing has changed.
+    #[error("failed 21 Memory")]
+    Memory,
+    /// The store failed, or the desk is stopped. Nothing has changed, unless the store is a file
+    /// and its commit failed.
+    #[error("failed 22 Store")]
+    Store,
+    /// The request is not one for the account's form.
+    #[error("refused 23 WrongForm")]
+    WrongForm,
+    /// The year is reported with another amount.
+    #[error("refused 24 YearDiffers")]
+    YearDiffers,
+    /// This year, the lookback period of a Form 943 account, is not reported.
+    #[error("refused 25 YearMissing {0}")]
+    YearMissing(u32),
+}
+
+impl Refusal {
+    ghost use Rattle.ftd_machine.specs.Refusals.{number_of};
+
+    /// The refusal's number, 1 to 25.
+    pub fn number(self) -> u8
+        ensures { result ≡ number_of self }
+    {
+        match self {
+            Refusal::BadName => 1,
+            Refusal::BadYear => 2,
+            Refusal::BadDay => 3,
+            Refusal::BadCents => 4,
+            Refusal::BadCalendar => 5,
+            Refusal::BadNumber => 6,
+            Refusal::UnknownAccount => 7,
+            Refusal::AccountDiffers => 8,
+            Refusal::CalendarDiffers => 9,
+            Refusal::QuarterDiffers => 10,
+            Refusal::RunDiffers => 11,
+            Refusal::PaymentDiffers => 12,
+            Refusal::UnknownRun => 13,
+            Refusal::UnknownPayment => 14,
+            Refusal::BeforeStart => 15,
+            Refusal::CalendarMissing(_) => 16,
+            Refusal::QuarterMissing(_) => 17,
+            Refusal::YearNotOpen(_) => 18,
+            Refusal::TooManyRuns => 19,
+            Refusal::TooManyPayments => 20,
+            Refusal::Memory => 21,
+            Refusal::Store => 22,
+            Refusal::WrongForm => 23,
+            Refusal::YearDiffers => 24,
+            Refusal::YearMissing(_) => 25,
+        }
+    }
+}

@@ -1,0 +1,86 @@
+//! What may be asked of the desk.
+
+use crate::lists::{AccountName, Days};
+use ftd_days::{Cents, Day, Quarter};
+use ftd_rules::Form;
+
+/// What may be asked of the desk. `docs/REQUESTS.md` has the checks of each in their order.
+#[derive(Drop)]
+pub enum Request {
+    /// A new account: the employer's first day, whether it comes in as semiweekly, and its form.
+    Enrol {
+        account: AccountName,
+        start: Day,
+        carried: bool,
+        form: Form,
+    },
+    /// The legal holidays of a year.
+    Calendar {
+        year: u32,
+        days: Days,
+    },
+    /// A holiday that is added to a year whose calendar is given.
+    AddHoliday {
+        day: Day,
+    },
+    /// The total that a Form 941 account reported for a quarter, in cents.
+    Report {
+        account: AccountName,
+        quarter: Quarter,
+        cents: Cents,
+    },
+    /// The total that a Form 943 account reported for a year, in cents.
+    ReportYear {
+        account: AccountName,
+        year: u32,
+        cents: Cents,
+    },
+    /// A year of the account is opened: its paydays may be posted from now on.
+    OpenYear {
+        account: AccountName,
+        year: u32,
+    },
+    /// A pay run, under its number. Amounts are in cents.
+    Post {
+        account: AccountName,
+        run: u32,
+        payday: Day,
+        fit: Cents,
+        ss: Cents,
+        medicare: Cents,
+    },
+    /// A pay run is voided.
+    Void {
+        account: AccountName,
+        run: u32,
+    },
+    /// A payment, under its number, made on a day, for a day, in cents.
+    Pay {
+        account: AccountName,
+        payment: u32,
+        paid: Day,
+        for_day: Day,
+        cents: Cents,
+    },
+    /// A payment is voided.
+    VoidPay {
+        account: AccountName,
+        payment: u32,
+    },
+    /// What is the deposit schedule of the account on a day, and why?
+    Status {
+        account: AccountName,
+        day: Day,
+    },
+    /// What must be deposited for a quarter, and how does each deposit stand as of a day?
+    DueList {
+        account: AccountName,
+        quarter: Quarter,
+        as_of: Day,
+    },
+    /// What is the liability of a quarter, day by day?
+    ScheduleB {
+        account: AccountName,
+        quarter: Quarter,
+    },
+}
