@@ -1,6 +1,6 @@
 -- What a holiday that is added does to due dates.
 use Rattle.std.proofs.Common.{◌≡◌, ◌≢◌, ℕ, zero, suc, ◌+◌, ◌-◌, ◌<◌, ◌≤◌, ◌↔◌, ◌⊎◌, inl, inr, List, Bool, true, false, not, ◌&&◌, ◌||◌, refl, sym, ap, ◌∙◌, arith}
-use Rattle.std.specs.Prelude.{nat_lt, ◌==◌}
+use Rattle.std.specs.Prelude.{nat_lt}
 use Rattle.std.proofs.lemmas.Bool.{false≢true, cases_Bool}
 use Rattle.ftd_days.specs.Calendar.{weekday_of, month_of, month_start, last_day}
 use Rattle.ftd_days.specs.Private.Intervals.{interval_close}
@@ -12,7 +12,7 @@ use Rattle.ftd_rules.specs.declared.Rule.{Rule}
 use Rattle.ftd_rules.specs.declared.Rule.TheVariants.{Monthly, Semiweekly, NextDay}
 use Rattle.ftd_rules.specs.Private.Due.{IsDueBy, IsCountedBy}
 use Rattle.ftd_rules.proofs.Cuts.{lt_or_le}
-use Rattle.ftd_rules.proofs.Resting.{due_from, due_same, from_later}
+use Rattle.ftd_rules.proofs.Resting.{due_same, from_later}
 
 or_false : (b : Bool) → (b || false) ≡ b
 or_false true = refl

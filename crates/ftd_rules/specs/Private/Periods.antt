@@ -4,8 +4,6 @@ use Rattle.std.specs.Bool.{MatchBool}
 use Rattle.ftd_days.specs.Calendar.{month_of, year_start}
 use Rattle.ftd_days.specs.Private.Intervals.{interval_start}
 use Rattle.ftd_rules.specs.declared.Form.{Form}
-use Rattle.ftd_rules.specs.declared.Kind.{Kind}
-use Rattle.ftd_rules.specs.declared.Kind.TheVariants as kind
 use Rattle.ftd_rules.specs.declared.Rule.{Rule}
 use Rattle.ftd_rules.specs.declared.Rule.TheVariants.{Monthly, Semiweekly}
 use Rattle.ftd_rules.specs.declared.YearLine.{YearLine}
