@@ -26,7 +26,7 @@ use Rattle.ftd_machine.proofs.Deciding.{either}
 use Rattle.ftd_machine.proofs.Leaving.{asked_leaves}
 use Rattle.ftd_machine.proofs.Heads.{Gives, gives_finds, gives_needs, gives_done, gives_new, skip_needs, skip_finds, skip_new, skip_done}
 use Rattle.ftd_machine.proofs.Adding.{own_name, same_name, filter_more}
-use Rattle.ftd_machine.proofs.Keeping.{same_key, keeps_entry}
+use Rattle.ftd_machine.proofs.Keeping.{found_append, same_key, keeps_entry}
 use Rattle.ftd_machine.proofs.Repeats.{checks_of, is_year, calendar_still, some_still}
 use Rattle.ftd_machine.proofs.Single.{IsOnce}
 use Rattle.ftd_machine.proofs.Few.{few_given, few_added}
@@ -152,6 +152,7 @@ sound_account s name account none sound = record {
   payments = sound.payments;
   are_calendars = sound.are_calendars;
   opened = sound.opened;
+  enrolled = λ e has. some_still _ _ (λ x. found_append account_of (is_named e.name) s.accounts _ x) (sound.enrolled e has);
   in_turn = sound.in_turn;
   paydays = sound.paydays;
   paid_days = sound.paid_days;
@@ -179,6 +180,7 @@ sound_calendar s year days none between fits sound = record {
     | inr is ↦ subst (λ (g : YearDays). (is_between 2001 2099 g.year ≡ true) × (is_calendar g.year g.days ≡ true)) (sym is) (between, fits)
   ];
   opened = λ e has. (let was = sound.opened e has in (was.0, given_still s year days e.key was.1, given_still s year days (e.key + 1) was.2));
+  enrolled = sound.enrolled;
   in_turn = sound.in_turn;
   paydays = sound.paydays;
   paid_days = sound.paid_days;
@@ -200,6 +202,7 @@ sound_reported s name key cents none sound = record {
   payments = sound.payments;
   are_calendars = sound.are_calendars;
   opened = sound.opened;
+  enrolled = sound.enrolled;
   in_turn = sound.in_turn;
   paydays = sound.paydays;
   paid_days = sound.paid_days;
@@ -219,6 +222,7 @@ sound_reported_year s name key cents none sound = record {
   payments = sound.payments;
   are_calendars = sound.are_calendars;
   opened = sound.opened;
+  enrolled = sound.enrolled;
   in_turn = sound.in_turn;
   paydays = sound.paydays;
   paid_days = sound.paid_days;
@@ -239,6 +243,7 @@ sound_added s day given room sound = record {
   payments = sound.payments;
   are_calendars = sound.are_calendars;
   opened = sound.opened;
+  enrolled = sound.enrolled;
   in_turn = sound.in_turn;
   paydays = sound.paydays;
   paid_days = sound.paid_days;
@@ -327,10 +332,10 @@ open_still s name year other day e =
     some_still (kept_at day (filter (is_of other) s.open_years)) (kept_at day (filter (is_of other) (with_entry s.open_years name year tt)))
     (keeps_entry s.open_years name year tt other day) e
 
-sound_open : (s : State) (name : List ℕ) (year : ℕ) → is_between 2001 2098 year ≡ true → is_given s year ≡ true → is_given s (year + 1) ≡ true
+sound_open : (s : State) (name : List ℕ) (year : ℕ) → is_some (entries_of s name).account ≡ true → is_between 2001 2098 year ≡ true → is_given s year ≡ true → is_given s (year + 1) ≡ true
     → (length (entries_of s name).open_years == 0) || is_open (entries_of s name) (year - 1) ≡ true → is_open (entries_of s name) year ≡ false → IsSound s
     → IsSound (record s { open_years = with_entry s.open_years name year tt })
-sound_open s name year between given next first fresh sound = record {
+sound_open s name year there between given next first fresh sound = record {
   accounts = sound.accounts;
   calendars = sound.calendars;
   reported = sound.reported;
@@ -342,6 +347,10 @@ sound_open s name year between given next first fresh sound = record {
   opened = λ e has. elim (has_last s.open_years _ e has) [
     | inl here ↦ sound.opened e here
     | inr is ↦ subst (λ (x : Entry (Unit {0})). (is_between 2001 2098 x.key ≡ true) × (is_given s x.key ≡ true) × (is_given s (x.key + 1) ≡ true)) (sym is) (between, given, next)
+  ];
+  enrolled = λ e has. elim (has_last s.open_years _ e has) [
+    | inl here ↦ sound.enrolled e here
+    | inr is ↦ subst (λ (x : Entry (Unit {0})). is_some (entries_of s x.name).account ≡ true) (sym is) there
   ];
   in_turn = λ other.
       subst (λ xs. Follow (map year_of_entry xs)) (sym (filter_more (is_of other) s.open_years (record { name = name; key = year; content = tt }) (bytes_eq name other) refl))
@@ -373,6 +382,7 @@ sound_run s name number value none there sound = record {
   payments = sound.payments;
   are_calendars = sound.are_calendars;
   opened = sound.opened;
+  enrolled = sound.enrolled;
   in_turn = sound.in_turn;
   paydays = λ e has. elim (has_last s.runs _ e has) [
     | inl here ↦ sound.paydays e here
@@ -394,6 +404,7 @@ sound_void_run s name number sound = record {
   payments = sound.payments;
   are_calendars = sound.are_calendars;
   opened = sound.opened;
+  enrolled = sound.enrolled;
   in_turn = sound.in_turn;
   paydays = λ e has.
       let from = has_mapped (voided_if name number) s.runs e has in
@@ -419,6 +430,7 @@ sound_payment s name number value none there sound = record {
   payments = fresh_entry s.payments name number (taken value) none sound.payments;
   are_calendars = sound.are_calendars;
   opened = sound.opened;
+  enrolled = sound.enrolled;
   in_turn = sound.in_turn;
   paydays = sound.paydays;
   paid_days = λ e has. elim (has_last s.payments _ e has) [
@@ -440,6 +452,7 @@ sound_void_payment s name number sound = record {
   payments = fresh_voided s.payments name number sound.payments;
   are_calendars = sound.are_calendars;
   opened = sound.opened;
+  enrolled = sound.enrolled;
   in_turn = sound.in_turn;
   paydays = sound.paydays;
   paid_days = λ e has.
@@ -528,12 +541,13 @@ step_sound s (OpenYear name year) answer next step sound =
     let P = checks_of s (OpenYear name year) in
     let between : Gives P (is_between 2001 2098 year ≡ true) = skip_needs _ _ _ _ (gives_needs _ _ _) in
     let fresh : Gives P (is_open (entries_of s name) year ≡ false) = skip_needs _ _ _ _ (skip_needs _ _ _ _ (skip_finds _ _ _ _ (gives_done _ _))) in
+    let there : Gives P (is_some (entries_of s name).account ≡ true) = skip_needs _ _ _ _ (skip_needs _ _ _ _ (gives_finds _ _ _)) in
     let given : Gives P (is_given s year ≡ true) =
     skip_needs _ _ _ _ (skip_needs _ _ _ _ (skip_finds _ _ _ _ (skip_done _ _ _ (skip_needs _ _ _ _ (gives_needs _ _ _))))) in
     let next_given : Gives P (is_given s (year + 1) ≡ true) =
     skip_needs _ _ _ _ (skip_needs _ _ _ _ (skip_finds _ _ _ _ (skip_done _ _ _ (skip_needs _ _ _ _ (skip_needs _ _ _ _ (gives_needs _ _ _)))))) in
     open_sound s answer next sound P name year step
-    (λ e first. sound_open s name year (between.fact e) (given.fact e) (next_given.fact e) first (fresh.fact e) sound)
+    (λ e first. sound_open s name year (there.fact e) (between.fact e) (given.fact e) (next_given.fact e) first (fresh.fact e) sound)
 step_sound s (Post name number payday fit ss medicare) answer next step sound =
     let run : PayRun = record { payday = payday; fit = fit; ss = ss; medicare = medicare } in
     let P = checks_of s (Post name number payday fit ss medicare) in
@@ -571,6 +585,7 @@ nothing_sound = record {
   payments = tt;
   are_calendars = λ c has. absurd has;
   opened = λ e has. absurd has;
+  enrolled = λ e has. absurd has;
   in_turn = λ name. tt;
   paydays = λ e has. absurd has;
   paid_days = λ e has. absurd has;

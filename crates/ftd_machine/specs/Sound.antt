@@ -1,5 +1,5 @@
 -- What is so of every state that requests lead to.
-use Rattle.std.specs.Prelude.{◌≡◌, ℕ, ◌+◌, true, List, [], ◌∷◌, map, filter}
+use Rattle.std.specs.Prelude.{is_some, ◌≡◌, ℕ, ◌+◌, true, List, [], ◌∷◌, map, filter}
 use Rattle.ftd_days.specs.Calendar.{year_of}
 use Rattle.ftd_days.specs.Holidays.{YearDays, AreFew}
 use Rattle.ftd_rules.specs.Lists.{Has}
@@ -49,6 +49,9 @@ pub record IsSound (s : State) : Type 0 where
   pub opened : (e : Entry (Unit {0})) → Has s.open_years e
       → (is_between 2001 2098 e.key ≡ true)
       × (is_given s e.key ≡ true) × (is_given s (e.key + 1) ≡ true)
+  -- each open year is one of an account that is enrolled
+  pub enrolled : (e : Entry (Unit {0})) → Has s.open_years e
+      → is_some (entries_of s e.name).account ≡ true
   -- the open years of an account follow one another
   pub in_turn : (name : List ℕ) → Follow (map year_of_entry (filter (is_of name) s.open_years))
   -- each payday, and each day that a payment is for, lies in an open year of its account

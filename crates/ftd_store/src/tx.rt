@@ -1,6 +1,6 @@
 //! A transaction over the desk's tables.
 
-ghost use Rattle.std.specs.Prelude.{◌≡◌, ◌<◌, ◌^◌, false, if◌then◌else◌, map, [], ◌∷◌, IsTrue, IfOk, OnOk, OnErr, Err, Ok};
+ghost use Rattle.std.specs.Prelude.{◌≡◌, ◌<◌, ◌^◌, true, false, is_err, if◌then◌else◌, map, [], ◌∷◌, IsTrue, IfOk, OnOk, OnErr, Err, Ok};
 ghost use Rattle.sqlite.specs.State.{HasCleanDisk, Survives, Shows, Executes};
 ghost use Rattle.sqlite.specs.Values.{bound};
 ghost use Rattle.ftd_tables.specs.TextKinds.{IsRowText, IsReadText};
@@ -78,6 +78,19 @@ impl<'store, S: Alter> Tx<'store, S> {
     {
         self.failed = true;
         Err(fault)
+    }
+
+    /// Gives up with this fault, or with `Failed` where a call has failed before. The transaction has
+    /// failed then, and no row has changed.
+    pub fn give_up<A>(&mut self, fault: StoreFault) -> Result<A, StoreFault>
+        ensures frame { Frame S.Store self.old self.new result }
+        ensures fails { is_err result ≡ true }
+        ensures fault { (HasFailed self.old → ⊥) → result ≡ Err fault }
+    {
+        if self.failed {
+            return Err(StoreFault::Failed);
+        }
+        self.stop(fault)
     }
 
     // runs a statement that changes rows
