@@ -1,0 +1,68 @@
+-- What the rows of an account tell of its entry.
+use Rattle.std.proofs.Common.{◌≡◌, ℕ, Bool, true, false, pos, List, [], ◌∷◌, map, Option, None, Some, refl, sym, ap, ◌∙◌}
+use Rattle.std.proofs.Math.IntN.{◌+ℤ◌, -ℤ-+ℤ_cancel}
+use Rattle.std.specs.Prelude.{filter, find, bytes_eq, option_map, if◌then◌else◌}
+use Rattle.ftd_rules.specs.declared.Form.{Form}
+use Rattle.ftd_rules.specs.declared.Form.TheVariants.{F941, F943}
+use Rattle.ftd_schema.specs.Rows.{AccountRow, FormRow}
+use Rattle.ftd_schema.specs.Standing.{Tables}
+use Rattle.ftd_sql.specs.Tests.{is_account, is_form_of}
+use Rattle.ftd_rows.specs.declared.accounts.Account.{Account as StoredAccount}
+use Rattle.ftd_rows.specs.Cells.{day_number, flag_number, form_number}
+use Rattle.ftd_rows.specs.Rows.{account_row, form_row}
+use Rattle.ftd_rows.specs.Reading.{rows_of}
+use Rattle.ftd_store.specs.Finds.{FindsAccount, FindsForm}
+use Rattle.ftd_machine.specs.State.{Enrolled, is_named, account_of}
+use Rattle.ftd_entries.specs.Standing.{enrolled_row, enrolled_form}
+use Rattle.ftd_entries.specs.Known.{KnowsAccount, joined}
+
+pub day_is : (a b : ℕ) → day_number a ≡ day_number b → a ≡ b
+day_is a b h =
+    let back = λ (n : ℕ). -ℤ-+ℤ_cancel (pos n) (pos 25_567) in
+    let same : pos a ≡ pos b = sym (back a) ∙ (ap (λ z. z +ℤ pos 25_567) h ∙ back b) in
+    cc
+
+pub flag_is : (a b : Bool) → flag_number a ≡ flag_number b → a ≡ b
+flag_is false false h = refl
+flag_is false true h = absurd cc
+flag_is true false h = absurd cc
+flag_is true true h = refl
+
+form_is : (a b : Form) → form_number a ≡ form_number b → a ≡ b
+form_is F941 F941 h = refl
+form_is F941 F943 h = absurd cc
+form_is F943 F941 h = absurd cc
+form_is F943 F943 h = refl
+
+same_account : (name : List ℕ) (x : Enrolled) (a : StoredAccount) (f : Form) → enrolled_row x ≡ account_row name a → enrolled_form x ≡ form_row name f
+    → x.account ≡ record { start = a.start; carried = a.carried; form = f }
+same_account name x a f row form =
+    let start = day_is x.account.start a.start (ap (λ (r : AccountRow). r.start) row) in
+    let carried = flag_is x.account.carried a.carried (ap (λ (r : AccountRow). r.carried) row) in
+    let kind = form_is x.account.form f (ap (λ (r : FormRow). r.form) form) in
+    rw (sym start, sym carried, sym kind) refl
+
+-- the first account of the name, by the rows of the two tables
+account_is : (name : List ℕ) (found : Option StoredAccount) (form : Option Form) (xs : List Enrolled)
+    → filter (is_account name) (map enrolled_row xs) ≡ rows_of (account_row name) found → filter (is_form_of name) (map enrolled_form xs) ≡ rows_of (form_row name) form
+    → option_map account_of (find (is_named name) xs) ≡ joined found form
+account_is name None form [] h k = refl
+account_is name (Some a) form [] h k = absurd cc
+account_is name found form (x ∷ xs) h k = step (bytes_eq x.name name) found form (account_is name found form xs) h k
+  where
+    step : (b : Bool) (found : Option StoredAccount) (form : Option Form)
+        → (filter (is_account name) (map enrolled_row xs) ≡ rows_of (account_row name) found → filter (is_form_of name) (map enrolled_form xs) ≡ rows_of (form_row name) form → option_map account_of (find (is_named name) xs) ≡ joined found form)
+        → (if b then enrolled_row x ∷ filter (is_account name) (map enrolled_row xs) else filter (is_account name) (map enrolled_row xs)) ≡ rows_of (account_row name) found
+        → (if b then enrolled_form x ∷ filter (is_form_of name) (map enrolled_form xs) else filter (is_form_of name) (map enrolled_form xs)) ≡ rows_of (form_row name) form
+        → option_map account_of (if b then Some x else find (is_named name) xs) ≡ joined found form
+    step false found form more h k = more h k
+    step true None form more h k = absurd cc
+    step true (Some a) None more h k = absurd cc
+    step true (Some a) (Some f) more h k =
+        let row : enrolled_row x ≡ account_row name a = cc in
+        let kind : enrolled_form x ≡ form_row name f = cc in
+        ap Some (same_account name x a f row kind)
+
+pub knows_account : (name : List ℕ) (found : Option StoredAccount) (form : Option Form) (t : Tables) → FindsAccount name found t → FindsForm name form t → KnowsAccount name (joined found form) t
+knows_account name found form t account kind s stands =
+    account_is name found form s.accounts (ap (filter (is_account name)) (sym stands.accounts) ∙ account) (ap (filter (is_form_of name)) (sym stands.forms) ∙ kind)

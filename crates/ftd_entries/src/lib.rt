@@ -1,0 +1,18 @@
+//! Requests that enter something into the desk's tables: accounts, calendars, reported totals, open
+//! years, payments. Each is one function on a transaction, whose contract is the machine's step.
+#![tactic(auto)]
+
+mod accounts;
+mod calendars;
+mod lookbacks;
+mod open_years;
+mod payments;
+mod reported;
+mod years;
+
+pub use crate::accounts::{enrol, known};
+pub use crate::calendars::take_calendar;
+pub use crate::open_years::open_year;
+pub use crate::payments::{pay, void_payment};
+pub use crate::reported::{report, report_year};
+pub use crate::years::{has_year, is_open};
