@@ -1,0 +1,104 @@
+-- A patch is put line by line.
+use Rattle.std.proofs.Common.{◌≡◌, ℕ, ◌+◌, ◌<◌, inl, inr, List, [], ◌∷◌, ◌++◌, append_assoc, append-nil, take, drop, length, get_or, map, refl, sym, ap, ◌∙◌, subst}
+use Rattle.std.specs.Prelude.{filter}
+use Rattle.std.specs.List.Sorted.{IsPermutation}
+use Rattle.ftd_rules.specs.declared.YearLine.{YearLine}
+use Rattle.ftd_rules.specs.Years.{YearsFrom}
+use Rattle.ftd_rules.proofs.Items.{drop_item}
+use Rattle.ftd_buckets.specs.declared.Patch.{Patch}
+use Rattle.ftd_schema.specs.declared.TableName.TheVariants.{Years}
+use Rattle.ftd_schema.specs.Rows.{YearRow}
+use Rattle.ftd_schema.specs.Standing.{Tables, with_rows}
+use Rattle.ftd_schema.proofs.OneOfAll.{set_twice, set_own}
+use Rattle.ftd_sql.specs.Tests.{is_year_of}
+use Rattle.ftd_rows.specs.Rows.{year_row}
+use Rattle.ftd_store.specs.Changes.{with_year, with_obligations}
+use Rattle.ftd_repairs.specs.Rescheduled.{IsAfter, IsRescheduled, IsUnnamed, AreAfter, HasLines, PutsLines, PutsPatch}
+use Rattle.ftd_repairs.proofs.Items.{taken, pairs_more}
+use Rattle.ftd_repairs.proofs.YearRows.{put, put_has, put_others}
+
+-- ---- lines one after the other
+
+-- nothing is put yet
+pub puts_none : (account : List ℕ) (lines : List YearLine) (t : Tables) → IsPermutation (filter (is_year_of account) (t Years)) (map (year_row account) lines) → PutsLines account lines t t
+puts_none account lines t has = record { has = has; others = λ other apart. refl; only = set_own Years (t Years) t refl }
+
+-- one line is put in the place of another one of its year
+pub puts_one : (account : List ℕ) (xs : List YearLine) (b line : YearLine) (ys : List YearLine) (first : ℕ) (base t : Tables) → YearsFrom first (xs ++ b ∷ ys) → b.year ≡ line.year
+    → PutsLines account (xs ++ b ∷ ys) base t → PutsLines account (xs ++ line ∷ ys) base (with_year account line t)
+puts_one account xs b line ys first base t years year h =
+    let rows : List YearRow = put account line (t Years) in record {
+      has = put_has account (t Years) xs b line ys first years year h.has;
+      others = λ other apart. put_others account other (t Years) xs b line ys apart year h.has ∙ h.others other apart;
+      only = λ n.
+          (let same : t ≡ with_rows Years (t Years) base = λ i m. h.only m i in
+          ap (λ (u : Tables). with_rows Years rows u n) same ∙ set_twice Years (t Years) rows base n);
+    }
+
+-- a line with its own year and another schedule keeps the years in turn
+years_put : (first : ℕ) (xs : List YearLine) (b line : YearLine) (ys : List YearLine) → b.year ≡ line.year → YearsFrom first (xs ++ b ∷ ys) → YearsFrom first (xs ++ line ∷ ys)
+years_put first [] b line ys same years = (sym same ∙ years.0, years.1)
+years_put first (x ∷ xs) b line ys same years = (years.0, years_put (first + 1) xs b line ys same years.1)
+
+-- the patch is put as far as the first lines: these are so now, those after them as they were
+pub record PutSoFar (account : List ℕ) (lines : List YearLine) (patch : Patch) (i : ℕ) (old new : Tables) : Type 0 where
+  pub front : List YearLine
+  pub are_after : AreAfter (take i lines) patch.years front
+  pub first : ℕ
+  pub years : YearsFrom first (front ++ drop i lines)
+  pub puts : PutsLines account (front ++ drop i lines) (with_obligations account patch.from patch.to patch.rows old) new
+
+pub put_none : (account : List ℕ) (lines : List YearLine) (patch : Patch) (t : Tables) → HasLines account lines t → PutSoFar account lines patch 0 t (with_obligations account patch.from patch.to patch.rows t)
+put_none account lines patch t had = record {
+  front = [];
+  are_after = tt;
+  first = had.1.0;
+  years = had.1.2;
+  puts = puts_none account lines (with_obligations account patch.from patch.to patch.rows t) had.0;
+}
+
+-- one line more, which is put
+pub put_more : (account : List ℕ) (lines : List YearLine) (patch : Patch) (i : ℕ) (x after : YearLine) (t u : Tables) → i < length lines → x ≡ get_or lines i x → IsRescheduled patch.years x after
+    → PutSoFar account lines patch i t u → PutSoFar account lines patch (i + 1) t (with_year account after u)
+put_more account lines patch i x after t u some is scheduled h =
+    let cut : drop i lines ≡ x ∷ drop (i + 1) lines = drop_item lines i x is some in
+    let rest : List YearLine = drop (i + 1) lines in
+    let same : x.year ≡ after.year = sym (ap (λ (l : YearLine). l.year) scheduled.3) in
+    let base : Tables = with_obligations account patch.from patch.to patch.rows t in
+    let years : YearsFrom h.first (h.front ++ x ∷ rest) = subst (λ (ls : List YearLine). YearsFrom h.first (h.front ++ ls)) cut h.years in
+    let puts : PutsLines account (h.front ++ x ∷ rest) base u = subst (λ (ls : List YearLine). PutsLines account (h.front ++ ls) base u) cut h.puts in
+    let moved : h.front ++ after ∷ rest ≡ (h.front ++ after ∷ []) ++ rest = sym (append_assoc h.front (after ∷ []) rest) in
+    record {
+      front = h.front ++ after ∷ [];
+      are_after = subst (λ (ls : List YearLine). AreAfter ls patch.years (h.front ++ after ∷ [])) (sym (taken lines i x some is)) (pairs_more (IsAfter patch.years) (take i lines) h.front x after h.are_after (inl scheduled));
+      first = h.first;
+      years = subst (YearsFrom h.first) moved (years_put h.first h.front x after rest same years);
+      puts = subst (λ (ls : List YearLine). PutsLines account ls base (with_year account after u)) moved (puts_one account h.front x after rest h.first base u years same puts);
+    }
+
+-- one line more, which stays
+pub put_same : (account : List ℕ) (lines : List YearLine) (patch : Patch) (i : ℕ) (x : YearLine) (t u : Tables) → i < length lines → x ≡ get_or lines i x → IsUnnamed patch.years x
+    → PutSoFar account lines patch i t u → PutSoFar account lines patch (i + 1) t u
+put_same account lines patch i x t u some is unnamed h =
+    let cut : drop i lines ≡ x ∷ drop (i + 1) lines = drop_item lines i x is some in
+    let rest : List YearLine = drop (i + 1) lines in
+    let base : Tables = with_obligations account patch.from patch.to patch.rows t in
+    let moved : h.front ++ drop i lines ≡ (h.front ++ x ∷ []) ++ rest = ap (λ (ls : List YearLine). h.front ++ ls) cut ∙ sym (append_assoc h.front (x ∷ []) rest) in
+    record {
+      front = h.front ++ x ∷ [];
+      are_after = subst (λ (ls : List YearLine). AreAfter ls patch.years (h.front ++ x ∷ [])) (sym (taken lines i x some is)) (pairs_more (IsAfter patch.years) (take i lines) h.front x x h.are_after (inr (refl, unnamed)));
+      first = h.first;
+      years = subst (YearsFrom h.first) moved h.years;
+      puts = subst (λ (ls : List YearLine). PutsLines account ls base u) moved h.puts;
+    }
+
+-- all lines are through
+pub put_all : (account : List ℕ) (lines : List YearLine) (patch : Patch) (i : ℕ) (t u : Tables) → take i lines ≡ lines → drop i lines ≡ [] → PutSoFar account lines patch i t u → PutsPatch account lines patch t u
+put_all account lines patch i t u front back h =
+    let base : Tables = with_obligations account patch.from patch.to patch.rows t in
+    let all : h.front ++ drop i lines ≡ h.front = ap (λ (ls : List YearLine). h.front ++ ls) back ∙ append-nil h.front in
+    record {
+      after = h.front;
+      are_after = subst (λ (ls : List YearLine). AreAfter ls patch.years h.front) front h.are_after;
+      puts = subst (λ (ls : List YearLine). PutsLines account ls base u) all h.puts;
+    }

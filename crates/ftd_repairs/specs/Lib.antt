@@ -1,0 +1,6 @@
+pub mod Turning
+pub mod Repaired
+pub mod Calendars
+pub mod Replaced
+pub mod Rescheduled
+pub mod Reposted

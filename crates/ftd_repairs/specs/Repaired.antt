@@ -1,0 +1,38 @@
+-- What a repair reads of the tables, and what it answers.
+use Rattle.std.specs.Prelude.{ℕ, List, filter}
+use Rattle.ftd_rules.specs.declared.DaySum.{DaySum}
+use Rattle.ftd_rules.specs.declared.Form.{Form}
+use Rattle.ftd_rules.specs.declared.YearLine.{YearLine}
+use Rattle.ftd_buckets.specs.declared.Window.{Window}
+use Rattle.ftd_buckets.specs.declared.Patch.{Patch}
+use Rattle.ftd_buckets.specs.Histories.{History, IsChange, AreLast}
+use Rattle.ftd_buckets.specs.Windows.{IsNeeded, IsLastNeeded}
+use Rattle.ftd_buckets.specs.Patches.{AreSumsOf, IsPatch}
+use Rattle.ftd_schema.specs.declared.TableName.TheVariants.{Runs}
+use Rattle.ftd_schema.specs.Standing.{Tables}
+use Rattle.ftd_sql.specs.Orders.{RunsRise}
+use Rattle.ftd_sql.specs.Tests.{is_live_run_between}
+use Rattle.ftd_rows.specs.Cells.{day_number}
+use Rattle.ftd_rows.specs.DaySums.{ListsDaySums}
+
+-- these are the day sums of the account's live runs with a payday in the window
+abbrev pub AreLiveIn : List ℕ → Tables → Window → List DaySum → Type 0
+AreLiveIn account t w sums =
+    ListsDaySums RunsRise account
+    (filter (is_live_run_between account (day_number w.from) (day_number w.to)) (t Runs)) sums
+
+-- on the days of each window that is needed, the account's live runs are those of the history
+-- after the change
+abbrev pub RunsAre : List ℕ → Form → Tables → ℕ → History → History → Type 0
+RunsAre account form t day before after =
+    (w : Window) → IsNeeded form day before after w
+    → (sums : List DaySum) → AreLiveIn account t w sums → AreSumsOf after w sums
+
+-- the patch is right for every change of the day's runs after which the live runs are those of the
+-- tables in the windows that are needed, and before which the years ended with these lines
+abbrev pub Repairs : List ℕ → Form → ℕ → List YearLine → List ℕ → Patch → Tables → Type 0
+Repairs account form day lines holidays patch t =
+    (before after : History) → IsChange day before after → AreLast before lines
+    → RunsAre account form t day before after
+    → (last : Window) × IsPatch form day before after holidays last patch
+    × IsLastNeeded form day before after last

@@ -1,0 +1,24 @@
+-- How the rows of a patch differ from those that they replace.
+use Rattle.std.specs.Prelude.{ℕ, List, map, filter}
+use Rattle.std.specs.List.Sorted.{IsPermutation}
+use Rattle.ftd_rules.specs.declared.Obligation.{Obligation}
+use Rattle.ftd_rules.specs.Obligations.{ByFirstDay}
+use Rattle.ftd_schema.specs.declared.TableName.TheVariants.{Obligations}
+use Rattle.ftd_schema.specs.Standing.{Tables}
+use Rattle.ftd_sql.specs.Tests.{is_obligation_between}
+use Rattle.ftd_rows.specs.Cells.{day_number}
+use Rattle.ftd_rows.specs.Rows.{obligation_row}
+use Rattle.ftd_machine.specs.Posting.{Differ}
+use Rattle.ftd_repairs.specs.declared.Difference.{Difference}
+
+-- the account's obligations that begin on the days from one to another were these, and it is told
+-- how those that stand there from now on differ from them
+pub record ComparesRows (account : List ℕ) (day from to : ℕ) (rows : List Obligation)
+    (difference : Difference) (old : Tables) : Type 0 where
+  pub gone : List Obligation
+  pub by_first_day : ByFirstDay gone
+  pub are_gone : IsPermutation
+      (filter (is_obligation_between account (day_number from) (day_number to)) (old Obligations))
+      (map (obligation_row account) gone)
+  pub differ : ByFirstDay rows
+      → Differ gone rows day difference.from difference.to difference.removed difference.added

@@ -1,0 +1,145 @@
+//! How an account's obligations differ before and after a change of its runs.
+
+ghost use Rattle.std.specs.Prelude.{◌≡◌, ◌≤◌, ◌⊎◌, ◌↔◌, [], length, IsTrue, IfOk};
+ghost use Rattle.ftd_rules.specs.Lists.{Has};
+ghost use Rattle.ftd_rules.specs.Obligations.{ByFirstDay};
+ghost use Rattle.ftd_store.specs.Frame.{Reads};
+ghost use Rattle.ftd_machine.specs.Posting.{AreOnlyIn, Spans, Differ};
+ghost use Rattle.ftd_repairs.specs.Replaced.{ComparesRows};
+
+use crate::Difference;
+use ftd_buckets::Patch;
+use ftd_days::Day;
+use ftd_rules::Obligation;
+use ftd_store::{StoreFault, Tx};
+use sqlite::Alter;
+use std::alloc::{AllocError, Global};
+
+/// Whether the row is one of these.
+fn is_among(row: &Obligation, rows: &[Obligation]) -> bool
+    ensures { IsTrue result ↔ Has rows.now row.now }
+{
+    for other in rows {
+        if other == row {
+            return true;
+        }
+    }
+    false
+}
+
+/// The rows that are not among the others.
+fn only_in(
+    alloc: Global,
+    rows: &[Obligation],
+    others: &[Obligation],
+) -> Result<Vec<Obligation>, AllocError>
+    ensures { IfOk result (λ only. ByFirstDay rows.now
+        → AreOnlyIn rows.now others.now only.items) }
+{
+    let mut only = Vec::new(alloc);
+    for row in rows {
+        if !is_among(row, others) {
+            only.push(*row)?;
+        }
+    }
+    Ok(only)
+}
+
+/// The earlier of two days.
+fn earlier(one: Day, other: Day) -> Day
+    ensures not_after { (result ≤ one) × (result ≤ other) }
+    ensures is_one { (result ≡ one) ⊎ (result ≡ other) }
+{
+    if other < one { other } else { one }
+}
+
+/// The later of two days.
+fn later(one: Day, other: Day) -> Day
+    ensures not_before { (one ≤ result) × (other ≤ result) }
+    ensures is_one { (result ≡ one) ⊎ (result ≡ other) }
+{
+    if one < other { other } else { one }
+}
+
+/// The least first day and the greatest last day of the rows; the day twice where there is none.
+fn reach(day: Day, rows: &[Obligation]) -> (Day, Day)
+    ensures { Spans rows.now result.0 result.1
+        ⊎ ((rows.now ≡ []) × (result.0 ≡ day) × (result.1 ≡ day)) }
+{
+    let Some(first) = rows.first() else {
+        return (day, day);
+    };
+    let mut from = first.first;
+    let mut to = first.last;
+    for row in rows {
+        from = earlier(from, row.first);
+        to = later(to, row.last);
+    }
+    (from, to)
+}
+
+/// How many rows there are. `Failed` where they are 2^32 or more.
+fn count(rows: &[Obligation]) -> Result<u32, StoreFault>
+    ensures { IfOk result (λ count. count ≡ length rows.now) }
+{
+    match u32::try_from(rows.len()) {
+        Ok(count) => Ok(count),
+        Err(_) => Err(StoreFault::Failed),
+    }
+}
+
+/// How the rows differ before and after a change of the runs of the day.
+fn difference(
+    alloc: Global,
+    day: Day,
+    before: &[Obligation],
+    after: &[Obligation],
+) -> Result<Difference, StoreFault>
+    ensures { IfOk result (λ d. ByFirstDay before.now → ByFirstDay after.now
+        → Differ before.now after.now day d.from d.to d.removed d.added) }
+{
+    let mut rows = only_in(alloc, before, after)?;
+    let removed = count(&rows)?;
+    let come = only_in(alloc, after, before)?;
+    let added = count(&come)?;
+    rows.extend_from_slice(&come)?;
+    let (from, to) = reach(day, &rows);
+    Ok(Difference {
+        from,
+        to,
+        removed,
+        added,
+    })
+}
+
+/// Whether each row begins before the next.
+fn rise(rows: &[Obligation]) -> bool
+    ensures { IsTrue result → ByFirstDay rows.now }
+{
+    match rows {
+        [] => true,
+        [_] => true,
+        [row, later @ ..] => row.first < later[0].first && rise(later),
+    }
+}
+
+/// How the rows of the patch differ from the account's obligations that they are to replace.
+pub(crate) fn compare_rows<S: Alter>(
+    tx: &mut Tx<'_, S>,
+    alloc: Global,
+    account: &str,
+    day: Day,
+    patch: &Patch,
+) -> Result<Difference, StoreFault>
+    ensures call { Reads S.Store tx.old tx.new result
+        (ComparesRows account.now day patch.now.from patch.now.to patch.now.rows) }
+{
+    let gone = tx.obligations(alloc, account, patch.from, patch.to)?;
+    if !rise(&gone) {
+        return tx.give_up(StoreFault::Failed);
+    }
+    match difference(alloc, day, &gone, patch.rows.as_slice()) {
+        Ok(difference) => Ok(difference),
+        Err(fault) => tx.give_up(fault),
+    }
+}

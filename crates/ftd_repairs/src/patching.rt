@@ -1,0 +1,128 @@
+//! A patch is put in the place of an account's rows.
+
+ghost use Rattle.std.specs.Prelude.{◌≡◌, ◌++◌, ◌↔◌, List, IsTrue, IfSome, MatchOption, All};
+ghost use Rattle.ftd_rules.specs.declared.YearLine.{YearLine};
+ghost use Rattle.ftd_rows.specs.Amounts.{IsStorable};
+ghost use Rattle.ftd_repairs.specs.Rescheduled.{IsRescheduled, IsUnnamed, HasLines, PutsPatch};
+ghost use Rattle.ftd_repairs.specs.Reposted.{RepairsRows};
+ghost use Rattle.ftd_repairs.specs.Turning.{Turns};
+
+use crate::Difference;
+use crate::comparing::compare_rows;
+use crate::reading::KnownYears;
+use crate::repairing::repaired;
+use ftd_buckets::{Patch, may_begin};
+use ftd_days::{Cents, Day};
+use ftd_rules::{Form, Obligation, YearLine};
+use ftd_store::{StoreFault, Tx};
+use sqlite::Alter;
+use std::alloc::Global;
+
+/// 2^63 cents, the least amount that no cell of the store holds.
+const STORED_END: u64 = 9_223_372_036_854_775_808;
+
+/// Whether a cell holds the amount.
+pub(crate) fn is_storable(amount: Cents) -> bool
+    ensures { IsTrue result ↔ IsStorable amount }
+{
+    amount.0 < STORED_END
+}
+
+/// Whether cells hold the lookback totals of the lines.
+fn hold_lookbacks(lines: &[YearLine]) -> bool
+    ensures { IsTrue result → All (λ line. IsStorable line.lookback) lines.now }
+{
+    lines.iter().all(|line| is_storable(line.lookback))
+}
+
+/// Whether cells hold the amounts of the rows.
+fn hold_amounts(rows: &[Obligation]) -> bool
+    ensures { IsTrue result → All (λ row. IsStorable row.cents) rows.now }
+{
+    rows.iter().all(|row| is_storable(row.cents))
+}
+
+/// The lines from the day's year on. None where that year is not open.
+fn lines_from(lines: &[YearLine], day: Day) -> Option<&[YearLine]>
+    ensures { IfSome result (λ rest. (earlier : List YearLine)
+        × (lines.now ≡ earlier ++ rest.now)) }
+{
+    let year = day.year();
+    for (i, line) in lines.iter().enumerate() {
+        if line.year == year {
+            let (_, rest) = lines.split_at(i);
+            return Some(rest);
+        }
+    }
+    None
+}
+
+/// The line with the opening and the turn of the changed one of its year. None where there is none.
+fn rescheduled(line: &YearLine, changed: &[YearLine]) -> Option<YearLine>
+    ensures { MatchOption result (IsUnnamed changed.now line.now)
+        (IsRescheduled changed.now line.now) }
+{
+    for other in changed {
+        if other.year == line.year {
+            return Some(YearLine {
+                year: line.year,
+                lookback: line.lookback,
+                carried: line.carried,
+                opening: other.opening,
+                turn: other.turn,
+            });
+        }
+    }
+    None
+}
+
+/// Puts the patch in the place of the account's obligations that begin on its days, and its
+/// openings and turns into the account's lines.
+fn put_patch<S: Alter>(
+    tx: &mut Tx<'_, S>,
+    account: &str,
+    lines: &[YearLine],
+    patch: &Patch,
+) -> Result<(), StoreFault>
+    requires amounts { All (λ row. IsStorable row.cents) patch.now.rows }
+    requires lookbacks { All (λ line. IsStorable line.lookback) lines.now }
+    ensures call { Turns S.Store tx.old tx.new result (λ done old new.
+        HasLines account.now lines.now old
+        → PutsPatch account.now lines.now patch.now old new) }
+{
+    tx.replace_obligations(account, patch.from, patch.to, patch.rows.as_slice())?;
+    for line in lines {
+        if let Some(after) = rescheduled(line, patch.years.as_slice()) {
+            tx.put_year(account, after)?;
+        }
+    }
+    Ok(())
+}
+
+/// Repairs the account's rows after a change of its runs of the day, by what was read of it before.
+/// `Failed` also where the day's year is not open.
+pub(crate) fn repair_rows<S: Alter>(
+    tx: &mut Tx<'_, S>,
+    alloc: Global,
+    account: &str,
+    form: Form,
+    day: Day,
+    known: &KnownYears,
+) -> Result<Difference, StoreFault>
+    ensures call { Turns S.Store tx.old tx.new result
+        (RepairsRows account.now form day known.now) }
+{
+    let Some(rest) = lines_from(&known.lines, day) else {
+        return tx.give_up(StoreFault::Failed);
+    };
+    if !may_begin(rest, day) || !hold_lookbacks(&known.lines) {
+        return tx.give_up(StoreFault::Failed);
+    }
+    let patch = repaired(tx, alloc, account, form, rest, &known.holidays, day)?;
+    if !hold_amounts(patch.rows.as_slice()) {
+        return tx.give_up(StoreFault::Failed);
+    }
+    let difference = compare_rows(tx, alloc, account, day, &patch)?;
+    put_patch(tx, account, &known.lines, &patch)?;
+    Ok(difference)
+}

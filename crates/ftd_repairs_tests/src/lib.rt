@@ -1,0 +1,5 @@
+//! Worked examples of the repairs, through the tables, in memory.
+#![tactic(auto)]
+
+#[cfg(test)]
+mod tests;
