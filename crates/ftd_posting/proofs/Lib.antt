@@ -1,0 +1,12 @@
+pub mod Sifted
+pub mod Patching
+pub mod Differing
+pub mod DayCells
+pub mod RowsPlaced
+pub mod LiveRuns
+pub mod HolidaysRead
+pub mod RightByAll
+pub mod LinesAfter
+pub mod Reposting
+pub mod Turning
+pub mod PostedRuns

@@ -1,0 +1,203 @@
+-- The rows of obligations in the table, of which those of an account that begin on some days were replaced.
+use Rattle.std.proofs.Common.{◌≡◌, ◌≢◌, ℕ, pos, ◌+◌, ◌<◌, ◌≤◌, ◌↔◌, inl, inr, List, [], ◌∷◌, ◌++◌, map, append_assoc, append-nil, Bool, true, false, not, ◌&&◌, refl, sym, ap, ◌∙◌, subst, arith}
+use Rattle.std.specs.Prelude.{filter, nat_le, bytes_eq, int_le}
+use Rattle.std.specs.List.Sorted.{IsPermutation}
+use Rattle.std.proofs.lemmas.Bool.{cases_Bool, lt-ltb, le-ltb, le-leb, lt-leb, leb-true}
+use Rattle.std.proofs.lemmas.List.{map-append}
+use Rattle.std.proofs.lemmas.List.Elements.{filter-append}
+use Rattle.std.proofs.lemmas.List.Sorted.{IsPermutation-refl, IsPermutation-trans, IsPermutation-sym, IsPermutation-cons, IsPermutation-middle, IsPermutation-append_left, IsPermutation-append_right, IsPermutation-append_comm}
+use Rattle.ftd_rules.specs.declared.Rule.{Rule}
+use Rattle.ftd_rules.specs.declared.Rule.TheVariants.{Monthly, Semiweekly, NextDay}
+use Rattle.ftd_rules.specs.declared.Obligation.{Obligation}
+use Rattle.ftd_rules.specs.Lists.{Has}
+use Rattle.ftd_rules.proofs.Cuts.{lt_or_le}
+use Rattle.ftd_rules.proofs.Rising.{has_permuted}
+use Rattle.ftd_schema.specs.Rows.{ObligationRow}
+use Rattle.ftd_sql.specs.Tests.{is_obligation_between}
+use Rattle.ftd_rows.specs.Cells.{day_number, rule_number}
+use Rattle.ftd_rows.specs.Rows.{obligation_row}
+use Rattle.ftd_rows.proofs.Found.{both}
+use Rattle.ftd_machine.proofs.Adding.{same_name, own_name, other_name}
+use Rattle.ftd_machine.proofs.Soundness.{has_mapped, has_filtered}
+use Rattle.ftd_entries.specs.Standing.{is_obligation_of}
+use Rattle.ftd_entries.proofs.Found.{day_is}
+use Rattle.ftd_entries.proofs.Giving.{mapped_has}
+use Rattle.ftd_posting.proofs.DayCells.{day_le}
+use Rattle.ftd_posting.proofs.Sifted.{filter_in, filter_out, keeps_has, both_tests, both_are, sifted}
+use Rattle.ftd_posting.proofs.Patching.{begins_before, begins_after, patched}
+use Rattle.ftd_posting.proofs.Differing.{BeginsWithin}
+
+-- ---- one row
+
+rule_is : (a b : Rule) → rule_number a ≡ rule_number b → a ≡ b
+rule_is Monthly Monthly e = refl
+rule_is Monthly Semiweekly e = absurd cc
+rule_is Monthly NextDay e = absurd cc
+rule_is Semiweekly Monthly e = absurd cc
+rule_is Semiweekly Semiweekly e = refl
+rule_is Semiweekly NextDay e = absurd cc
+rule_is NextDay Monthly e = absurd cc
+rule_is NextDay Semiweekly e = absurd cc
+rule_is NextDay NextDay e = refl
+
+pub obligation_is : (account : List ℕ) (o p : Obligation) → obligation_row account o ≡ obligation_row account p → o ≡ p
+obligation_is account o p e =
+    let first = day_is o.first p.first (ap (λ (r : ObligationRow). r.first) e) in
+    let last = day_is o.last p.last (ap (λ (r : ObligationRow). r.last) e) in
+    let rule = rule_is o.rule p.rule (ap (λ (r : ObligationRow). r.rule) e) in
+    let amounts : pos o.cents.0 ≡ pos p.cents.0 = ap (λ (r : ObligationRow). r.cents) e in
+    let cents : o.cents.0 ≡ p.cents.0 = cc in
+    let due = day_is o.due p.due (ap (λ (r : ObligationRow). r.due) e) in
+    λ i. record { first = first i; last = last i; rule = rule i; cents = record { 0 = cents i }; due = due i }
+
+module _ (account : List ℕ) (from to : ℕ) where
+  abbrev pub goes : ObligationRow → Bool
+  goes = is_obligation_between account (day_number from) (day_number to)
+
+  -- a row that stays
+  abbrev pub stays : ObligationRow → Bool
+  stays o = not (goes o)
+
+  abbrev row : Obligation → ObligationRow
+  row = obligation_row account
+
+  abbrev own : ObligationRow → Bool
+  own = is_obligation_of account
+
+  -- of the account's rows those go that begin on the days
+  goes_is : (o : Obligation) → goes (row o) ≡ (nat_le from o.first && nat_le o.first to)
+  goes_is o =
+      ap (λ b. b && (int_le (day_number from) (day_number o.first) && int_le (day_number o.first) (day_number to))) (own_name account)
+      ∙ ap (λ b. b && int_le (day_number o.first) (day_number to)) (day_le from o.first)
+      ∙ ap (λ b. nat_le from o.first && b) (day_le o.first to)
+
+  goes_within : (o : Obligation) → goes (row o) ≡ true → BeginsWithin from to o
+  goes_within o e =
+      let k = both (nat_le from o.first) (nat_le o.first to) (sym (goes_is o) ∙ e) in
+      (leb-true from o.first k.0, leb-true o.first to k.1)
+
+  within_goes : (o : Obligation) → BeginsWithin from to o → goes (row o) ≡ true
+  within_goes o within =
+      let low : nat_le from o.first ≡ true = le-leb from o.first within.0 in
+      let high : nat_le o.first to ≡ true = le-leb o.first to within.1 in
+      goes_is o ∙ rw (low, high) refl
+
+  before_stays : (o : Obligation) → o.first < from → stays (row o) ≡ true
+  before_stays o l =
+      let low : nat_le from o.first ≡ false = lt-leb from o.first l in
+      let off : goes (row o) ≡ false = goes_is o ∙ rw low refl in
+      ap not off
+
+  after_stays : (o : Obligation) → from ≤ o.first → to < o.first → stays (row o) ≡ true
+  after_stays o l m =
+      let low : nat_le from o.first ≡ true = le-leb from o.first l in
+      let high : nat_le o.first to ≡ false = lt-leb o.first to m in
+      let off : goes (row o) ≡ false = goes_is o ∙ rw (low, high) refl in
+      ap not off
+
+  -- ---- the account's rows
+
+  own_rows : (os : List Obligation) → filter own (map row os) ≡ map row os
+  own_rows [] = refl
+  own_rows (o ∷ os) = filter_in own (row o) (map row os) (own_name account) ∙ ap (λ rows. row o ∷ rows) (own_rows os)
+
+  -- of the rows of some obligations those stay that begin before the days, and those that begin after them
+  parts : (os : List Obligation) → from ≤ to + 1
+      → IsPermutation (filter stays (map row os)) (map row (filter (begins_before from) os) ++ map row (filter (begins_after to) os))
+  parts [] some = IsPermutation-refl []
+  parts (o ∷ os) some =
+      let front : List ObligationRow = map row (filter (begins_before from) os) in
+      let back : List ObligationRow = map row (filter (begins_after to) os) in
+      let rest : IsPermutation (filter stays (map row os)) (front ++ back) = parts os some in
+      let as_left : List ObligationRow = filter stays (map row (o ∷ os)) in
+      let as_right : List ObligationRow = map row (filter (begins_before from) (o ∷ os)) ++ map row (filter (begins_after to) (o ∷ os)) in
+      elim (lt_or_le o.first from) [
+        | inl before ↦
+            (let first : begins_before from o ≡ true = lt-ltb o.first from before in
+            let not_last : begins_after to o ≡ false = le-ltb to o.first (omega arith) in
+            both_are as_left as_right (row o ∷ filter stays (map row os)) (row o ∷ (front ++ back))
+            (filter_in stays (row o) (map row os) (before_stays o before))
+            (ap (λ l. map row l ++ map row (filter (begins_after to) (o ∷ os))) (filter_in (begins_before from) o os first) ∙ ap (λ l. row o ∷ (front ++ map row l)) (filter_out (begins_after to) o os not_last))
+            (IsPermutation-cons (row o) (filter stays (map row os)) (front ++ back) rest))
+        | inr not_before ↦
+            (let not_first : begins_before from o ≡ false = le-ltb o.first from not_before in
+            let no_front = ap (λ l. map row l ++ map row (filter (begins_after to) (o ∷ os))) (filter_out (begins_before from) o os not_first) in
+            elim (lt_or_le to o.first) [
+              | inl after ↦
+                  both_are as_left as_right (row o ∷ filter stays (map row os)) (front ++ (row o ∷ back))
+                  (filter_in stays (row o) (map row os) (after_stays o not_before after))
+                  (no_front ∙ ap (λ l. front ++ map row l) (filter_in (begins_after to) o os (lt-ltb to o.first after)))
+                  (IsPermutation-trans (row o ∷ filter stays (map row os)) (row o ∷ (front ++ back)) (front ++ (row o ∷ back))
+                  (IsPermutation-cons (row o) (filter stays (map row os)) (front ++ back) rest) (IsPermutation-sym (front ++ (row o ∷ back)) (row o ∷ (front ++ back)) (IsPermutation-middle front (row o) back)))
+              | inr within ↦
+                  both_are as_left as_right (filter stays (map row os)) (front ++ back)
+                  (filter_out stays (row o) (map row os) (ap not (within_goes o (not_before, within))))
+                  (no_front ∙ ap (λ l. front ++ map row l) (filter_out (begins_after to) o os (le-ltb to o.first within)))
+                  rest
+            ])
+      ]
+
+  -- where the account's rows were those of some obligations, they are those of the patched ones now
+  pub placed_rows : (rows : List ObligationRow) (os patch : List Obligation) → from ≤ to + 1 → IsPermutation (filter own rows) (map row os)
+      → IsPermutation (filter own (filter stays rows ++ map row patch)) (map row (patched from to os patch))
+  placed_rows rows os patch some had =
+      let front : List ObligationRow = map row (filter (begins_before from) os) in
+      let back : List ObligationRow = map row (filter (begins_after to) os) in
+      let new : List ObligationRow = map row patch in
+      let kept : List ObligationRow = filter stays (filter own rows) in
+      let left : IsPermutation kept (front ++ back) =
+      IsPermutation-trans kept (filter stays (map row os)) (front ++ back) (sifted stays (filter own rows) (map row os) had) (parts os some) in
+      let moved : IsPermutation (kept ++ new) (front ++ (new ++ back)) =
+      IsPermutation-trans (kept ++ new) ((front ++ back) ++ new) (front ++ (new ++ back)) (IsPermutation-append_left new kept (front ++ back) left)
+      (subst (λ l. IsPermutation l (front ++ (new ++ back))) (sym (append_assoc front back new)) (IsPermutation-append_right front (back ++ new) (new ++ back) (IsPermutation-append_comm back new))) in
+      both_are (filter own (filter stays rows ++ new)) (map row (patched from to os patch)) (kept ++ new) (front ++ (new ++ back))
+      (filter-append own (filter stays rows) new ∙ (ap (λ l. l ++ filter own new) (both_tests own stays rows) ∙ ap (λ l. kept ++ l) (own_rows patch)))
+      (map-append row (filter (begins_before from) os) (patch ++ filter (begins_after to) os) ∙ ap (λ l. front ++ l) (map-append row patch (filter (begins_after to) os)))
+      moved
+
+  -- the rows that went are those of the obligations that begin on the days
+  pub gone_are : (rows : List ObligationRow) (os gone : List Obligation) → IsPermutation (filter own rows) (map row os) → IsPermutation (filter goes rows) (map row gone)
+      → (o : Obligation) → Has gone o ↔ (Has os o × BeginsWithin from to o)
+  gone_are rows os gone had went o = (
+    (λ has.
+        (let there = has_filtered goes rows (row o) (has_permuted (filter goes rows) (map row gone) went (row o) (mapped_has row gone o has)) in
+        let mine = has_permuted (map row os) (filter own rows) (IsPermutation-sym (filter own rows) (map row os) had) (row o) (keeps_has own rows (row o) there.0 (own_name account)) in
+        let its = has_mapped row os (row o) mine in
+        (subst (Has os) (sym (obligation_is account o its.0 its.2)) its.1, goes_within o there.1))),
+    (λ k.
+        (let mine = has_filtered own rows (row o) (has_permuted (filter own rows) (map row os) had (row o) (mapped_has row os o k.0)) in
+        let went_too = has_permuted (map row gone) (filter goes rows) (IsPermutation-sym (filter goes rows) (map row gone) went) (row o) (keeps_has goes rows (row o) mine.0 (within_goes o k.1)) in
+        let its = has_mapped row gone (row o) went_too in
+        subst (Has gone) (sym (obligation_is account o its.0 its.2)) its.1)),
+  )
+
+  -- ---- the rows of other accounts
+
+  none_of : (other : List ℕ) → other ≢ account → (os : List Obligation) → filter (is_obligation_of other) (map row os) ≡ []
+  none_of other apart [] = refl
+  none_of other apart (o ∷ os) = filter_out (is_obligation_of other) (row o) (map row os) (other_name account other (λ same. apart (sym same))) ∙ none_of other apart os
+
+  other_stays : (other : List ℕ) → other ≢ account → (r : ObligationRow) → is_obligation_of other r ≡ true → stays r ≡ true
+  other_stays other apart r its =
+      let off : bytes_eq r.account account ≡ false = other_name r.account account (λ same. apart (sym (same_name r.account other its) ∙ same)) in
+      rw off refl
+
+  others_stay : (other : List ℕ) → other ≢ account → (rows : List ObligationRow) → filter (is_obligation_of other) (filter stays rows) ≡ filter (is_obligation_of other) rows
+  others_stay other apart [] = refl
+  others_stay other apart (r ∷ rows) =
+      let test : ObligationRow → Bool = is_obligation_of other in
+      let rest = others_stay other apart rows in
+      elim (cases_Bool (test r)) [
+        | inl its ↦ ap (filter test) (filter_in stays r rows (other_stays other apart r its)) ∙ (filter_in test r (filter stays rows) its ∙ (ap (λ l. r ∷ l) rest ∙ sym (filter_in test r rows its)))
+        | inr off ↦ elim (cases_Bool (stays r)) [
+          | inl kept ↦ ap (filter test) (filter_in stays r rows kept) ∙ (filter_out test r (filter stays rows) off ∙ (rest ∙ sym (filter_out test r rows off)))
+          | inr left ↦ ap (filter test) (filter_out stays r rows left) ∙ (rest ∙ sym (filter_out test r rows off))
+        ]
+      ]
+
+  -- stay as they are
+  pub others_placed : (other : List ℕ) → other ≢ account → (rows : List ObligationRow) (patch : List Obligation)
+      → filter (is_obligation_of other) (filter stays rows ++ map row patch) ≡ filter (is_obligation_of other) rows
+  others_placed other apart rows patch =
+      filter-append (is_obligation_of other) (filter stays rows) (map row patch)
+      ∙ (ap (λ l. filter (is_obligation_of other) (filter stays rows) ++ l) (none_of other apart patch) ∙ (append-nil (filter (is_obligation_of other) (filter stays rows)) ∙ others_stay other apart rows))

@@ -1,0 +1,30 @@
+-- What follows of the calls of a request, where the last one makes other rows of those that there are.
+use Rattle.std.proofs.Common.{Ok, sym, subst, arith}
+use Rattle.sqlite.specs.Store as store
+use Rattle.ftd_schema.specs.Standing.{Tables, Stands}
+use Rattle.ftd_store.specs.declared.tx.Tx.{Tx}
+use Rattle.ftd_store.specs.Frame.{Calls, Reads}
+use Rattle.ftd_store.proofs.Going.{then_goes}
+use Rattle.ftd_machine.specs.State.{State}
+use Rattle.ftd_machine.specs.Sound.{IsSound}
+use Rattle.ftd_machine.specs.Checks.{Answer}
+use Rattle.ftd_machine.specs.Step.{Step}
+use Rattle.ftd_machine.specs.declared.requests.Request.{Request}
+use Rattle.ftd_machine.proofs.Soundness.{step_sound}
+use Rattle.ftd_entries.specs.Standing.{StandsFor}
+use Rattle.ftd_entries.specs.Words.{Serves}
+use Rattle.ftd_repairs.specs.Turning.{Turns}
+
+-- what was read lets the change pass, and the rows that it makes stand for the machine's next state
+pub served_turned : {S A B : Type 0} (g : store.Ghosts S) (request : Request) (old mid new : Tx S) (x : A) (y : B) (answer : Answer) (Fact : A → Tables → Type 0) (So : B → Tables → Tables → Type 0)
+    → Reads g old mid (Ok x) Fact → Turns g mid new (Ok y) So
+    → ((t u : Tables) (s : State) → StandsFor t s → IsSound s → Fact x t → So y t u → (next : State) × Step s request answer next × StandsFor u next)
+    → Calls g old new (Ok answer) (Serves request)
+served_turned g request old mid new x y answer Fact So r w makes = record {
+  frame = then_goes g old mid new x y answer r.frame w.frame;
+  does = λ clean t stands s stands_for sound.
+      let told = r.does (omega (arith, w.frame.crash.clean)) t stands in
+      let made = w.does clean t (subst (λ db. Stands db t) (sym told.1.0.now_is) stands) in
+      let step = makes t made.0 s stands_for sound told.0 made.1 in
+      (step.0, step.1, record { tables = made.0; stands = made.2.0; stands_for = step.2; sound = step_sound s request answer step.0 step.1 sound });
+}

@@ -1,0 +1,15 @@
+use Rattle.ftd_store.specs.Finds.{FindsRun}
+use Rattle.ftd_store.proofs.Telling.{then_reads}
+use Rattle.ftd_entries.specs.Known.{KnowsAccount}
+use Rattle.ftd_posting.specs.Runs.{KnowsForVoid}
+use Rattle.ftd_posting.proofs.known_runs.known_for_void.Goals as goal
+
+pub returns : goal.returns
+returns g c =
+    let name = c.args.name.now in
+    let number = c.args.number in
+    record {
+      call = then_reads g.S.Store c.args.tx.now c.known.new.tx c.run.new.self c.in_ok-account.account c.in_ok-kept.kept _
+          (KnowsAccount name) (FindsRun name number) (KnowsForVoid name number)
+          (λ t account kept. record { account = account; kept = kept }) c.in_ok-account.ensures.call c.in_ok-kept.ensures.call;
+    }

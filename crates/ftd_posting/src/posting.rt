@@ -1,0 +1,77 @@
+//! Pay runs are posted, and voided.
+
+ghost use Rattle.std.specs.Prelude.{◌≡◌};
+ghost use Rattle.ftd_store.specs.Frame.{Calls};
+ghost use Rattle.ftd_machine.specs.declared.replies.Reply.TheVariants.{Posted};
+ghost use Rattle.ftd_machine.specs.declared.requests.Request.TheVariants.{Post, Void};
+ghost use Rattle.ftd_entries.specs.Words.{Serves};
+
+use crate::known_runs::{known_for_post, known_for_void};
+use ftd_machine::{Answer, Reply, post_check, void_check};
+use ftd_repairs::{Difference, add_repaired, void_repaired};
+use ftd_rules::PayRun;
+use ftd_store::{StoreFault, Tx};
+use sqlite::Alter;
+use std::alloc::Global;
+
+/// Posts a pay run of an account, under its number. It is answered how the obligations that come
+/// differ from those that go, or why the run is refused; a refused run changes nothing.
+pub fn post<S: Alter>(
+    tx: &mut Tx<'_, S>,
+    alloc: Global,
+    name: &str,
+    number: u32,
+    run: PayRun,
+) -> Result<Answer, StoreFault>
+    ensures call { Calls S.Store tx.old tx.new result
+        (Serves (Post name.now number run.payday run.fit run.ss run.medicare)) }
+{
+    let before = known_for_post(tx, alloc, name, number, run.payday)?;
+    let checked = post_check(
+        name,
+        number,
+        &run,
+        before.account,
+        before.kept,
+        before.is_open,
+        before.count,
+    );
+    if let Some(answer) = checked {
+        return Ok(answer);
+    }
+    let form = before.account.unwrap().form;
+    let difference = add_repaired(tx, alloc, name, form, number, run)?;
+    Ok(Ok(told(difference)))
+}
+
+/// Voids the account's run of the number. It is answered how the obligations that come differ from
+/// those that go, or why the number is refused; nothing changes then.
+pub fn void<S: Alter>(
+    tx: &mut Tx<'_, S>,
+    alloc: Global,
+    name: &str,
+    number: u32,
+) -> Result<Answer, StoreFault>
+    ensures call { Calls S.Store tx.old tx.new result (Serves (Void name.now number)) }
+{
+    let before = known_for_void(tx, name, number)?;
+    if let Some(answer) = void_check(name, number, before.account, before.kept) {
+        return Ok(answer);
+    }
+    let form = before.account.unwrap().form;
+    let payday = before.kept.unwrap().value.payday;
+    let difference = void_repaired(tx, alloc, name, form, number, payday)?;
+    Ok(Ok(told(difference)))
+}
+
+/// The reply that tells the difference.
+fn told(difference: Difference) -> Reply
+    ensures { result ≡ Posted difference.from difference.to difference.removed difference.added }
+{
+    Reply::Posted {
+        from: difference.from,
+        to: difference.to,
+        removed: difference.removed,
+        added: difference.added,
+    }
+}
