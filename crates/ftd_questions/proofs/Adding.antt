@@ -1,0 +1,84 @@
+-- The holidays of a year are added, and those of the next.
+use Rattle.std.proofs.Common.{◌≡◌, ◌≢◌, ℕ, ◌+◌, ◌<◌, ◌==◌, ◌||◌, Bool, true, false, inl, inr, List, [], ◌∷◌, ◌++◌, take, length, get_or, refl, sym, ap, ◌∙◌, arith}
+use Rattle.std.specs.Prelude.{All}
+use Rattle.std.specs.List.{list_any}
+use Rattle.std.proofs.lemmas.Bool.{cases_Bool, eqb-true}
+use Rattle.std.proofs.lemmas.Grind.{flat_map-append}
+use Rattle.std.proofs.lemmas.List.Elements.{All-head, All-tail}
+use Rattle.std.proofs.lemmas.List.Folds.{list_any-append}
+use Rattle.ftd_days.specs.Business.{is_holiday}
+use Rattle.ftd_days.specs.Calendar.{year_of}
+use Rattle.ftd_days.specs.Holidays.{YearDays, holidays_of}
+use Rattle.ftd_schema.specs.Standing.{Tables}
+use Rattle.ftd_questions.specs.Calendars.{HasTwoYears, AddsYear}
+use Rattle.ftd_questions.proofs.Items.{taken}
+
+-- ---- days that are added to a list
+
+or_false : (a : Bool) → (a || false) ≡ a
+or_false true = refl
+or_false false = refl
+
+or_more : (a b c d : Bool) → ((a || (b || c)) || d) ≡ (a || (b || (c || d)))
+or_more true b c d = refl
+or_more false true c d = refl
+or_more false false c d = refl
+
+-- the holidays of one more year
+pub year_added : (given : List YearDays) (year : ℕ) (days : List ℕ) (day : ℕ) → is_holiday (holidays_of (given ++ (record { year = year; days = days }) ∷ [])) day ≡ (is_holiday (holidays_of given) day || (is_holiday days day || is_holiday [] day))
+year_added given year days day =
+    let one : List YearDays = (record { year = year; days = days }) ∷ [] in
+    let days_of : YearDays → List ℕ = λ g. g.days in
+    let p : ℕ → Bool = λ holiday. holiday == day in
+    ap (λ (hs : List ℕ). list_any p hs) (flat_map-append days_of given one)
+    ∙ (list_any-append p (holidays_of given) (days ++ []) ∙ ap (λ b. is_holiday (holidays_of given) day || b) (list_any-append p days []))
+
+-- one more day of the year
+pub day_added : (old given added : List ℕ) (i x day : ℕ) (so_far now : Bool) → i < length added → x ≡ get_or added i x
+    → so_far ≡ (is_holiday old day || (is_holiday given day || is_holiday (take i added) day)) → now ≡ (so_far || (x == day))
+    → now ≡ (is_holiday old day || (is_holiday given day || is_holiday (take (i + 1) added) day))
+day_added old given added i x day so_far now some is had more =
+    let p : ℕ → Bool = λ holiday. holiday == day in
+    let last : is_holiday (take (i + 1) added) day ≡ (is_holiday (take i added) day || (x == day)) =
+    ap (λ (hs : List ℕ). is_holiday hs day) (taken added i x some is) ∙ (list_any-append p (take i added) (x ∷ []) ∙ ap (λ b. is_holiday (take i added) day || b) (or_false (x == day))) in
+    more ∙ (ap (λ b. b || (x == day)) had ∙ (or_more (is_holiday old day) (is_holiday given day) (is_holiday (take i added) day) (x == day) ∙ ap (λ b. is_holiday old day || (is_holiday given day || b)) (sym last)))
+
+-- a day of another year is none of the days of a year
+none_elsewhere : (year day : ℕ) (days : List ℕ) → All (λ d. year_of d ≡ year) days → year_of day ≢ year → is_holiday days day ≡ false
+none_elsewhere year day [] all other = refl
+none_elsewhere year day (d ∷ days) all other =
+    let P : ℕ → Type 0 = λ x. year_of x ≡ year in
+    let rest = none_elsewhere year day days (All-tail P d days all) other in
+    elim (cases_Bool (d == day)) [
+      | inl same ↦ absurd (other (ap year_of (sym (eqb-true d day same)) ∙ All-head P d days all))
+      | inr apart ↦ rw apart rest
+    ]
+
+pub both_elsewhere : (year : ℕ) (given added : List ℕ) → All (λ d. year_of d ≡ year) given → All (λ d. year_of d ≡ year) added → (day : ℕ) → year_of day ≢ year → (is_holiday given day || is_holiday added day) ≡ false
+both_elsewhere year given added all_given all_added day other = ap (λ b. b || is_holiday added day) (none_elsewhere year day given all_given other) ∙ none_elsewhere year day added all_added other
+
+-- the holidays of a year and of the next
+pub two_added : (year : ℕ) (none one both : List ℕ) (t : Tables) → none ≡ [] → AddsYear year none one t → AddsYear (year + 1) one both t → HasTwoYears year both t
+two_added year none one both t empty first second = (
+  record {
+    given = first.given;
+    is_given = first.is_given;
+    added = first.added;
+    are_added = first.are_added;
+    same = λ day in_year.
+        (let here = second.elsewhere day (λ same. absurd (omega arith)) in
+        second.same day ∙ (ap (λ b. is_holiday one day || b) here ∙ (or_false (is_holiday one day) ∙ in_first day)));
+  },
+  record {
+    given = second.given;
+    is_given = second.is_given;
+    added = second.added;
+    are_added = second.are_added;
+    same = λ day in_year.
+        (let before = in_first day ∙ first.elsewhere day (λ same. absurd (omega arith)) in
+        second.same day ∙ ap (λ b. b || (is_holiday second.given.items day || is_holiday second.added.items day)) before);
+  },
+)
+  where
+    in_first : (day : ℕ) → is_holiday one day ≡ (is_holiday first.given.items day || is_holiday first.added.items day)
+    in_first day = first.same day ∙ ap (λ (hs : List ℕ). is_holiday hs day || (is_holiday first.given.items day || is_holiday first.added.items day)) empty

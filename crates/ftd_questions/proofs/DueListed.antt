@@ -1,0 +1,358 @@
+-- The rows by what was read of the quarter's return period are the machine's due list.
+use Rattle.std.proofs.Common.{◌≡◌, ◌↔◌, ℕ, ◌+◌, ◌*◌, ◌<◌, ◌≤◌, ◌==◌, ◌&&◌, ◌||◌, Bool, true, false, inl, inr, List, [], ◌∷◌, Ok, refl, sym, ap, ◌∙◌, subst, arith}
+use Rattle.std.specs.Prelude.{filter, nat_le, IsTrue}
+use Rattle.std.specs.List.{list_any}
+use Rattle.std.proofs.lemmas.Bool.{cases_Bool, eqb-true, eq-eqb, leb-true, le-leb}
+use Rattle.ftd_days.specs.Calendar.{last_day, year_of, year_start, quarter_of, quarter_year, quarter_start}
+use Rattle.ftd_days.specs.declared.cents.Cents.{Cents}
+use Rattle.ftd_days.proofs.Business.{on_or_after_one}
+use Rattle.ftd_days.proofs.Months.{month_start-mono, month_start_grows, month_start-end, year_is}
+use Rattle.ftd_rules.specs.declared.Form.{Form}
+use Rattle.ftd_rules.specs.declared.Form.TheVariants.{F941, F943}
+use Rattle.ftd_rules.specs.declared.Obligation.{Obligation}
+use Rattle.ftd_rules.specs.declared.verdict.Case.{Case}
+use Rattle.ftd_rules.specs.declared.verdict.DueRow.{DueRow}
+use Rattle.ftd_rules.specs.Liability.{liability}
+use Rattle.ftd_rules.specs.Lists.{Has, KeysRise}
+use Rattle.ftd_rules.specs.Obligations.{ByFirstDay}
+use Rattle.ftd_rules.specs.Payments.{paid_by}
+use Rattle.ftd_rules.specs.Periods.{return_period_of, return_period_first, return_period_end}
+use Rattle.ftd_rules.specs.Private.Obligations.{IsOwedPiece}
+use Rattle.ftd_rules.specs.Returns.{month_after_ends, IsReturnDue, IsMakeup, IsSmallQuarter}
+use Rattle.ftd_rules.specs.Verdicts.{IsVerdict}
+use Rattle.ftd_rules.proofs.Covering.{within_period}
+use Rattle.ftd_rules.proofs.Cuts.{lt_or_le}
+use Rattle.ftd_rules.proofs.DueDates.{due_later}
+use Rattle.ftd_rules.proofs.Near.{due_near}
+use Rattle.ftd_rules.proofs.Quarters.{one_quarter}
+use Rattle.ftd_rules.proofs.Stated.{piece_owed}
+use Rattle.ftd_rules.proofs.Status.{quarter_only, return_period_is, return_period_only, return_period_grows}
+use Rattle.ftd_schema.specs.Standing.{Tables}
+use Rattle.ftd_rows.specs.Lists.{Pairs}
+use Rattle.ftd_rows.proofs.Found.{both}
+use Rattle.ftd_machine.specs.State.{State, Entries, entries_of, holidays}
+use Rattle.ftd_machine.specs.History.{form_of, live_sums, live_payments}
+use Rattle.ftd_machine.specs.Sound.{IsSound}
+use Rattle.ftd_machine.specs.Asking.{return_period, return_total, paid_for_return, paid_for, has_next_day, preceding, first_of_row, IsSmall, IsReturnPaid, IsDueRow, IsDueList}
+use Rattle.ftd_machine.specs.declared.replies.Reply.TheVariants.{Due}
+use Rattle.ftd_machine.proofs.Soundness.{has_filtered}
+use Rattle.ftd_entries.specs.Standing.{StandsFor, IsSettled}
+use Rattle.ftd_questions.specs.Calendars.{HasTwoYears}
+use Rattle.ftd_questions.specs.Returns.{begins_on, KnowsPeriod}
+use Rattle.ftd_questions.specs.DueRows.{begins_in, is_next_day_row, IsReturnBy, IsRowBy}
+use Rattle.ftd_questions.specs.declared.return_periods.ReturnPeriod.{ReturnPeriod}
+use Rattle.ftd_questions.specs.declared.due_rows.QuarterReturn.{QuarterReturn}
+use Rattle.ftd_questions.proofs.HolidaysRead.{holiday_read}
+use Rattle.ftd_questions.proofs.OneVerdict.{same_test, verdict_one}
+use Rattle.ftd_questions.proofs.OwedRows.{kept_by_first_day}
+use Rattle.ftd_questions.proofs.ReturnDates.{AgreeIn, return_same, makeup_same, makeup_one}
+use Rattle.ftd_questions.proofs.Sifted.{filter_in, filter_out, keeps_has}
+
+-- ---- lists that go pair by pair
+
+paired_from : {X Y : Type 0} (R : X → Y → Type 0) (xs : List X) (ys : List Y) (y : Y) → Pairs R xs ys → Has ys y → (x : X) × Has xs x × R x y
+paired_from R [] [] y pairs has = absurd has
+paired_from R [] (z ∷ ys) y pairs has = absurd pairs
+paired_from R (x ∷ xs) [] y pairs has = absurd has
+paired_from R (x ∷ xs) (z ∷ ys) y pairs (inl is) = (x, inl refl, subst (R x) (sym is) pairs.0)
+paired_from R (x ∷ xs) (z ∷ ys) y pairs (inr has) = let rest = paired_from R xs ys y pairs.1 has in (rest.0, inr rest.1, rest.2)
+
+paired_to : {X Y : Type 0} (R : X → Y → Type 0) (xs : List X) (ys : List Y) (x : X) → Pairs R xs ys → Has xs x → (y : Y) × Has ys y × R x y
+paired_to R [] [] x pairs has = absurd has
+paired_to R [] (y ∷ ys) x pairs has = absurd has
+paired_to R (z ∷ xs) [] x pairs has = absurd pairs
+paired_to R (z ∷ xs) (y ∷ ys) x pairs (inl is) = (y, inl refl, subst (λ w. R w y) (sym is) pairs.0)
+paired_to R (z ∷ xs) (y ∷ ys) x pairs (inr has) = let rest = paired_to R xs ys x pairs.1 has in (rest.0, inr rest.1, rest.2)
+
+-- rows of obligations by first day are so
+rows_rise : (R : Obligation → DueRow → Type 0) → ((o : Obligation) (row : DueRow) → R o row → row.obligation ≡ o)
+    → (os : List Obligation) (rows : List DueRow) → ByFirstDay os → Pairs R os rows → KeysRise first_of_row rows
+rows_rise R of [] [] rise pairs = tt
+rows_rise R of [] (row ∷ rows) rise pairs = absurd pairs
+rows_rise R of (o ∷ os) [] rise pairs = tt
+rows_rise R of (o ∷ os) (row ∷ rows) rise pairs = (
+  (λ later has.
+      (let its = paired_from R os rows later pairs.1 has in
+      let less = rise.0 its.0 its.1 in
+      let here : row.obligation.first ≡ o.first = ap (λ (p : Obligation). p.first) (of o row pairs.0) in
+      let there : later.obligation.first ≡ its.0.first = ap (λ (p : Obligation). p.first) (of its.0 later its.2) in
+      omega arith)),
+  rows_rise R of os rows rise.1 pairs.1,
+)
+
+-- one of what a test keeps meets another test
+any_kept : {X : Type 0} (p r q : X → Bool) (xs : List X) → ((x : X) → Has xs x → p x ≡ r x) → list_any q (filter p xs) ≡ list_any (λ x. r x && q x) xs
+any_kept p r q [] same = refl
+any_kept p r q (x ∷ xs) same =
+    let rest = any_kept p r q xs (λ y has. same y (inr has)) in
+    elim (cases_Bool (p x)) [
+      | inl kept ↦
+          (let here : r x ≡ true = sym (same x (inl refl)) ∙ kept in
+          ap (list_any q) (filter_in p x xs kept) ∙ (ap (λ b. q x || b) rest ∙ sym (ap (λ b. (b && q x) || list_any (λ y. r y && q y) xs) here)))
+      | inr left ↦
+          (let here : r x ≡ false = sym (same x (inl refl)) ∙ left in
+          ap (list_any q) (filter_out p x xs left) ∙ (rest ∙ sym (ap (λ b. (b && q x) || list_any (λ y. r y && q y) xs) here)))
+    ]
+
+-- ---- return periods
+
+same_year : (form : Form) (a b : ℕ) → return_period_of form a ≡ return_period_of form b → year_of a ≡ year_of b
+same_year F941 a b e = omega arith
+same_year F943 a b e = omega arith
+
+same_return : (form : Form) (a b : ℕ) → quarter_of a ≡ quarter_of b → return_period_of form a ≡ return_period_of form b
+same_return F941 a b e = e
+same_return F943 a b e = omega arith
+
+quarter_begins : (quarter : ℕ) → quarter_year quarter ≤ 2098 → quarter_of (quarter_start quarter) ≡ quarter
+quarter_begins quarter early =
+    let top = month_start-mono (3 * quarter + 3) 3600 (omega arith) in
+    let end = month_start-end in
+    let grows = month_start_grows (3 * quarter) 3 in
+    quarter_only (quarter_start quarter) quarter (omega arith) (omega arith) (omega arith)
+
+-- ---- the list
+
+module _ (name : List ℕ) (quarter as_of : ℕ) (read : List ℕ) (period : ReturnPeriod) (of : QuarterReturn) (rows : List DueRow)
+    (from_2001 : 2001 ≤ quarter_year quarter) (to_2098 : quarter_year quarter ≤ 2098) (t : Tables) (s : State) (stands : StandsFor t s) (sound : IsSound s)
+    (is_return : IsReturnBy (form_of (entries_of s name).account) quarter period read of)
+    (are_rows : Pairs (IsRowBy of read period.payments.items as_of) (filter (begins_in quarter) period.obligations.items) rows)
+    (years : HasTwoYears (quarter_year quarter) read t) (known : KnowsPeriod name (form_of (entries_of s name).account) quarter period t) where
+  abbrev own : Entries
+  own = entries_of s name
+
+  abbrev form : Form
+  form = form_of own.account
+
+  abbrev all : List ℕ
+  all = holidays s
+
+  abbrev year : ℕ
+  year = quarter_year quarter
+
+  settled : IsSettled t s name
+  settled = stands.settled name
+
+  abbrev owed : List Obligation
+  owed = (stands.settled name).owed
+
+  abbrev number : ℕ
+  number = return_period form quarter
+
+  agree : AgreeIn year read all
+  agree day low high =
+      elim (lt_or_le day (year_start (year + 1))) [
+        | inl this ↦ holiday_read t s stands sound read year day years.0 (year_is year day (omega arith) (omega arith) low this)
+        | inr next ↦ holiday_read t s stands sound read (year + 1) day years.1 (year_is (year + 1) day (omega arith) (omega arith) next high)
+      ]
+
+  -- ---- the account's obligations
+
+  piece : (o : Obligation) → Has owed o → IsOwedPiece form (stands.settled name).lines (live_sums own) all o
+  piece o has = piece_owed form (stands.settled name).lines (live_sums own) all o (((stands.settled name).are_owed.all o).0 has)
+
+  period_days : (o : Obligation) → Has owed o → (return_period_of form o.last ≡ return_period_of form o.first) × (o.last ≤ last_day)
+  period_days o has = one_quarter form (stands.settled name).lines (live_sums own) all o (stands.settled name).are_lines.schedules (piece o has)
+
+  some_days : (o : Obligation) → Has owed o → o.first ≤ o.last
+  some_days o has = (within_period form (stands.settled name).lines (live_sums own) all o (piece o has)).1
+
+  begins_is : (o : Obligation) → Has owed o → begins_on period.first period.last o ≡ (return_period_of form o.first == number)
+  begins_is o has = same_test {P = return_period_of form o.first ≡ number} (begins_on period.first period.last o) (return_period_of form o.first == number) ((λ k. it k), (λ e. back e)) ((λ k. eqb-true (return_period_of form o.first) number k), (λ e. eq-eqb (return_period_of form o.first) number e))
+    where
+      is_day : o.first ≤ last_day
+      is_day = let some = some_days o has in let within = (period_days o has).1 in omega arith
+
+      it : begins_on period.first period.last o ≡ true → return_period_of form o.first ≡ number
+      it k =
+          let days = both (nat_le period.first o.first) (nat_le o.first period.last) k in
+          let low = leb-true period.first o.first days.0 in
+          let high = leb-true o.first period.last days.1 in
+          let first = known.first in
+          let last = known.last in
+          let grows = return_period_grows form number in
+          return_period_only form o.first number is_day (omega arith) (omega arith)
+
+      back : return_period_of form o.first ≡ number → begins_on period.first period.last o ≡ true
+      back e =
+          let days = return_period_is form o.first is_day in
+          let low : return_period_first form number ≤ o.first = subst (λ n. return_period_first form n ≤ o.first) e days.0 in
+          let high : o.first < return_period_end form number = subst (λ n. o.first < return_period_end form n) e days.1 in
+          let first = known.first in
+          let last = known.last in
+          let since : nat_le period.first o.first ≡ true = le-leb period.first o.first (omega arith) in
+          let until : nat_le o.first period.last ≡ true = le-leb o.first period.last (omega arith) in
+          rw (since, until) refl
+
+  found_is : period.obligations.items ≡ filter (begins_on period.first period.last) owed
+  found_is = known.obligations s stands
+
+  in_period : (o : Obligation) → quarter_of o.first ≡ quarter → return_period_of form o.first ≡ number
+  in_period o its = same_return form o.first (quarter_start quarter) (its ∙ sym (quarter_begins quarter to_2098))
+
+  -- an obligation that begins in the quarter is one that was found, and the reverse
+  found_has : (o : Obligation) → Has owed o → quarter_of o.first ≡ quarter → Has (filter (begins_in quarter) period.obligations.items) o
+  found_has o has its =
+      let begins : begins_on period.first period.last o ≡ true = begins_is o has ∙ eq-eqb (return_period_of form o.first) number (in_period o its) in
+      keeps_has (begins_in quarter) period.obligations.items o (subst (λ os. Has os o) (sym found_is) (keeps_has (begins_on period.first period.last) owed o has begins)) (eq-eqb (quarter_of o.first) quarter its)
+
+  has_found : (o : Obligation) → Has (filter (begins_in quarter) period.obligations.items) o → Has owed o × (quarter_of o.first ≡ quarter)
+  has_found o has =
+      let its = has_filtered (begins_in quarter) period.obligations.items o has in
+      ((has_filtered (begins_on period.first period.last) owed o (subst (λ os. Has os o) found_is its.0)).0, eqb-true (quarter_of o.first) quarter its.1)
+
+  next_day_is : list_any is_next_day_row period.obligations.items ≡ has_next_day form owed number
+  next_day_is =
+      ap (list_any is_next_day_row) found_is
+      ∙ any_kept (begins_on period.first period.last) (λ o. return_period_of form o.first == number) is_next_day_row owed begins_is
+
+  -- ---- the return
+
+  total_is : period.total.0 ≡ return_total own number
+  total_is =
+      known.total s stands
+      ∙ (ap (λ a. liability (live_sums own) a period.last) known.first ∙ ap (λ b. liability (live_sums own) (return_period_first form number) b) known.last)
+
+  small_is : IsTrue of.small ↔ IsSmall own owed quarter
+  small_is = (
+    (λ k. (
+      period.total,
+      total_is,
+      subst (λ found. IsSmallQuarter period.total found (has_next_day form owed number)) (sym (known.preceding s stands))
+          (subst (λ b. IsSmallQuarter period.total period.preceding b) next_day_is (is_return.small.0 k)),
+    )),
+    (λ h.
+        (let same : h.0 ≡ period.total = λ i. record { 0 = (h.1 ∙ sym total_is) i } in
+        is_return.small.1 (subst (λ b. IsSmallQuarter period.total period.preceding b) (sym next_day_is)
+        (subst (λ found. IsSmallQuarter period.total found (has_next_day form owed number)) (known.preceding s stands)
+        (subst (λ (c : Cents). IsSmallQuarter c (preceding form own quarter) (has_next_day form owed number)) same h.2))))),
+  )
+
+  paid_for_it : paid_by period.payments.items period.first period.last of.due of.due ≡ paid_for_return own number of.due
+  paid_for_it =
+      known.payments s stands period.first period.last of.due of.due (omega arith) (omega arith)
+      ∙ (ap (λ a. paid_by (live_payments own) a period.last of.due of.due) known.first
+      ∙ ap (λ b. paid_by (live_payments own) (return_period_first form number) b of.due of.due) known.last)
+
+  paid_is : IsTrue of.paid ↔ IsReturnPaid own quarter of.due
+  paid_is = (
+    (λ k. subst (λ n. n ≤ paid_for_return own number of.due) total_is (subst (λ n. period.total.0 ≤ n) paid_for_it (is_return.paid.0 k))),
+    (λ h. is_return.paid.1 (subst (λ n. period.total.0 ≤ n) (sym paid_for_it) (subst (λ n. n ≤ paid_for_return own number of.due) (sym total_is) h))),
+  )
+
+  return_is : IsReturnDue form all quarter of.due
+  return_is = (return_same read all year from_2001 to_2098 sound.few agree form quarter of.due refl is_return.due).0
+
+  -- ---- one row
+
+  paid_so : (o : Obligation) → Has owed o → quarter_of o.first ≡ quarter → (day : ℕ) → paid_by period.payments.items o.first o.last as_of day ≡ paid_for own o as_of day
+  paid_so o has its day =
+      let e : return_period_of form o.first ≡ number = in_period o its in
+      let within = period_days o has in
+      let some = some_days o has in
+      let within1 = within.1 in
+      let begins = return_period_is form o.first (omega arith) in
+      let ends = return_period_is form o.last within.1 in
+      let low : return_period_first form number ≤ o.first = subst (λ n. return_period_first form n ≤ o.first) e begins.0 in
+      let high : o.last < return_period_end form number = subst (λ n. o.last < return_period_end form n) (within.0 ∙ e) ends.1 in
+      let first = known.first in
+      let last = known.last in
+      known.payments s stands o.first o.last as_of day (omega arith) (omega arith)
+
+  makeup_is : (o : Obligation) (makeup : ℕ) → Has owed o → quarter_of o.first ≡ quarter → IsMakeup of.form read o.rule o.last o.due makeup → IsMakeup form all o.rule o.last o.due makeup
+  makeup_is o makeup has its m =
+      let within = period_days o has in
+      let same : year_of o.last ≡ year_of o.first = same_year form o.last o.first within.0 in
+      let its_year : year_of o.last ≡ year = omega arith in
+      let due = (piece o has).due in
+      let near = due_near all o.rule o.last o.due sound.few (omega arith) due in
+      makeup_same read all year from_2001 to_2098 sound.few agree form o.rule o.last o.due makeup its_year within.1 (due_later all o.rule o.last o.due within.1 due) near.1.1
+      (subst (λ f. IsMakeup f read o.rule o.last o.due makeup) is_return.form_is m)
+
+  -- the row by what was read is a row of the due list
+  pub row_is : (row : DueRow) → Has owed row.obligation → quarter_of row.obligation.first ≡ quarter → IsRowBy of read period.payments.items as_of row.obligation row → IsDueRow all own owed quarter as_of row
+  row_is row has its r =
+      let c : Case = r.of_case in
+      let k = r.is_case in
+      record {
+        owed = has;
+        begins = its;
+        makeup = makeup_is row.obligation row.makeup has its r.makeup;
+        paid = r.paid ∙ paid_so row.obligation has its as_of;
+        of_case = c;
+        is_case = record {
+          cents = k.cents;
+          due = k.due;
+          makeup = k.makeup_is;
+          return_due = subst (IsReturnDue form all quarter) (sym k.return_due) return_is;
+          as_of_is = k.as_of_is;
+          paid_due = k.paid_due ∙ (paid_so row.obligation has its row.obligation.due ∙ ap (paid_for own row.obligation as_of) (sym k.due));
+          paid_makeup = k.paid_makeup ∙ (paid_so row.obligation has its row.makeup ∙ ap (paid_for own row.obligation as_of) (sym k.makeup_is));
+          small = subst (λ b. IsTrue b ↔ IsSmall own owed quarter) (sym k.small) small_is;
+          quarter_paid = subst (λ b. IsTrue b ↔ IsReturnPaid own quarter c.return_due) (sym k.quarter_paid) (subst (λ d. IsTrue of.paid ↔ IsReturnPaid own quarter d) (sym k.return_due) paid_is);
+        };
+        verdict = r.verdict;
+      }
+
+  -- there is one row of an obligation
+  row_one : (row other : DueRow) → other.obligation ≡ row.obligation → IsDueRow all own owed quarter as_of row → IsDueRow all own owed quarter as_of other → row ≡ other
+  row_one row other same g h =
+      let o : Obligation = row.obligation in
+      let c : Case = g.of_case in
+      let d : Case = h.of_case in
+      let a = g.is_case in
+      let b = h.is_case in
+      let makeup : row.makeup ≡ other.makeup =
+      makeup_one form all o.rule o.last o.due row.makeup other.makeup g.makeup (subst (λ (p : Obligation). IsMakeup form all p.rule p.last p.due other.makeup) same h.makeup) in
+      let paid : row.paid.0 ≡ other.paid.0 = g.paid ∙ (ap (λ (p : Obligation). paid_for own p as_of as_of) (sym same) ∙ sym h.paid) in
+      let cents : c.cents ≡ d.cents = a.cents ∙ (ap (λ (p : Obligation). p.cents) (sym same) ∙ sym b.cents) in
+      let due : c.due ≡ d.due = a.due ∙ (ap (λ (p : Obligation). p.due) (sym same) ∙ sym b.due) in
+      let makeup_too : c.makeup ≡ d.makeup = a.makeup ∙ (makeup ∙ sym b.makeup) in
+      let return_due : c.return_due ≡ d.return_due = on_or_after_one all (month_after_ends form quarter) c.return_due d.return_due a.return_due b.return_due in
+      let as_of_too : c.as_of ≡ d.as_of = a.as_of_is ∙ sym b.as_of_is in
+      let paid_due : c.paid_due.0 ≡ d.paid_due.0 =
+      a.paid_due ∙ (ap (λ (p : Obligation). paid_for own p as_of c.due) (sym same) ∙ (ap (λ e. paid_for own other.obligation as_of e) due ∙ sym b.paid_due)) in
+      let paid_makeup : c.paid_makeup.0 ≡ d.paid_makeup.0 =
+      a.paid_makeup ∙ (ap (λ (p : Obligation). paid_for own p as_of c.makeup) (sym same) ∙ (ap (λ e. paid_for own other.obligation as_of e) makeup_too ∙ sym b.paid_makeup)) in
+      let small : c.small ≡ d.small = same_test {P = IsSmall own owed quarter} c.small d.small a.small b.small in
+      let quarter_paid : c.quarter_paid ≡ d.quarter_paid =
+      same_test {P = IsReturnPaid own quarter c.return_due} c.quarter_paid d.quarter_paid a.quarter_paid (subst (λ e. IsTrue d.quarter_paid ↔ IsReturnPaid own quarter e) (sym return_due) b.quarter_paid) in
+      let case : c ≡ d = λ i. record {
+        cents = cents i;
+        due = due i;
+        makeup = makeup_too i;
+        return_due = return_due i;
+        as_of = as_of_too i;
+        paid_due = record { 0 = paid_due i };
+        paid_makeup = record { 0 = paid_makeup i };
+        small = small i;
+        quarter_paid = quarter_paid i;
+      } in
+      let verdict : row.verdict ≡ other.verdict = verdict_one c row.verdict other.verdict g.verdict (subst (λ e. IsVerdict e other.verdict) (sym case) h.verdict) in
+      λ i. record { obligation = sym same i; makeup = makeup i; paid = record { 0 = paid i }; verdict = verdict i }
+
+  -- ---- all rows
+
+  of_listed : (row : DueRow) → Has rows row → IsDueRow all own owed quarter as_of row
+  of_listed row has =
+      let from = paired_from (IsRowBy of read period.payments.items as_of) (filter (begins_in quarter) period.obligations.items) rows row are_rows has in
+      let same : row.obligation ≡ from.0 = from.2.obligation in
+      let there = has_found from.0 from.1 in
+      row_is row (subst (Has owed) (sym same) there.0) (ap (λ (p : Obligation). quarter_of p.first) same ∙ there.1) (subst (λ o. IsRowBy of read period.payments.items as_of o row) (sym same) from.2)
+
+  is_listed : (row : DueRow) → IsDueRow all own owed quarter as_of row → Has rows row
+  is_listed row is =
+      let o : Obligation = row.obligation in
+      let to = paired_to (IsRowBy of read period.payments.items as_of) (filter (begins_in quarter) period.obligations.items) rows o are_rows (found_has o is.owed is.begins) in
+      subst (Has rows) (sym (row_one row to.0 to.2.obligation is (of_listed to.0 to.1))) to.1
+
+  pub due_listed : IsDueList all own quarter as_of (Ok (Due rows))
+  due_listed = record {
+    rows = owed;
+    owed = ((stands.settled name).lines, (stands.settled name).are_lines, (stands.settled name).are_owed);
+    listed = rows;
+    by_first_day = rows_rise (IsRowBy of read period.payments.items as_of) (λ o row r. r.obligation) (filter (begins_in quarter) period.obligations.items) rows
+        (kept_by_first_day (begins_in quarter) period.obligations.items (subst ByFirstDay (sym found_is) (kept_by_first_day (begins_on period.first period.last) owed (stands.settled name).are_owed.by_first_day))) are_rows;
+    all = λ row. (of_listed row, is_listed row);
+    told = refl;
+  }

@@ -1,0 +1,64 @@
+-- The due list of a quarter: what is answered, and that it is the machine's answer.
+use Rattle.std.proofs.Common.{◌≡◌, ℕ, ◌≤◌, true, List, Option, None, Some, Ok, refl, sym, ap, ◌∙◌, subst}
+use Rattle.std.specs.Prelude.{filter, nat_le}
+use Rattle.std.proofs.lemmas.Bool.{leb-true}
+use Rattle.ftd_days.specs.Calendar.{quarter_year}
+use Rattle.ftd_rules.specs.declared.Form.{Form}
+use Rattle.ftd_rules.specs.declared.verdict.DueRow.{DueRow}
+use Rattle.ftd_schema.specs.Standing.{Tables}
+use Rattle.ftd_rows.specs.Lists.{Pairs}
+use Rattle.ftd_rows.proofs.Found.{both}
+use Rattle.ftd_machine.specs.declared.entries.Account.{Account}
+use Rattle.ftd_machine.specs.declared.requests.Request.TheVariants.{DueList}
+use Rattle.ftd_machine.specs.declared.replies.Reply.TheVariants.{Due}
+use Rattle.ftd_machine.specs.Checks.{Answer, first_of}
+use Rattle.ftd_machine.specs.History.{form_of}
+use Rattle.ftd_machine.specs.Limits.{is_between}
+use Rattle.ftd_machine.specs.Requests.{due_list_checks}
+use Rattle.ftd_machine.specs.Sound.{IsSound}
+use Rattle.ftd_machine.specs.State.{State, entries_of, is_open}
+use Rattle.ftd_machine.specs.Step.{Step}
+use Rattle.ftd_machine.proofs.Deciding.{decided, passed}
+use Rattle.ftd_machine.proofs.Heads.{Gives, gives_needs, skip_needs}
+use Rattle.ftd_entries.specs.Standing.{StandsFor}
+use Rattle.ftd_questions.specs.Calendars.{HasTwoYears}
+use Rattle.ftd_questions.specs.Returns.{KnowsPeriod}
+use Rattle.ftd_questions.specs.DueRows.{begins_in, IsReturnBy, IsRowBy, KnowsForDue, KnowsDueList}
+use Rattle.ftd_questions.specs.declared.return_periods.ReturnPeriod.{ReturnPeriod}
+use Rattle.ftd_questions.specs.declared.due_rows.QuarterReturn.{QuarterReturn}
+use Rattle.ftd_questions.specs.declared.due.KnownForDue.{KnownForDue}
+use Rattle.ftd_questions.proofs.DueListed.{due_listed}
+
+-- the rows by what was read are the due list of each sound state
+pub due_known : (name : List ℕ) (form : Form) (quarter as_of : ℕ) (read : List ℕ) (period : ReturnPeriod) (of : QuarterReturn) (rows : List DueRow) → 2001 ≤ quarter_year quarter → quarter_year quarter ≤ 2098
+    → IsReturnBy form quarter period read of → Pairs (IsRowBy of read period.payments.items as_of) (filter (begins_in quarter) period.obligations.items) rows
+    → (t : Tables) → HasTwoYears (quarter_year quarter) read t → KnowsPeriod name form quarter period t → KnowsDueList name form quarter as_of rows t
+due_known name form quarter as_of read period of rows from to is_return are_rows t years known s stands sound form_is =
+    due_listed name quarter as_of read period of rows from to t s stands sound (subst (λ f. IsReturnBy f quarter period read of) (sym form_is) is_return) are_rows years
+    (subst (λ f. KnowsPeriod name f quarter period t) (sym form_is) known)
+
+module _ (name : List ℕ) (quarter as_of : ℕ) (known : KnownForDue) where
+  abbrev pub checks : Option Answer
+  checks = first_of (due_list_checks name quarter as_of known.account known.is_open)
+
+  checks_are : (t : Tables) (s : State) → StandsFor t s → KnowsForDue name quarter known t
+      → first_of (due_list_checks name quarter as_of (entries_of s name).account (is_open (entries_of s name) (quarter_year quarter))) ≡ checks
+  checks_are t s stands knows =
+      ap (λ a. first_of (due_list_checks name quarter as_of a (is_open (entries_of s name) (quarter_year quarter)))) (knows.account s stands)
+      ∙ ap (λ b. first_of (due_list_checks name quarter as_of known.account b)) (knows.is_open s stands)
+
+  -- a check decides
+  pub due_decided : (answer : Answer) → checks ≡ Some answer → (t : Tables) (s : State) → StandsFor t s → IsSound s → KnowsForDue name quarter known t → Step s (DueList name quarter as_of) answer s
+  due_decided answer is t s stands sound knows = decided _ s answer _ (checks_are t s stands knows ∙ is)
+
+  -- all checks pass
+  pub in_years : checks ≡ None → (2001 ≤ quarter_year quarter) × (quarter_year quarter ≤ 2098)
+  in_years is =
+      let within : Gives (due_list_checks name quarter as_of known.account known.is_open) (is_between 2001 2098 (quarter_year quarter) ≡ true) = skip_needs _ _ _ _ (gives_needs _ _ _) in
+      let parts = both (nat_le 2001 (quarter_year quarter)) (nat_le (quarter_year quarter) 2098) (within.fact is) in
+      (leb-true 2001 (quarter_year quarter) parts.0, leb-true (quarter_year quarter) 2098 parts.1)
+
+  pub due_told : (account : Account) (rows : List DueRow) → known.account ≡ Some account → checks ≡ None
+      → (t : Tables) (s : State) → StandsFor t s → IsSound s → KnowsForDue name quarter known t × KnowsDueList name account.form quarter as_of rows t → Step s (DueList name quarter as_of) (Ok (Due rows)) s
+  due_told account rows is_account is t s stands sound knows =
+      passed _ s (Ok (Due rows)) s _ (checks_are t s stands knows.0 ∙ is) (refl, knows.1 s stands sound (ap form_of (knows.0.account s stands ∙ is_account)))

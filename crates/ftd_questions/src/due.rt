@@ -1,0 +1,89 @@
+//! What must be deposited for a quarter, and how it stands as of a day.
+
+ghost use Rattle.std.specs.Prelude.{◌≤◌};
+ghost use Rattle.ftd_days.specs.Calendar.{quarter_year};
+ghost use Rattle.ftd_store.specs.Frame.{Calls, Reads};
+ghost use Rattle.ftd_machine.specs.declared.requests.Request.TheVariants.{DueList};
+ghost use Rattle.ftd_entries.specs.Words.{Serves};
+ghost use Rattle.ftd_questions.specs.DueRows.{KnowsDueList, KnowsForDue};
+
+use crate::due_rows::{due_rows, quarter_return};
+use crate::holidays::two_years;
+use crate::return_periods::return_period;
+use ftd_days::{Day, Quarter};
+use ftd_entries::{is_open, known};
+use ftd_machine::{Account, Answer, DueRows, Refusal, Reply, due_list_check};
+use ftd_rules::{DueRow, Form};
+use ftd_store::{StoreFault, Tx};
+use sqlite::Alter;
+use std::alloc::Global;
+
+/// What is known of an account before its due list of a quarter is told.
+#[derive(Drop)]
+pub(crate) struct KnownForDue {
+    /// The account, if it is enrolled.
+    pub account: Option<Account>,
+    /// Whether the year of the quarter is open.
+    pub is_open: bool,
+}
+
+/// What is known of an account before its due list of the quarter is told.
+fn known_for_due<S: Alter>(
+    tx: &mut Tx<'_, S>,
+    alloc: Global,
+    name: &str,
+    quarter: Quarter,
+) -> Result<KnownForDue, StoreFault>
+    ensures call { Reads S.Store tx.old tx.new result (KnowsForDue name.now quarter) }
+{
+    let account = known(tx, name)?;
+    let is_open = is_open(tx, alloc, name, quarter.year())?;
+    Ok(KnownForDue { account, is_open })
+}
+
+/// The rows of the account's due list, by what the tables have. `Failed` also where they are not
+/// those of a desk.
+fn rows_of_quarter<S: Alter>(
+    tx: &mut Tx<'_, S>,
+    alloc: Global,
+    name: &str,
+    form: Form,
+    quarter: Quarter,
+    as_of: Day,
+) -> Result<Vec<DueRow>, StoreFault>
+    requires from { 2001 ≤ quarter_year quarter }
+    requires to { quarter_year quarter ≤ 2098 }
+    ensures call { Reads S.Store tx.old tx.new result
+        (λ rows. KnowsDueList name.now form quarter as_of rows.items) }
+{
+    let holidays = two_years(tx, alloc, quarter.year())?;
+    let period = return_period(tx, alloc, name, form, quarter)?;
+    let of_return = quarter_return(form, quarter, &period, &holidays);
+    match due_rows(alloc, quarter, as_of, &of_return, &period, &holidays) {
+        Ok(rows) => Ok(rows),
+        Err(fault) => tx.give_up(fault),
+    }
+}
+
+/// Tells the account's obligations that begin in the quarter, by first day, each with its makeup
+/// date, what was paid for it by the day, and how it stands as of the day.
+pub fn due_list<S: Alter>(
+    tx: &mut Tx<'_, S>,
+    alloc: Global,
+    name: &str,
+    quarter: Quarter,
+    as_of: Day,
+) -> Result<Answer, StoreFault>
+    ensures call { Calls S.Store tx.old tx.new result (Serves (DueList name.now quarter as_of)) }
+{
+    let before = known_for_due(tx, alloc, name, quarter)?;
+    let checked = due_list_check(name, quarter, as_of, before.account, before.is_open);
+    if let Some(answer) = checked {
+        return Ok(answer);
+    }
+    let Some(account) = &before.account else {
+        return Ok(Err(Refusal::UnknownAccount));
+    };
+    let rows = rows_of_quarter(tx, alloc, name, account.form, quarter, as_of)?;
+    Ok(Ok(Reply::Due(DueRows::from_vec(rows))))
+}
