@@ -1,0 +1,100 @@
+-- The holidays that were read of a year and of the years beside it.
+use Rattle.std.proofs.Common.{◌≡◌, ◌≢◌, ℕ, ◌+◌, ◌-◌, ◌≤◌, ◌<◌, ◌⊎◌, Bool, true, false, List, [], Vec, None, Some, inl, inr, refl, sym, ap, ◌∙◌, arith}
+use Rattle.std.specs.Prelude.{◌==◌, ◌||◌, ◌&&◌, All}
+use Rattle.ftd_days.specs.Calendar.{year_of}
+use Rattle.ftd_days.specs.Business.{is_holiday}
+use Rattle.ftd_days.specs.Holidays.{IsWithHoliday}
+use Rattle.ftd_days.proofs.Years.{eq_same, eq_not, same_or_not}
+use Rattle.ftd_schema.specs.Standing.{Tables}
+use Rattle.ftd_store.specs.Finds.{FindsCalendar, ListsAdded}
+use Rattle.ftd_machine.specs.State.{State, holidays}
+use Rattle.ftd_machine.specs.Sound.{IsSound}
+use Rattle.ftd_entries.specs.Standing.{StandsFor}
+use Rattle.ftd_entries.proofs.YearHolidays.{holiday_known, holiday_unknown}
+use Rattle.ftd_repairs.proofs.Adding.{both_elsewhere}
+use Rattle.ftd_holidays.specs.Known.{AddsYear, KnowsHolidays}
+
+or_false : (b : Bool) → (b || false) ≡ b
+or_false true = refl
+or_false false = refl
+
+-- ---- one year
+
+-- a year whose calendar was not found has no holidays
+pub adds_none : (A : Type 0) (year : ℕ) (old : List ℕ) (t : Tables) → FindsCalendar {A = A} year None t → AddsYear year old old t
+adds_none A year old t finds s stands sound day =
+    let off : ((year_of day == year) && is_holiday (holidays s) day) ≡ false =
+    elim (same_or_not (year_of day) year) [
+      | inl its ↦ ap (λ b. b && is_holiday (holidays s) day) (eq_same (year_of day) year its) ∙ holiday_unknown t s stands sound A year day finds its
+      | inr other ↦ ap (λ b. b && is_holiday (holidays s) day) (eq_not (year_of day) year other)
+    ] in
+    sym (ap (λ b. is_holiday old day || b) off ∙ or_false (is_holiday old day))
+
+-- another one those that it was given with, and those that were added
+pub adds_both : {A B : Type 0} (year : ℕ) (old new : List ℕ) (given : Vec ℕ A) (added : Vec ℕ B) (t : Tables)
+    → ((day : ℕ) → is_holiday new day ≡ (is_holiday old day || (is_holiday given.items day || is_holiday added.items day)))
+    → All (λ d. year_of d ≡ year) given.items → All (λ d. year_of d ≡ year) added.items
+    → FindsCalendar year (Some given) t → ListsAdded year added t → AddsYear year old new t
+adds_both year old new given added t same of_given of_added finds lists s stands sound day =
+    let here : (is_holiday given.items day || is_holiday added.items day) ≡ ((year_of day == year) && is_holiday (holidays s) day) =
+    elim (same_or_not (year_of day) year) [
+      | inl its ↦ sym (ap (λ b. b && is_holiday (holidays s) day) (eq_same (year_of day) year its) ∙ holiday_known t s stands sound given added year day finds lists its)
+      | inr other ↦ both_elsewhere year given.items added.items of_given of_added day other ∙ sym (ap (λ b. b && is_holiday (holidays s) day) (eq_not (year_of day) year other))
+    ] in
+    same day ∙ ap (λ b. is_holiday old day || b) here
+
+-- ---- three years
+
+abbrev together : Bool → Bool → Bool → Bool → Bool
+together before here after b = ((before && b) || (here && b)) || (after && b)
+
+first_one : (b : Bool) → together true false false b ≡ b
+first_one true = refl
+first_one false = refl
+
+second_one : (b : Bool) → together false true false b ≡ b
+second_one true = refl
+second_one false = refl
+
+third_one : (b : Bool) → together false false true b ≡ b
+third_one true = refl
+third_one false = refl
+
+-- a number is one of the three about another
+one_of_three : (year y : ℕ) → 1 ≤ year → year ≤ y + 1 → y ≤ year + 1 → (y ≡ year - 1) ⊎ ((y ≡ year) ⊎ (y ≡ year + 1))
+one_of_three year y some low high =
+    elim (same_or_not y (year - 1)) [
+      | inl before ↦ inl before
+      | inr later ↦ elim (same_or_not y year) [
+        | inl here ↦ inr (inl here)
+        | inr apart ↦ inr (inr (omega arith))
+      ]
+    ]
+
+in_three : (year y : ℕ) (b : Bool) → 1 ≤ year → year ≤ y + 1 → y ≤ year + 1 → together (y == (year - 1)) (y == year) (y == (year + 1)) b ≡ b
+in_three year y b some low high =
+    elim (one_of_three year y some low high) [
+      | inl before ↦
+          ap (λ e. together e (y == year) (y == (year + 1)) b) (eq_same y (year - 1) before)
+          ∙ (ap (λ e. together true e (y == (year + 1)) b) (eq_not y year (λ e. omega arith))
+          ∙ (ap (λ e. together true false e b) (eq_not y (year + 1) (λ e. omega arith)) ∙ first_one b))
+      | inr (inl here) ↦
+          ap (λ e. together e (y == year) (y == (year + 1)) b) (eq_not y (year - 1) (λ e. omega arith))
+          ∙ (ap (λ e. together false e (y == (year + 1)) b) (eq_same y year here)
+          ∙ (ap (λ e. together false true e b) (eq_not y (year + 1) (λ e. omega arith)) ∙ second_one b))
+      | inr (inr after) ↦
+          ap (λ e. together e (y == year) (y == (year + 1)) b) (eq_not y (year - 1) (λ e. omega arith))
+          ∙ (ap (λ e. together false e (y == (year + 1)) b) (eq_not y year (λ e. omega arith))
+          ∙ (ap (λ e. together false false e b) (eq_same y (year + 1) after) ∙ third_one b))
+    ]
+
+-- the holidays of the three years about an added holiday, and it, are known
+pub three_years : (added year : ℕ) (none before here after all : List ℕ) (t : Tables) → year ≡ year_of added → 1 ≤ year → none ≡ [] → IsWithHoliday after added all
+    → AddsYear (year - 1) none before t → AddsYear year before here t → AddsYear (year + 1) here after t → KnowsHolidays added all t
+three_years added year none before here after all t is some empty with one two three s stands sound day low high =
+    let b = is_holiday (holidays s) day in
+    let y = year_of day in
+    let first : is_holiday before day ≡ ((y == (year - 1)) && b) = one s stands sound day ∙ ap (λ hs. is_holiday hs day || ((y == (year - 1)) && b)) empty in
+    let second : is_holiday here day ≡ (((y == (year - 1)) && b) || ((y == year) && b)) = two s stands sound day ∙ ap (λ x. x || ((y == year) && b)) first in
+    let third : is_holiday after day ≡ together (y == (year - 1)) (y == year) (y == (year + 1)) b = three s stands sound day ∙ ap (λ x. x || ((y == (year + 1)) && b)) second in
+    with day ∙ ap (λ x. x || (added == day)) (third ∙ in_three year y b some (omega arith) (omega arith))

@@ -1,0 +1,31 @@
+//! A holiday is added.
+
+ghost use Rattle.ftd_store.specs.Frame.{Calls};
+ghost use Rattle.ftd_machine.specs.declared.requests.Request.TheVariants.{AddHoliday};
+ghost use Rattle.ftd_entries.specs.Words.{Serves};
+
+use crate::moving::add_and_move;
+use ftd_days::Day;
+use ftd_machine::{Answer, Reply, add_holiday_check};
+use ftd_store::{StoreFault, Tx};
+use sqlite::Alter;
+use std::alloc::Global;
+
+/// Adds a legal holiday to a year whose calendar was given, and moves the due dates that count it,
+/// of all accounts.
+pub fn add_holiday<S: Alter>(
+    tx: &mut Tx<'_, S>,
+    alloc: Global,
+    day: Day,
+) -> Result<Answer, StoreFault>
+    ensures call { Calls S.Store tx.old tx.new result (Serves (AddHoliday day)) }
+{
+    let year = day.year();
+    let calendar = tx.calendar(alloc, year)?;
+    let added = tx.added(alloc, year)?;
+    if let Some(answer) = add_holiday_check(day, calendar.as_deref(), &added) {
+        return Ok(answer);
+    }
+    add_and_move(tx, alloc, day)?;
+    Ok(Ok(Reply::Done))
+}
