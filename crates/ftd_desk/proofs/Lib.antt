@@ -1,0 +1,4 @@
+mod Handling
+mod Running
+mod Together
+mod Handled

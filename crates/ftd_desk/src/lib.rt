@@ -1,0 +1,7 @@
+//! The deposit desk over its tables: each request in one transaction.
+#![tactic(auto)]
+
+mod desk;
+mod requests;
+
+pub use crate::desk::Desk;
