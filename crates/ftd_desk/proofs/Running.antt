@@ -1,5 +1,5 @@
 -- Requests one after the other.
-use Rattle.std.proofs.Common.{◌≡◌, refl, sym, ap, subst, ◌∙◌, inl, inr, arith, IsTrue, List, [], ◌∷◌, ◌++◌}
+use Rattle.std.proofs.Common.{refl, sym, ap, subst, ◌∙◌, inl, arith, IsTrue, List, [], ◌∷◌, ◌++◌}
 use Rattle.std.proofs.lemmas.List.{append_assoc, append-nil}
 use Rattle.sqlite.specs.State as database
 use Rattle.sqlite.specs.State.{HasCleanDisk, Survives}

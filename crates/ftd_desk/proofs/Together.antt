@@ -1,5 +1,5 @@
 -- Requests one after the other within a transaction.
-use Rattle.std.proofs.Common.{◌≡◌, refl, subst, arith, IsTrue, Ok, Vec, List, [], ◌∷◌, ◌++◌}
+use Rattle.std.proofs.Common.{refl, subst, arith, IsTrue, Ok, Vec, List, [], ◌∷◌, ◌++◌}
 use Rattle.sqlite.specs.Store as store
 use Rattle.sqlite.specs.State.{HasCleanDisk}
 use Rattle.ftd_store.specs.declared.tx.Tx.{Tx}

@@ -101,26 +101,3 @@ fn the_lookback_total_gives_the_schedule(rt: HostRuntime) -> Result<(), Fail> {
     }
     Ok(())
 }
-
-#[test]
-fn an_account_on_form_943_reports_years(rt: HostRuntime) -> Result<(), Fail> {
-    let alloc = rt.alloc();
-    let mut desk = desk(alloc, &ASH)?;
-    for (asked, told) in [
-        ("enrol fig 2020-01-01 943", "done"),
-        ("enrol fig 2020-01-01", "refused 8 AccountDiffers"),
-        ("open fig 2024", "refused 25 YearMissing 2022"),
-        ("report fig 2022Q1 1.00", "refused 23 WrongForm"),
-        ("report ash year 2023 1.00", "refused 23 WrongForm"),
-        ("report fig year 2022 50000.01", "done"),
-        ("report fig year 2022 50000.01", "already"),
-        ("report fig year 2022 50000.00", "refused 24 YearDiffers"),
-        ("report fig year 2019 1.00", "refused 15 BeforeStart"),
-        ("open fig 2024", "done"),
-        ("status fig 2024-03-01", "semiweekly lookback"),
-        ("schedule-b fig 2024Q1", "refused 23 WrongForm"),
-    ] {
-        assert_eq!(rt; ask(alloc, &mut desk, asked)?.as_str(), told, "{asked}");
-    }
-    Ok(())
-}

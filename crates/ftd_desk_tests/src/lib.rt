@@ -4,6 +4,10 @@
 #[cfg(test)]
 mod accounts;
 #[cfg(test)]
+mod added;
+#[cfg(test)]
+mod annual;
+#[cfg(test)]
 mod asked;
 #[cfg(test)]
 mod deposits;

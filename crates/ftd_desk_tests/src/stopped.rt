@@ -53,14 +53,14 @@ fn failing(alloc: Global, calls: u64) -> Result<Option<Desk<Failing>>, Fail> {
 
 /// Asks one line after the other, until one is answered with a fault; how many were not.
 fn asked(rt: &impl Abort, alloc: Global, desk: &mut Desk<Failing>) -> Result<usize, Fail> {
-    let mut done = 0;
+    let mut done = 0_usize;
     for (line, text) in LINES {
         let answer = ask(alloc, desk, line)?;
         if answer.as_str() == "failed 22 Store" {
             return Ok(done);
         }
         assert_eq!(rt; answer.as_str(), text, "{line}");
-        done += 1;
+        done = done.wrapping_add(1);
     }
     Ok(done)
 }

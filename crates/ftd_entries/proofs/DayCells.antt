@@ -1,5 +1,5 @@
 -- Days as cells.
-use Rattle.std.proofs.Common.{◌≡◌, ℕ, ℤ, ◌≤◌, inl, inr, Bool, true, false, refl, sym, ap, ◌∙◌, subst, arith}
+use Rattle.std.proofs.Common.{◌≡◌, ℕ, ℤ, inl, inr, Bool, true, false, refl, sym, ap, ◌∙◌, subst, arith}
 use Rattle.std.specs.Prelude.{◌==◌, nat_le, nat_lt, int_le, int_lt}
 use Rattle.std.specs.Int.Signed.{◌≤ℤ◌, ◌<ℤ◌, le_z_yes, lt_z_yes}
 use Rattle.std.specs.Ordering.{int_eq}

@@ -1,5 +1,5 @@
 -- The holidays of a year, by its rows, are those that the state keeps of it.
-use Rattle.std.proofs.Common.{◌≡◌, ℕ, suc, pos, Bool, true, false, List, [], ◌∷◌, map, None, Some, Vec, inl, inr, refl, sym, ap, ◌∙◌, subst}
+use Rattle.std.proofs.Common.{◌≡◌, ℕ, suc, pos, Bool, true, false, List, [], ◌∷◌, map, None, Some, Vec, inl, inr, refl, sym, ap, ◌∙◌}
 use Rattle.std.specs.Prelude.{◌==◌, ◌||◌, ◌&&◌, filter, find, nat_le, option_map, length, is_some, if◌then◌else◌}
 use Rattle.std.specs.List.{list_any, list_all}
 use Rattle.std.specs.Ordering.{int_eq}
@@ -12,7 +12,7 @@ use Rattle.std.proofs.lemmas.List.Sorted.{list_any-IsPermutation, length_permuta
 use Rattle.ftd_days.specs.Calendar.{year_of}
 use Rattle.ftd_days.specs.Business.{is_holiday}
 use Rattle.ftd_days.specs.Holidays.{YearDays, holidays_of}
-use Rattle.ftd_days.proofs.Years.{eq_same, eq_not, same_or_not}
+use Rattle.ftd_days.proofs.Years.{eq_same, eq_not}
 use Rattle.ftd_rules.specs.Lists.{Has}
 use Rattle.ftd_rules.proofs.Rising.{has_all}
 use Rattle.ftd_schema.specs.declared.TableName.TheVariants.{AddedHolidays}

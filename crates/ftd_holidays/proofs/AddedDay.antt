@@ -1,20 +1,16 @@
 -- A holiday that is added: what is answered, and the tables stand for the machine's next state.
-use Rattle.std.proofs.Common.{◌≡◌, ◌⊎◌, ℕ, ◌+◌, ◌<◌, ◌≤◌, Bool, true, false, List, [], ◌∷◌, ◌++◌, map, length, Option, None, Some, Vec, Ok, inl, inr, refl, sym, ap, subst, ◌∙◌, arith}
-use Rattle.std.specs.Prelude.{filter, option_map, nat_le, nat_lt, ◌||◌, ◌&&◌, ◌==◌}
+use Rattle.std.proofs.Common.{◌≡◌, ℕ, ◌+◌, Bool, true, false, List, [], ◌∷◌, ◌++◌, map, length, Option, None, Some, Vec, Ok, refl, sym, ap, subst, ◌∙◌, arith}
+use Rattle.std.specs.Prelude.{filter, option_map, nat_lt, ◌||◌, ◌==◌}
 use Rattle.std.specs.List.Sorted.{IsPermutation}
-use Rattle.std.proofs.lemmas.Bool.{leb-true}
 use Rattle.std.proofs.lemmas.List.{map-append, length-append}
 use Rattle.std.proofs.lemmas.List.Folds.{list_any-append}
-use Rattle.ftd_days.specs.Calendar.{year_of, last_day}
+use Rattle.ftd_days.specs.Calendar.{year_of}
 use Rattle.ftd_days.specs.Business.{is_holiday}
 use Rattle.ftd_days.specs.Holidays.{holidays_of, IsWithHoliday}
 use Rattle.ftd_days.proofs.Months.{year_later}
-use Rattle.ftd_rules.specs.declared.Form.{Form}
-use Rattle.ftd_rules.specs.declared.DaySum.{DaySum}
 use Rattle.ftd_rules.specs.declared.Obligation.{Obligation}
 use Rattle.ftd_rules.specs.Due.{IsDue}
 use Rattle.ftd_rules.specs.Laws.{EqualHolidays}
-use Rattle.ftd_rules.specs.Lists.{Has}
 use Rattle.ftd_rules.specs.Obligations.{IsObligation}
 use Rattle.ftd_rules.proofs.DueDates.{due_one}
 use Rattle.ftd_rules.proofs.Near.{due_near}
@@ -25,7 +21,6 @@ use Rattle.ftd_schema.specs.Rows.{YearRow}
 use Rattle.ftd_schema.specs.Standing.{Tables}
 use Rattle.ftd_sql.specs.Tests.{is_year_of}
 use Rattle.ftd_rows.specs.Rows.{year_row, holiday_row}
-use Rattle.ftd_rows.proofs.Found.{both}
 use Rattle.ftd_store.specs.Finds.{FindsCalendar, ListsAdded}
 use Rattle.ftd_machine.specs.declared.requests.Request.{Request}
 use Rattle.ftd_machine.specs.declared.requests.Request.TheVariants.{AddHoliday}
@@ -38,12 +33,10 @@ use Rattle.ftd_machine.specs.Checks.{Answer, first_of, needs, done_if, finds, De
 use Rattle.ftd_machine.specs.Requests.{add_holiday_checks}
 use Rattle.ftd_machine.specs.Step.{Step}
 use Rattle.ftd_machine.specs.Sound.{IsSound}
-use Rattle.ftd_machine.proofs.Heads.{Gives, gives_needs}
 use Rattle.ftd_machine.proofs.Soundness.{step_sound}
 use Rattle.ftd_entries.specs.Standing.{StandsFor, IsSettled, added_entry}
 use Rattle.ftd_entries.proofs.CalendarRows.{days_found, calendar_known}
 use Rattle.ftd_entries.proofs.YearHolidays.{added_known, added_counted}
-use Rattle.ftd_holidays.specs.Known.{KnowsHolidays}
 use Rattle.ftd_holidays.specs.Moved.{AddsHoliday}
 use Rattle.ftd_holidays.proofs.DueAgain.{due_again, again, is_due_again, HasDays, days_of_owed, due_as_before, rows_again}
 use Rattle.ftd_holidays.proofs.MovedOwed.{IsOver, owed_after}
@@ -129,7 +122,7 @@ module _ (day : ℕ) (t u : Tables) (s : State) (stands : StandsFor t s) (sound 
     are_owed = rows_again (form_of (entries_of s name).account) was.lines (live_sums (entries_of s name)) (holidays s) after was.owed was.are_owed;
     line_rows = subst (λ (rows : List YearRow). IsPermutation (filter (is_year_of name) rows) (map (year_row name) was.lines)) (sym (adds.moves.only Years)) was.line_rows;
     owed_rows =
-        owed_after day adds.holidays after adds.given.items (t Obligations) (u Obligations) adds.listed adds.moves.rows name was.owed was.are_owed.by_first_day was.owed_rows
+        owed_after day adds.holidays after adds.obligations.items (t Obligations) (u Obligations) adds.listed adds.moves.rows name was.owed was.are_owed.by_first_day was.owed_rows
         (λ o has over due dated. agree o ((was.are_owed.all o).0 has) over due dated)
         (λ o has out. let is = (was.are_owed.all o).0 has in due_as_before (holidays s) after day o (with_the_day day s) (owed_days o is) is.due out);
   }
@@ -155,12 +148,7 @@ module _ {A B : Type 0} (day year : ℕ) (its : year ≡ year_of day) (found : O
   added_decided answer decided t s stands sound finds lists =
       subst (λ o. Decides o s answer s ((answer ≡ Ok Done) × (s ≡ Next day s))) (sym (checks_known t s stands sound finds lists ∙ decided)) (refl, refl)
 
-  -- all checks pass: the day is one of 2099 or earlier
-  pub added_early : checks ≡ None → year_of day ≤ 2099
-  added_early passed =
-      let within : Gives (add_holiday_checks day (option_map days_found found) added.items) (is_between 2001 2099 (year_of day) ≡ true) = gives_needs _ _ _ in
-      leb-true (year_of day) 2099 (both (nat_le 2001 (year_of day)) (nat_le (year_of day) 2099) (within.fact passed)).1
-
+  -- all checks pass
   pub added_done : checks ≡ None → (t u : Tables) (s : State) → StandsFor t s → IsSound s → FindsCalendar year found t × ListsAdded year added t → AddsHoliday day t u
       → (next : State) × Step s (AddHoliday day) (Ok Done) next × StandsFor u next
   added_done passed t u s stands sound knows adds =

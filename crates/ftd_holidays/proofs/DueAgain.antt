@@ -1,5 +1,5 @@
 -- Obligations by other holidays: each has the due date that they give it, and is else the same.
-use Rattle.std.proofs.Common.{◌≡◌, ◌≢◌, ℕ, ◌+◌, ◌-◌, ◌%◌, ◌≤◌, ◌<◌, ◌⊎◌, List, [], ◌∷◌, map, inl, inr, refl, sym, ap, ◌∙◌, subst, arith}
+use Rattle.std.proofs.Common.{◌≡◌, ℕ, ◌≤◌, ◌<◌, ◌⊎◌, List, [], ◌∷◌, map, inl, inr, sym, ap, ◌∙◌, subst, arith}
 use Rattle.ftd_days.specs.Calendar.{last_day, year_of}
 use Rattle.ftd_days.specs.Holidays.{IsWithHoliday}
 use Rattle.ftd_days.proofs.Months.{in_month, year_is}
@@ -18,7 +18,7 @@ use Rattle.ftd_rules.specs.Private.Due.{IsDueBy, first_counted}
 use Rattle.ftd_rules.proofs.Covering.{within_period, line_is}
 use Rattle.ftd_rules.proofs.DueDates.{due_some, due_one}
 use Rattle.ftd_rules.proofs.Moving.{due_moves}
-use Rattle.ftd_rules.proofs.Resting.{due_from, from_later}
+use Rattle.ftd_rules.proofs.Resting.{from_later}
 use Rattle.ftd_rules.proofs.Schedules.{year_facts}
 use Rattle.ftd_rules.proofs.Stated.{piece_owed, due_by, due_stated}
 use Rattle.ftd_machine.proofs.Soundness.{has_mapped}

@@ -1,6 +1,6 @@
 -- The rows of an account's obligations after due dates were moved are those of its obligations by the new holidays.
-use Rattle.std.proofs.Common.{◌≡◌, ◌⊎◌, ℕ, zero, suc, ℤ, pos, ◌+◌, ◌<◌, ◌≤◌, Bool, true, false, List, [], ◌∷◌, map, inl, inr, refl, sym, ap, ◌∙◌, subst, arith}
-use Rattle.std.specs.Prelude.{◌&&◌, ◌==◌, filter, bytes_eq, int_lt, int_le, nat_lt, nat_le, string_bytes}
+use Rattle.std.proofs.Common.{◌≡◌, ◌⊎◌, ℕ, zero, suc, ℤ, pos, ◌<◌, ◌≤◌, Bool, true, false, List, [], ◌∷◌, map, inl, inr, refl, sym, ap, ◌∙◌, subst, arith}
+use Rattle.std.specs.Prelude.{◌&&◌, filter, bytes_eq, int_le, nat_lt, nat_le, string_bytes}
 use Rattle.std.specs.List.Sorted.{IsPermutation}
 use Rattle.std.specs.Ordering.{int_eq}
 use Rattle.std.proofs.Math.IntN.{◌+ℤ◌, -ℤ-+ℤ_cancel}
@@ -32,7 +32,7 @@ use Rattle.ftd_entries.proofs.CalendarRows.{whole}
 use Rattle.ftd_entries.proofs.DayCells.{day_le, day_lt, same_day}
 use Rattle.ftd_entries.proofs.OwedRows.{obligation_is}
 use Rattle.ftd_entries.proofs.Sifted.{filter_in, filter_out, keeps_has, both_are}
-use Rattle.ftd_holidays.specs.Moved.{is_row_of, IsDueThen, IsMoved, IsLeft, IsAfter}
+use Rattle.ftd_holidays.specs.Moved.{is_row_of, IsDueThen, IsAfter}
 use Rattle.ftd_holidays.proofs.DueAgain.{due_again, again}
 
 -- ---- a row by its cells

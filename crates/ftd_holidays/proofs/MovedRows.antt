@@ -1,9 +1,8 @@
 -- Rows of obligations whose due dates are moved one after the other.
-use Rattle.std.proofs.Common.{◌≡◌, ◌⊎◌, ℕ, ◌+◌, ◌<◌, Bool, true, false, List, [], ◌∷◌, map, take, length, get_or, inl, inr, refl, sym, ap, ◌∙◌, subst}
+use Rattle.std.proofs.Common.{◌≡◌, ℕ, ◌+◌, ◌<◌, Bool, true, false, List, [], ◌∷◌, map, take, length, get_or, inl, inr, refl, sym, ap, ◌∙◌, subst}
 use Rattle.std.specs.Prelude.{◌==◌, not, string_bytes}
 use Rattle.std.proofs.lemmas.Bool.{true≢false, cases_Bool}
 use Rattle.ftd_days.proofs.Years.{eq_not, same_or_not}
-use Rattle.ftd_rules.specs.Lists.{Has}
 use Rattle.ftd_schema.specs.declared.TableName.{TableName}
 use Rattle.ftd_schema.specs.declared.TableName.TheVariants.{Obligations}
 use Rattle.ftd_schema.specs.Rows.{ObligationRow}
@@ -15,7 +14,7 @@ use Rattle.ftd_rows.specs.Cells.{day_number}
 use Rattle.ftd_rows.specs.Lists.{Pairs}
 use Rattle.ftd_store.specs.Changes.{with_due_date}
 use Rattle.ftd_repairs.proofs.Items.{has_more, has_still, has_now}
-use Rattle.ftd_holidays.specs.Moved.{is_row_of, IsDueThen, IsMoved, IsLeft, IsAfter, MovesDue}
+use Rattle.ftd_holidays.specs.Moved.{is_row_of, IsDueThen, IsMoved, IsAfter, MovesDue}
 
 -- days that a test finds not to differ
 pub same_where : (a b : ℕ) (differ : Bool) → differ ≡ not (a == b) → differ ≡ false → a ≡ b

@@ -1,5 +1,5 @@
 -- The holidays that were read of a year and of the years beside it.
-use Rattle.std.proofs.Common.{◌≡◌, ◌≢◌, ℕ, ◌+◌, ◌-◌, ◌≤◌, ◌<◌, ◌⊎◌, Bool, true, false, List, [], Vec, None, Some, inl, inr, refl, sym, ap, ◌∙◌, arith}
+use Rattle.std.proofs.Common.{◌≡◌, ℕ, ◌+◌, ◌-◌, ◌≤◌, ◌⊎◌, Bool, true, false, List, [], Vec, None, Some, inl, inr, refl, sym, ap, ◌∙◌, arith}
 use Rattle.std.specs.Prelude.{◌==◌, ◌||◌, ◌&&◌, All}
 use Rattle.ftd_days.specs.Calendar.{year_of}
 use Rattle.ftd_days.specs.Business.{is_holiday}
@@ -7,12 +7,10 @@ use Rattle.ftd_days.specs.Holidays.{IsWithHoliday}
 use Rattle.ftd_days.proofs.Years.{eq_same, eq_not, same_or_not}
 use Rattle.ftd_schema.specs.Standing.{Tables}
 use Rattle.ftd_store.specs.Finds.{FindsCalendar, ListsAdded}
-use Rattle.ftd_machine.specs.State.{State, holidays}
-use Rattle.ftd_machine.specs.Sound.{IsSound}
-use Rattle.ftd_entries.specs.Standing.{StandsFor}
+use Rattle.ftd_machine.specs.State.{holidays}
 use Rattle.ftd_entries.proofs.YearHolidays.{holiday_known, holiday_unknown}
 use Rattle.ftd_repairs.proofs.Adding.{both_elsewhere}
-use Rattle.ftd_holidays.specs.Known.{AddsYear, KnowsHolidays}
+use Rattle.ftd_holidays.specs.Known.{AddsKeptYear, KnowsHolidays}
 
 or_false : (b : Bool) → (b || false) ≡ b
 or_false true = refl
@@ -21,7 +19,7 @@ or_false false = refl
 -- ---- one year
 
 -- a year whose calendar was not found has no holidays
-pub adds_none : (A : Type 0) (year : ℕ) (old : List ℕ) (t : Tables) → FindsCalendar {A = A} year None t → AddsYear year old old t
+pub adds_none : (A : Type 0) (year : ℕ) (old : List ℕ) (t : Tables) → FindsCalendar {A = A} year None t → AddsKeptYear year old old t
 adds_none A year old t finds s stands sound day =
     let off : ((year_of day == year) && is_holiday (holidays s) day) ≡ false =
     elim (same_or_not (year_of day) year) [
@@ -34,7 +32,7 @@ adds_none A year old t finds s stands sound day =
 pub adds_both : {A B : Type 0} (year : ℕ) (old new : List ℕ) (given : Vec ℕ A) (added : Vec ℕ B) (t : Tables)
     → ((day : ℕ) → is_holiday new day ≡ (is_holiday old day || (is_holiday given.items day || is_holiday added.items day)))
     → All (λ d. year_of d ≡ year) given.items → All (λ d. year_of d ≡ year) added.items
-    → FindsCalendar year (Some given) t → ListsAdded year added t → AddsYear year old new t
+    → FindsCalendar year (Some given) t → ListsAdded year added t → AddsKeptYear year old new t
 adds_both year old new given added t same of_given of_added finds lists s stands sound day =
     let here : (is_holiday given.items day || is_holiday added.items day) ≡ ((year_of day == year) && is_holiday (holidays s) day) =
     elim (same_or_not (year_of day) year) [
@@ -90,7 +88,7 @@ in_three year y b some low high =
 
 -- the holidays of the three years about an added holiday, and it, are known
 pub three_years : (added year : ℕ) (none before here after all : List ℕ) (t : Tables) → year ≡ year_of added → 1 ≤ year → none ≡ [] → IsWithHoliday after added all
-    → AddsYear (year - 1) none before t → AddsYear year before here t → AddsYear (year + 1) here after t → KnowsHolidays added all t
+    → AddsKeptYear (year - 1) none before t → AddsKeptYear year before here t → AddsKeptYear (year + 1) here after t → KnowsHolidays added all t
 three_years added year none before here after all t is some empty with one two three s stands sound day low high =
     let b = is_holiday (holidays s) day in
     let y = year_of day in

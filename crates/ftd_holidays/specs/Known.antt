@@ -8,8 +8,8 @@ use Rattle.ftd_machine.specs.Sound.{IsSound}
 use Rattle.ftd_entries.specs.Standing.{StandsFor}
 
 -- the holidays of a year are added to others, as each state keeps them for which the tables stand
-abbrev pub AddsYear : ℕ → List ℕ → List ℕ → Tables → Type 0
-AddsYear year old new t = (s : State) → StandsFor t s → IsSound s → (day : ℕ)
+abbrev pub AddsKeptYear : ℕ → List ℕ → List ℕ → Tables → Type 0
+AddsKeptYear year old new t = (s : State) → StandsFor t s → IsSound s → (day : ℕ)
     → is_holiday new day
     ≡ (is_holiday old day || ((year_of day == year) && is_holiday (holidays s) day))
 

@@ -26,24 +26,26 @@ IsDueThen holidays o due = IsDue holidays o.obligation.rule o.obligation.last du
 -- the row has the due date that one of the obligations has by the holidays, of its account and
 -- first day
 abbrev pub IsMoved : List ℕ → List AccountObligation → ObligationRow → ObligationRow → Type 0
-IsMoved holidays given old new =
-    (o : AccountObligation) × Has given o × (is_row_of o old ≡ true)
+IsMoved holidays obligations old new =
+    (o : AccountObligation) × Has obligations o × (is_row_of o old ≡ true)
     × ((due : ℕ) × IsDueThen holidays o due × (new ≡ with_due (day_number due) old))
 
 -- the row stays, and each of the obligations of its account and first day is due then as before
 abbrev pub IsLeft : List ℕ → List AccountObligation → ObligationRow → ObligationRow → Type 0
-IsLeft holidays given old new =
+IsLeft holidays obligations old new =
     (new ≡ old)
-    × ((o : AccountObligation) → Has given o → is_row_of o old ≡ true
+    × ((o : AccountObligation) → Has obligations o → is_row_of o old ≡ true
     → IsDueThen holidays o o.obligation.due)
 
+-- what becomes of a row
 abbrev pub IsAfter : List ℕ → List AccountObligation → ObligationRow → ObligationRow → Type 0
-IsAfter holidays given old new = IsMoved holidays given old new ⊎ IsLeft holidays given old new
+IsAfter holidays obligations old new =
+    IsMoved holidays obligations old new ⊎ IsLeft holidays obligations old new
 
--- so is each row of an obligation, in its place, and no other row differs
-pub record MovesDue (holidays : List ℕ) (given : List AccountObligation) (old new : Tables)
+-- this becomes of each row of an obligation, in its place, and no other row differs
+pub record MovesDue (holidays : List ℕ) (obligations : List AccountObligation) (old new : Tables)
     : Type 0 where
-  pub rows : Pairs (IsAfter holidays given) (old Obligations) (new Obligations)
+  pub rows : Pairs (IsAfter holidays obligations) (old Obligations) (new Obligations)
   pub only : (n : TableName) → new n ≡ with_rows Obligations (new Obligations) old n
 
 -- the holiday is added to its year, and the obligations that begin before it and are due on it or
@@ -51,6 +53,6 @@ pub record MovesDue (holidays : List ℕ) (given : List AccountObligation) (old 
 pub record AddsHoliday (day : ℕ) (old new : Tables) : Type 0 where
   pub holidays : List ℕ
   pub known : KnowsHolidays day holidays old
-  pub given : Vec AccountObligation
-  pub listed : ListsDueOver day given old
-  pub moves : MovesDue holidays given.items (with_added_holiday day old) new
+  pub obligations : Vec AccountObligation
+  pub listed : ListsDueOver day obligations old
+  pub moves : MovesDue holidays obligations.items (with_added_holiday day old) new

@@ -12,7 +12,7 @@ use sqlite::Alter;
 use std::alloc::Global;
 
 /// Adds a legal holiday to a year whose calendar was given, and moves the due dates that count it,
-/// of all accounts.
+/// of all accounts. `Failed` also where the rows stand for no state that requests lead to.
 pub fn add_holiday<S: Alter>(
     tx: &mut Tx<'_, S>,
     alloc: Global,

@@ -20,27 +20,27 @@ use std::alloc::Global;
 fn add_to_year<S: Alter>(
     tx: &mut Tx<'_, S>,
     day: Day,
-    given: &[AccountObligation],
+    obligations: &[AccountObligation],
     holidays: &Holidays,
 ) -> Result<(), StoreFault>
     ensures call { Turns S.Store tx.old tx.new result (λ done old.
-        MovesDue (holidays_of holidays.now) given.now (with_added_holiday day old)) }
+        MovesDue (holidays_of holidays.now) obligations.now (with_added_holiday day old)) }
 {
     tx.add_added(day)?;
-    for o in given {
-        let obligation = o.obligation;
+    for owed in obligations {
+        let obligation = owed.obligation;
         if obligation.last.year() > 2098 {
             return tx.give_up(StoreFault::Failed);
         }
         let due = due_of(obligation.rule, obligation.last, holidays);
         if due != obligation.due {
-            tx.move_due(&o.account, obligation.first, due)?;
+            tx.move_due(&owed.account, obligation.first, due)?;
         }
     }
     Ok(())
 }
 
-/// Adds the holiday to its year, and moves the due dates that count it.
+/// Adds the holiday, a day up to 2099, to its year, and moves the due dates that count it.
 pub(crate) fn add_and_move<S: Alter>(
     tx: &mut Tx<'_, S>,
     alloc: Global,
@@ -50,6 +50,6 @@ pub(crate) fn add_and_move<S: Alter>(
     ensures call { Turns S.Store tx.old tx.new result (λ done. AddsHoliday day) }
 {
     let holidays = holidays_with(tx, alloc, day)?;
-    let given = tx.due_over(alloc, day)?;
-    add_to_year(tx, day, &given, &holidays)
+    let obligations = tx.due_over(alloc, day)?;
+    add_to_year(tx, day, &obligations, &holidays)
 }

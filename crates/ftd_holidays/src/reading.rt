@@ -4,7 +4,7 @@ ghost use Rattle.std.specs.Prelude.{◌≤◌};
 ghost use Rattle.ftd_days.specs.Calendar.{year_of};
 ghost use Rattle.ftd_days.specs.Holidays.{holidays_of};
 ghost use Rattle.ftd_store.specs.Frame.{Reads};
-ghost use Rattle.ftd_holidays.specs.Known.{AddsYear, KnowsHolidays};
+ghost use Rattle.ftd_holidays.specs.Known.{AddsKeptYear, KnowsHolidays};
 
 use ftd_days::{CalendarFault, Day, Holidays};
 use ftd_repairs::add_both;
@@ -12,8 +12,8 @@ use ftd_store::{StoreFault, Tx};
 use sqlite::Alter;
 use std::alloc::Global;
 
-/// Adds the holidays of a year, those that were added to it too; a year whose calendar was not given
-/// has none. `Failed` also where the rows are no calendar of the year.
+/// Adds the holidays of a year, those that were added to it too. A year whose calendar was not
+/// given has none. `Failed` also where the rows are no calendar of the year.
 fn add_year<S: Alter>(
     tx: &mut Tx<'_, S>,
     alloc: Global,
@@ -21,7 +21,7 @@ fn add_year<S: Alter>(
     holidays: &mut Holidays,
 ) -> Result<(), StoreFault>
     ensures call { Reads S.Store tx.old tx.new result
-        (λ done. AddsYear year (holidays_of holidays.old) (holidays_of holidays.new)) }
+        (λ done. AddsKeptYear year (holidays_of holidays.old) (holidays_of holidays.new)) }
 {
     let Some(given) = tx.calendar(alloc, year)? else {
         return Ok(());
@@ -34,9 +34,9 @@ fn add_year<S: Alter>(
     }
 }
 
-/// The day of a year up to 2099, which is to be a holiday, and the holidays of its year, of the year before and of the
-/// year after. `Failed` also where the rows are no calendars of these years, and where the day
-/// cannot be added to its year.
+/// The holidays of the year of a day up to 2099, of the year before and of the year after, and the
+/// day, which is to be one. `Failed` also where the rows are no calendars of these years, and where
+/// the day cannot be added to its year.
 pub(crate) fn holidays_with<S: Alter>(
     tx: &mut Tx<'_, S>,
     alloc: Global,

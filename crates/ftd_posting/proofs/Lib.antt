@@ -1,7 +1,5 @@
-pub mod Sifted
 pub mod Patching
 pub mod Differing
-pub mod DayCells
 pub mod RowsPlaced
 pub mod LiveRuns
 pub mod HolidaysRead

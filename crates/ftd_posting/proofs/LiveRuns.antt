@@ -27,8 +27,8 @@ use Rattle.ftd_machine.specs.History.{liability_of, live, is_live, value_of}
 use Rattle.ftd_machine.specs.Step.{with_entry, with_voided, voided_if, is_under, as_voided, taken}
 use Rattle.ftd_entries.specs.Standing.{run_entry}
 use Rattle.ftd_entries.proofs.CalendarRows.{whole}
-use Rattle.ftd_posting.proofs.Sifted.{filter_in, filter_out}
-use Rattle.ftd_posting.proofs.DayCells.{day_le, same_day}
+use Rattle.ftd_entries.proofs.Sifted.{filter_in, filter_out}
+use Rattle.ftd_entries.proofs.DayCells.{day_le, same_day}
 
 -- ---- by entries
 

@@ -1,54 +1,29 @@
 -- The rows of obligations in the table, of which those of an account that begin on some days were replaced.
-use Rattle.std.proofs.Common.{◌≡◌, ◌≢◌, ℕ, pos, ◌+◌, ◌<◌, ◌≤◌, ◌↔◌, inl, inr, List, [], ◌∷◌, ◌++◌, map, append_assoc, append-nil, Bool, true, false, not, ◌&&◌, refl, sym, ap, ◌∙◌, subst, arith}
+use Rattle.std.proofs.Common.{◌≡◌, ◌≢◌, ℕ, ◌+◌, ◌<◌, ◌≤◌, ◌↔◌, inl, inr, List, [], ◌∷◌, ◌++◌, map, append_assoc, append-nil, Bool, true, false, not, ◌&&◌, refl, sym, ap, ◌∙◌, subst, arith}
 use Rattle.std.specs.Prelude.{filter, nat_le, bytes_eq, int_le}
 use Rattle.std.specs.List.Sorted.{IsPermutation}
 use Rattle.std.proofs.lemmas.Bool.{cases_Bool, lt-ltb, le-ltb, le-leb, lt-leb, leb-true}
 use Rattle.std.proofs.lemmas.List.{map-append}
 use Rattle.std.proofs.lemmas.List.Elements.{filter-append}
 use Rattle.std.proofs.lemmas.List.Sorted.{IsPermutation-refl, IsPermutation-trans, IsPermutation-sym, IsPermutation-cons, IsPermutation-middle, IsPermutation-append_left, IsPermutation-append_right, IsPermutation-append_comm}
-use Rattle.ftd_rules.specs.declared.Rule.{Rule}
-use Rattle.ftd_rules.specs.declared.Rule.TheVariants.{Monthly, Semiweekly, NextDay}
 use Rattle.ftd_rules.specs.declared.Obligation.{Obligation}
 use Rattle.ftd_rules.specs.Lists.{Has}
 use Rattle.ftd_rules.proofs.Cuts.{lt_or_le}
 use Rattle.ftd_rules.proofs.Rising.{has_permuted}
 use Rattle.ftd_schema.specs.Rows.{ObligationRow}
 use Rattle.ftd_sql.specs.Tests.{is_obligation_between}
-use Rattle.ftd_rows.specs.Cells.{day_number, rule_number}
+use Rattle.ftd_rows.specs.Cells.{day_number}
 use Rattle.ftd_rows.specs.Rows.{obligation_row}
 use Rattle.ftd_rows.proofs.Found.{both}
 use Rattle.ftd_machine.proofs.Adding.{same_name, own_name, other_name}
 use Rattle.ftd_machine.proofs.Soundness.{has_mapped, has_filtered}
 use Rattle.ftd_entries.specs.Standing.{is_obligation_of}
-use Rattle.ftd_entries.proofs.Found.{day_is}
 use Rattle.ftd_entries.proofs.Giving.{mapped_has}
-use Rattle.ftd_posting.proofs.DayCells.{day_le}
-use Rattle.ftd_posting.proofs.Sifted.{filter_in, filter_out, keeps_has, both_tests, both_are, sifted}
+use Rattle.ftd_entries.proofs.OwedRows.{obligation_is}
+use Rattle.ftd_entries.proofs.DayCells.{day_le}
+use Rattle.ftd_entries.proofs.Sifted.{filter_in, filter_out, keeps_has, both_tests, both_are, sifted}
 use Rattle.ftd_posting.proofs.Patching.{begins_before, begins_after, patched}
 use Rattle.ftd_posting.proofs.Differing.{BeginsWithin}
-
--- ---- one row
-
-rule_is : (a b : Rule) → rule_number a ≡ rule_number b → a ≡ b
-rule_is Monthly Monthly e = refl
-rule_is Monthly Semiweekly e = absurd cc
-rule_is Monthly NextDay e = absurd cc
-rule_is Semiweekly Monthly e = absurd cc
-rule_is Semiweekly Semiweekly e = refl
-rule_is Semiweekly NextDay e = absurd cc
-rule_is NextDay Monthly e = absurd cc
-rule_is NextDay Semiweekly e = absurd cc
-rule_is NextDay NextDay e = refl
-
-pub obligation_is : (account : List ℕ) (o p : Obligation) → obligation_row account o ≡ obligation_row account p → o ≡ p
-obligation_is account o p e =
-    let first = day_is o.first p.first (ap (λ (r : ObligationRow). r.first) e) in
-    let last = day_is o.last p.last (ap (λ (r : ObligationRow). r.last) e) in
-    let rule = rule_is o.rule p.rule (ap (λ (r : ObligationRow). r.rule) e) in
-    let amounts : pos o.cents.0 ≡ pos p.cents.0 = ap (λ (r : ObligationRow). r.cents) e in
-    let cents : o.cents.0 ≡ p.cents.0 = cc in
-    let due = day_is o.due p.due (ap (λ (r : ObligationRow). r.due) e) in
-    λ i. record { first = first i; last = last i; rule = rule i; cents = record { 0 = cents i }; due = due i }
 
 module _ (account : List ℕ) (from to : ℕ) where
   abbrev pub goes : ObligationRow → Bool

@@ -1,15 +1,17 @@
--- The rows by what was read of the quarter's return period are the machine's due list.
-use Rattle.std.proofs.Common.{◌≡◌, ◌↔◌, ℕ, ◌+◌, ◌*◌, ◌<◌, ◌≤◌, ◌==◌, ◌&&◌, ◌||◌, Bool, true, false, inl, inr, List, [], ◌∷◌, Ok, refl, sym, ap, ◌∙◌, subst, arith}
+-- The rows by what was read of the quarter's return are the machine's due list.
+use Rattle.std.proofs.Common.{◌≡◌, ◌↔◌, ℕ, ◌+◌, ◌*◌, ◌<◌, ◌≤◌, ◌==◌, ◌&&◌, ◌||◌, Bool, true, false, inl, inr, List, [], ◌∷◌, Vec, Global, Ok, refl, sym, ap, ◌∙◌, subst, arith}
 use Rattle.std.specs.Prelude.{filter, nat_le, IsTrue}
 use Rattle.std.specs.List.{list_any}
 use Rattle.std.proofs.lemmas.Bool.{cases_Bool, eqb-true, eq-eqb, leb-true, le-leb}
 use Rattle.ftd_days.specs.Calendar.{last_day, year_of, year_start, quarter_of, quarter_year, quarter_start}
+use Rattle.ftd_days.specs.Holidays.{YearDays, holidays_of}
 use Rattle.ftd_days.specs.declared.cents.Cents.{Cents}
 use Rattle.ftd_days.proofs.Business.{on_or_after_one}
 use Rattle.ftd_days.proofs.Months.{month_start-mono, month_start_grows, month_start-end, year_is}
 use Rattle.ftd_rules.specs.declared.Form.{Form}
 use Rattle.ftd_rules.specs.declared.Form.TheVariants.{F941, F943}
 use Rattle.ftd_rules.specs.declared.Obligation.{Obligation}
+use Rattle.ftd_rules.specs.declared.payment.Payment.{Payment}
 use Rattle.ftd_rules.specs.declared.verdict.Case.{Case}
 use Rattle.ftd_rules.specs.declared.verdict.DueRow.{DueRow}
 use Rattle.ftd_rules.specs.Liability.{liability}
@@ -38,7 +40,7 @@ use Rattle.ftd_machine.specs.declared.replies.Reply.TheVariants.{Due}
 use Rattle.ftd_machine.proofs.Soundness.{has_filtered}
 use Rattle.ftd_entries.specs.Standing.{StandsFor, IsSettled}
 use Rattle.ftd_questions.specs.Calendars.{HasTwoYears}
-use Rattle.ftd_questions.specs.Returns.{begins_on, KnowsPeriod}
+use Rattle.ftd_questions.specs.Returns.{begins_on, KnowsObligations, KnowsPeriod}
 use Rattle.ftd_questions.specs.DueRows.{begins_in, is_next_day_row, IsReturnBy, IsRowBy}
 use Rattle.ftd_questions.specs.declared.return_periods.ReturnPeriod.{ReturnPeriod}
 use Rattle.ftd_questions.specs.declared.due_rows.QuarterReturn.{QuarterReturn}
@@ -113,16 +115,18 @@ quarter_begins quarter early =
 
 -- ---- the list
 
-module _ (name : List ℕ) (quarter as_of : ℕ) (read : List ℕ) (period : ReturnPeriod) (of : QuarterReturn) (rows : List DueRow)
-    (from_2001 : 2001 ≤ quarter_year quarter) (to_2098 : quarter_year quarter ≤ 2098) (t : Tables) (s : State) (stands : StandsFor t s) (sound : IsSound s)
-    (is_return : IsReturnBy (form_of (entries_of s name).account) quarter period read of)
-    (are_rows : Pairs (IsRowBy of read period.payments.items as_of) (filter (begins_in quarter) period.obligations.items) rows)
-    (years : HasTwoYears (quarter_year quarter) read t) (known : KnowsPeriod name (form_of (entries_of s name).account) quarter period t) where
+module _ (name : List ℕ) (quarter as_of : ℕ) (given : List YearDays) (period : ReturnPeriod) (next_day : Bool) (found : List Obligation) (of_return : QuarterReturn) (rows : List DueRow) (from_2001 : 2001 ≤ quarter_year quarter) (to_2098 : quarter_year quarter ≤ 2098)
+    (t : Tables) (s : State) (stands : StandsFor t s) (sound : IsSound s) (is_return : IsReturnBy (form_of (entries_of s name).account) quarter next_day period given of_return) (is_next_day_in : next_day ≡ list_any is_next_day_row found)
+    (are_rows : Pairs (IsRowBy of_return as_of) (filter (begins_in quarter) found) rows) (years : HasTwoYears (quarter_year quarter) (holidays_of given) t) (known : KnowsPeriod name (form_of (entries_of s name).account) quarter period t)
+    (are_found : KnowsObligations name period.first period.last found t) where
   abbrev own : Entries
   own = entries_of s name
 
   abbrev form : Form
   form = form_of own.account
+
+  abbrev read : List ℕ
+  read = holidays_of given
 
   abbrev all : List ℕ
   all = holidays s
@@ -184,26 +188,27 @@ module _ (name : List ℕ) (quarter as_of : ℕ) (read : List ℕ) (period : Ret
           let until : nat_le o.first period.last ≡ true = le-leb o.first period.last (omega arith) in
           rw (since, until) refl
 
-  found_is : period.obligations.items ≡ filter (begins_on period.first period.last) owed
-  found_is = known.obligations s stands
+  found_is : found ≡ filter (begins_on period.first period.last) owed
+  found_is = are_found s stands
 
   in_period : (o : Obligation) → quarter_of o.first ≡ quarter → return_period_of form o.first ≡ number
   in_period o its = same_return form o.first (quarter_start quarter) (its ∙ sym (quarter_begins quarter to_2098))
 
   -- an obligation that begins in the quarter is one that was found, and the reverse
-  found_has : (o : Obligation) → Has owed o → quarter_of o.first ≡ quarter → Has (filter (begins_in quarter) period.obligations.items) o
+  found_has : (o : Obligation) → Has owed o → quarter_of o.first ≡ quarter → Has (filter (begins_in quarter) found) o
   found_has o has its =
       let begins : begins_on period.first period.last o ≡ true = begins_is o has ∙ eq-eqb (return_period_of form o.first) number (in_period o its) in
-      keeps_has (begins_in quarter) period.obligations.items o (subst (λ os. Has os o) (sym found_is) (keeps_has (begins_on period.first period.last) owed o has begins)) (eq-eqb (quarter_of o.first) quarter its)
+      keeps_has (begins_in quarter) found o (subst (λ os. Has os o) (sym found_is) (keeps_has (begins_on period.first period.last) owed o has begins)) (eq-eqb (quarter_of o.first) quarter its)
 
-  has_found : (o : Obligation) → Has (filter (begins_in quarter) period.obligations.items) o → Has owed o × (quarter_of o.first ≡ quarter)
+  has_found : (o : Obligation) → Has (filter (begins_in quarter) found) o → Has owed o × (quarter_of o.first ≡ quarter)
   has_found o has =
-      let its = has_filtered (begins_in quarter) period.obligations.items o has in
+      let its = has_filtered (begins_in quarter) found o has in
       ((has_filtered (begins_on period.first period.last) owed o (subst (λ os. Has os o) found_is its.0)).0, eqb-true (quarter_of o.first) quarter its.1)
 
-  next_day_is : list_any is_next_day_row period.obligations.items ≡ has_next_day form owed number
+  next_day_is : next_day ≡ has_next_day form owed number
   next_day_is =
-      ap (list_any is_next_day_row) found_is
+      is_next_day_in
+      ∙ ap (list_any is_next_day_row) found_is
       ∙ any_kept (begins_on period.first period.last) (λ o. return_period_of form o.first == number) is_next_day_row owed begins_is
 
   -- ---- the return
@@ -213,7 +218,7 @@ module _ (name : List ℕ) (quarter as_of : ℕ) (read : List ℕ) (period : Ret
       known.total s stands
       ∙ (ap (λ a. liability (live_sums own) a period.last) known.first ∙ ap (λ b. liability (live_sums own) (return_period_first form number) b) known.last)
 
-  small_is : IsTrue of.small ↔ IsSmall own owed quarter
+  small_is : IsTrue of_return.small ↔ IsSmall own owed quarter
   small_is = (
     (λ k. (
       period.total,
@@ -228,24 +233,24 @@ module _ (name : List ℕ) (quarter as_of : ℕ) (read : List ℕ) (period : Ret
         (subst (λ (c : Cents). IsSmallQuarter c (preceding form own quarter) (has_next_day form owed number)) same h.2))))),
   )
 
-  paid_for_it : paid_by period.payments.items period.first period.last of.due of.due ≡ paid_for_return own number of.due
+  paid_for_it : paid_by period.payments.items period.first period.last of_return.due of_return.due ≡ paid_for_return own number of_return.due
   paid_for_it =
-      known.payments s stands period.first period.last of.due of.due (omega arith) (omega arith)
-      ∙ (ap (λ a. paid_by (live_payments own) a period.last of.due of.due) known.first
-      ∙ ap (λ b. paid_by (live_payments own) (return_period_first form number) b of.due of.due) known.last)
+      known.payments s stands period.first period.last of_return.due of_return.due (omega arith) (omega arith)
+      ∙ (ap (λ a. paid_by (live_payments own) a period.last of_return.due of_return.due) known.first
+      ∙ ap (λ b. paid_by (live_payments own) (return_period_first form number) b of_return.due of_return.due) known.last)
 
-  paid_is : IsTrue of.paid ↔ IsReturnPaid own quarter of.due
+  paid_is : IsTrue of_return.paid ↔ IsReturnPaid own quarter of_return.due
   paid_is = (
-    (λ k. subst (λ n. n ≤ paid_for_return own number of.due) total_is (subst (λ n. period.total.0 ≤ n) paid_for_it (is_return.paid.0 k))),
-    (λ h. is_return.paid.1 (subst (λ n. period.total.0 ≤ n) (sym paid_for_it) (subst (λ n. n ≤ paid_for_return own number of.due) (sym total_is) h))),
+    (λ k. subst (λ n. n ≤ paid_for_return own number of_return.due) total_is (subst (λ n. period.total.0 ≤ n) paid_for_it (is_return.paid.0 k))),
+    (λ h. is_return.paid.1 (subst (λ n. period.total.0 ≤ n) (sym paid_for_it) (subst (λ n. n ≤ paid_for_return own number of_return.due) (sym total_is) h))),
   )
 
-  return_is : IsReturnDue form all quarter of.due
-  return_is = (return_same read all year from_2001 to_2098 sound.few agree form quarter of.due refl is_return.due).0
+  return_is : IsReturnDue form all quarter of_return.due
+  return_is = (return_same read all year from_2001 to_2098 sound.few agree form quarter of_return.due refl is_return.due).0
 
   -- ---- one row
 
-  paid_so : (o : Obligation) → Has owed o → quarter_of o.first ≡ quarter → (day : ℕ) → paid_by period.payments.items o.first o.last as_of day ≡ paid_for own o as_of day
+  paid_so : (o : Obligation) → Has owed o → quarter_of o.first ≡ quarter → (day : ℕ) → paid_by of_return.payments.items o.first o.last as_of day ≡ paid_for own o as_of day
   paid_so o has its day =
       let e : return_period_of form o.first ≡ number = in_period o its in
       let within = period_days o has in
@@ -257,9 +262,9 @@ module _ (name : List ℕ) (quarter as_of : ℕ) (read : List ℕ) (period : Ret
       let high : o.last < return_period_end form number = subst (λ n. o.last < return_period_end form n) (within.0 ∙ e) ends.1 in
       let first = known.first in
       let last = known.last in
-      known.payments s stands o.first o.last as_of day (omega arith) (omega arith)
+      ap (λ (ps : Vec Payment Global). paid_by ps.items o.first o.last as_of day) is_return.payments ∙ known.payments s stands o.first o.last as_of day (omega arith) (omega arith)
 
-  makeup_is : (o : Obligation) (makeup : ℕ) → Has owed o → quarter_of o.first ≡ quarter → IsMakeup of.form read o.rule o.last o.due makeup → IsMakeup form all o.rule o.last o.due makeup
+  makeup_is : (o : Obligation) (makeup : ℕ) → Has owed o → quarter_of o.first ≡ quarter → IsMakeup of_return.form (holidays_of of_return.holidays) o.rule o.last o.due makeup → IsMakeup form all o.rule o.last o.due makeup
   makeup_is o makeup has its m =
       let within = period_days o has in
       let same : year_of o.last ≡ year_of o.first = same_year form o.last o.first within.0 in
@@ -267,10 +272,10 @@ module _ (name : List ℕ) (quarter as_of : ℕ) (read : List ℕ) (period : Ret
       let due = (piece o has).due in
       let near = due_near all o.rule o.last o.due sound.few (omega arith) due in
       makeup_same read all year from_2001 to_2098 sound.few agree form o.rule o.last o.due makeup its_year within.1 (due_later all o.rule o.last o.due within.1 due) near.1.1
-      (subst (λ f. IsMakeup f read o.rule o.last o.due makeup) is_return.form_is m)
+      (subst (λ f. IsMakeup f read o.rule o.last o.due makeup) is_return.form_is (subst (λ (ys : List YearDays). IsMakeup of_return.form (holidays_of ys) o.rule o.last o.due makeup) is_return.holidays_are m))
 
   -- the row by what was read is a row of the due list
-  pub row_is : (row : DueRow) → Has owed row.obligation → quarter_of row.obligation.first ≡ quarter → IsRowBy of read period.payments.items as_of row.obligation row → IsDueRow all own owed quarter as_of row
+  pub row_is : (row : DueRow) → Has owed row.obligation → quarter_of row.obligation.first ≡ quarter → IsRowBy of_return as_of row.obligation row → IsDueRow all own owed quarter as_of row
   row_is row has its r =
       let c : Case = r.of_case in
       let k = r.is_case in
@@ -289,7 +294,7 @@ module _ (name : List ℕ) (quarter as_of : ℕ) (read : List ℕ) (period : Ret
           paid_due = k.paid_due ∙ (paid_so row.obligation has its row.obligation.due ∙ ap (paid_for own row.obligation as_of) (sym k.due));
           paid_makeup = k.paid_makeup ∙ (paid_so row.obligation has its row.makeup ∙ ap (paid_for own row.obligation as_of) (sym k.makeup_is));
           small = subst (λ b. IsTrue b ↔ IsSmall own owed quarter) (sym k.small) small_is;
-          quarter_paid = subst (λ b. IsTrue b ↔ IsReturnPaid own quarter c.return_due) (sym k.quarter_paid) (subst (λ d. IsTrue of.paid ↔ IsReturnPaid own quarter d) (sym k.return_due) paid_is);
+          quarter_paid = subst (λ b. IsTrue b ↔ IsReturnPaid own quarter c.return_due) (sym k.quarter_paid) (subst (λ d. IsTrue of_return.paid ↔ IsReturnPaid own quarter d) (sym k.return_due) paid_is);
         };
         verdict = r.verdict;
       }
@@ -335,15 +340,15 @@ module _ (name : List ℕ) (quarter as_of : ℕ) (read : List ℕ) (period : Ret
 
   of_listed : (row : DueRow) → Has rows row → IsDueRow all own owed quarter as_of row
   of_listed row has =
-      let from = paired_from (IsRowBy of read period.payments.items as_of) (filter (begins_in quarter) period.obligations.items) rows row are_rows has in
+      let from = paired_from (IsRowBy of_return as_of) (filter (begins_in quarter) found) rows row are_rows has in
       let same : row.obligation ≡ from.0 = from.2.obligation in
       let there = has_found from.0 from.1 in
-      row_is row (subst (Has owed) (sym same) there.0) (ap (λ (p : Obligation). quarter_of p.first) same ∙ there.1) (subst (λ o. IsRowBy of read period.payments.items as_of o row) (sym same) from.2)
+      row_is row (subst (Has owed) (sym same) there.0) (ap (λ (p : Obligation). quarter_of p.first) same ∙ there.1) (subst (λ o. IsRowBy of_return as_of o row) (sym same) from.2)
 
   is_listed : (row : DueRow) → IsDueRow all own owed quarter as_of row → Has rows row
   is_listed row is =
       let o : Obligation = row.obligation in
-      let to = paired_to (IsRowBy of read period.payments.items as_of) (filter (begins_in quarter) period.obligations.items) rows o are_rows (found_has o is.owed is.begins) in
+      let to = paired_to (IsRowBy of_return as_of) (filter (begins_in quarter) found) rows o are_rows (found_has o is.owed is.begins) in
       subst (Has rows) (sym (row_one row to.0 to.2.obligation is (of_listed to.0 to.1))) to.1
 
   pub due_listed : IsDueList all own quarter as_of (Ok (Due rows))
@@ -351,8 +356,8 @@ module _ (name : List ℕ) (quarter as_of : ℕ) (read : List ℕ) (period : Ret
     rows = owed;
     owed = ((stands.settled name).lines, (stands.settled name).are_lines, (stands.settled name).are_owed);
     listed = rows;
-    by_first_day = rows_rise (IsRowBy of read period.payments.items as_of) (λ o row r. r.obligation) (filter (begins_in quarter) period.obligations.items) rows
-        (kept_by_first_day (begins_in quarter) period.obligations.items (subst ByFirstDay (sym found_is) (kept_by_first_day (begins_on period.first period.last) owed (stands.settled name).are_owed.by_first_day))) are_rows;
+    by_first_day = rows_rise (IsRowBy of_return as_of) (λ o row r. r.obligation) (filter (begins_in quarter) found) rows
+        (kept_by_first_day (begins_in quarter) found (subst ByFirstDay (sym found_is) (kept_by_first_day (begins_on period.first period.last) owed (stands.settled name).are_owed.by_first_day))) are_rows;
     all = λ row. (of_listed row, is_listed row);
     told = refl;
   }

@@ -1,8 +1,11 @@
 -- The due list of a quarter: what is answered, and that it is the machine's answer.
-use Rattle.std.proofs.Common.{◌≡◌, ℕ, ◌≤◌, true, List, Option, None, Some, Ok, refl, sym, ap, ◌∙◌, subst}
+use Rattle.std.proofs.Common.{◌≡◌, ℕ, ◌≤◌, Bool, true, List, Option, None, Some, Ok, refl, sym, ap, ◌∙◌, subst}
 use Rattle.std.specs.Prelude.{filter, nat_le}
 use Rattle.std.proofs.lemmas.Bool.{leb-true}
+use Rattle.std.specs.List.{list_any}
 use Rattle.ftd_days.specs.Calendar.{quarter_year}
+use Rattle.ftd_days.specs.Holidays.{YearDays, holidays_of}
+use Rattle.ftd_rules.specs.declared.Obligation.{Obligation}
 use Rattle.ftd_rules.specs.declared.Form.{Form}
 use Rattle.ftd_rules.specs.declared.verdict.DueRow.{DueRow}
 use Rattle.ftd_schema.specs.Standing.{Tables}
@@ -22,20 +25,20 @@ use Rattle.ftd_machine.proofs.Deciding.{decided, passed}
 use Rattle.ftd_machine.proofs.Heads.{Gives, gives_needs, skip_needs}
 use Rattle.ftd_entries.specs.Standing.{StandsFor}
 use Rattle.ftd_questions.specs.Calendars.{HasTwoYears}
-use Rattle.ftd_questions.specs.Returns.{KnowsPeriod}
-use Rattle.ftd_questions.specs.DueRows.{begins_in, IsReturnBy, IsRowBy, KnowsForDue, KnowsDueList}
+use Rattle.ftd_questions.specs.Returns.{KnowsObligations, KnowsPeriod}
+use Rattle.ftd_questions.specs.DueRows.{begins_in, is_next_day_row, IsReturnBy, IsRowBy, KnowsForDue, KnowsDueList}
 use Rattle.ftd_questions.specs.declared.return_periods.ReturnPeriod.{ReturnPeriod}
 use Rattle.ftd_questions.specs.declared.due_rows.QuarterReturn.{QuarterReturn}
 use Rattle.ftd_questions.specs.declared.due.KnownForDue.{KnownForDue}
 use Rattle.ftd_questions.proofs.DueListed.{due_listed}
 
 -- the rows by what was read are the due list of each sound state
-pub due_known : (name : List ℕ) (form : Form) (quarter as_of : ℕ) (read : List ℕ) (period : ReturnPeriod) (of : QuarterReturn) (rows : List DueRow) → 2001 ≤ quarter_year quarter → quarter_year quarter ≤ 2098
-    → IsReturnBy form quarter period read of → Pairs (IsRowBy of read period.payments.items as_of) (filter (begins_in quarter) period.obligations.items) rows
-    → (t : Tables) → HasTwoYears (quarter_year quarter) read t → KnowsPeriod name form quarter period t → KnowsDueList name form quarter as_of rows t
-due_known name form quarter as_of read period of rows from to is_return are_rows t years known s stands sound form_is =
-    due_listed name quarter as_of read period of rows from to t s stands sound (subst (λ f. IsReturnBy f quarter period read of) (sym form_is) is_return) are_rows years
-    (subst (λ f. KnowsPeriod name f quarter period t) (sym form_is) known)
+pub due_known : (name : List ℕ) (form : Form) (quarter as_of : ℕ) (given : List YearDays) (period : ReturnPeriod) (next_day : Bool) (found : List Obligation) (of_return : QuarterReturn) (rows : List DueRow) → 2001 ≤ quarter_year quarter → quarter_year quarter ≤ 2098
+    → IsReturnBy form quarter next_day period given of_return → next_day ≡ list_any is_next_day_row found → Pairs (IsRowBy of_return as_of) (filter (begins_in quarter) found) rows
+    → (t : Tables) → HasTwoYears (quarter_year quarter) (holidays_of given) t → KnowsPeriod name form quarter period t → KnowsObligations name period.first period.last found t → KnowsDueList name form quarter as_of rows t
+due_known name form quarter as_of given period next_day found of_return rows from to is_return is_next are_rows t years known are_found s stands sound form_is =
+    due_listed name quarter as_of given period next_day found of_return rows from to t s stands sound (subst (λ f. IsReturnBy f quarter next_day period given of_return) (sym form_is) is_return) is_next are_rows years
+    (subst (λ f. KnowsPeriod name f quarter period t) (sym form_is) known) are_found
 
 module _ (name : List ℕ) (quarter as_of : ℕ) (known : KnownForDue) where
   abbrev pub checks : Option Answer

@@ -4,7 +4,6 @@ use Rattle.std.specs.Prelude.{filter, bytes_eq, int_le}
 use Rattle.std.specs.Ordering.{int_eq}
 use Rattle.std.specs.List.{sum_by}
 use Rattle.std.proofs.lemmas.Bool.{cases_Bool, eqb-true}
-use Rattle.std.proofs.lemmas.Bool.Decides.{Decides-int_eq, Decides-eqb, Decides-like, same_from_decides}
 use Rattle.std.proofs.lemmas.Int.{ints}
 use Rattle.std.proofs.lemmas.List.Sums.{sum_by-cons}
 use Rattle.std.proofs.lemmas.List.Sorted.{sum_by-IsPermutation}
@@ -22,7 +21,7 @@ use Rattle.ftd_rows.proofs.Found.{both}
 use Rattle.ftd_schema.specs.Rows.{RunRow}
 use Rattle.ftd_schema.specs.Standing.{Tables}
 use Rattle.ftd_sql.specs.Tests.{is_live_run_between}
-use Rattle.ftd_rows.specs.Cells.{day_number, flag_number}
+use Rattle.ftd_rows.specs.Cells.{day_number}
 use Rattle.ftd_rows.specs.Rows.{run_row}
 use Rattle.ftd_rows.specs.Lists.{Pairs}
 use Rattle.ftd_rows.specs.DaySums.{owed_on, IsLiveRun}
@@ -33,15 +32,11 @@ use Rattle.ftd_machine.specs.History.{is_live, live, liability_of, live_sums}
 use Rattle.ftd_machine.specs.Asking.{day_of_sum, IsLiableDay}
 use Rattle.ftd_entries.specs.Standing.{StandsFor, run_entry}
 use Rattle.ftd_entries.proofs.CalendarRows.{whole}
-use Rattle.ftd_entries.proofs.Found.{day_is}
+use Rattle.ftd_questions.proofs.DayCells.{same_day}
+use Rattle.ftd_questions.proofs.KeptSums.{kept_sum, none_of, live_cell}
 use Rattle.ftd_questions.proofs.Rising.{keys_rise, sum_of_its_day, sum_of_day}
 
 -- ---- days as cells
-
-same_day : (a b : ℕ) → int_eq (day_number a) (day_number b) ≡ (a == b)
-same_day a b =
-    same_from_decides (int_eq (day_number a) (day_number b)) (a == b)
-    (Decides-like (int_eq (day_number a) (day_number b)) (day_is a b) (λ is. ap day_number is) (Decides-int_eq (day_number a) (day_number b))) (Decides-eqb a b)
 
 le_cells : (a b : ℕ) → a ≤ b → int_le (day_number a) (day_number b) ≡ true
 le_cells a b less = by (int_le (day_number a) (day_number b)) refl
@@ -69,17 +64,9 @@ module _ (name : List ℕ) (from to day : ℕ) where
   row_shared : (e : Entry (Voidable PayRun)) → row_owed (run_entry e) ≡ share day day (liability_of e.content.value)
   row_shared e = row_is (pos e.key) e.content.value e.content.voided ∙ sym (owed_is day e.content.value)
 
-  none_of : (b : Bool) (n : ℕ) → n ≡ 0 → cond b n 0 ≡ 0
-  none_of true n is = is
-  none_of false n is = refl
-
   same_of : (a b c d : Bool) (n : ℕ) → b ≡ true → c ≡ true → cond (a && (b && (c && d))) n 0 ≡ cond a (cond d n 0) 0
   same_of true b c d n eb ec = rw (eb, ec) refl
   same_of false b c d n eb ec = refl
-
-  live_cell : (voided : Bool) → int_eq (flag_number voided) (pos 0) ≡ not voided
-  live_cell true = refl
-  live_cell false = refl
 
   -- on a day between the two
   run_in : from ≤ day → day ≤ to → (e : Entry (Voidable PayRun))
@@ -117,12 +104,6 @@ module _ (name : List ℕ) (from to day : ℕ) where
   ]
 
   -- ---- all runs
-
-  kept_sum : {X : Type 0} (p : X → Bool) (f : X → ℕ) (x : X) (xs : List X) → sum_by f (filter p (x ∷ xs)) ≡ cond (p x) (f x) 0 + sum_by f (filter p xs)
-  kept_sum p f x xs = elim (cases_Bool (p x)) [
-    | inl kept ↦ rw kept (sum_by-cons f x (filter p xs))
-    | inr left ↦ rw left (omega arith)
-  ]
 
   abbrev own_sums : List (Entry (Voidable PayRun)) → List DaySum
   own_sums es = map liability_of (live (filter (is_of name) es))

@@ -1,6 +1,7 @@
 mod Items
 mod DayCells
 mod Sifted
+mod KeptSums
 mod Adding
 mod HolidaysRead
 mod Rising

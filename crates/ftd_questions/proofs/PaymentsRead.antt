@@ -1,8 +1,7 @@
 -- The payments that were read count for the days what the account's live payments count for them.
-use Rattle.std.proofs.Common.{◌≡◌, ℕ, ℤ, pos, ◌+◌, ◌<◌, ◌≤◌, cond, not, inl, inr, List, [], ◌∷◌, map, Bool, true, false, ◌&&◌, Vec, refl, sym, ap, ◌∙◌, arith}
+use Rattle.std.proofs.Common.{◌≡◌, ℕ, ℤ, pos, ◌+◌, ◌<◌, ◌≤◌, cond, inl, inr, List, [], ◌∷◌, map, Bool, true, false, ◌&&◌, Vec, refl, sym, ap, ◌∙◌, arith}
 use Rattle.std.proofs.Math.IntN.{◌+ℤ◌, -ℤ-+ℤ_cancel}
 use Rattle.std.specs.Prelude.{filter, min, bytes_eq, nat_lt}
-use Rattle.std.specs.Ordering.{int_eq}
 use Rattle.std.specs.List.{sum_by}
 use Rattle.std.proofs.lemmas.Bool.{cases_Bool, le-leb, lt-ltb}
 use Rattle.std.proofs.lemmas.List.Sums.{sum_by-cons}
@@ -14,7 +13,7 @@ use Rattle.ftd_rules.proofs.Cuts.{lt_or_le}
 use Rattle.ftd_schema.specs.Rows.{PaymentRow}
 use Rattle.ftd_schema.specs.Standing.{Tables}
 use Rattle.ftd_sql.specs.Tests.{is_live_payment_between}
-use Rattle.ftd_rows.specs.Cells.{day_number, flag_number}
+use Rattle.ftd_rows.specs.Cells.{day_number}
 use Rattle.ftd_rows.specs.Lists.{Pairs}
 use Rattle.ftd_rows.specs.Rows.{payment_row}
 use Rattle.ftd_store.specs.Finds.{IsLivePayment, ListsPayments}
@@ -24,6 +23,7 @@ use Rattle.ftd_entries.specs.Standing.{payment_entry}
 use Rattle.ftd_entries.proofs.CalendarRows.{whole}
 use Rattle.ftd_questions.specs.Returns.{KnowsPayments}
 use Rattle.ftd_questions.proofs.DayCells.{day_le}
+use Rattle.ftd_questions.proofs.KeptSums.{kept_sum, none_of, live_cell}
 
 -- ---- one payment
 
@@ -38,23 +38,9 @@ payment_is account number p voided =
     let for_day : whole (day_number p.for_day +ℤ pos 25_567) ≡ p.for_day = back p.for_day in
     λ i. record { paid = paid i; for_day = for_day i; cents = p.cents }
 
-kept_sum : {X : Type 0} (p : X → Bool) (f : X → ℕ) (x : X) (xs : List X) → sum_by f (filter p (x ∷ xs)) ≡ cond (p x) (f x) 0 + sum_by f (filter p xs)
-kept_sum p f x xs = elim (cases_Bool (p x)) [
-  | inl kept ↦ rw kept (sum_by-cons f x (filter p xs))
-  | inr left ↦ rw left (omega arith)
-]
-
-none_of : (b : Bool) (n : ℕ) → n ≡ 0 → cond b n 0 ≡ 0
-none_of true n is = is
-none_of false n is = refl
-
 same_of : (a b c d e : Bool) (n : ℕ) → b ≡ true → c ≡ true → d ≡ e → cond (a && (b && (c && d))) n 0 ≡ cond a (cond e n 0) 0
 same_of true b c d e n eb ec ed = rw (eb, ec, ed) refl
 same_of false b c d e n eb ec ed = refl
-
-live_cell : (voided : Bool) → int_eq (flag_number voided) (pos 0) ≡ not voided
-live_cell true = refl
-live_cell false = refl
 
 module _ (name : List ℕ) (first last from to by : ℕ) (low : first ≤ from) (high : to ≤ last) where
   abbrev Test : PaymentRow → Bool

@@ -23,26 +23,10 @@ keeps_has {X = X} p (y ∷ xs) x (inr has) passes =
       | inr left ↦ subst (λ (ys : List X). Has ys x) (sym (filter_out p y xs left)) (keeps_has p xs x has passes)
     ]
 
--- one test after another is the other after the one
-pub both_tests : {X : Type 0} (p q : X → Bool) (xs : List X) → filter p (filter q xs) ≡ filter q (filter p xs)
-both_tests p q [] = refl
-both_tests {X = X} p q (x ∷ xs) =
-    let rest = both_tests p q xs in
-    elim (cases_Bool (p x)) [
-      | inl a ↦ elim (cases_Bool (q x)) [
-        | inl b ↦ ap (filter p) (filter_in q x xs b) ∙ (filter_in p x (filter q xs) a ∙ (ap (λ (l : List X). x ∷ l) rest ∙ (sym (filter_in q x (filter p xs) b) ∙ sym (ap (filter q) (filter_in p x xs a)))))
-        | inr b ↦ ap (filter p) (filter_out q x xs b) ∙ (rest ∙ (sym (filter_out q x (filter p xs) b) ∙ sym (ap (filter q) (filter_in p x xs a))))
-      ]
-      | inr a ↦ elim (cases_Bool (q x)) [
-        | inl b ↦ ap (filter p) (filter_in q x xs b) ∙ (filter_out p x (filter q xs) a ∙ (rest ∙ sym (ap (filter q) (filter_out p x xs a))))
-        | inr b ↦ ap (filter p) (filter_out q x xs b) ∙ (rest ∙ sym (ap (filter q) (filter_out p x xs a)))
-      ]
-    ]
-
 -- ---- in another order
 
 -- lists that are equal to two in another order
-pub both_are : {X : Type 0} (as_left as_right left right : List X) → as_left ≡ left → as_right ≡ right → IsPermutation left right → IsPermutation as_left as_right
+both_are : {X : Type 0} (as_left as_right left right : List X) → as_left ≡ left → as_right ≡ right → IsPermutation left right → IsPermutation as_left as_right
 both_are as_left as_right left right e f h = subst (λ l. IsPermutation l as_right) (sym e) (subst (λ l. IsPermutation left l) (sym f) h)
 
 two : {X : Type 0} (p : X → Bool) (x y : X) (xs : List X) → IsPermutation (filter p (x ∷ y ∷ xs)) (filter p (y ∷ x ∷ xs))

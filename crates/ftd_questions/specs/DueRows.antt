@@ -1,10 +1,9 @@
--- The rows of a due list, by what is known of the quarter's return period.
+-- The rows of a due list, by what is known of the quarter's return.
 use Rattle.std.specs.Prelude.{◌≡◌, ◌≤◌, ◌==◌, ◌↔◌, ℕ, Bool, List, IsTrue, Ok}
-use Rattle.std.specs.List.{list_any}
 use Rattle.ftd_days.specs.Calendar.{quarter_of, quarter_year}
+use Rattle.ftd_days.specs.Holidays.{YearDays, holidays_of}
 use Rattle.ftd_rules.specs.declared.Form.{Form}
 use Rattle.ftd_rules.specs.declared.Obligation.{Obligation}
-use Rattle.ftd_rules.specs.declared.payment.Payment.{Payment}
 use Rattle.ftd_rules.specs.declared.verdict.Case.{Case}
 use Rattle.ftd_rules.specs.declared.verdict.DueRow.{DueRow}
 use Rattle.ftd_rules.specs.Payments.{paid_by}
@@ -32,37 +31,39 @@ begins_in quarter o = quarter_of o.first == quarter
 
 -- how the return of a quarter stands: when it is due, whether its obligations may be paid with it,
 -- and whether what was paid for its return period by then reaches its total
-pub record IsReturnBy (form : Form) (quarter : ℕ) (period : ReturnPeriod) (holidays : List ℕ)
-    (of_return : QuarterReturn) : Type 0 where
+pub record IsReturnBy (form : Form) (quarter : ℕ) (next_day : Bool) (period : ReturnPeriod)
+    (given : List YearDays) (of_return : QuarterReturn) : Type 0 where
   pub form_is : of_return.form ≡ form
-  pub due : IsReturnDue form holidays quarter of_return.due
-  pub small : IsTrue of_return.small ↔ IsSmallQuarter period.total period.preceding
-      (list_any is_next_day_row period.obligations.items)
-  pub paid : IsTrue of_return.paid ↔ (period.total.0
-      ≤ paid_by period.payments.items period.first period.last of_return.due of_return.due)
+  pub due : IsReturnDue form (holidays_of given) quarter of_return.due
+  pub small : IsTrue of_return.small ↔ IsSmallQuarter period.total period.preceding next_day
+  pub paid : IsTrue of_return.paid ↔ (period.total.0 ≤ paid_by period.payments.items
+      period.first period.last of_return.due of_return.due)
+  pub payments : of_return.payments ≡ period.payments
+  pub holidays_are : of_return.holidays ≡ given
 
 -- what the verdict on a row depends on
-pub record IsCaseBy (of_return : QuarterReturn) (payments : List Payment) (as_of : ℕ) (o : Obligation)
-    (makeup : ℕ) (c : Case) : Type 0 where
+pub record IsCaseBy (of_return : QuarterReturn) (as_of : ℕ) (o : Obligation) (makeup : ℕ)
+    (c : Case) : Type 0 where
   pub cents : c.cents ≡ o.cents
   pub due : c.due ≡ o.due
   pub makeup_is : c.makeup ≡ makeup
   pub return_due : c.return_due ≡ of_return.due
   pub as_of_is : c.as_of ≡ as_of
-  pub paid_due : c.paid_due.0 ≡ paid_by payments o.first o.last as_of o.due
-  pub paid_makeup : c.paid_makeup.0 ≡ paid_by payments o.first o.last as_of makeup
+  pub paid_due : c.paid_due.0 ≡ paid_by of_return.payments.items o.first o.last as_of o.due
+  pub paid_makeup : c.paid_makeup.0 ≡ paid_by of_return.payments.items o.first o.last as_of makeup
   pub small : c.small ≡ of_return.small
   pub quarter_paid : c.quarter_paid ≡ of_return.paid
 
 -- the row of an obligation as of a day: its makeup date, what was paid for it by the day, and the
 -- verdict
-pub record IsRowBy (of_return : QuarterReturn) (holidays : List ℕ) (payments : List Payment) (as_of : ℕ)
-    (o : Obligation) (row : DueRow) : Type 0 where
+pub record IsRowBy (of_return : QuarterReturn) (as_of : ℕ) (o : Obligation) (row : DueRow)
+    : Type 0 where
   pub obligation : row.obligation ≡ o
-  pub makeup : IsMakeup of_return.form holidays o.rule o.last o.due row.makeup
-  pub paid : row.paid.0 ≡ paid_by payments o.first o.last as_of as_of
+  pub makeup : IsMakeup of_return.form (holidays_of of_return.holidays) o.rule o.last o.due
+      row.makeup
+  pub paid : row.paid.0 ≡ paid_by of_return.payments.items o.first o.last as_of as_of
   pub of_case : Case
-  pub is_case : IsCaseBy of_return payments as_of o row.makeup of_case
+  pub is_case : IsCaseBy of_return as_of o row.makeup of_case
   pub verdict : IsVerdict of_case row.verdict
 
 -- the account, and whether the year of the quarter is open

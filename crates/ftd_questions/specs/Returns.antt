@@ -47,7 +47,6 @@ pub record KnowsPeriod (name : List ℕ) (form : Form) (quarter : ℕ) (period :
     (t : Tables) : Type 0 where
   pub first : period.first ≡ return_period_first form (return_period form quarter)
   pub last : period.last ≡ return_period_last form (return_period form quarter)
-  pub obligations : KnowsObligations name period.first period.last period.obligations.items t
   pub payments : KnowsPayments name period.first period.last period.payments.items t
   pub total : KnowsLiability name period.first period.last period.total t
   pub preceding : KnowsPreceding name form quarter period.preceding t

@@ -17,7 +17,8 @@ use Rattle.ftd_entries.specs.Standing.{StandsFor}
 -- each line has the opening and the turn that some liability gives it
 abbrev pub AreScheduled : List YearLine → Type 0
 AreScheduled lines =
-    (liability : ℕ → ℕ → ℕ) × ((line : YearLine) → Has lines line → HasSchedule lines liability line)
+    (liability : ℕ → ℕ → ℕ)
+    × ((line : YearLine) → Has lines line → HasSchedule lines liability line)
 
 -- the answer is the schedule of the day by the line of its year, and why
 pub record IsStatusBy (lines : List YearLine) (day : ℕ) (answer : Answer) : Type 0 where
@@ -30,7 +31,8 @@ pub record IsStatusBy (lines : List YearLine) (day : ℕ) (answer : Answer) : Ty
   pub is_why : IsReason lines line status why
   pub told : answer ≡ Ok (Status status why)
 
--- the account, and the lines of its open years, are what each state keeps for which the tables stand
+-- the account, and the lines of its open years, are what each state keeps for which the tables
+-- stand
 abbrev pub KnowsLines : List ℕ → Option Account → List YearLine → Tables → Type 0
 KnowsLines name account lines t =
     (s : State) (stands : StandsFor t s)

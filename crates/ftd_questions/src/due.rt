@@ -7,7 +7,7 @@ ghost use Rattle.ftd_machine.specs.declared.requests.Request.TheVariants.{DueLis
 ghost use Rattle.ftd_entries.specs.Words.{Serves};
 ghost use Rattle.ftd_questions.specs.DueRows.{KnowsDueList, KnowsForDue};
 
-use crate::due_rows::{due_rows, quarter_return};
+use crate::due_rows::{due_rows, has_next_day, quarter_return};
 use crate::holidays::two_years;
 use crate::return_periods::return_period;
 use ftd_days::{Day, Quarter};
@@ -58,8 +58,10 @@ fn rows_of_quarter<S: Alter>(
 {
     let holidays = two_years(tx, alloc, quarter.year())?;
     let period = return_period(tx, alloc, name, form, quarter)?;
-    let of_return = quarter_return(form, quarter, &period, &holidays);
-    match due_rows(alloc, quarter, as_of, &of_return, &period, &holidays) {
+    let obligations = tx.obligations(alloc, name, period.first, period.last)?;
+    let next_day = has_next_day(&obligations);
+    let of_return = quarter_return(form, quarter, next_day, period, holidays);
+    match due_rows(alloc, quarter, as_of, &of_return, &obligations) {
         Ok(rows) => Ok(rows),
         Err(fault) => tx.give_up(fault),
     }

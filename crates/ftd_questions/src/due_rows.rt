@@ -1,9 +1,8 @@
-//! The rows of a due list, by what is known of the quarter's return period.
+//! The rows of a due list, by what is known of the quarter's return.
 
-ghost use Rattle.std.specs.Prelude.{◌≡◌, ◌<◌, ◌≤◌, ◌↔◌, filter, IsTrue, IfOk, IfSome};
+ghost use Rattle.std.specs.Prelude.{◌≡◌, ◌<◌, ◌≤◌, filter, IfOk, IfSome};
 ghost use Rattle.std.specs.List.{list_any, sum_by};
 ghost use Rattle.ftd_days.specs.Calendar.{quarter_year};
-ghost use Rattle.ftd_days.specs.Holidays.{holidays_of};
 ghost use Rattle.ftd_rules.specs.Payments.{payment_cents};
 ghost use Rattle.ftd_rows.specs.Lists.{Pairs};
 ghost use Rattle.ftd_questions.specs.DueRows.{IsReturnBy, IsRowBy, begins_in, is_next_day_row};
@@ -16,7 +15,7 @@ use ftd_rules::{
 use ftd_store::StoreFault;
 use std::alloc::Global;
 
-/// How the return of a quarter stands.
+/// What the rows of a quarter's due list rest on besides their obligations.
 #[derive(Drop)]
 pub(crate) struct QuarterReturn {
     /// The return that the employer files.
@@ -27,10 +26,14 @@ pub(crate) struct QuarterReturn {
     pub small: bool,
     /// Whether what was paid by the day it is due reaches what is owed on it.
     pub paid: bool,
+    /// The payments for the days of its return period that are not void.
+    pub payments: Vec<Payment>,
+    /// The holidays of its year and of the next.
+    pub holidays: Holidays,
 }
 
 /// Whether one of the obligations is a next-day one.
-fn has_next_day(obligations: &[Obligation]) -> bool
+pub(crate) fn has_next_day(obligations: &[Obligation]) -> bool
     ensures { result ≡ list_any is_next_day_row obligations.now }
 {
     obligations.iter().any(|obligation| match obligation.rule {
@@ -39,26 +42,37 @@ fn has_next_day(obligations: &[Obligation]) -> bool
     })
 }
 
-/// How the return of the quarter stands, by what is known of its return period.
+/// How the return of the quarter stands, by what is known of its return period, and whether a
+/// next-day obligation begins in that.
 pub(crate) fn quarter_return(
     form: Form,
     quarter: Quarter,
-    period: &ReturnPeriod,
-    holidays: &Holidays,
+    next_day: bool,
+    period: ReturnPeriod,
+    holidays: Holidays,
 ) -> QuarterReturn
     requires early { quarter_year quarter ≤ 2098 }
-    requires small { sum_by payment_cents period.now.payments.items < 6_000_000_000_000_000 }
-    ensures { IsReturnBy form quarter period.now (holidays_of holidays.now) result }
+    requires small { sum_by payment_cents period.payments.items < 6_000_000_000_000_000 }
+    ensures stands { IsReturnBy form quarter next_day period holidays result }
+    ensures small { sum_by payment_cents result.payments.items < 6_000_000_000_000_000 }
 {
-    let due = return_due(form, quarter, holidays);
-    let next_day = has_next_day(&period.obligations);
-    let small = with_return(period.total, period.preceding, next_day);
-    let paid = paid_by(&period.payments, period.first, period.last, due, due);
+    let ReturnPeriod {
+        first,
+        last,
+        payments,
+        total,
+        preceding,
+    } = period;
+    let due = return_due(form, quarter, &holidays);
+    let small = with_return(total, preceding, next_day);
+    let paid = total <= paid_by(&payments, first, last, due, due);
     QuarterReturn {
         form,
         due,
         small,
-        paid: period.total <= paid,
+        paid,
+        payments,
+        holidays,
     }
 }
 
@@ -68,12 +82,9 @@ pub(crate) fn due_row(
     obligation: Obligation,
     as_of: Day,
     of_return: &QuarterReturn,
-    payments: &[Payment],
-    holidays: &Holidays,
 ) -> Option<DueRow>
-    requires { sum_by payment_cents payments.now < 6_000_000_000_000_000 }
-    ensures { IfSome result
-        (IsRowBy of_return.now (holidays_of holidays.now) payments.now as_of obligation) }
+    requires { sum_by payment_cents of_return.now.payments.items < 6_000_000_000_000_000 }
+    ensures { IfSome result (IsRowBy of_return.now as_of obligation) }
 {
     let Obligation {
         first,
@@ -85,7 +96,8 @@ pub(crate) fn due_row(
     if last.year() > 2098 || due.year() > 2099 || cents.0 >= AMOUNTS_END {
         return None;
     }
-    let makeup = makeup(of_return.form, rule, last, due, holidays);
+    let payments = &of_return.payments;
+    let makeup = makeup(of_return.form, rule, last, due, &of_return.holidays);
     let case = Case {
         cents,
         due,
@@ -105,25 +117,23 @@ pub(crate) fn due_row(
     })
 }
 
-/// The rows of the obligations that begin in the quarter, in their order, as of a day. `Failed` also
-/// where an obligation is none that an account has.
+/// The rows of those of the obligations that begin in the quarter, in their order, as of a day.
+/// `Failed` also where an obligation is none that an account has.
 pub(crate) fn due_rows(
     alloc: Global,
     quarter: Quarter,
     as_of: Day,
     of_return: &QuarterReturn,
-    period: &ReturnPeriod,
-    holidays: &Holidays,
+    obligations: &[Obligation],
 ) -> Result<Vec<DueRow>, StoreFault>
-    requires { sum_by payment_cents period.now.payments.items < 6_000_000_000_000_000 }
-    ensures { IfOk result (λ rows.
-        Pairs (IsRowBy of_return.now (holidays_of holidays.now) period.now.payments.items as_of)
-        (filter (begins_in quarter) period.now.obligations.items) rows.items) }
+    requires { sum_by payment_cents of_return.now.payments.items < 6_000_000_000_000_000 }
+    ensures { IfOk result (λ rows. Pairs (IsRowBy of_return.now as_of)
+        (filter (begins_in quarter) obligations.now) rows.items) }
 {
     let mut rows = Vec::new(alloc);
-    for obligation in &period.obligations {
+    for obligation in obligations {
         if obligation.first.quarter() == quarter {
-            match due_row(*obligation, as_of, of_return, &period.payments, holidays) {
+            match due_row(*obligation, as_of, of_return) {
                 Some(row) => rows.push(row)?,
                 None => return Err(StoreFault::Failed),
             }

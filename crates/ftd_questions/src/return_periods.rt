@@ -1,5 +1,4 @@
-//! What the tables tell of an account's return period: its obligations, its liability and what was
-//! paid for it.
+//! What the tables tell of an account's return period: its liability, and what was paid for it.
 
 ghost use Rattle.std.specs.Prelude.{◌≡◌, ◌+◌, ◌<◌, ◌≤◌, IsTrue, IfOk, IfSome};
 ghost use Rattle.std.specs.List.{sum_by};
@@ -8,10 +7,10 @@ ghost use Rattle.ftd_rules.specs.Liability.{cents_of};
 ghost use Rattle.ftd_rules.specs.Payments.{payment_cents};
 ghost use Rattle.ftd_rules.specs.Periods.{return_period_of, return_period_first, return_period_last};
 ghost use Rattle.ftd_store.specs.Frame.{Reads};
-ghost use Rattle.ftd_questions.specs.Returns.{KnowsLiability, KnowsObligations, KnowsPayments, KnowsPreceding, KnowsPeriod};
+ghost use Rattle.ftd_questions.specs.Returns.{KnowsLiability, KnowsPayments, KnowsPreceding, KnowsPeriod};
 
 use ftd_days::{Cents, Day, Quarter};
-use ftd_rules::{DaySum, Form, Obligation, Payment};
+use ftd_rules::{DaySum, Form, Payment};
 use ftd_store::{StoreFault, Tx};
 use sqlite::Alter;
 use std::alloc::Global;
@@ -26,8 +25,6 @@ pub(crate) struct ReturnPeriod {
     pub first: Day,
     /// Its last day.
     pub last: Day,
-    /// The obligations that begin in it, by first day.
-    pub obligations: Vec<Obligation>,
     /// The payments for its days that are not void.
     pub payments: Vec<Payment>,
     /// Its liability.
@@ -153,14 +150,12 @@ pub(crate) fn return_period<S: Alter>(
         sum_by payment_cents period.payments.items < 6_000_000_000_000_000) }
 {
     let (first, last) = return_days(form, quarter.first());
-    let obligations = tx.obligations(alloc, name, first, last)?;
     let payments = payments_of(tx, alloc, name, first, last)?;
     let total = liability_of(tx, alloc, name, first, last)?;
     let preceding = preceding(tx, name, form, quarter)?;
     Ok(ReturnPeriod {
         first,
         last,
-        obligations,
         payments,
         total,
         preceding,

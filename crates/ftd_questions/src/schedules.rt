@@ -38,7 +38,8 @@ pub fn status<S: Alter>(
     Ok(status_by(&lines, day))
 }
 
-/// The schedule of the day by the lines of the open years. `YearNotOpen` where its year is not open.
+/// The schedule of the day by the lines of the open years. `YearNotOpen` where its year is not
+/// open.
 fn status_by(lines: &[YearLine], day: Day) -> Answer
     ensures { list_any (is_line_of (year_of day)) lines.now ≡ true → AreScheduled lines.now
         → IsStatusBy lines.now day result }

@@ -1,11 +1,11 @@
-use Rattle.std.proofs.Common.{◌≡◌, ℕ, Option, None, Some, Vec, Global, Ok, option_map, rules, arith}
+use Rattle.std.proofs.Common.{◌≡◌, None, Some, Ok, rules}
 use Rattle.ftd_store.specs.Finds.{FindsCalendar, ListsAdded}
 use Rattle.ftd_machine.specs.declared.replies.Reply.TheVariants.{Done}
 use Rattle.ftd_machine.specs.declared.requests.Request.TheVariants.{AddHoliday}
 use Rattle.ftd_entries.proofs.Reading.{Both, both_read}
 use Rattle.ftd_entries.proofs.Serving.{served_looked}
 use Rattle.ftd_holidays.specs.Moved.{AddsHoliday}
-use Rattle.ftd_holidays.proofs.AddedDay.{checks, added_decided, added_early, added_done}
+use Rattle.ftd_holidays.proofs.AddedDay.{checks, added_decided, added_done}
 use Rattle.ftd_holidays.proofs.Turned.{served_turned}
 use Rattle.ftd_holidays.proofs.adding.add_holiday.Goals as goal
 

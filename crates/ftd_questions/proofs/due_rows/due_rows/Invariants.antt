@@ -1,10 +1,8 @@
 use Rattle.std.proofs.Common.{take}
 use Rattle.std.specs.Prelude.{filter}
-use Rattle.ftd_days.specs.Holidays.{holidays_of}
 use Rattle.ftd_rows.specs.Lists.{Pairs}
 use Rattle.ftd_questions.specs.DueRows.{IsRowBy, begins_in}
 use Rattle.ftd_questions.proofs.due_rows.due_rows.Given as goal
 
 abbrev pub invariant-loop-obligation : goal.invariant-loop-obligation
-invariant-loop-obligation l =
-    Pairs (IsRowBy l.of_return (holidays_of l.holidays) l.period.payments.items l.as_of) (filter (begins_in l.quarter) (take l.obligation-index l.period.obligations.items)) l.rows.items
+invariant-loop-obligation l = Pairs (IsRowBy l.of_return l.as_of) (filter (begins_in l.quarter) (take l.obligation-index l.obligations)) l.rows.items

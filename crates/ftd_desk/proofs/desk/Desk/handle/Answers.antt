@@ -3,7 +3,7 @@ use Rattle.std.specs.Prelude.{is_err}
 use Rattle.ftd_store.specs.Seen.{seen, shown}
 use Rattle.ftd_desk.specs.Faults.{refusal_of}
 use Rattle.ftd_desk.specs.Words.{Handles}
-use Rattle.ftd_desk.proofs.Handling.{served_ok, served_err, handles_unbegun, handles_dropped, handles_uncommitted, handles_committed, at_err, at_ok}
+use Rattle.ftd_desk.proofs.Handling.{served_ok, served_err, handles_dropped, handles_uncommitted, handles_committed, at_err, at_ok}
 use Rattle.ftd_desk.proofs.desk.Desk.handle.Goals as goal
 
 pub returns-then-not-is_change-clause-handles : goal.returns-then-not-is_change-clause-handles

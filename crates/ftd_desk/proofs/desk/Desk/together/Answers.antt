@@ -1,6 +1,5 @@
-use Rattle.std.proofs.Common.{◌≡◌, ◌∷◌, true, false, rules, subst, sym, Ok, Err, List}
+use Rattle.std.proofs.Common.{◌≡◌, ◌∷◌, true, false, rules, subst, Ok, Err}
 use Rattle.std.specs.Prelude.{is_err}
-use Rattle.ftd_machine.specs.declared.requests.Request.{Request}
 use Rattle.ftd_machine.specs.declared.replies.Refusal.TheVariants as refusal
 use Rattle.ftd_store.specs.Seen.{seen, shown}
 use Rattle.ftd_desk.specs.Words.{HandlesTogether}
