@@ -15,19 +15,24 @@ use Rattle.ftd_rules.specs.declared.YearLine.{YearLine}
 use Rattle.ftd_rules.specs.Liability.{cents_of}
 use Rattle.ftd_rules.specs.Lists.{Has}
 use Rattle.ftd_rules.specs.Years.{LiesInYears, given, year_last}
-use Rattle.ftd_cli.specs.Fields.{is_account_name, run_number_of}
+use Rattle.ftd_csv.specs.Answers.{RecordsFail, most_bytes}
+use Rattle.ftd_csv.specs.declared.record.RecordFault.{RecordFault}
+use Rattle.ftd_csv.specs.declared.record.RecordFault.TheVariants as records
+use Rattle.ftd_cli.specs.Faults.{text_fault}
+use Rattle.ftd_csv.specs.Fields.{run_number_of}
+use Rattle.ftd_rules.specs.Accounts.{is_account_name}
 use Rattle.ftd_days.specs.Spelling.{day_of, cents_of as amount_of}
-use Rattle.ftd_cli.specs.Plain.{AtFault, FirstFault, IsCalendar, IsLookedAt, PlainFails, day_sum, is_taken, most_bytes, most_runs, taken, taken_run}
+use Rattle.ftd_cli.specs.Plain.{AtFault, FirstFault, IsCalendar, IsLookedAt, PlainFails, day_sum, is_taken, most_runs, taken, taken_run}
 use Rattle.ftd_cli.specs.declared.fault.PlainFault.{PlainFault}
 use Rattle.ftd_cli.specs.declared.fault.PlainFault.TheVariants as fault
-use Rattle.ftd_cli.specs.Records.{Run, Said, pay_run, malformed, said_of, six_of, field, under_first, rows_of, records_of, header_row, HasHeader}
-use Rattle.ftd_cli.specs.Taking.{CalendarFails, IsSmall, TakesAll, TextFails, run_of, runs_of, sum_of}
-use Rattle.ftd_cli.specs.declared.runs.Kept.{Kept}
+use Rattle.ftd_csv.specs.Records.{Run, Said, pay_run, malformed, said_of, six_of, field, under_first, records_of}
+use Rattle.ftd_cli.specs.Taking.{CalendarFails, IsSmall, TakesAll, Stops, run_of, runs_of, sum_of}
+use Rattle.ftd_rules.specs.declared.run.PayRun.{PayRun}
 use Rattle.ftd_cli.proofs.Members.{contains_from_has, has_from_contains, has_map, map_has, some_same}
 use Rattle.ftd_days.proofs.Spelling.{cents_small}
 
 -- ---- the sums are those of the runs
-pub same_sums : (account : List ℕ) (entries : List (ℕ × Kept)) → map sum_of (values_of entries) ≡ map day_sum (runs_of account entries)
+pub same_sums : (account : List ℕ) (entries : List (ℕ × PayRun)) → map sum_of (values_of entries) ≡ map day_sum (runs_of account entries)
 same_sums account [] = refl
 same_sums account (e ∷ entries) = ap (λ sums. sum_of e.1 ∷ sums) (same_sums account entries)
 
@@ -116,7 +121,7 @@ year_is account year run e =
 all_from_has : {X : Type 0} (P : X → Type 0) (xs : List X) → ((x : X) → Has xs x → P x) → All P xs
 all_from_has P xs each k d within = each (get_or xs k d) (has_from_contains xs (get_or xs k d) (Contains-get_or xs k d within))
 
-values_has : (entries : List (ℕ × Kept)) (kept : Kept) → Has (values_of entries) kept → (e : ℕ × Kept) × Has entries e × (kept ≡ e.1)
+values_has : (entries : List (ℕ × PayRun)) (kept : PayRun) → Has (values_of entries) kept → (e : ℕ × PayRun) × Has entries e × (kept ≡ e.1)
 values_has [] kept h = absurd h
 values_has (e ∷ entries) kept (inl same) = (e, inl refl, same)
 values_has (e ∷ entries) kept (inr h) = let (x, there, is) = values_has entries kept h in (x, inr there, is)
@@ -125,7 +130,7 @@ said_row : (rows : List (List (List ℕ))) (said : Said) → Has (under_first ro
 said_row [] said h = absurd h
 said_row (first ∷ rows) said h = let (row, there, is) = map_has said_of rows said h in (row, is)
 
-kept_run : (account : List ℕ) (year : ℕ) (rows : List (List (List ℕ))) (entries : List (ℕ × Kept)) (e : ℕ × Kept) → TakesAll account year (under_first rows) entries → Has entries e
+kept_run : (account : List ℕ) (year : ℕ) (rows : List (List (List ℕ))) (entries : List (ℕ × PayRun)) (e : ℕ × PayRun) → TakesAll account year (under_first rows) entries → Has entries e
     → SmallRun (run_of account e) × (year_of e.1.payday ≡ year)
 kept_run account year rows entries e all there =
     let run = run_of account e in
@@ -134,36 +139,36 @@ kept_run account year rows entries e all there =
     let (row, says) = said_row rows said at in
     (said_small row run (sym says ∙ is), year_is account year run taken_it)
 
-pub kept_small : (account : List ℕ) (year : ℕ) (rows : List (List (List ℕ))) (entries : List (ℕ × Kept)) → TakesAll account year (under_first rows) entries → All IsSmall (values_of entries)
+pub kept_small : (account : List ℕ) (year : ℕ) (rows : List (List (List ℕ))) (entries : List (ℕ × PayRun)) → TakesAll account year (under_first rows) entries → All IsSmall (values_of entries)
 kept_small account year rows entries all =
     all_from_has IsSmall (values_of entries) (λ kept h.
     let (e, there, is) = values_has entries kept h in
     let small = (kept_run account year rows entries e all there).0 in
     rw is (record { fit = small.fit; ss = small.ss; medicare = small.medicare }))
 
-kept_year : (account : List ℕ) (year : ℕ) (rows : List (List (List ℕ))) (entries : List (ℕ × Kept)) → TakesAll account year (under_first rows) entries → All (λ (kept : Kept). year_of kept.payday ≡ year) (values_of entries)
+kept_year : (account : List ℕ) (year : ℕ) (rows : List (List (List ℕ))) (entries : List (ℕ × PayRun)) → TakesAll account year (under_first rows) entries → All (λ (kept : PayRun). year_of kept.payday ≡ year) (values_of entries)
 kept_year account year rows entries all =
-    all_from_has (λ (kept : Kept). year_of kept.payday ≡ year) (values_of entries) (λ kept h.
+    all_from_has (λ (kept : PayRun). year_of kept.payday ≡ year) (values_of entries) (λ kept h.
     let (e, there, is) = values_has entries kept h in
-    ap (λ (k : Kept). year_of k.payday) is ∙ (kept_run account year rows entries e all there).1)
+    ap (λ (k : PayRun). year_of k.payday) is ∙ (kept_run account year rows entries e all there).1)
 
-pub sums_in_year : (account : List ℕ) (year : ℕ) (rows : List (List (List ℕ))) (entries : List (ℕ × Kept)) (sums : List DaySum) → TakesAll account year (under_first rows) entries → sums ≡ map sum_of (values_of entries)
+pub sums_in_year : (account : List ℕ) (year : ℕ) (rows : List (List (List ℕ))) (entries : List (ℕ × PayRun)) (sums : List DaySum) → TakesAll account year (under_first rows) entries → sums ≡ map sum_of (values_of entries)
     → All (λ (sum : DaySum). year_of sum.day ≡ year) sums
 sums_in_year account year rows entries sums all e = rw e (All-map (λ (sum : DaySum). year_of sum.day ≡ year) sum_of (values_of entries) (kept_year account year rows entries all))
 
-sum_small : (kept : Kept) → IsSmall kept → (sum_of kept).cents.0 ≤ 299_999_999_997
+sum_small : (kept : PayRun) → IsSmall kept → (sum_of kept).cents.0 ≤ 299_999_999_997
 sum_small kept small = let a = small.fit in let b = small.ss in let c = small.medicare in omega arith
 
-pub sums_small : (account : List ℕ) (year : ℕ) (rows : List (List (List ℕ))) (entries : List (ℕ × Kept)) (sums : List DaySum) → TakesAll account year (under_first rows) entries → sums ≡ map sum_of (values_of entries)
+pub sums_small : (account : List ℕ) (year : ℕ) (rows : List (List (List ℕ))) (entries : List (ℕ × PayRun)) (sums : List DaySum) → TakesAll account year (under_first rows) entries → sums ≡ map sum_of (values_of entries)
     → All (λ (sum : DaySum). sum.cents.0 ≤ 299_999_999_997) sums
 sums_small account year rows entries sums all e =
-    rw e (All-map (λ (sum : DaySum). sum.cents.0 ≤ 299_999_999_997) sum_of (values_of entries) (All-weaker IsSmall (λ (kept : Kept). (sum_of kept).cents.0 ≤ 299_999_999_997) sum_small (values_of entries) (kept_small account year rows entries all)))
+    rw e (All-map (λ (sum : DaySum). sum.cents.0 ≤ 299_999_999_997) sum_of (values_of entries) (All-weaker IsSmall (λ (kept : PayRun). (sum_of kept).cents.0 ≤ 299_999_999_997) sum_small (values_of entries) (kept_small account year rows entries all)))
 
-pub sums_few : (entries : List (ℕ × Kept)) (sums : List DaySum) → length entries ≤ most_runs → sums ≡ map sum_of (values_of entries) → length sums ≤ most_runs
+pub sums_few : (entries : List (ℕ × PayRun)) (sums : List DaySum) → length entries ≤ most_runs → sums ≡ map sum_of (values_of entries) → length sums ≤ most_runs
 sums_few entries sums few e =
     let long = ap length e in
     let a = length-map (values_of entries) sum_of in
-    let b = length-map entries (λ (e : ℕ × Kept). e.1) in
+    let b = length-map entries (λ (e : ℕ × PayRun). e.1) in
     omega arith
 
 -- ---- what is asked of them
@@ -181,19 +186,6 @@ only_line (one ∷ []) year lookback carried e =
     let same : given one ≡ (year, lookback, carried) = cc in
     (one, refl, ap (λ (g : ℕ × ℕ × Bool). g.0) same, ap (λ (g : ℕ × ℕ × Bool). g.1) same, ap (λ (g : ℕ × ℕ × Bool). g.2) same)
 only_line (one ∷ other ∷ lines) year lookback carried e = cc e
-
--- ---- the rows under the header
-pub header_first : (text : List ℕ) (first : List (List ℕ)) (rest : List (List (List ℕ))) → rows_of text ≡ first ∷ rest → (first ≡ header_row) → HasHeader text
-header_first text first rest e h = rw e (ap Some h)
-
-pub no_header : (text : List ℕ) → rows_of text ≡ [] → HasHeader text → ⊥
-no_header text e h = let f = rw e at h in cc f
-
-pub other_header : (text : List ℕ) (first : List (List ℕ)) (rest : List (List (List ℕ))) → rows_of text ≡ first ∷ rest → (first ≡ header_row → ⊥) → HasHeader text → ⊥
-other_header text first rest e n h = let f = rw e at h in n (some_same first header_row f)
-
-pub records_under : (text : List ℕ) (first : List (List ℕ)) (rest : List (List (List ℕ))) → rows_of text ≡ first ∷ rest → records_of text ≡ map said_of rest
-records_under text first rest e = ap under_first e
 
 -- ---- the faults of a text that is short enough, and whose holidays are a calendar
 never_length : (account : List ℕ) (year : ℕ) (before : List Said) (said : Said) → AtFault account year before said fault.TooLong → ⊥
@@ -217,10 +209,17 @@ record_fault csv account year holidays fault.TooManyRuns at h = (at, h)
 record_fault csv account year holidays fault.BadCalendar at h = absurd (never_calendar account year h.before h.record_at h.at_fault)
 record_fault csv account year holidays fault.Memory at h = tt
 
-pub text_fault : (csv account : List ℕ) (year : ℕ) (holidays : List ℕ) (f : PlainFault) → length csv ≤ most_bytes → IsCalendar year holidays → TextFails account year csv f → PlainFails csv account year holidays f
-text_fault csv account year holidays f short calendar (inl memory) = rw memory tt
-text_fault csv account year holidays f short calendar (inr (inl (bad, header))) = rw bad (short, calendar, header)
-text_fault csv account year holidays f short calendar (inr (inr (header, first))) = record_fault csv account year holidays f (record { short = short; calendar = calendar; header = header }) first
+-- why the text has no records
+pub text_fails : (csv account : List ℕ) (year : ℕ) (holidays : List ℕ) (f : RecordFault) → length csv ≤ most_bytes → IsCalendar year holidays → RecordsFail csv f
+    → PlainFails csv account year holidays (text_fault f)
+text_fails csv account year holidays records.BadHeader short calendar (_, header) = (short, calendar, header)
+text_fails csv account year holidays records.TooLong short calendar long = long
+text_fails csv account year holidays records.Memory short calendar h = tt
+
+-- why the runs are not taken
+pub stops_fault : (csv account : List ℕ) (year : ℕ) (holidays : List ℕ) (f : PlainFault) → IsLookedAt csv year holidays → Stops account year (records_of csv) f → PlainFails csv account year holidays f
+stops_fault csv account year holidays f at (inl memory) = rw memory tt
+stops_fault csv account year holidays f at (inr first) = record_fault csv account year holidays f at first
 
 pub calendar_fault_of : (csv account : List ℕ) (year : ℕ) (holidays : List ℕ) (f : PlainFault) → length csv ≤ most_bytes → CalendarFails year holidays f → PlainFails csv account year holidays f
 calendar_fault_of csv account year holidays f short (inl memory) = rw memory tt

@@ -1,5 +1,5 @@
 -- The runs that were taken so far, one record after the other.
-use Rattle.std.proofs.Common.{◌≡◌, ◌≢◌, ◌⊎◌, inl, inr, ℕ, ◌≤◌, ◌+◌, List, [], ◌∷◌, ◌++◌, length, get_or, Some, None, Bool, true, false, refl, sym, ap, ◌∙◌, arith, append_assoc, length-append}
+use Rattle.std.proofs.Common.{◌≡◌, ◌≢◌, ◌⊎◌, inl, inr, ℕ, suc, ◌<◌, ◌≤◌, ◌+◌, List, [], ◌∷◌, ◌++◌, length, get_or, map, drop, add-one, drop-cons, Some, None, Bool, true, false, refl, sym, ap, ◌∙◌, arith, append_assoc, length-append}
 use Rattle.std.specs.Prelude.{Contains, ◌↔◌, AllPairs, MatchBool, ◌&&◌, ◌==◌}
 use Rattle.std.specs.List.Sorted.{IsStrictlySortedBy}
 use Rattle.std.specs.Map.{lookup, keys_of}
@@ -12,12 +12,15 @@ use Rattle.std.proofs.lemmas.Map.Keys.{below_from_sorted}
 use Rattle.std.proofs.lemmas.Slice.Eq.{bytes_eq-Decides}
 use Rattle.ftd_days.specs.Calendar.{year_of}
 use Rattle.ftd_rules.specs.Lists.{Has}
-use Rattle.ftd_cli.specs.Records.{Run, Said, pay_run, malformed}
+use Rattle.ftd_csv.specs.Answers.{record_view, said_in}
+use Rattle.ftd_csv.specs.Records.{Run, Said, pay_run, malformed, numbered_from}
+use Rattle.ftd_csv.specs.declared.record.Record.{Record}
+use Rattle.ftd_csv.proofs.Numbered.{number_at}
 use Rattle.ftd_cli.specs.Plain.{AreCounted, AtFault, NoneAtFault, RunFault, is_taken, most_runs, taken, taken_run}
 use Rattle.ftd_cli.specs.Taking.{HasTaken, RefusesRecord, RefusesRun, Stops, TakesAll, TakesRecord, TakesRun, kept_of, run_of, runs_of}
 use Rattle.ftd_cli.specs.declared.fault.PlainFault.{PlainFault}
 use Rattle.ftd_cli.specs.declared.fault.PlainFault.TheVariants as fault
-use Rattle.ftd_cli.specs.declared.runs.Kept.{Kept}
+use Rattle.ftd_rules.specs.declared.run.PayRun.{PayRun}
 use Rattle.ftd_cli.proofs.Members.{contains_from_has, has_from_contains, has_map, map_has, has_push, push_has, push_last, lookup_has, lookup_apart, lookup_rising, insert_adds, no_longer, comes_once, some_same}
 use Rattle.std.proofs.lemmas.Bool.{false≢true}
 
@@ -80,29 +83,29 @@ run_kept account run e = ap (λ (name : List ℕ). record run { employer = name 
 abbrev number_of_run : Run → ℕ
 number_of_run run = run.number
 
-keys_rise : (account : List ℕ) (entries : List (ℕ × Kept)) → IsStrictlySortedBy nat_cmp (keys_of entries) → AllPairs (λ (a b : Run). a.number ≢ b.number) (runs_of account entries)
+keys_rise : (account : List ℕ) (entries : List (ℕ × PayRun)) → IsStrictlySortedBy nat_cmp (keys_of entries) → AllPairs (λ (a b : Run). a.number ≢ b.number) (runs_of account entries)
 keys_rise account entries sorted i j d before within =
-    let none : ℕ × Kept = (0, record { payday = 0; fit = record { 0 = 0 }; ss = record { 0 = 0 }; medicare = record { 0 = 0 } }) in
+    let none : ℕ × PayRun = (0, record { payday = 0; fit = record { 0 = 0 }; ss = record { 0 = 0 }; medicare = record { 0 = 0 } }) in
     let long = length-map entries (run_of account) in
     let first = get_or-map (run_of account) entries i none d (omega arith) in
     let second = get_or-map (run_of account) entries j none d (omega arith) in
-    let first_key = get_or-map (λ (e : ℕ × Kept). e.0) entries i none 0 (omega arith) in
-    let second_key = get_or-map (λ (e : ℕ × Kept). e.0) entries j none 0 (omega arith) in
-    let keys = length-map entries (λ (e : ℕ × Kept). e.0) in
+    let first_key = get_or-map (λ (e : ℕ × PayRun). e.0) entries i none 0 (omega arith) in
+    let second_key = get_or-map (λ (e : ℕ × PayRun). e.0) entries j none 0 (omega arith) in
+    let keys = length-map entries (λ (e : ℕ × PayRun). e.0) in
     let rise = below_from_sorted (keys_of entries) i j 0 sorted before (omega arith) in
     λ e.
     let same : (get_or entries i none).0 ≡ (get_or entries j none).0 = sym (ap (λ (r : Run). r.number) first) ∙ e ∙ ap (λ (r : Run). r.number) second in
     absurd (omega arith)
 
-pub counted_of : (account : List ℕ) (year : ℕ) (before : List Said) (entries : List (ℕ × Kept)) → IsStrictlySortedBy nat_cmp (keys_of entries)
+pub counted_of : (account : List ℕ) (year : ℕ) (before : List Said) (entries : List (ℕ × PayRun)) → IsStrictlySortedBy nat_cmp (keys_of entries)
     → ((run : Run) → Contains (runs_of account entries) run ↔ Contains (taken account year before) run) → AreCounted (taken account year before) (runs_of account entries)
 counted_of account year before entries sorted same = record { each_once = keys_rise account entries sorted; same = same }
 
 -- the runs that are kept are those taken
-abbrev Same : List ℕ → List (ℕ × Kept) → List Run → Type 0
+abbrev Same : List ℕ → List (ℕ × PayRun) → List Run → Type 0
 Same account entries runs = (run : Run) → Contains (runs_of account entries) run ↔ Contains runs run
 
-same_again : (account : List ℕ) (entries : List (ℕ × Kept)) (runs : List Run) (run : Run) → Same account entries runs → run.employer ≡ account
+same_again : (account : List ℕ) (entries : List (ℕ × PayRun)) (runs : List Run) (run : Run) → Same account entries runs → run.employer ≡ account
     → lookup (is_at (nat_cmp run.number)) entries ≡ Some (kept_of run) → Same account entries (runs ++ run ∷ [])
 same_again account entries runs run same mine found other =
     let here : Has (runs_of account entries) run = rw (run_kept account run mine) (has_map (run_of account) entries (run.number, kept_of run) (lookup_has run.number (kept_of run) entries found)) in (
@@ -113,7 +116,7 @@ same_again account entries runs run same mine found other =
       ]),
     )
 
-same_new : (account : List ℕ) (entries : List (ℕ × Kept)) (runs : List Run) (run : Run) → Same account entries runs → run.employer ≡ account
+same_new : (account : List ℕ) (entries : List (ℕ × PayRun)) (runs : List Run) (run : Run) → Same account entries runs → run.employer ≡ account
     → lookup (is_at (nat_cmp run.number)) entries ≡ None → Same account (insert_entry nat_cmp entries run.number (kept_of run)) (runs ++ run ∷ [])
 same_new account entries runs run same mine none other =
     let adds = insert_adds run.number (kept_of run) entries none in
@@ -134,14 +137,14 @@ same_new account entries runs run same mine none other =
     )
 
 -- no run that was taken has a number that no entry has
-other_number : (account : List ℕ) (entries : List (ℕ × Kept)) (runs : List Run) (number : ℕ) → Same account entries runs → lookup (is_at (nat_cmp number)) entries ≡ None
+other_number : (account : List ℕ) (entries : List (ℕ × PayRun)) (runs : List Run) (number : ℕ) → Same account entries runs → lookup (is_at (nat_cmp number)) entries ≡ None
     → (other : Run) → Contains runs other → other.number ≢ number
 other_number account entries runs number same none other c =
     let (e, there, is) = map_has (run_of account) entries other (has_from_contains (runs_of account entries) other ((same other).1 c)) in
     λ n. lookup_apart number entries e none there (sym (ap (λ (r : Run). r.number) is) ∙ n)
 
 -- ---- a record that is taken is at no fault
-one_entry : (account : List ℕ) (entries : List (ℕ × Kept)) (runs : List Run) (number : ℕ) (kept : Kept) → IsStrictlySortedBy nat_cmp (keys_of entries) → Same account entries runs
+one_entry : (account : List ℕ) (entries : List (ℕ × PayRun)) (runs : List Run) (number : ℕ) (kept : PayRun) → IsStrictlySortedBy nat_cmp (keys_of entries) → Same account entries runs
     → lookup (is_at (nat_cmp number)) entries ≡ Some kept → (other : Run) → Contains runs other → other.number ≡ number → other ≡ run_of account (number, kept)
 one_entry account entries runs number kept sorted same found other c n =
     let (e, there, is) = map_has (run_of account) entries other (has_from_contains (runs_of account entries) other ((same other).1 c)) in
@@ -151,19 +154,19 @@ one_entry account entries runs number kept sorted same found other c n =
     let value : e.1 ≡ kept = some_same e.1 kept (sym again ∙ found) in
     is ∙ rw (key, value) refl
 
-entry_there : (account : List ℕ) (entries : List (ℕ × Kept)) (runs : List Run) (number : ℕ) (kept : Kept) → Same account entries runs
+entry_there : (account : List ℕ) (entries : List (ℕ × PayRun)) (runs : List Run) (number : ℕ) (kept : PayRun) → Same account entries runs
     → lookup (is_at (nat_cmp number)) entries ≡ Some kept → Contains runs (run_of account (number, kept))
 entry_there account entries runs number kept same found =
     (same (run_of account (number, kept))).0 (contains_from_has (runs_of account entries) (run_of account (number, kept)) (has_map (run_of account) entries (number, kept) (lookup_has number kept entries found)))
 
-counted_no_longer : (account : List ℕ) (entries : List (ℕ × Kept)) (runs counted : List Run) → Same account entries runs → AreCounted runs counted → length counted ≤ length entries
+counted_no_longer : (account : List ℕ) (entries : List (ℕ × PayRun)) (runs counted : List Run) → Same account entries runs → AreCounted runs counted → length counted ≤ length entries
 counted_no_longer account entries runs counted same are =
     let long = length-map entries (run_of account) in
     let bound = no_longer counted (runs_of account entries) (comes_once number_of_run counted are.each_once)
     (λ run h. has_from_contains (runs_of account entries) run ((same run).1 ((are.same run).0 (contains_from_has counted run h)))) in
     omega arith
 
-run_at_no_fault : (account : List ℕ) (year : ℕ) (entries new : List (ℕ × Kept)) (runs : List Run) (run : Run) → IsStrictlySortedBy nat_cmp (keys_of entries) → Same account entries runs → run.employer ≡ account
+run_at_no_fault : (account : List ℕ) (year : ℕ) (entries new : List (ℕ × PayRun)) (runs : List Run) (run : Run) → IsStrictlySortedBy nat_cmp (keys_of entries) → Same account entries runs → run.employer ≡ account
     → TakesRun entries run new → (f : PlainFault) → RunFault runs run f → ⊥
 run_at_no_fault account year entries new runs run sorted same mine (inl (found, keeps)) (fault.RunDiffers number) (n, (other, there, same_number, differs)) =
     differs (one_entry account entries runs run.number (kept_of run) sorted same found other there same_number ∙ sym (run_kept account run mine))
@@ -180,7 +183,7 @@ run_at_no_fault account year entries new runs run sorted same mine takes fault.B
 run_at_no_fault account year entries new runs run sorted same mine takes fault.Memory h = h
 
 -- ---- a record that is refused is at fault
-run_at_fault : (account : List ℕ) (year : ℕ) (before : List Said) (entries : List (ℕ × Kept)) (run : Run) → IsStrictlySortedBy nat_cmp (keys_of entries) → Same account entries (taken account year before)
+run_at_fault : (account : List ℕ) (year : ℕ) (before : List Said) (entries : List (ℕ × PayRun)) (run : Run) → IsStrictlySortedBy nat_cmp (keys_of entries) → Same account entries (taken account year before)
     → run.employer ≡ account → (f : PlainFault) → RefusesRun entries run f → (f ≡ fault.Memory) ⊎ RunFault (taken account year before) run f
 run_at_fault account year before entries run sorted same mine (fault.RunDiffers number) (n, kept, found, differs) =
     inr (
@@ -211,19 +214,19 @@ taken_first account year records = record {
   few = omega arith;
 }
 
-pub taken_all : (account : List ℕ) (year : ℕ) (records : List Said) (number : ℕ) (entries : List (ℕ × Kept)) → HasTaken account year records [] number entries → TakesAll account year records entries
+pub record_next : (records : List Record) (i : ℕ) (r : Record) → i < length records → r ≡ get_or records i r
+    → map said_in (drop i records) ≡ said_in r ∷ map said_in (drop (i + 1) records)
+record_next records i r within is = rw add-one (ap (λ (rs : List Record). map said_in rs) (drop-cons records i r within ∙ ap (λ (x : Record). x ∷ drop (suc i) records) (sym is)))
+
+pub record_number : (records : List Record) (said : List Said) (i : ℕ) (r : Record) → map record_view records ≡ numbered_from 2 said → i < length records → r ≡ get_or records i r → r.number ≡ 2 + i
+record_number records said i r e within is = ap (λ (x : Record). x.number) is ∙ number_at records 2 said i r e within
+
+pub taken_all : (account : List ℕ) (year : ℕ) (records : List Said) (number : ℕ) (entries : List (ℕ × PayRun)) → HasTaken account year records [] number entries → TakesAll account year records entries
 taken_all account year records number entries h =
     let all : records ≡ h.before = h.parts ∙ append-nil h.before in
     record { none_at_fault = rw all h.none_at_fault; same = rw all h.same; few = h.few }
 
-pub taken_fits : (account : List ℕ) (year : ℕ) (records : List Said) (said : Said) (left : List Said) (number : ℕ) (entries : List (ℕ × Kept)) → HasTaken account year records (said ∷ left) number entries → number ≤ 2 + length records
-taken_fits account year records said left number entries h =
-    let long = ap length h.parts in
-    let parts = length-append h.before (said ∷ left) in
-    let count = h.count in
-    omega arith
-
-pub taken_stops : (account : List ℕ) (year : ℕ) (records : List Said) (said : Said) (left : List Said) (number : ℕ) (entries : List (ℕ × Kept)) (f : PlainFault) → IsStrictlySortedBy nat_cmp (keys_of entries)
+pub taken_stops : (account : List ℕ) (year : ℕ) (records : List Said) (said : Said) (left : List Said) (number : ℕ) (entries : List (ℕ × PayRun)) (f : PlainFault) → IsStrictlySortedBy nat_cmp (keys_of entries)
     → HasTaken account year records (said ∷ left) number entries → RefusesRecord account year number entries said f → Stops account year records f
 taken_stops account year records (malformed place) left number entries f sorted h refuses =
     inr (record { before = h.before; record_at = malformed place; after = left; parts = h.parts; none_before = h.none_at_fault; at_fault = refuses ∙ ap (λ n. fault.Malformed n place) h.count })
@@ -233,21 +236,21 @@ taken_stops account year records (pay_run run) left number entries f sorted h re
       | inr at ↦ inr (record { before = h.before; record_at = pay_run run; after = left; parts = h.parts; none_before = h.none_at_fault; at_fault = (refuses.0, at) })
     ]
 
-few_more : (entries new : List (ℕ × Kept)) (run : Run) → length entries ≤ most_runs → TakesRun entries run new → length new ≤ most_runs
+few_more : (entries new : List (ℕ × PayRun)) (run : Run) → length entries ≤ most_runs → TakesRun entries run new → length new ≤ most_runs
 few_more entries new run few (inl (found, keeps)) = let long = ap length keeps in omega arith
 few_more entries new run few (inr (none, fewer, adds)) =
     let long = ap length adds in
     let more = (insert_adds run.number (kept_of run) entries none).long in
     omega arith
 
-same_more : (account : List ℕ) (entries new : List (ℕ × Kept)) (runs : List Run) (run : Run) → Same account entries runs → run.employer ≡ account → TakesRun entries run new → Same account new (runs ++ run ∷ [])
+same_more : (account : List ℕ) (entries new : List (ℕ × PayRun)) (runs : List Run) (run : Run) → Same account entries runs → run.employer ≡ account → TakesRun entries run new → Same account new (runs ++ run ∷ [])
 same_more account entries new runs run same mine (inl (found, keeps)) = rw keeps (same_again account entries runs run same mine found)
 same_more account entries new runs run same mine (inr (none, fewer, adds)) = rw adds (same_new account entries runs run same mine none)
 
 parts_more : (records before : List Said) (said : Said) (left : List Said) → records ≡ before ++ said ∷ left → records ≡ (before ++ said ∷ []) ++ left
 parts_more records before said left e = e ∙ sym (append_assoc before (said ∷ []) left)
 
-pub taken_next : (account : List ℕ) (year : ℕ) (records : List Said) (said : Said) (left : List Said) (number : ℕ) (entries new : List (ℕ × Kept)) → IsStrictlySortedBy nat_cmp (keys_of entries)
+pub taken_next : (account : List ℕ) (year : ℕ) (records : List Said) (said : Said) (left : List Said) (number : ℕ) (entries new : List (ℕ × PayRun)) → IsStrictlySortedBy nat_cmp (keys_of entries)
     → HasTaken account year records (said ∷ left) number entries → TakesRecord account year entries said new → HasTaken account year records left (number + 1) new
 taken_next account year records (malformed place) left number entries new sorted h takes = absurd takes
 taken_next account year records (pay_run run) left number entries new sorted h takes = go (is_taken account year run) refl takes

@@ -1,77 +1,8 @@
--- What the words of the command line say, one after the other.
-use Rattle.std.proofs.Common.{◌≡◌, ℕ, suc, ◌+◌, ◌<◌, ◌^◌, List, [], ◌∷◌, ◌++◌, length, map, drop, get_or, Option, Some, None, Result, Ok, Err, Bool, true, false, cond, refl, sym, ap, ◌∙◌, arith, append_assoc, add-one, drop-cons}
-use Rattle.std.specs.Prelude.{option_map, option_and_then, nat_lt, ◌&&◌, ◌||◌}
+-- Whether one of the words asks for the usage.
+use Rattle.std.proofs.Common.{◌≡◌, ℕ, List, [], ◌∷◌, map, Bool, refl, ap}
+use Rattle.std.specs.Prelude.{◌||◌}
 use Rattle.std.specs.List.{list_any}
-use Rattle.std.specs.Result.{result_ok}
-use Rattle.std.specs.Str.{all_ascii_digits}
-use Rattle.std.specs.Str.Parse.{ParsesUnsigned, without_leading_plus, digits_value}
-use Rattle.std.proofs.lemmas.Bool.Decides.{nat_tests}
-use Rattle.ftd_days.specs.Digits.{number_of}
-use Rattle.ftd_days.proofs.Numerals.{own}
-use Rattle.ftd_days.specs.Spelling.{day_of}
-use Rattle.ftd_cli.specs.Words.{days_of, whole_number}
 
--- ---- a whole number
-all_true : (a b c : Bool) → a ≡ true → b ≡ true → c ≡ true → (a && b && c) ≡ true
-all_true a b c e f g = rw (e, f, g) refl
-
-pub whole_read : {E : Type 0} (text : List ℕ) (r : Result ℕ E) → ParsesUnsigned 32 10 text r → result_ok r ≡ whole_number text
-unfolding whole_number
-whole_read text (Ok n) h =
-    let digits = without_leading_plus text in
-    let are = own.from digits h.0.0.1 in
-    let same = own.same digits h.0.0.1 in
-    let some = h.0.0.0 in
-    let bound = h.0.1 in
-    let a : nat_lt 0 (length digits) ≡ true = grind (arith, nat_tests) in
-    let c : nat_lt (number_of digits) (2 ^ 32) ≡ true = grind (arith, nat_tests) in
-    rw (a, are, c) (ap Some (h.1 ∙ sym same))
-whole_read text (Err e) h = go (nat_lt 0 (length (without_leading_plus text))) (all_ascii_digits (without_leading_plus text)) (nat_lt (number_of (without_leading_plus text)) (2 ^ 32)) refl refl refl
-  where
-    go : (some all small : Bool) → nat_lt 0 (length (without_leading_plus text)) ≡ some → all_ascii_digits (without_leading_plus text) ≡ all → nat_lt (number_of (without_leading_plus text)) (2 ^ 32) ≡ small
-        → None ≡ cond (nat_lt 0 (length (without_leading_plus text)) && all_ascii_digits (without_leading_plus text) && nat_lt (number_of (without_leading_plus text)) (2 ^ 32)) (Some (number_of (without_leading_plus text))) None
-    go true true true a b c =
-        let digits = without_leading_plus text in
-        let numeral = own.to digits b in
-        let same = own.same digits numeral in
-        let some : 0 < length digits = grind (arith, nat_tests) in
-        let small : number_of digits < 2 ^ 32 = grind (arith, nat_tests) in
-        let bound : digits_value 10 digits < 2 ^ 32 = omega arith in
-        absurd (h ((some, numeral), bound))
-    go true true false a b c = rw (a, b, c) refl
-    go true false small a b c = rw (a, b) refl
-    go false all small a b c = rw a refl
-
--- ---- days
--- these days, and then those of the rest
-abbrev pub on_front : List ℕ → Option (List ℕ) → Option (List ℕ)
-on_front days rest = option_map (λ others. days ++ others) rest
-
-pub front_none : (o : Option (List ℕ)) → on_front [] o ≡ o
-front_none None = refl
-front_none (Some days) = refl
-
-front_more : (days : List ℕ) (day : ℕ) (o : Option (List ℕ)) → on_front days (option_map (λ others. day ∷ others) o) ≡ on_front (days ++ day ∷ []) o
-front_more days day None = refl
-front_more days day (Some others) = ap Some (sym (append_assoc days (day ∷ []) others))
-
-rest_of : {X : Type 0} (words : List X) (i : ℕ) (word : X) → i < length words → word ≡ get_or words i word → drop i words ≡ word ∷ drop (i + 1) words
-rest_of words i word within is = rw (add-one i) (drop-cons words i word within ∙ ap (λ w. w ∷ drop (suc i) words) (sym is))
-
-pub days_next : {X : Type 0} (text : X → List ℕ) (words : List X) (i : ℕ) (word : X) (days : List ℕ) (day : ℕ) → i < length words → word ≡ get_or words i word → Some day ≡ day_of (text word)
-    → on_front days (days_of (map text (drop i words))) ≡ on_front (days ++ day ∷ []) (days_of (map text (drop (i + 1) words)))
-days_next text words i word days day within is e =
-    ap (λ ws. on_front days (days_of (map text ws))) (rest_of words i word within is)
-    ∙ ap (λ o. on_front days (option_and_then (λ d. option_map (λ others. d ∷ others) (days_of (map text (drop (i + 1) words)))) o)) (sym e)
-    ∙ front_more days day (days_of (map text (drop (i + 1) words)))
-
-pub no_day : {X : Type 0} (text : X → List ℕ) (words : List X) (i : ℕ) (word : X) (days : List ℕ) → i < length words → word ≡ get_or words i word → None ≡ day_of (text word)
-    → on_front days (days_of (map text (drop i words))) ≡ None
-no_day text words i word days within is e =
-    ap (λ ws. on_front days (days_of (map text ws))) (rest_of words i word within is)
-    ∙ ap (λ o. on_front days (option_and_then (λ d. option_map (λ others. d ∷ others) (days_of (map text (drop (i + 1) words)))) o)) (sym e)
-
--- ---- a word that asks for the usage
 pub any_map : {X : Type 0} (text : X → List ℕ) (test : List ℕ → Bool) (words : List X) → list_any test (map text words) ≡ list_any (λ word. test (text word)) words
 any_map text test [] = refl
 any_map text test (word ∷ words) = ap (λ later. test (text word) || later) (any_map text test words)

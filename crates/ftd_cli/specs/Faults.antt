@@ -3,6 +3,8 @@ use Rattle.std.specs.Prelude.{ℕ, List, [], ◌∷◌, ◌++◌, codes}
 use Rattle.std.specs.Fmt.{decimal}
 use Rattle.ftd_days.specs.declared.holidays.CalendarFault.{CalendarFault}
 use Rattle.ftd_days.specs.declared.holidays.CalendarFault.TheVariants as calendar
+use Rattle.ftd_csv.specs.declared.record.RecordFault.{RecordFault}
+use Rattle.ftd_csv.specs.declared.record.RecordFault.TheVariants as records
 use Rattle.ftd_cli.specs.declared.words.Argument.{Argument}
 use Rattle.ftd_cli.specs.declared.words.Argument.TheVariants as argument
 use Rattle.ftd_cli.specs.declared.fault.PlainFault.{PlainFault}
@@ -15,6 +17,12 @@ use Rattle.ftd_cli.specs.declared.fault.TheConstants.{USAGE}
 abbrev pub plain_fault : CalendarFault → PlainFault
 plain_fault calendar.BadCalendar = fault.BadCalendar
 plain_fault calendar.Memory = fault.Memory
+
+-- the fault of a text of records as one of `plain`
+abbrev pub text_fault : RecordFault → PlainFault
+text_fault records.BadHeader = fault.BadHeader
+text_fault records.TooLong = fault.TooLong
+text_fault records.Memory = fault.Memory
 
 -- want of memory
 abbrev pub no_memory : CommandFault

@@ -1,9 +1,5 @@
-pub mod Fields
-pub mod Records
 pub mod Faults
 pub mod Plain
 pub mod Words
 pub mod Commands
-pub mod Rows
 pub mod Taking
-pub mod Views

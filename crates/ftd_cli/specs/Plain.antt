@@ -12,14 +12,12 @@ use Rattle.ftd_rules.specs.Liability.{run_liability}
 use Rattle.ftd_rules.specs.Years.{AreLines}
 use Rattle.ftd_rules.specs.Obligations.{AreObligations}
 use Rattle.ftd_rules.specs.Text.{obligation_text}
-use Rattle.ftd_cli.specs.Records.{Run, Said, pay_run, malformed, HasHeader, records_of}
+use Rattle.ftd_csv.specs.Answers.{most_bytes}
+use Rattle.ftd_csv.specs.Records.{Run, Said, pay_run, malformed, HasHeader, records_of}
 use Rattle.ftd_cli.specs.declared.fault.PlainFault.{PlainFault}
 use Rattle.ftd_cli.specs.declared.fault.PlainFault.TheVariants as fault
 
--- the most bytes of a text, 16 MiB, and the most runs of an account
-abbrev pub most_bytes : ℕ
-most_bytes = 16_777_216
-
+-- the most runs of an account
 abbrev pub most_runs : ℕ
 most_runs = 20_000
 

@@ -5,32 +5,32 @@ use Rattle.std.specs.Map.{lookup}
 use Rattle.std.specs.BTreeMap.{is_at, insert_entry}
 use Rattle.std.specs.Ordering.{nat_cmp}
 use Rattle.ftd_rules.specs.declared.DaySum.{DaySum}
+use Rattle.ftd_rules.specs.declared.run.PayRun.{PayRun}
 use Rattle.ftd_rules.specs.Liability.{run_liability}
-use Rattle.ftd_cli.specs.Records.{HasHeader, Run, Said, pay_run, malformed, records_of}
+use Rattle.ftd_csv.specs.Records.{Run, Said, pay_run, malformed}
 use Rattle.ftd_cli.specs.Plain.{FirstFault, IsCalendar, NoneAtFault, is_taken, most_runs, taken}
 use Rattle.ftd_cli.specs.declared.fault.PlainFault.{PlainFault}
 use Rattle.ftd_cli.specs.declared.fault.PlainFault.TheVariants as fault
-use Rattle.ftd_cli.specs.declared.runs.Kept.{Kept}
 
 -- what is kept of a run at its number
-abbrev pub kept_of : Run → Kept
+abbrev pub kept_of : Run → PayRun
 kept_of run = record { payday = run.payday; fit = record { 0 = run.fit }; ss = record { 0 = run.ss }; medicare = record { 0 = run.medicare } }
 
 -- the runs of an account that are kept
-abbrev pub run_of : List ℕ → ℕ × Kept → Run
+abbrev pub run_of : List ℕ → ℕ × PayRun → Run
 run_of account entry = record { employer = account; number = entry.0; payday = entry.1.payday; fit = entry.1.fit.0; ss = entry.1.ss.0; medicare = entry.1.medicare.0 }
 
-abbrev pub runs_of : List ℕ → List (ℕ × Kept) → List Run
+abbrev pub runs_of : List ℕ → List (ℕ × PayRun) → List Run
 runs_of account entries = map (run_of account) entries
 
-abbrev pub TakesRun : List (ℕ × Kept) → Run → List (ℕ × Kept) → Type 0
+abbrev pub TakesRun : List (ℕ × PayRun) → Run → List (ℕ × PayRun) → Type 0
 TakesRun old run new =
     ((lookup (is_at (nat_cmp run.number)) old ≡ Some (kept_of run)) × (new ≡ old))
     ⊎ ((lookup (is_at (nat_cmp run.number)) old ≡ None) × (length old < most_runs) × (new ≡ insert_entry nat_cmp old run.number (kept_of run)))
 
-abbrev pub RefusesRun : List (ℕ × Kept) → Run → PlainFault → Type 0
+abbrev pub RefusesRun : List (ℕ × PayRun) → Run → PlainFault → Type 0
 RefusesRun old run (fault.RunDiffers number) =
-    (number ≡ run.number) × (kept : Kept) × (lookup (is_at (nat_cmp run.number)) old ≡ Some kept) × (kept ≢ kept_of run)
+    (number ≡ run.number) × (kept : PayRun) × (lookup (is_at (nat_cmp run.number)) old ≡ Some kept) × (kept ≢ kept_of run)
 RefusesRun old run fault.TooManyRuns = (lookup (is_at (nat_cmp run.number)) old ≡ None) × (length old ≡ most_runs)
 RefusesRun old run fault.Memory = ⊤
 RefusesRun old run fault.BadHeader = ⊥
@@ -38,16 +38,16 @@ RefusesRun old run fault.TooLong = ⊥
 RefusesRun old run (fault.Malformed number field) = ⊥
 RefusesRun old run fault.BadCalendar = ⊥
 
-abbrev pub TakesRecord : List ℕ → ℕ → List (ℕ × Kept) → Said → List (ℕ × Kept) → Type 0
+abbrev pub TakesRecord : List ℕ → ℕ → List (ℕ × PayRun) → Said → List (ℕ × PayRun) → Type 0
 TakesRecord account year old (malformed place) new = ⊥
 TakesRecord account year old (pay_run run) new = MatchBool (is_taken account year run) (TakesRun old run new) (new ≡ old)
 
-abbrev pub RefusesRecord : List ℕ → ℕ → ℕ → List (ℕ × Kept) → Said → PlainFault → Type 0
+abbrev pub RefusesRecord : List ℕ → ℕ → ℕ → List (ℕ × PayRun) → Said → PlainFault → Type 0
 RefusesRecord account year number old (malformed place) f = f ≡ fault.Malformed number place
 RefusesRecord account year number old (pay_run run) f = (is_taken account year run ≡ true) × RefusesRun old run f
 
 -- the records that were read, the runs taken of them, and those that are left
-pub record HasTaken (account : List ℕ) (year : ℕ) (records left : List Said) (number : ℕ) (entries : List (ℕ × Kept)) : Type 0 where
+pub record HasTaken (account : List ℕ) (year : ℕ) (records left : List Said) (number : ℕ) (entries : List (ℕ × PayRun)) : Type 0 where
   pub before : List Said
   pub parts : records ≡ before ++ left
   pub count : number ≡ 2 + length before
@@ -56,29 +56,26 @@ pub record HasTaken (account : List ℕ) (year : ℕ) (records left : List Said)
   pub few : length entries ≤ most_runs
 
 -- what a kept run adds to the liability of its payday
-abbrev pub sum_of : Kept → DaySum
+abbrev pub sum_of : PayRun → DaySum
 sum_of kept =
     record { day = kept.payday; cents = record { 0 = run_liability kept.fit.0 kept.ss.0 kept.medicare.0 } }
 
 -- its amounts are below 1,000,000,000.00
-pub record IsSmall (kept : Kept) : Type 0 where
+pub record IsSmall (kept : PayRun) : Type 0 where
   pub fit : kept.fit.0 < 100_000_000_000
   pub ss : kept.ss.0 < 100_000_000_000
   pub medicare : kept.medicare.0 < 100_000_000_000
 
 -- all records were read
-pub record TakesAll (account : List ℕ) (year : ℕ) (records : List Said) (entries : List (ℕ × Kept)) : Type 0 where
+pub record TakesAll (account : List ℕ) (year : ℕ) (records : List Said) (entries : List (ℕ × PayRun)) : Type 0 where
   pub none_at_fault : NoneAtFault account year records
   pub same : (run : Run) → Contains (runs_of account entries) run ↔ Contains (taken account year records) run
   pub few : length entries ≤ most_runs
 
--- what may go wrong before the records are looked at
+-- why the holidays are no calendar
 abbrev pub CalendarFails : ℕ → List ℕ → PlainFault → Type 0
 CalendarFails year holidays f = (f ≡ fault.Memory) ⊎ ((f ≡ fault.BadCalendar) × ¬ IsCalendar year holidays)
 
-abbrev pub TextFails : List ℕ → ℕ → List ℕ → PlainFault → Type 0
-TextFails account year csv f = (f ≡ fault.Memory) ⊎ (((f ≡ fault.BadHeader) × ¬ HasHeader csv) ⊎ (HasHeader csv × FirstFault account year (records_of csv) f))
-
--- reading stopped at the first record that is at fault, or for want of memory
+-- the taking stopped at the first record that is at fault, or for want of memory
 abbrev pub Stops : List ℕ → ℕ → List Said → PlainFault → Type 0
 Stops account year records f = (f ≡ fault.Memory) ⊎ FirstFault account year records f

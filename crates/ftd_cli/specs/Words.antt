@@ -1,11 +1,9 @@
 -- What the words of the command line ask for.
-use Rattle.std.specs.Prelude.{ℕ, ◌&&◌, ◌||◌, ◌^◌, not, nat_lt, List, [], ◌∷◌, length, Option, Some, None, option_map, option_and_then, Bool, Result, Ok, Err, codes, if◌then◌else◌}
+use Rattle.std.specs.Prelude.{ℕ, ◌||◌, not, nat_lt, List, [], ◌∷◌, Option, Some, None, Bool, Result, Ok, Err, codes, if◌then◌else◌}
 use Rattle.std.specs.List.{list_any}
-use Rattle.std.specs.Str.{all_ascii_digits, bytes_eq}
-use Rattle.std.specs.Str.Parse.{without_leading_plus}
-use Rattle.ftd_days.specs.Digits.{number_of}
-use Rattle.ftd_cli.specs.Fields.{is_account_name}
-use Rattle.ftd_days.specs.Spelling.{day_of}
+use Rattle.std.specs.Str.{bytes_eq}
+use Rattle.ftd_days.specs.Spelling.{days_of, whole_number}
+use Rattle.ftd_rules.specs.Accounts.{is_account_name}
 use Rattle.ftd_cli.specs.declared.words.Argument.TheVariants as argument
 use Rattle.ftd_cli.specs.declared.words.Command.{Command}
 use Rattle.ftd_cli.specs.declared.words.Command.TheVariants as command
@@ -20,17 +18,6 @@ pub data Asked : Type 0 where
 -- a word that asks for the usage
 abbrev pub is_help : List ℕ → Bool
 is_help word = bytes_eq word (codes "--help") || bytes_eq word (codes "-h")
-
--- a whole number up to 4,294,967,295: digits, perhaps after a plus sign
-unfoldable pub whole_number : List ℕ → Option ℕ
-whole_number text =
-    let digits = without_leading_plus text in
-    if nat_lt 0 (length digits) && all_ascii_digits digits && nat_lt (number_of digits) (2 ^ 32) then Some (number_of digits) else None
-
--- the days that the words spell, if each spells one
-abbrev pub days_of : List (List ℕ) → Option (List ℕ)
-days_of [] = Some []
-days_of (word ∷ words) = option_and_then (λ day. option_map (λ days. day ∷ days) (days_of words)) (day_of word)
 
 -- the arguments of `plain`: an account name, a year of 2001 to 2098, and days
 abbrev pub with_holidays : List ℕ → ℕ → Option (List ℕ) → Result Asked CommandFault

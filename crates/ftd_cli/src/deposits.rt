@@ -1,28 +1,21 @@
 //! The deposits of one employer in one year, from its pay runs.
 
 ghost use Rattle.std.specs.Prelude.{◌≡◌, ◌≤◌, ◌++◌, IfOk, OnOk, MatchResult, All, length, map};
-ghost use Rattle.std.specs.BTreeMap.{IsOrdered, values};
+ghost use Rattle.std.specs.BTreeMap.{values};
 ghost use Rattle.std.specs.List.{flat_map};
-ghost use Rattle.std.specs.Ordering.{nat_cmp};
 ghost use Rattle.ftd_days.specs.Calendar.{year_of};
 ghost use Rattle.ftd_days.specs.Holidays.{holidays_of};
-ghost use Rattle.ftd_cli.specs.Plain.{PlainFails, PlainGives, Prints, line_text, most_bytes, most_runs};
-ghost use Rattle.ftd_cli.specs.Records.{HasHeader, records_of};
-ghost use Rattle.ftd_cli.specs.Taking.{IsSmall, TakesAll, TextFails, sum_of};
+ghost use Rattle.ftd_cli.specs.Plain.{PlainFails, PlainGives, Prints, line_text, most_runs};
+ghost use Rattle.ftd_cli.specs.Taking.{IsSmall, sum_of};
 
 use crate::calendar::calendar;
 use crate::fault::PlainFault;
-use crate::record::is_header;
-use crate::rows::{next_row, open_rows};
-use crate::runs::{Kept, take_rows};
-use csv::ByteRecord;
+use crate::runs::take_records;
+use ftd_csv::{MOST_BYTES, records};
 use ftd_days::{Cents, Day, Holidays};
-use ftd_rules::{DaySum, Form, Kind, Obligation, YearLine, assess};
+use ftd_rules::{DaySum, Form, Kind, Obligation, PayRun, YearLine, assess};
 use std::alloc::{AllocError, Global};
 use std::collections::BTreeMap;
-
-/// The most bytes of a text of pay runs, 16 MiB.
-const MOST_BYTES: usize = 16_777_216;
 
 /// The deposits of an account in a year, from its pay runs as CSV (Pub. 15, section 11): the
 /// obligations of an employer that opens the year as a monthly depositor (its lookback total is zero,
@@ -49,53 +42,33 @@ pub fn plain(
         return Err(PlainFault::TooLong);
     }
     let calendar = calendar(alloc, year, holidays)?;
-    let runs = runs_of(alloc, csv, account, year)?;
+    let records = records(alloc, csv)?;
+    let runs = take_records(alloc, &records, account, year)?;
     let sums = day_sums(alloc, &runs)?;
     let text = deposits(alloc, year, &sums, &calendar)?;
     Ok(text)
 }
 
-/// The runs of the account with a payday in the year, by number.
-fn runs_of(
-    alloc: Global,
-    csv: &[u8],
-    account: &str,
-    year: u32,
-) -> Result<BTreeMap<u32, Kept>, PlainFault>
-    requires { length csv.now ≤ most_bytes }
-    ensures { MatchResult result
-        (λ runs. HasHeader csv.now × IsOrdered nat_cmp runs
-        × TakesAll account.now year (records_of csv.now) runs.entries)
-        (λ fault. TextFails account.now year csv.now fault) }
-{
-    let mut reader = open_rows(alloc, csv)?;
-    let mut row = ByteRecord::new(alloc);
-    if !next_row(&mut reader, &mut row)? || !is_header(&row) {
-        return Err(PlainFault::BadHeader);
-    }
-    take_rows(alloc, &mut reader, &mut row, account, year)
-}
-
 /// What the run adds to the liability of its payday: the income tax withheld and both shares of
 /// social security and of Medicare tax.
-fn day_sum(kept: &Kept) -> DaySum
-    requires { IsSmall kept.now }
-    ensures { result ≡ sum_of kept.now }
+fn day_sum(run: &PayRun) -> DaySum
+    requires { IsSmall run.now }
+    ensures { result ≡ sum_of run.now }
 {
     DaySum {
-        day: kept.payday,
-        cents: Cents(kept.fit.0 + kept.ss.0 + kept.medicare.0),
+        day: run.payday,
+        cents: Cents(run.fit.0 + run.ss.0 + run.medicare.0),
     }
 }
 
 /// What the runs add to the liability of their paydays.
-fn day_sums(alloc: Global, runs: &BTreeMap<u32, Kept>) -> Result<Vec<DaySum>, AllocError>
+fn day_sums(alloc: Global, runs: &BTreeMap<u32, PayRun>) -> Result<Vec<DaySum>, AllocError>
     requires { All IsSmall (values runs.now) }
     ensures { IfOk result (λ sums. sums.items ≡ map sum_of (values runs.now)) }
 {
     let mut sums = Vec::new(alloc);
-    for kept in runs.values() {
-        sums.push(day_sum(kept))?;
+    for pay_run in runs.values() {
+        sums.push(day_sum(pay_run))?;
     }
     Ok(sums)
 }

@@ -4,6 +4,7 @@ ghost use Rattle.std.specs.Prelude.{◌≡◌};
 ghost use Rattle.ftd_cli.specs.Faults.{status_of};
 
 use crate::words::Argument;
+use ftd_csv::RecordFault;
 use ftd_days::CalendarFault;
 use std::alloc::{AllocError, AllocFailed};
 use std::error::Error;
@@ -83,6 +84,21 @@ impl<T: Drop> From<AllocFailed<T>> for PlainFault {
 
     fn from(_: AllocFailed<T>) -> PlainFault {
         PlainFault::Memory
+    }
+}
+
+impl From<RecordFault> for PlainFault {
+    ghost use Rattle.std.specs.Prelude.{◌≡◌};
+    ghost use Rattle.ftd_cli.specs.Faults.{text_fault};
+
+    ghost from_gives = { λ fault e. e ≡ text_fault fault };
+
+    fn from(fault: RecordFault) -> PlainFault {
+        match fault {
+            RecordFault::BadHeader => PlainFault::BadHeader,
+            RecordFault::TooLong => PlainFault::TooLong,
+            RecordFault::Memory => PlainFault::Memory,
+        }
     }
 }
 

@@ -5,10 +5,7 @@ mod calendar;
 mod command;
 mod deposits;
 mod fault;
-mod fields;
 mod reading;
-mod record;
-mod rows;
 mod runs;
 mod words;
 

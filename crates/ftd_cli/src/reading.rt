@@ -3,13 +3,15 @@
 ghost use Rattle.std.specs.Prelude.{◌≡◌, ◌⊎◌, Ok, Err, Some, None, MatchResult, map};
 ghost use Rattle.std.specs.List.{list_any};
 ghost use Rattle.std.specs.String.{string_bytes};
+ghost use Rattle.ftd_days.specs.Spelling.{days_of};
 ghost use Rattle.ftd_cli.specs.Faults.{no_memory};
-ghost use Rattle.ftd_cli.specs.Words.{asked_of, asked_view, command_of, days_of, is_help, whole_number};
+ghost use Rattle.ftd_cli.specs.Words.{asked_of, asked_view, command_of, is_help};
 
 use crate::fault::CommandFault;
-use crate::fields::{day, is_account_name};
 use crate::words::{Argument, Command, PlainWords};
 use ftd_days::Day;
+use ftd_days::digits::whole_number;
+use ftd_rules::is_account_name;
 use std::alloc::Global;
 
 /// What the words ask for, of which the first is the program's name: `plain ACCOUNT YEAR [HOLIDAY ..]`,
@@ -74,13 +76,6 @@ fn read_command(alloc: Global, words: &[String]) -> Result<Command<'_>, CommandF
     }))
 }
 
-/// The number of the word.
-fn whole_number(word: &str) -> Option<u32>
-    ensures { result ≡ whole_number word.now }
-{
-    word.parse().ok()
-}
-
 /// The days of the words.
 fn read_days(alloc: Global, words: &[String]) -> Result<Vec<Day>, CommandFault>
     ensures { MatchResult result
@@ -90,7 +85,7 @@ fn read_days(alloc: Global, words: &[String]) -> Result<Vec<Day>, CommandFault>
 {
     let mut days = Vec::new(alloc);
     for word in words {
-        let Some(day) = day(word.as_bytes()) else {
+        let Some(day) = Day::read(word.as_bytes()) else {
             return Err(CommandFault::BadArgument(Argument::Holiday));
         };
         days.push(day)?;

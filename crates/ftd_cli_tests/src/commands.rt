@@ -1,7 +1,9 @@
 //! Worked examples, and the faults of `plain` and of the command line.
 
 use ftd_cli::{CommandFault, MOST_INPUT, PlainFault, USAGE, plain, read_words, run_command};
-use ftd_days::Day;
+use ftd_csv::{Content, records};
+use ftd_days::{Cents, Day};
+use ftd_rules::PayRun;
 use std::alloc::Global;
 use std::test::Fail;
 
@@ -95,6 +97,37 @@ const COUNTED: [(&str, &str); 9] = [
         "2024-01-01 2024-01-31 monthly 3.00 2024-02-15\n",
     ),
 ];
+
+/// The records of a text with a byte order mark, an empty line and a bad day, with their numbers.
+#[test]
+fn numbered_records(rt: HostRuntime) -> Result<(), Fail> {
+    let text = "\u{feff}employer,run,payday,fit,ss,medicare
+ash,1,2024-01-05,500.00,310.00,72.50
+
+ash,2,2024-02-30,500.00,310.00,72.50
+ash,3
+";
+    let records = records(rt.alloc(), text.as_bytes()).map_err(|_| "records")?;
+    assert_eq!(rt; records.len(), 3);
+    let run = PayRun {
+        payday: Day::read(b"2024-01-05").ok_or("a day")?,
+        fit: Cents(50_000),
+        ss: Cents(31_000),
+        medicare: Cents(7_250),
+    };
+    for (record, number) in records.iter().zip(2u32..) {
+        assert_eq!(rt; record.number, number);
+        match &record.content {
+            Content::PayRun(of_employer) => {
+                assert_eq!(rt; of_employer.employer.as_str(), "ash");
+                assert_eq!(rt; of_employer.number, 1);
+                assert_eq!(rt; of_employer.run, run);
+            }
+            Content::Malformed(field) => assert_eq!(rt; *field, if number == 3 { 3 } else { 0 }),
+        }
+    }
+    Ok(())
+}
 
 /// Records that count, and how often.
 #[test]

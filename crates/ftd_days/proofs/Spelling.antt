@@ -1,4 +1,4 @@
--- The texts that spell days and amounts are exactly those that the functions of Spelling read.
+-- The texts that spell days, quarters and amounts are exactly those that the functions of Spelling read.
 use Rattle.std.proofs.Common.{◌≡◌, ◌≢◌, ℕ, zero, suc, ◌+◌, ◌*◌, ◌<◌, ◌≤◌, inl, inr, List, [], ◌∷◌, length, take, drop, Option, Some, None, option_map, Bool, true, false, cond, refl, sym, ap, ◌∙◌, arith, length-take-le}
 use Rattle.std.specs.Prelude.{IfSome, ◌==◌, ◌&&◌, nat_lt, nat_le}
 use Rattle.std.specs.List.{prefix_len}
@@ -9,19 +9,19 @@ use Rattle.std.proofs.lemmas.Bool.Decides.{nat_tests}
 use Rattle.std.proofs.lemmas.Slice.Eq.{bytes_eq-Decides}
 use Rattle.ftd_days.specs.Calendar.{last_day}
 use Rattle.ftd_days.specs.Digits.{number_of}
-use Rattle.ftd_days.specs.Text.{IsFraction, SpellsCents, SpellsDay, day_text}
+use Rattle.ftd_days.specs.Text.{IsFraction, SpellsCents, SpellsDay, SpellsQuarter, day_text, quarter_text}
 use Rattle.std.proofs.lemmas.List.{take-append-drop}
 use Rattle.std.proofs.lemmas.Str.Parse.{digits_value_short}
 use Rattle.ftd_days.specs.declared.cents.Cents.{Cents}
 use Rattle.ftd_days.proofs.Numerals.{own, front_digits, front_within}
 use Rattle.ftd_days.proofs.Spelled.{cut_out}
 use Rattle.ftd_days.proofs.Years.{same_or_not, eq_same, eq_not}
-use Rattle.ftd_days.specs.Spelling.{day_among, day_of, fraction_of, cents_of}
+use Rattle.ftd_days.specs.Spelling.{printed_among, day_of, spelled_quarter, fraction_of, cents_of}
 
 is_equal : (a b : ℕ) → (a == b) ≡ true → a ≡ b
 is_equal a b e = grind (arith, nat_tests)
 
--- ---- days
+-- ---- days and quarters
 same_text : (a b : List ℕ) → bytes_eq a b ≡ true → a ≡ b
 same_text a b e = (bytes_eq-Decides a b).0 e
 
@@ -31,45 +31,48 @@ text_same a b e = (bytes_eq-Decides a b).1 e
 some_number : (a b : ℕ) → Some a ≡ Some b → a ≡ b
 some_number a b e = cc
 
-pub record IsAmong (n from day : ℕ) (text : List ℕ) : Type 0 where
-  pub after : from ≤ day
-  pub before : day < from + n
-  pub printed : day_text day ≡ text
+pub record IsAmong (print : ℕ → List ℕ) (n from value : ℕ) (text : List ℕ) : Type 0 where
+  pub after : from ≤ value
+  pub before : value < from + n
+  pub printed : print value ≡ text
 
-among_more : (n from day : ℕ) (text : List ℕ) (more : Option ℕ) (b : Bool) → bytes_eq (day_text from) text ≡ b → cond b (Some from) more ≡ Some day
-    → (more ≡ Some day → IsAmong n (from + 1) day text) → IsAmong (suc n) from day text
-among_more n from day text more true same f h =
-    let here = some_number from day f in
-    record { after = omega arith; before = omega arith; printed = rw here at (same_text (day_text from) text same) }
-among_more n from day text more false apart f h =
+among_more : (print : ℕ → List ℕ) (n from value : ℕ) (text : List ℕ) (more : Option ℕ) (b : Bool) → bytes_eq (print from) text ≡ b → cond b (Some from) more ≡ Some value
+    → (more ≡ Some value → IsAmong print n (from + 1) value text) → IsAmong print (suc n) from value text
+among_more print n from value text more true same f h =
+    let here = some_number from value f in
+    record { after = omega arith; before = omega arith; printed = rw here at (same_text (print from) text same) }
+among_more print n from value text more false apart f h =
     let among = h f in
     let after = among.after in
     let before = among.before in
     record { after = omega arith; before = omega arith; printed = among.printed }
 
-among_some : (n from day : ℕ) (text : List ℕ) → day_among n from text ≡ Some day → IsAmong n from day text
-unfolding day_among
-among_some zero from day text e = cc e
-among_some (suc n) from day text e = among_more n from day text _ (bytes_eq (day_text from) text) refl e (λ f. among_some n (from + 1) day text f)
+among_some : (print : ℕ → List ℕ) (n from value : ℕ) (text : List ℕ) → printed_among print n from text ≡ Some value → IsAmong print n from value text
+unfolding printed_among
+among_some print zero from value text e = cc e
+among_some print (suc n) from value text e =
+    among_more print n from value text _ (bytes_eq (print from) text) refl e (λ f. among_some print n (from + 1) value text f)
 
-among_less : (n from day : ℕ) (text : List ℕ) (more : Option ℕ) (b : Bool) → bytes_eq (day_text from) text ≡ b → cond b (Some from) more ≡ None → from ≤ day → day < from + suc n
-    → (more ≡ None → from + 1 ≤ day → day < from + 1 + n → day_text day ≢ text) → day_text day ≢ text
-among_less n from day text more true same f l h rest = λ _. cc f
-among_less n from day text more false apart f l h rest = λ p. elim (same_or_not from day) [
-  | inl here ↦ false≢true (sym apart ∙ text_same (day_text from) text (ap (λ d. day_text d) here ∙ p))
+among_less : (print : ℕ → List ℕ) (n from value : ℕ) (text : List ℕ) (more : Option ℕ) (b : Bool) → bytes_eq (print from) text ≡ b → cond b (Some from) more ≡ None
+    → from ≤ value → value < from + suc n
+    → (more ≡ None → from + 1 ≤ value → value < from + 1 + n → print value ≢ text) → print value ≢ text
+among_less print n from value text more true same f l h rest = λ _. cc f
+among_less print n from value text more false apart f l h rest = λ p. elim (same_or_not from value) [
+  | inl here ↦ false≢true (sym apart ∙ text_same (print from) text (ap (λ d. print d) here ∙ p))
   | inr not ↦ rest f (omega arith) (omega arith) p
 ]
 
-among_none : (n from day : ℕ) (text : List ℕ) → day_among n from text ≡ None → from ≤ day → day < from + n → day_text day ≢ text
-unfolding day_among
-among_none zero from day text e l h = absurd (omega arith)
-among_none (suc n) from day text e l h = among_less n from day text _ (bytes_eq (day_text from) text) refl e l h (λ f a b. among_none n (from + 1) day text f a b)
+among_none : (print : ℕ → List ℕ) (n from value : ℕ) (text : List ℕ) → printed_among print n from text ≡ None → from ≤ value → value < from + n → print value ≢ text
+unfolding printed_among
+among_none print zero from value text e l h = absurd (omega arith)
+among_none print (suc n) from value text e l h =
+    among_less print n from value text _ (bytes_eq (print from) text) refl e l h (λ f a b. among_none print n (from + 1) value text f a b)
 
 -- what day_of reads is what the text spells
 pub day_spelled : (text : List ℕ) (day : ℕ) → day_of text ≡ Some day → SpellsDay text day
 unfolding day_of
 day_spelled text day e =
-    let among = among_some (last_day + 1) 0 day text e in
+    let among = among_some (λ d. day_text d) (last_day + 1) 0 day text e in
     let before = among.before in
     record { within = omega arith; spelled = sym among.printed }
 
@@ -77,19 +80,36 @@ pub day_missing : (text : List ℕ) (day : ℕ) → day_of text ≡ None → Spe
 unfolding day_of
 day_missing text day e s =
     let within = s.within in
-    among_none (last_day + 1) 0 day text e (omega arith) (omega arith) (sym s.spelled)
+    among_none (λ d. day_text d) (last_day + 1) 0 day text e (omega arith) (omega arith) (sym s.spelled)
 
--- a reader of what the text spells reads day_of
+-- so of quarters
+pub quarter_spelled : (text : List ℕ) (quarter : ℕ) → spelled_quarter text ≡ Some quarter → SpellsQuarter text quarter
+unfolding spelled_quarter
+quarter_spelled text quarter e =
+    let among = among_some (λ q. quarter_text q) 1200 0 quarter text e in
+    let before = among.before in
+    record { within = omega arith; spelled = sym among.printed }
+
+pub quarter_missing : (text : List ℕ) (quarter : ℕ) → spelled_quarter text ≡ None → SpellsQuarter text quarter → ⊥
+unfolding spelled_quarter
+quarter_missing text quarter e s =
+    let within = s.within in
+    among_none (λ q. quarter_text q) 1200 0 quarter text e (omega arith) (omega arith) (sym s.spelled)
+
+-- a reader of what is spelled reads what the function of the text has
+reads : (Spells : ℕ → Type 0) (found spelled : Option ℕ) → IfSome found Spells → ((value : ℕ) → Spells value → found ≡ Some value)
+    → ((value : ℕ) → spelled ≡ Some value → Spells value) → ((value : ℕ) → spelled ≡ None → Spells value → ⊥) → found ≡ spelled
+reads Spells found (Some value) spells only is not = only value (is value refl)
+reads Spells None None spells only is not = refl
+reads Spells (Some value) None spells only is not = absurd (not value refl spells)
+
 pub day_read : (text : List ℕ) (found : Option ℕ) → IfSome found (λ day. SpellsDay text day) → ((day : ℕ) → SpellsDay text day → found ≡ Some day) → found ≡ day_of text
-day_read text found spells only = go (day_of text) refl
-  where
-    none : (found : Option ℕ) → IfSome found (λ day. SpellsDay text day) → day_of text ≡ None → found ≡ None
-    none None s e = refl
-    none (Some day) s e = absurd (day_missing text day e s)
+day_read text found spells only = reads (λ day. SpellsDay text day) found (day_of text) spells only (λ day e. day_spelled text day e) (λ day e s. day_missing text day e s)
 
-    go : (o : Option ℕ) → day_of text ≡ o → found ≡ day_of text
-    go None e = none found spells e ∙ sym e
-    go (Some day) e = only day (day_spelled text day e) ∙ sym e
+pub quarter_read : (text : List ℕ) (found : Option ℕ) → IfSome found (λ quarter. SpellsQuarter text quarter) → ((quarter : ℕ) → SpellsQuarter text quarter → found ≡ Some quarter)
+    → found ≡ spelled_quarter text
+quarter_read text found spells only =
+    reads (λ quarter. SpellsQuarter text quarter) found (spelled_quarter text) spells only (λ q e. quarter_spelled text q e) (λ q e s. quarter_missing text q e s)
 
 -- ---- amounts
 fraction_read : (text : List ℕ) (cents : ℕ) → fraction_of text ≡ Some cents → IsFraction text cents

@@ -1,2 +1,3 @@
-pub mod WritingFacts
 pub mod LineFacts
+pub mod MonthFacts
+pub mod RowFacts

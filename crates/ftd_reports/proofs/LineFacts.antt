@@ -1,5 +1,5 @@
 -- The pieces of a line, joined.
-use Rattle.std.proofs.Common.{◌≡◌, ℕ, ◌+◌, ◌-◌, ◌*◌, ◌/◌, ◌%◌, ◌<◌, ◌≤◌, List, [], ◌∷◌, ◌++◌, length, take, drop, get_or, suc, add-one, drop-cons, refl, sym, ap, ◌∙◌, arith, append_assoc, length-append}
+use Rattle.std.proofs.Common.{◌≡◌, ℕ, ◌+◌, ◌-◌, ◌/◌, ◌%◌, ◌<◌, ◌≤◌, List, [], ◌∷◌, ◌++◌, length, drop, get_or, suc, add-one, drop-cons, refl, sym, ap, ◌∙◌, arith, append_assoc, length-append}
 use Rattle.std.specs.Prelude.{replicate}
 use Rattle.std.specs.List.{join_with_byte, concat, flat_map, sum_by}
 use Rattle.std.specs.Fmt.{decimal}
@@ -9,8 +9,8 @@ use Rattle.ftd_days.specs.Digits.{digit}
 use Rattle.ftd_days.specs.Text.{cents_text}
 use Rattle.ftd_days.proofs.Numerals.{two_same}
 use Rattle.ftd_rules.specs.declared.verdict.DueRow.{DueRow}
-use Rattle.ftd_reports.specs.Columns.{space, right_in}
-use Rattle.ftd_reports.specs.DueLists.{amount_in, amount_of, due_line, total_line}
+use Rattle.ftd_reports.specs.Columns.{amount_in}
+use Rattle.ftd_reports.specs.DueLists.{amount_of, due_line, total_line}
 
 -- spaces, dollars, and the point with the cents are an amount in its column
 pub amount_parts : (amount width : ℕ) (spaces : List ℕ) → width ≡ 14 - length (decimal (amount / 100)) → spaces ≡ replicate width 32

@@ -1,20 +1,16 @@
 -- The text of a due list.
 use Rattle.std.specs.Prelude.{ℕ, List, [], ◌∷◌, ◌++◌, codes}
 use Rattle.std.specs.List.{sum_by, flat_map, join_with_byte}
-use Rattle.ftd_days.specs.Text.{day_text, quarter_text, cents_text}
+use Rattle.ftd_days.specs.Text.{day_text, quarter_text}
 use Rattle.ftd_rules.specs.Text.{rule_text}
 use Rattle.ftd_rules.specs.Verdicts.{verdict_text}
 use Rattle.ftd_rules.specs.declared.verdict.DueRow.{DueRow}
-use Rattle.ftd_reports.specs.Columns.{space, line_end, left_in, right_in}
+use Rattle.ftd_reports.specs.Columns.{space, line_end, left_in, amount_in}
 
 -- the first line: `DUE LIST`, account, quarter, `AS OF` and the day
 abbrev pub due_head : List ℕ → ℕ → ℕ → List ℕ
 due_head account quarter as_of =
     codes "DUE LIST " ++ account ++ (space ∷ quarter_text quarter) ++ codes " AS OF " ++ day_text as_of ++ (line_end ∷ [])
-
--- an amount, at the right of 17 bytes
-unfoldable pub amount_in : ℕ → List ℕ
-amount_in amount = right_in 17 (cents_text amount)
 
 -- the columns of a row: first and last day, rule, amount, due date, makeup date, what was paid, and the verdict
 abbrev pub columns_of : DueRow → List (List ℕ)

@@ -1,4 +1,4 @@
-pub mod Ports
-pub mod Writing
 pub mod Columns
 pub mod DueLists
+pub mod DueTexts
+pub mod SchedulesB

@@ -3,13 +3,12 @@
 ghost use Rattle.std.specs.Prelude.{◌≡◌, ◌<◌, true, OnOk, OnErr};
 ghost use Rattle.std.specs.List.{sum_by};
 ghost use Rattle.std.specs.Io.KnownBytes.{Appends};
-ghost use Rattle.ftd_reports.specs.Writing.{WritesPrefix};
+ghost use Rattle.ftd_ports.specs.Writing.{WritesPrefix};
 ghost use Rattle.ftd_reports.specs.DueLists.{due_head, due_line, total_line, due_text, amount_of};
 
-use crate::Target;
 use crate::values::{amount_column, day_bytes, quarter_bytes, rule_column, verdict_name};
-use crate::writing::{WriteFault, write_pieces};
 use ftd_days::{Cents, Day, Quarter};
+use ftd_ports::{Target, WriteFault, write_pieces};
 use ftd_rules::{DueRow, Obligation};
 use itoa::Buffer;
 
@@ -25,8 +24,12 @@ pub fn due_list<W: Target>(
     target: &mut W,
 ) -> Result<(), WriteFault>
     requires amounts { sum_by amount_of rows.now < 6_000_000_000_000_000 }
-    ensures ok { OnOk result (Appends (W.taken target.old) (W.taken target.new) (due_text account.now quarter as_of rows.now)) }
-    ensures err { OnErr result (WritesPrefix (W.taken target.old) (W.taken target.new) (due_text account.now quarter as_of rows.now)) }
+    ensures ok { OnOk result
+        (Appends (W.taken target.old) (W.taken target.new)
+        (due_text account.now quarter as_of rows.now)) }
+    ensures err { OnErr result
+        (WritesPrefix (W.taken target.old) (W.taken target.new)
+        (due_text account.now quarter as_of rows.now)) }
     ensures fault { OnErr result (W.failed target.new ≡ true) }
 {
     write_head(account, quarter, as_of, target)?;
@@ -39,14 +42,17 @@ pub fn due_list<W: Target>(
 }
 
 /// Writes the first line.
-fn write_head<W: Target>(
+pub fn write_head<W: Target>(
     account: &str,
     quarter: Quarter,
     as_of: Day,
     target: &mut W,
 ) -> Result<(), WriteFault>
-    ensures ok { OnOk result (Appends (W.taken target.old) (W.taken target.new) (due_head account.now quarter as_of)) }
-    ensures err { OnErr result (WritesPrefix (W.taken target.old) (W.taken target.new) (due_head account.now quarter as_of)) }
+    ensures ok { OnOk result
+        (Appends (W.taken target.old) (W.taken target.new) (due_head account.now quarter as_of)) }
+    ensures err { OnErr result
+        (WritesPrefix (W.taken target.old) (W.taken target.new)
+        (due_head account.now quarter as_of)) }
     ensures fault { OnErr result (W.failed target.new ≡ true) }
 {
     let quarter = quarter_bytes(quarter);
@@ -66,9 +72,11 @@ fn write_head<W: Target>(
 }
 
 /// Writes the line of a row.
-fn write_row<W: Target>(row: &DueRow, target: &mut W) -> Result<(), WriteFault>
-    ensures ok { OnOk result (Appends (W.taken target.old) (W.taken target.new) (due_line row.now)) }
-    ensures err { OnErr result (WritesPrefix (W.taken target.old) (W.taken target.new) (due_line row.now)) }
+pub fn write_row<W: Target>(row: &DueRow, target: &mut W) -> Result<(), WriteFault>
+    ensures ok { OnOk result
+        (Appends (W.taken target.old) (W.taken target.new) (due_line row.now)) }
+    ensures err { OnErr result
+        (WritesPrefix (W.taken target.old) (W.taken target.new) (due_line row.now)) }
     ensures fault { OnErr result (W.failed target.new ≡ true) }
 {
     let Obligation {
@@ -107,9 +115,11 @@ fn write_row<W: Target>(row: &DueRow, target: &mut W) -> Result<(), WriteFault>
 }
 
 /// Writes the last line.
-fn write_total<W: Target>(total: Cents, target: &mut W) -> Result<(), WriteFault>
-    ensures ok { OnOk result (Appends (W.taken target.old) (W.taken target.new) (total_line total.0)) }
-    ensures err { OnErr result (WritesPrefix (W.taken target.old) (W.taken target.new) (total_line total.0)) }
+pub fn write_total<W: Target>(total: Cents, target: &mut W) -> Result<(), WriteFault>
+    ensures ok { OnOk result
+        (Appends (W.taken target.old) (W.taken target.new) (total_line total.0)) }
+    ensures err { OnErr result
+        (WritesPrefix (W.taken target.old) (W.taken target.new) (total_line total.0)) }
     ensures fault { OnErr result (W.failed target.new ≡ true) }
 {
     let mut dollars = Buffer::new();

@@ -1,11 +1,11 @@
-//! Where bytes come from and go to, and the texts of the reports.
+//! The texts of the reports.
 #![tactic(auto)]
 
 mod due_lists;
-mod port;
+mod due_texts;
+mod liability_by_day;
 mod values;
-mod writing;
 
 pub use crate::due_lists::due_list;
-pub use crate::port::{Port, PortFault, Source, Target};
-pub use crate::writing::WriteFault;
+pub use crate::due_texts::{DueText, Unwritten};
+pub use crate::liability_by_day::schedule_b;

@@ -1,12 +1,12 @@
 //! Values as bytes of a fixed number, which take no memory.
 
-ghost use Rattle.std.specs.Prelude.{◌≡◌, ◌<◌, ◌++◌};
+ghost use Rattle.std.specs.Prelude.{◌≡◌, ◌<◌, ◌≤◌, ◌++◌, length};
 ghost use Rattle.ftd_days.specs.Text.{day_text, quarter_text};
 ghost use Rattle.ftd_days.specs.Digits.{digit};
 ghost use Rattle.ftd_rules.specs.Text.{rule_text};
 ghost use Rattle.ftd_rules.specs.Verdicts.{verdict_text};
-ghost use Rattle.ftd_reports.specs.Columns.{left_in};
-ghost use Rattle.ftd_reports.specs.DueLists.{amount_in};
+ghost use Rattle.ftd_reports.specs.Columns.{left_in, amount_in};
+ghost use Rattle.ftd_reports.specs.SchedulesB.{month_text};
 
 use ftd_days::{Cents, Day, Quarter};
 use ftd_rules::{Rule, Verdict};
@@ -60,6 +60,33 @@ pub fn day_bytes(day: Day) -> [u8; 10]
         last_digit(of_month / 10),
         last_digit(of_month),
     ]
+}
+
+/// A month as 2024-05. It goes by its number of months after January 1900.
+pub fn month_bytes(month: u32) -> [u8; 7]
+    requires { month < 3600 }
+    ensures { result ≡ month_text month }
+{
+    let (year, in_year) = (1900 + month / 12, month % 12 + 1);
+    [
+        last_digit(year / 1000),
+        last_digit(year / 100),
+        last_digit(year / 10),
+        last_digit(year),
+        b'-',
+        last_digit(in_year / 10),
+        last_digit(in_year),
+    ]
+}
+
+/// A text of at most 12 bytes at the left of 12.
+pub fn label_column(text: &[u8]) -> [u8; 12]
+    requires { length text.now ≤ 12 }
+    ensures { result ≡ left_in 12 text.now }
+{
+    let mut column = [b' '; 12];
+    column[..text.len()].copy_from_slice(text);
+    column
 }
 
 /// A quarter as 2024Q1.

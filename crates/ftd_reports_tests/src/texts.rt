@@ -1,12 +1,13 @@
-//! The two due lists of the formats, byte for byte, and writers and readers that fail.
+//! The texts of the formats, byte for byte, and writers and readers that fail.
 
 ghost use Rattle.std.specs.Prelude.{◌≡◌, ◌<◌, IfOk};
 ghost use Rattle.std.specs.List.{sum_by};
 ghost use Rattle.ftd_reports.specs.DueLists.{amount_of};
 
 use ftd_days::{Cents, Day, Quarter};
-use ftd_reports::{Port, PortFault, Source, Target, WriteFault, due_list};
-use ftd_rules::{DueRow, Obligation, Rule, Verdict};
+use ftd_ports::{Port, PortFault, Source, Target, WriteFault};
+use ftd_reports::{DueText, Unwritten, due_list, schedule_b};
+use ftd_rules::{DaySum, DueRow, DueSink, Obligation, Rule, SinkFault, Verdict};
 use std::alloc::{AllocError, Global};
 use std::io::{Error, ErrorKind, Read, Write};
 use std::test::Fail;
@@ -18,6 +19,15 @@ TOTAL                                       882.50
 
 const WITHOUT_ROWS: &str = "DUE LIST ash 2024Q3 AS OF 2024-07-01
 TOTAL                                         0.00
+";
+
+const SCHEDULE: &str = "SCHEDULE B elm 2024Q2
+2024-04                  0.00
+2024-05-08           40000.00
+2024-05-10           60000.00
+2024-05             100000.00
+2024-06                  0.00
+2024Q2              100000.00
 ";
 
 fn day(text: &str) -> Result<Day, Fail> {
@@ -69,13 +79,23 @@ impl Write for Narrow {
     }
 }
 
+/// A port with room for so many bytes, and what it took.
+fn port_with(alloc: Global, room: usize) -> Port<Narrow> {
+    Port::new(Narrow {
+        taken: Vec::new(alloc),
+        room,
+    })
+}
+
+fn taken_by(port: Port<Narrow>) -> Vec<u8> {
+    let Narrow { taken, room: _ } = port.into_inner();
+    taken
+}
+
 /// Writes January's due list to a writer with so much room: what it took, and how it ended.
 fn written(alloc: Global, room: usize) -> Result<(Vec<u8>, Result<(), WriteFault>), Fail> {
     let rows = [january()?];
-    let mut port = Port::new(Narrow {
-        taken: Vec::new(alloc),
-        room,
-    });
+    let mut port = port_with(alloc, room);
     let end = due_list(
         "ash",
         quarter("2024Q1")?,
@@ -83,8 +103,39 @@ fn written(alloc: Global, room: usize) -> Result<(Vec<u8>, Result<(), WriteFault
         &rows,
         &mut port,
     );
-    let Narrow { taken, room: _ } = port.into_inner();
-    Ok((taken, end))
+    Ok((taken_by(port), end))
+}
+
+/// The same row by row: what the writer took, and whether the row and the end were written.
+fn written_by_rows(alloc: Global, room: usize) -> Result<(Vec<u8>, bool, bool), Fail> {
+    let row = january()?;
+    let port = port_with(alloc, room);
+    let mut text = match DueText::begin("ash", quarter("2024Q1")?, day("2024-02-20")?, port) {
+        Ok(text) => text,
+        Err(Unwritten { writer }) => return Ok((taken_by(writer), false, false)),
+    };
+    let took = text.row(&row).is_ok();
+    match text.end() {
+        Ok(port) => Ok((taken_by(port), took, true)),
+        Err(Unwritten { writer }) => Ok((taken_by(writer), took, false)),
+    }
+}
+
+/// Writes the liability of an account's quarter by day to a writer with so much room.
+fn schedule(alloc: Global, room: usize) -> Result<(Vec<u8>, Result<(), WriteFault>), Fail> {
+    let sums = [
+        DaySum {
+            day: day("2024-05-08")?,
+            cents: Cents(4_000_000),
+        },
+        DaySum {
+            day: day("2024-05-10")?,
+            cents: Cents(6_000_000),
+        },
+    ];
+    let mut port = port_with(alloc, room);
+    let end = schedule_b("elm", quarter("2024Q2")?, &sums, &mut port);
+    Ok((taken_by(port), end))
 }
 
 #[test]
@@ -113,6 +164,72 @@ fn a_writer_that_fails_has_a_prefix(rt: HostRuntime) -> Result<(), Fail> {
         assert_eq!(rt; end, Err(WriteFault));
         assert_eq!(rt; taken.as_slice(), &text[..room]);
     }
+    Ok(())
+}
+
+#[test]
+fn a_schedule_b_has_its_bytes(rt: HostRuntime) -> Result<(), Fail> {
+    let text = SCHEDULE.as_bytes();
+    let (whole, end) = schedule(rt.alloc(), 1000)?;
+    assert_eq!(rt; end, Ok(()));
+    assert_eq!(rt; whole.as_slice(), text);
+    for room in 0..text.len() {
+        let (taken, end) = schedule(rt.alloc(), room)?;
+        assert_eq!(rt; end, Err(WriteFault));
+        assert_eq!(rt; taken.as_slice(), &text[..room]);
+    }
+    Ok(())
+}
+
+#[test]
+fn a_due_list_is_written_by_rows(rt: HostRuntime) -> Result<(), Fail> {
+    let text = WITH_ONE_ROW.as_bytes();
+    let (whole, took, ended) = written_by_rows(rt.alloc(), text.len())?;
+    assert_eq!(rt; whole.as_slice(), text);
+    assert!(rt; took && ended);
+    // The first two lines end at these bytes.
+    for room in 0..text.len() {
+        let (taken, took, ended) = written_by_rows(rt.alloc(), room)?;
+        assert_eq!(rt; taken.as_slice(), &text[..room]);
+        assert_eq!(rt; took, room >= 140);
+        assert!(rt; !ended);
+    }
+    let none = port_with(rt.alloc(), 1000);
+    let Ok(begun) = DueText::begin("ash", quarter("2024Q3")?, day("2024-07-01")?, none) else {
+        return Err("no text")?;
+    };
+    let Ok(port) = begun.end() else {
+        return Err("no end")?;
+    };
+    assert_eq!(rt; taken_by(port).as_slice(), WITHOUT_ROWS.as_bytes());
+    Ok(())
+}
+
+/// A row of so many cents.
+fn row_of(cents: u64) -> Result<DueRow, Fail> {
+    let row = january()?;
+    let obligation = Obligation {
+        cents: Cents(cents),
+        ..row.obligation
+    };
+    Ok(DueRow { obligation, ..row })
+}
+
+#[test]
+fn a_total_stays_below_the_bound(rt: HostRuntime) -> Result<(), Fail> {
+    let port = port_with(rt.alloc(), 1000);
+    let Ok(mut text) = DueText::begin("ash", quarter("2024Q1")?, day("2024-02-20")?, port) else {
+        return Err("no text")?;
+    };
+    assert_eq!(rt; text.row(&row_of(5_999_999_999_999_998)?), Ok(()));
+    assert_eq!(rt; text.row(&row_of(1)?), Ok(()));
+    assert_eq!(rt; text.row(&row_of(1)?), Err(SinkFault));
+    assert_eq!(rt; text.row(&row_of(0)?), Err(SinkFault));
+    let Err(Unwritten { writer }) = text.end() else {
+        return Err("an end")?;
+    };
+    // The first line and the lines of two rows.
+    assert_eq!(rt; taken_by(writer).len(), 37 + 103 + 103);
     Ok(())
 }
 

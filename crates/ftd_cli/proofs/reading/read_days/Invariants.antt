@@ -1,7 +1,7 @@
 use Rattle.std.proofs.Common.{◌≡◌, map, drop}
 use Rattle.std.specs.String.{string_bytes}
-use Rattle.ftd_cli.specs.Words.{days_of}
-use Rattle.ftd_cli.proofs.WordFacts.{on_front}
+use Rattle.ftd_days.specs.Spelling.{days_of}
+use Rattle.ftd_days.proofs.Wholes.{on_front}
 use Rattle.ftd_cli.proofs.reading.read_days.Given as goal
 
 abbrev pub invariant-loop-word : goal.invariant-loop-word

@@ -1,4 +1,4 @@
-use Rattle.std.proofs.Common.{◌≡◌, sym, arith}
+use Rattle.std.proofs.Common.{sym, arith}
 use Rattle.ftd_days.proofs.Months.{in_month, month_of_only, month_start-end}
 use Rattle.ftd_days.proofs.laws.each_day_lies_in_one_month.Goals as goal
 

@@ -1,7 +1,6 @@
-use Rattle.std.proofs.Common.{◌≡◌, ℕ, ◌+◌, List, ◌++◌, drop, refl, arith}
-use Rattle.std.specs.List.{sum_by, flat_map}
-use Rattle.ftd_reports.specs.DueLists.{due_line, total_line, due_text, amount_of}
-use Rattle.ftd_reports.proofs.WritingFacts.{begins, goes_on, breaks_off, prefix_more, last_piece, last_broken, on_err}
+use Rattle.std.proofs.Common.{refl, arith}
+use Rattle.ftd_reports.specs.DueLists.{due_text}
+use Rattle.ftd_ports.proofs.WritingFacts.{begins, goes_on, breaks_off, prefix_more, last_piece, last_broken, on_err}
 use Rattle.ftd_reports.proofs.LineFacts.{rows_at, amounts_at, rows_end}
 use Rattle.ftd_reports.proofs.due_lists.due_list.Goals as goal
 

@@ -1,7 +1,7 @@
-use Rattle.std.proofs.Common.{ℕ, List, ◌++◌, ◌+◌, ◌≡◌, ◌<◌, drop}
+use Rattle.std.proofs.Common.{◌++◌, ◌+◌, ◌≡◌, drop}
 use Rattle.std.specs.List.{sum_by, flat_map}
 use Rattle.ftd_reports.specs.DueLists.{due_line, total_line, due_text, amount_of}
-use Rattle.ftd_reports.proofs.WritingFacts.{HasWritten}
+use Rattle.ftd_ports.proofs.WritingFacts.{HasWritten}
 use Rattle.ftd_reports.proofs.due_lists.due_list.Given as goal
 
 -- what is left to write: the lines of the other rows and the last line, of the whole total

@@ -1,5 +1,5 @@
 use Rattle.std.proofs.Common.{rules, tests, ◌≡◌, ◌↔◌, ℕ, ◌<◌, ◌++◌, [], ◌∷◌, Bool, true, false, List, length, get_or, set, sym, ap, ◌∙◌, subst}
-use Rattle.std.specs.Prelude.{◌==◌, None, Some, Result, Ok, Err, OnOk, OnErr, find}
+use Rattle.std.specs.Prelude.{◌==◌, None, Some, Result, Ok, Err, OnOk, OnErr}
 use Rattle.std.specs.List.{position}
 use Rattle.std.specs.Option.{option_map}
 use Rattle.std.proofs.lemmas.Iterator.{YieldsList-from_slice}
@@ -8,7 +8,7 @@ use Rattle.std.proofs.lemmas.List.Quantifiers.{position-Some}
 use Rattle.ftd_days.specs.declared.holidays.Year.{Year}
 use Rattle.ftd_days.specs.Calendar.{year_of}
 use Rattle.ftd_days.specs.Business.{is_holiday}
-use Rattle.ftd_days.specs.Holidays.{YearDays, MayAddDay, AreYears, with_day, holidays_of, IsWithHoliday, calendar_of}
+use Rattle.ftd_days.specs.Holidays.{YearDays, MayAddDay, with_day, holidays_of, IsWithHoliday, calendar_of}
 use Rattle.ftd_days.specs.Private.Given.{given_of}
 use Rattle.ftd_days.proofs.Years.{entry, calendar_first, find_place, find_none, adds_at, same_at, years_with, holiday_with}
 use Rattle.ftd_days.proofs.holidays.Holidays.add_day.Goals as goal

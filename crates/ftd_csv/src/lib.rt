@@ -1,0 +1,10 @@
+//! Pay runs out of CSV.
+#![tactic(auto)]
+
+mod fields;
+mod reading;
+mod record;
+mod rows;
+
+pub use crate::reading::{MOST_BYTES, records};
+pub use crate::record::{Content, EmployerRun, Record, RecordFault};
