@@ -1,5 +1,5 @@
 -- A request from its first call to its last.
-use Rattle.std.proofs.Common.{◌≡◌, ◌⊎◌, inl, inr, refl, sym, subst, ◌∙◌, arith, IsTrue, true, false, Ok, Err, Result}
+use Rattle.std.proofs.Common.{◌≡◌, ◌⊎◌, inl, inr, refl, sym, subst, ◌∙◌, arith, IsTrue, true, false, None, Ok, Err, Result}
 use Rattle.std.specs.Prelude.{is_err, OnOk, OnErr}
 use Rattle.std.proofs.lemmas.Bool.{true≢false}
 use Rattle.sqlite.specs.Effect.{Database}
@@ -24,20 +24,31 @@ use Rattle.ftd_rows.specs.declared.faults.StoreFault.TheVariants as fault
 use Rattle.ftd_store.specs.declared.tx.Tx.{Tx}
 use Rattle.ftd_store.specs.Seen.{shown}
 use Rattle.ftd_store.specs.Frame.{Calls}
-use Rattle.ftd_entries.specs.Words.{IsKept, Serves}
-use Rattle.ftd_desk.specs.Faults.{refusal_of}
-use Rattle.ftd_desk.specs.Words.{Rests, MayLeave, Handles}
+use Rattle.ftd_entries.specs.Words.{IsKept}
+use Rattle.ftd_questions.specs.Faults.{refusal_of}
+use Rattle.ftd_desk.specs.Counted.{AreRuns, ArePayments, AreCounted, ServesCounted}
+use Rattle.ftd_desk.specs.Desks.{Held, Rests, Keeps}
+use Rattle.ftd_desk.specs.Words.{MayLeave, Handles}
+use Rattle.ftd_desk.specs.declared.counts.Counts.{Counts}
+use Rattle.ftd_desk.specs.declared.requests.Served.{Served}
 
 -- what a crash may leave of a request
-abbrev pub MayLeaveOf : database.State → Request → Trees → Type 0
-MayLeaveOf old request left = IsTrue old.is_open × ((s : State) → Rests old s → MayLeave s request left)
+abbrev pub MayLeaveOf : Held → Request → Trees → Type 0
+MayLeaveOf old request left = IsTrue old.db.is_open × ((s : State) → Keeps old s → MayLeave s request left)
 
--- what a request did within its transaction
-pub record Served (old new : database.State) (request : Request) (answer : Answer) : Type 0 where
+-- what a request did within its transaction, and the counts before and after it
+pub record ServesBy (old new : database.State) (counts later : Counts) (request : Request) (answer : Answer) : Type 0 where
   pub crash : CrashKeeps old new
   pub kept : HasCleanDisk new → KeepsCommit old new
-  pub answered : HasCleanDisk new → (s : State) → IsKept old.now s
-      → IsFault answer ⊎ ((next : State) × Step s request answer next × IsKept new.now next × IsTrue new.is_open)
+  pub answered : HasCleanDisk new → (s : State) → IsKept old.now s → AreCounted counts s
+      → (IsFault answer × AreCounted later s) ⊎ ((next : State) × Step s request answer next × IsKept new.now next × IsTrue new.is_open × AreCounted later next)
+
+-- no counts are right of each state
+pub none_counted : (counts : Counts) → counts.runs ≡ None → counts.payments ≡ None → (s : State) → AreCounted counts s
+none_counted counts runs payments s = record {
+  runs = subst (λ o. AreRuns o s) (sym runs) tt;
+  payments = subst (λ o. ArePayments o s) (sym payments) tt;
+}
 
 -- the database is the same again
 pub rests_again : (old new : database.State) (s : State) → Rests old s → new.now ≡ old.now → new.committed ≡ old.committed → Rests new s
@@ -58,24 +69,25 @@ no_change answer (inl memory) = rw memory refl
 no_change answer (inr store) = rw store refl
 
 -- nothing was touched
-pub handles_still : (old : database.State) (request : Request) (answer : Answer) → CrashKeeps old old → IsFault answer → Handles old old request answer
+pub handles_still : (old : Held) (request : Request) (answer : Answer) → CrashKeeps old.db old.db → IsFault answer → Handles old old request answer
 handles_still old request answer crash fault = record {
   honest = λ clean. clean;
   opens = λ clean is_open. is_open;
-  answered = λ clean is_open s rests. (s, inr (fault, refl), rests);
-  crash = survives_weaker old old (λ _. ⊥) (MayLeaveOf old request) (λ clean db none. absurd none) crash;
+  answered = λ clean is_open s keeps. (s, inr (fault, refl), keeps);
+  crash = survives_weaker old.db old.db (λ _. ⊥) (MayLeaveOf old request) (λ clean db none. absurd none) crash;
   lasts = λ clean change. absurd (not_fault answer fault change);
   keeps = λ same other. crash;
 }
 
--- no transaction began
-pub handles_unbegun : (old new : database.State) (request : Request) (answer : Answer) → CrashKeeps old new → (HasCleanDisk new → LeavesRows old new) → IsFault answer
+-- no transaction began, and the counts are forgotten
+pub handles_unbegun : (old new : Held) (request : Request) (answer : Answer) → CrashKeeps old.db new.db → (HasCleanDisk new.db → LeavesRows old.db new.db) → ((s : State) → AreCounted new.counts s) → IsFault answer
     → Handles old new request answer
-handles_unbegun old new request answer crash left fault = record {
-  honest = clean_at old new (λ _. ⊥) crash;
+handles_unbegun old new request answer crash left forgotten fault = record {
+  honest = clean_at old.db new.db (λ _. ⊥) crash;
   opens = λ clean is_open. (left clean).was_open is_open;
-  answered = λ clean is_open s rests. (s, inr (fault, refl), rests_again old new s rests ((left clean).now_is is_open) ((left clean).committed_is is_open));
-  crash = survives_weaker old new (λ _. ⊥) (MayLeaveOf old request) (λ clean db none. absurd none) crash;
+  answered = λ clean is_open s keeps.
+      (s, inr (fault, refl), record { rests = rests_again old.db new.db s keeps.rests ((left clean).now_is is_open) ((left clean).committed_is is_open); counted = forgotten s });
+  crash = survives_weaker old.db new.db (λ _. ⊥) (MayLeaveOf old request) (λ clean db none. absurd none) crash;
   lasts = λ clean change. absurd (not_fault answer fault change);
   keeps = λ same other. crash;
 }
@@ -98,53 +110,65 @@ module _ (a b m e : database.State) (entered : CrashKeeps a b) (begun : HasClean
   pub was_open : HasCleanDisk m → IsTrue a.is_open
   was_open clean = (begun (clean_at b m (λ _. ⊥) crash clean)).shows.was_open
 
-module _ (a b m e : database.State) (request : Request) (answer : Answer)
-    (entered : CrashKeeps a b) (begun : HasCleanDisk b → Begins a b) (serves : Served b m request answer) where
+-- what rests in a commit that succeeded
+pub committed_rests : (m e : database.State) (s : State) → Shows m e m.now m.now false → IsKept m.now s → Rests e s
+committed_rests m e s shows kept = record { kept = subst (λ (db : Database). IsKept db s) (sym shows.now_is) kept; committed = shows.committed_is ∙ sym shows.now_is }
+
+module _ (old new : Held) (b m : database.State) (later : Counts) (request : Request) (answer : Answer)
+    (entered : CrashKeeps old.db b) (begun : HasCleanDisk b → Begins old.db b) (serves : ServesBy b m old.counts later request answer) where
+  abbrev Done : State → Type 0
+  Done s = (IsFault answer × AreCounted later s) ⊎ ((next : State) × Step s request answer next × IsKept m.now next × IsTrue m.is_open × AreCounted later next)
+
+  done_at : HasCleanDisk m → (s : State) → Keeps old s → Done s
+  done_at clean s keeps = serves.answered clean s (kept_at old.db b m new.db entered begun serves.crash serves.kept clean s keeps.rests) keeps.counted
+
   -- the transaction was dropped, since nothing changed
-  pub handles_dropped : (HasCleanDisk e → IsTrue e.is_open → EndsAs e m.committed) → CrashKeeps m e → (HasCleanDisk e → IsTrue e.is_open → IsTrue m.is_open) → is_change answer ≡ false → Handles a e request answer
-  handles_dropped undone left opens stays = record {
-    honest = λ clean. before a b m e entered begun serves.crash serves.kept (clean_at m e (λ _. ⊥) left clean);
-    opens = λ clean is_open. was_open a b m e entered begun serves.crash serves.kept (clean_at m e (λ _. ⊥) left clean);
-    answered = λ clean is_open s rests.
-        let clean_m = clean_at m e (λ _. ⊥) left clean in
-        let again = undone_rests a b m e entered begun serves.crash serves.kept clean_m (opens clean is_open) (undone clean is_open) s rests in
-        elim (serves.answered clean_m s (kept_at a b m e entered begun serves.crash serves.kept clean_m s rests)) [
-          | inl fault ↦ (s, inr (fault, refl), again)
-          | inr x ↦ (x.0, inl x.1, subst (λ n. Rests e n) (sym (leaves s request answer x.0 x.1 stays)) again)
+  pub handles_dropped : (HasCleanDisk new.db → IsTrue new.db.is_open → EndsAs new.db m.committed) → CrashKeeps m new.db → (HasCleanDisk new.db → IsTrue new.db.is_open → IsTrue m.is_open)
+      → ((s : State) → AreCounted later s → AreCounted new.counts s) → is_change answer ≡ false → Handles old new request answer
+  handles_dropped undone left opens counted stays = record {
+    honest = λ clean. before old.db b m new.db entered begun serves.crash serves.kept (clean_at m new.db (λ _. ⊥) left clean);
+    opens = λ clean is_open. was_open old.db b m new.db entered begun serves.crash serves.kept (clean_at m new.db (λ _. ⊥) left clean);
+    answered = λ clean is_open s keeps.
+        let clean_m = clean_at m new.db (λ _. ⊥) left clean in
+        let again = undone_rests old.db b m new.db entered begun serves.crash serves.kept clean_m (opens clean is_open) (undone clean is_open) s keeps.rests in
+        elim (done_at clean_m s keeps) [
+          | inl fault ↦ (s, inr (fault.0, refl), record { rests = again; counted = counted s fault.1 })
+          | inr x ↦ (x.0, inl x.1, record { rests = subst (λ n. Rests new.db n) (sym (leaves s request answer x.0 x.1 stays)) again; counted = counted x.0 x.4 })
         ];
-    crash = survives_weaker a e (λ _. ⊥) (MayLeaveOf a request) (λ clean db none. absurd none) whole;
+    crash = survives_weaker old.db new.db (λ _. ⊥) (MayLeaveOf old request) (λ clean db none. absurd none) whole;
     lasts = λ clean change. absurd (true≢false (sym change ∙ stays));
     keeps = λ same other. whole;
   }
     where
-      whole : CrashKeeps a e
-      whole = crash_then a b e entered (crash_then b m e serves.crash left)
+      whole : CrashKeeps old.db new.db
+      whole = crash_then old.db b new.db entered (crash_then b m new.db serves.crash left)
 
   -- what a crash may leave of a commit
-  commit_leaves : Survives m e (λ left. left ≡ m.now.trees) → is_change answer ≡ true → Survives a e (MayLeaveOf a request)
+  commit_leaves : Survives m new.db (λ left. left ≡ m.now.trees) → is_change answer ≡ true → Survives old.db new.db (MayLeaveOf old request)
   commit_leaves commit change =
-      survives_then a m e (λ _. ⊥) (λ left. left ≡ m.now.trees) (MayLeaveOf a request) (λ clean db none. absurd none)
+      survives_then old.db m new.db (λ _. ⊥) (λ left. left ≡ m.now.trees) (MayLeaveOf old request) (λ clean db none. absurd none)
       (λ clean db is.
-      let clean_m = clean_at m e (λ left. left ≡ m.now.trees) commit clean in (
-        was_open a b m e entered begun serves.crash serves.kept clean_m,
-        λ s rests.
-            (elim (serves.answered clean_m s (kept_at a b m e entered begun serves.crash serves.kept clean_m s rests)) [
-              | inl fault ↦ absurd (not_fault answer fault change)
+      let clean_m = clean_at m new.db (λ left. left ≡ m.now.trees) commit clean in (
+        was_open old.db b m new.db entered begun serves.crash serves.kept clean_m,
+        λ s keeps.
+            (elim (done_at clean_m s keeps) [
+              | inl fault ↦ absurd (not_fault answer fault.0 change)
               | inr x ↦ record { answer = answer; next = x.0; step = x.1; db = m.now; trees = is; kept = x.2 }
             ]),
       ))
-      (crash_then a b m entered serves.crash) commit
+      (crash_then old.db b m entered serves.crash) commit
 
-  -- the commit failed
-  pub handles_uncommitted : (HasCleanDisk e → IsTrue e.is_open → EndsAs e m.committed) → Survives m e (λ left. left ≡ m.now.trees) → is_change answer ≡ true → Handles a e request (Err refusal.Store)
-  handles_uncommitted undone commit change = record {
-    honest = λ clean. before a b m e entered begun serves.crash serves.kept (clean_at m e (λ left. left ≡ m.now.trees) commit clean);
-    opens = λ clean is_open. was_open a b m e entered begun serves.crash serves.kept (clean_at m e (λ left. left ≡ m.now.trees) commit clean);
-    answered = λ clean is_open s rests.
-        let clean_m = clean_at m e (λ left. left ≡ m.now.trees) commit clean in
-        elim (serves.answered clean_m s (kept_at a b m e entered begun serves.crash serves.kept clean_m s rests)) [
-          | inl fault ↦ absurd (not_fault answer fault change)
-          | inr x ↦ (s, inr (inr refl, refl), undone_rests a b m e entered begun serves.crash serves.kept clean_m x.3 (undone clean is_open) s rests)
+  -- the commit failed, and the counts are forgotten
+  pub handles_uncommitted : (HasCleanDisk new.db → IsTrue new.db.is_open → EndsAs new.db m.committed) → Survives m new.db (λ left. left ≡ m.now.trees) → ((s : State) → AreCounted new.counts s)
+      → is_change answer ≡ true → Handles old new request (Err refusal.Store)
+  handles_uncommitted undone commit forgotten change = record {
+    honest = λ clean. before old.db b m new.db entered begun serves.crash serves.kept (clean_at m new.db (λ left. left ≡ m.now.trees) commit clean);
+    opens = λ clean is_open. was_open old.db b m new.db entered begun serves.crash serves.kept (clean_at m new.db (λ left. left ≡ m.now.trees) commit clean);
+    answered = λ clean is_open s keeps.
+        let clean_m = clean_at m new.db (λ left. left ≡ m.now.trees) commit clean in
+        elim (done_at clean_m s keeps) [
+          | inl fault ↦ absurd (not_fault answer fault.0 change)
+          | inr x ↦ (s, inr (inr refl, refl), record { rests = undone_rests old.db b m new.db entered begun serves.crash serves.kept clean_m x.3 (undone clean is_open) s keeps.rests; counted = forgotten s })
         ];
     crash = commit_leaves commit change;
     lasts = λ clean none. absurd (true≢false (sym none));
@@ -152,19 +176,19 @@ module _ (a b m e : database.State) (request : Request) (answer : Answer)
   }
 
   -- the commit succeeded
-  pub handles_committed : (HasCleanDisk e → Shows m e m.now m.now false) → (HasCleanDisk e → CrashLeaves e m.now) → Survives m e (λ left. left ≡ m.now.trees) → is_change answer ≡ true → Handles a e request answer
-  handles_committed done last commit change = record {
-    honest = λ clean. before a b m e entered begun serves.crash serves.kept (clean_at m e (λ left. left ≡ m.now.trees) commit clean);
-    opens = λ clean is_open. was_open a b m e entered begun serves.crash serves.kept (clean_at m e (λ left. left ≡ m.now.trees) commit clean);
-    answered = λ clean is_open s rests.
-        let clean_m = clean_at m e (λ left. left ≡ m.now.trees) commit clean in
-        let shows = done clean in
-        elim (serves.answered clean_m s (kept_at a b m e entered begun serves.crash serves.kept clean_m s rests)) [
-          | inl fault ↦ absurd (not_fault answer fault change)
-          | inr x ↦ (x.0, inl x.1, record { kept = subst (λ (db : Database). IsKept db x.0) (sym shows.now_is) x.2; committed = shows.committed_is ∙ sym shows.now_is })
+  pub handles_committed : (HasCleanDisk new.db → Shows m new.db m.now m.now false) → (HasCleanDisk new.db → CrashLeaves new.db m.now) → Survives m new.db (λ left. left ≡ m.now.trees) → new.counts ≡ later
+      → is_change answer ≡ true → Handles old new request answer
+  handles_committed done last commit counts change = record {
+    honest = λ clean. before old.db b m new.db entered begun serves.crash serves.kept (clean_at m new.db (λ left. left ≡ m.now.trees) commit clean);
+    opens = λ clean is_open. was_open old.db b m new.db entered begun serves.crash serves.kept (clean_at m new.db (λ left. left ≡ m.now.trees) commit clean);
+    answered = λ clean is_open s keeps.
+        let clean_m = clean_at m new.db (λ left. left ≡ m.now.trees) commit clean in
+        elim (done_at clean_m s keeps) [
+          | inl fault ↦ absurd (not_fault answer fault.0 change)
+          | inr x ↦ (x.0, inl x.1, record { rests = committed_rests m new.db x.0 (done clean) x.2; counted = subst (λ c. AreCounted c x.0) (sym counts) x.4 })
         ];
     crash = commit_leaves commit change;
-    lasts = λ clean changed. subst (λ (db : Database). CrashLeaves e db) (sym (done clean).now_is) (last clean);
+    lasts = λ clean changed. subst (λ (db : Database). CrashLeaves new.db db) (sym (done clean).now_is) (last clean);
     keeps = λ same other. absurd (true≢false (sym change ∙ same));
   }
 
@@ -178,23 +202,25 @@ at_ok (Ok x) e p = p
 at_ok (Err x) e p = absurd (true≢false e)
 
 -- what a request did within its transaction, as it is seen from without
-pub served_ok : {S : Type 0} (g : store.Ghosts S) (request : Request) (old new : Tx S) (answer : Answer) → Calls g old new (Ok answer) (Serves request) → Served (shown g old) (shown g new) request answer
-served_ok g request old new answer c = record {
+pub served_ok : {S : Type 0} (g : store.Ghosts S) (request : Request) (counts taken : Counts) (old new : Tx S) (served : Served) → taken ≡ counts → Calls g old new (Ok served) (ServesCounted taken request)
+    → ServesBy (shown g old) (shown g new) counts served.counts request served.answer
+served_ok g request counts taken old new served is c = record {
   crash = c.frame.crash;
   kept = c.frame.kept;
-  answered = λ clean s k.
-      let done = c.does clean k.tables k.stands s k.stands_for k.sound in
-      inr (done.0, done.1, done.2, (c.frame.stays clean).is_open);
+  answered = λ clean s k counted.
+      let done = c.does clean k.tables k.stands s k.stands_for k.sound (subst (λ x. AreCounted x s) (sym is) counted) in
+      inr (done.0, done.1, done.2, (c.frame.stays clean).is_open, done.3);
 }
 
 pub is_fault : (fault : StoreFault) → IsFault (Err (refusal_of fault))
 is_fault fault.Memory = inl refl
 is_fault fault.Failed = inr refl
 
-pub served_err : {S : Type 0} (g : store.Ghosts S) (request : Request) (old new : Tx S) (fault : StoreFault) → Calls g old new (Err fault) (Serves request)
-    → Served (shown g old) (shown g new) request (Err (refusal_of fault))
-served_err g request old new fault c = record {
+-- there was a fault, and the counts are forgotten
+pub served_err : {S : Type 0} (g : store.Ghosts S) (request : Request) (counts later taken : Counts) (old new : Tx S) (fault : StoreFault) → taken ≡ counts → Calls {A = Served} g old new (Err fault) (ServesCounted taken request)
+    → ((s : State) → AreCounted later s) → ServesBy (shown g old) (shown g new) counts later request (Err (refusal_of fault))
+served_err g request counts later taken old new fault is c forgotten = record {
   crash = c.frame.crash;
   kept = c.frame.kept;
-  answered = λ clean s k. inl (is_fault fault);
+  answered = λ clean s k counted. inl (is_fault fault, forgotten s);
 }

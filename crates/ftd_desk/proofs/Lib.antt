@@ -1,3 +1,5 @@
+pub mod Repairing
+pub mod Counting
 mod Handling
 mod Running
 mod Together

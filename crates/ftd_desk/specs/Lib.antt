@@ -1,2 +1,4 @@
-pub mod Faults
+pub mod Counted
+pub mod Desks
 pub mod Words
+pub mod Telling

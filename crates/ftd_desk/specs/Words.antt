@@ -15,15 +15,15 @@ use Rattle.ftd_machine.specs.declared.requests.Request.{Request}
 use Rattle.ftd_sql.specs.States.{CrashKeeps}
 use Rattle.ftd_store.specs.Ends.{CrashLeaves}
 use Rattle.ftd_machine.specs.Sound.{IsSound}
-use Rattle.ftd_schema.specs.Standing.{Tables}
+use Rattle.ftd_schema.specs.Standing.{Tables, Stands}
 use Rattle.ftd_machine.specs.declared.replies.Refusal.{Refusal}
 use Rattle.ftd_entries.specs.Standing.{StandsFor}
 use Rattle.ftd_entries.specs.Words.{IsKept}
-
--- between requests: what is seen is committed, and keeps this state
-pub record Rests (db : database.State) (s : State) : Type 0 where
-  pub kept : IsKept db.now s
-  pub committed : db.committed ≡ db.now
+use Rattle.ftd_posting.specs.Repaired.{Repairs}
+use Rattle.ftd_desk.specs.Counted.{AreCounted}
+use Rattle.ftd_desk.specs.Desks.{Held, Keeps}
+use Rattle.ftd_desk.specs.declared.counts.Counts.{Counts}
+use Rattle.ftd_desk.specs.declared.requests.ServedAll.{ServedAll}
 
 -- what a crash may leave of a request beside the tables from before it: those of the machine's next state
 pub record MayLeave (s : State) (request : Request) (left : Trees) : Type 0 where
@@ -34,20 +34,27 @@ pub record MayLeave (s : State) (request : Request) (left : Trees) : Type 0 wher
   pub trees : left ≡ db.trees
   pub kept : IsKept db next
 
--- the request is answered as the machine answers it, and the database rests in its next state; or there is a fault, and
--- it rests in the state as it was
-pub record Handles (old new : database.State) (request : Request) (answer : Answer) : Type 0 where
-  pub honest : HasCleanDisk new → HasCleanDisk old
-  pub opens : HasCleanDisk new → IsTrue new.is_open → IsTrue old.is_open
-  pub answered : HasCleanDisk new → IsTrue new.is_open → (s : State) → Rests old s
-      → (next : State) × Goes s request answer next × Rests new next
+-- the request is answered as the machine answers it, and the desk stands for its next state; or there is a fault, and it
+-- stands for the state as it was
+pub record Handles (old new : Held) (request : Request) (answer : Answer) : Type 0 where
+  pub honest : HasCleanDisk new.db → HasCleanDisk old.db
+  pub opens : HasCleanDisk new.db → IsTrue new.db.is_open → IsTrue old.db.is_open
+  pub answered : HasCleanDisk new.db → IsTrue new.db.is_open → (s : State) → Keeps old s
+      → (next : State) × Goes s request answer next × Keeps new next
   -- a crash finds what it would have found before, or the machine's next state
-  pub crash : Survives old new (λ left. IsTrue old.is_open
-      × ((s : State) → Rests old s → MayLeave s request left))
+  pub crash : Survives old.db new.db (λ left. IsTrue old.db.is_open
+      × ((s : State) → Keeps old s → MayLeave s request left))
   -- once the request is done, or its run posted or voided, a crash finds what is seen now
-  pub lasts : HasCleanDisk new → is_change answer ≡ true → CrashLeaves new new.now
+  pub lasts : HasCleanDisk new.db → is_change answer ≡ true → CrashLeaves new.db new.db.now
   -- a refusal, and the answer to a question, leave what a crash finds
-  pub keeps : is_change answer ≡ false → (answer ≡ Err Store → ⊥) → CrashKeeps old new
+  pub keeps : is_change answer ≡ false → (answer ≡ Err Store → ⊥) → CrashKeeps old.db new.db
+
+-- a run that is posted or voided changes the account's rows that its repair names, and no others: so of any tables with
+-- the columns of the desk's, whether they stand for a state or not
+abbrev pub RepairsRows : database.State → database.State → Request → Answer → Type 0
+RepairsRows old new request answer =
+    HasCleanDisk new → IsTrue new.is_open → is_change answer ≡ true
+    → (t : Tables) → Stands old.now t → Repairs request answer old.now new.now t
 
 -- what a crash may leave of requests one after the other beside the tables from before them: those of the state that a
 -- run of the first of them, up to some place, ends in
@@ -63,15 +70,15 @@ pub record MayLeaveRun (s : State) (requests : List Request) (left : Trees) : Ty
   pub kept : IsKept db end
 
 -- the requests are answered one after the other as the machine answers them, or with faults that change nothing, and the
--- database rests in the state at the end
-pub record HandlesAll (old new : database.State) (requests : List Request) (answers : List Answer) : Type 0 where
-  pub honest : HasCleanDisk new → HasCleanDisk old
-  pub opens : HasCleanDisk new → IsTrue new.is_open → IsTrue old.is_open
-  pub answered : HasCleanDisk new → IsTrue new.is_open → (s : State) → Rests old s
-      → (end : State) × IsRun s requests answers end × Rests new end
+-- desk stands for the state at the end
+pub record HandlesAll (old new : Held) (requests : List Request) (answers : List Answer) : Type 0 where
+  pub honest : HasCleanDisk new.db → HasCleanDisk old.db
+  pub opens : HasCleanDisk new.db → IsTrue new.db.is_open → IsTrue old.db.is_open
+  pub answered : HasCleanDisk new.db → IsTrue new.db.is_open → (s : State) → Keeps old s
+      → (end : State) × IsRun s requests answers end × Keeps new end
   -- a crash finds what it would have found before, or a state of a run of the first of the requests
-  pub crash : Survives old new (λ left. IsTrue old.is_open
-      × ((s : State) → Rests old s → MayLeaveRun s requests left))
+  pub crash : Survives old.db new.db (λ left. IsTrue old.db.is_open
+      × ((s : State) → Keeps old s → MayLeaveRun s requests left))
 
 -- each request is answered as the machine answers it, one after the other
 abbrev pub AreSteps : State → List Request → List Answer → State → Type 0
@@ -81,12 +88,12 @@ AreSteps s (request ∷ requests) [] end = ⊥
 AreSteps s (request ∷ requests) (answer ∷ answers) end =
     (next : State) × Step s request answer next × AreSteps next requests answers end
 
--- within a transaction over rows that stand for a state, the requests are answered so, and the rows are those of the
--- machine's state at the end
-abbrev pub ServesAll : List Request → List Answer → database.State → database.State → Tables → Type 0
-ServesAll requests answers before after t =
-    (s : State) → StandsFor t s → IsSound s
-    → (end : State) × AreSteps s requests answers end × IsKept after.now end
+-- within a transaction over rows that stand for a state, the requests are answered so, the rows are those of the machine's
+-- state at the end, and the counts stay right
+abbrev pub ServesAll : Counts → List Request → ServedAll → database.State → database.State → Tables → Type 0
+ServesAll counts requests served before after t =
+    (s : State) → StandsFor t s → IsSound s → AreCounted counts s
+    → (end : State) × AreSteps s requests served.answers.items end × IsKept after.now end × AreCounted served.counts end
 
 -- what a crash may leave of a list of requests beside the tables from before it: those of the machine's state at the end
 pub record MayLeaveAll (s : State) (requests : List Request) (left : Trees) : Type 0 where
@@ -112,15 +119,15 @@ abbrev pub some_change : Result (List Answer) Refusal → Bool
 some_change (Ok answers) = list_any is_change answers
 some_change (Err refusal) = false
 
--- all requests are answered as the machine answers them, and the database rests in the state at the end; or there is a
--- fault, and it rests in the state as it was
-pub record HandlesTogether (old new : database.State) (requests : List Request) (result : Result (List Answer) Refusal) : Type 0 where
-  pub honest : HasCleanDisk new → HasCleanDisk old
-  pub opens : HasCleanDisk new → IsTrue new.is_open → IsTrue old.is_open
-  pub answered : HasCleanDisk new → IsTrue new.is_open → (s : State) → Rests old s
-      → (end : State) × GoesTogether s requests result end × Rests new end
+-- all requests are answered as the machine answers them, and the desk stands for the state at the end; or there is a
+-- fault, and it stands for the state as it was
+pub record HandlesTogether (old new : Held) (requests : List Request) (result : Result (List Answer) Refusal) : Type 0 where
+  pub honest : HasCleanDisk new.db → HasCleanDisk old.db
+  pub opens : HasCleanDisk new.db → IsTrue new.db.is_open → IsTrue old.db.is_open
+  pub answered : HasCleanDisk new.db → IsTrue new.db.is_open → (s : State) → Keeps old s
+      → (end : State) × GoesTogether s requests result end × Keeps new end
   -- a crash finds what it would have found before, or the machine's state at the end
-  pub crash : Survives old new (λ left. IsTrue old.is_open
-      × ((s : State) → Rests old s → MayLeaveAll s requests left))
+  pub crash : Survives old.db new.db (λ left. IsTrue old.db.is_open
+      × ((s : State) → Keeps old s → MayLeaveAll s requests left))
   -- once something is kept that was not before, a crash finds what is seen now
-  pub lasts : HasCleanDisk new → some_change result ≡ true → CrashLeaves new new.now
+  pub lasts : HasCleanDisk new.db → some_change result ≡ true → CrashLeaves new.db new.db.now

@@ -1,58 +1,50 @@
 //! The desk: requests one after the other, each in a transaction of its own.
 
-ghost use Rattle.std.specs.Prelude.{◌≡◌, IsTrue, Err, IfOk, OnErr};
+ghost use Rattle.std.specs.Prelude.{◌≡◌, Err, IfOk, OnErr};
 ghost use Rattle.ftd_store.specs.Seen.{seen};
-ghost use Rattle.ftd_machine.specs.Laws.{is_change};
-ghost use Rattle.ftd_desk.specs.Faults.{refusal_of};
-ghost use Rattle.ftd_desk.specs.Words.{Handles, HandlesAll, HandlesTogether, listed};
+ghost use Rattle.ftd_machine.specs.State.{State};
+ghost use Rattle.ftd_desk.specs.Desks.{store_of, IsStopped, held, Rests, Keeps};
+ghost use Rattle.ftd_desk.specs.Words.{Handles, RepairsRows, HandlesAll, HandlesTogether, listed};
 
-use crate::requests::{serve, serve_all};
-use ftd_machine::{Answer, Refusal, Reply, Request};
-use ftd_store::{Store, StoreFault};
+mod telling;
+
+use crate::counts::{Counts, is_change};
+use crate::requests::{Served, serve, serve_all};
+use ftd_machine::{Answer, Refusal, Request};
+use ftd_questions::refusal_of;
+use ftd_store::Store;
 use sqlite::Alter;
 use std::alloc::{AllocError, Global};
+use std::mem;
 
-/// The deposit desk over its tables.
+/// The deposit desk over its tables. It keeps from request to request how many runs and payments
+/// the accounts have that it was asked for last, and forgets them after a fault.
 #[derive(Drop)]
 pub struct Desk<S: Alter> {
     alloc: Global,
     store: Store<S>,
     stopped: bool,
-}
-
-/// Whether the answer says that something is kept that was not before.
-fn is_change(answer: &Answer) -> bool
-    ensures { result ≡ is_change answer.now }
-{
-    matches!(answer, Ok(Reply::Done | Reply::Posted { .. }))
-}
-
-/// The refusal that a fault of the store is answered with.
-fn refusal_of(fault: StoreFault) -> Refusal
-    ensures { result ≡ refusal_of fault }
-{
-    match fault {
-        StoreFault::Memory => Refusal::Memory,
-        StoreFault::Failed => Refusal::Store,
-    }
+    counts: Counts,
 }
 
 impl<S: Alter> Desk<S> {
     /// The desk over these tables. What it lists takes its memory from the allocator.
     pub fn new(alloc: Global, store: Store<S>) -> Desk<S>
-        ensures over { result.store ≡ store }
-        ensures goes { ¬ IsTrue result.stopped }
+        ensures over { store_of result ≡ store }
+        ensures goes { ¬ IsStopped result }
+        ensures keeps { (s : State) → Rests (seen S.Store store) s → Keeps (held S.Store result) s }
     {
         Desk {
             alloc,
             store,
             stopped: false,
+            counts: Counts::none(),
         }
     }
 
     /// The tables are given back.
     pub fn into_store(self) -> Store<S>
-        ensures { result ≡ self.store }
+        ensures { result ≡ store_of self }
     {
         self.store
     }
@@ -60,37 +52,42 @@ impl<S: Alter> Desk<S> {
     /// Answers the request. `Memory` and `Store` change nothing. After a commit that failed the desk
     /// is stopped: it answers `Store` to everything, and does not touch the tables.
     pub fn handle(&mut self, request: &Request) -> Answer
-        ensures handles { Handles (seen S.Store self.old.store) (seen S.Store self.new.store)
+        ensures handles { Handles (held S.Store self.old) (held S.Store self.new)
             request.now result }
-        ensures stopped { IsTrue self.old.stopped
+        ensures repairs { RepairsRows (held S.Store self.old).db (held S.Store self.new).db
+            request.now result }
+        ensures stopped { IsStopped self.old
             → (result ≡ Err Refusal.Store) × (self.new ≡ self.old) }
     {
         if self.stopped {
             return Err(Refusal::Store);
         }
+        let counts = mem::replace(&mut self.counts, Counts::none());
         let mut tx = match self.store.begin() {
             Ok(tx) => tx,
             Err(fault) => return Err(refusal_of(fault)),
         };
-        let answer = match serve(&mut tx, self.alloc, request) {
-            Ok(answer) => answer,
+        let Served { answer, counts } = match serve(&mut tx, self.alloc, counts, request) {
+            Ok(served) => served,
             Err(fault) => return Err(refusal_of(fault)),
         };
         if !is_change(&answer) {
+            self.counts = counts;
             return answer;
         }
         if tx.commit().is_err() {
             self.stopped = true;
             return Err(Refusal::Store);
         }
+        self.counts = counts;
         answer
     }
 
     /// Answers the requests one after the other. `Err` says that there was no memory for the list of
     /// answers; nothing was asked then.
     pub fn run(&mut self, requests: &[Request]) -> Result<Vec<Answer>, AllocError>
-        ensures runs { IfOk result (λ answers. HandlesAll (seen S.Store self.old.store)
-            (seen S.Store self.new.store) requests.now answers.items) }
+        ensures runs { IfOk result (λ answers. HandlesAll (held S.Store self.old)
+            (held S.Store self.new) requests.now answers.items) }
         ensures err { OnErr result (self.new ≡ self.old) }
     {
         let mut answers = Vec::with_capacity(self.alloc, requests.len())?;
@@ -105,9 +102,9 @@ impl<S: Alter> Desk<S> {
     /// or, where there is a fault, not at all. `Memory` and `Store` change nothing. After a commit
     /// that failed the desk is stopped.
     pub fn together(&mut self, requests: &[Request]) -> Result<Vec<Answer>, Refusal>
-        ensures together { HandlesTogether (seen S.Store self.old.store)
-            (seen S.Store self.new.store) requests.now (listed result) }
-        ensures stopped { IsTrue self.old.stopped
+        ensures together { HandlesTogether (held S.Store self.old)
+            (held S.Store self.new) requests.now (listed result) }
+        ensures stopped { IsStopped self.old
             → (listed result ≡ Err Refusal.Store) × (self.new ≡ self.old) }
     {
         if self.stopped {
@@ -116,18 +113,20 @@ impl<S: Alter> Desk<S> {
         let Some((first, later)) = requests.split_first() else {
             return Ok(Vec::new(self.alloc));
         };
+        let counts = mem::replace(&mut self.counts, Counts::none());
         let mut tx = match self.store.begin() {
             Ok(tx) => tx,
             Err(fault) => return Err(refusal_of(fault)),
         };
-        let answers = match serve_all(&mut tx, self.alloc, first, later) {
-            Ok(answers) => answers,
+        let served = match serve_all(&mut tx, self.alloc, counts, first, later) {
+            Ok(served) => served,
             Err(fault) => return Err(refusal_of(fault)),
         };
         if tx.commit().is_err() {
             self.stopped = true;
             return Err(Refusal::Store);
         }
-        Ok(answers)
+        self.counts = served.counts;
+        Ok(served.answers)
     }
 }

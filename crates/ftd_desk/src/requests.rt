@@ -1,10 +1,15 @@
 //! Each request goes to its function.
 
-ghost use Rattle.std.specs.Prelude.{◌∷◌};
+ghost use Rattle.std.specs.Prelude.{◌≡◌, ◌∷◌, false, OnOk, Some};
 ghost use Rattle.ftd_store.specs.Frame.{Calls};
+ghost use Rattle.ftd_machine.specs.Laws.{adds_entry, is_on_run};
+ghost use Rattle.ftd_machine.specs.declared.requests.Request.TheVariants.{Post, Void, Pay};
 ghost use Rattle.ftd_entries.specs.Words.{Serves};
+ghost use Rattle.ftd_posting.specs.Repaired.{Becoming, PostsRun, VoidsRun, Repairs};
+ghost use Rattle.ftd_desk.specs.Counted.{ServesCounted};
 ghost use Rattle.ftd_desk.specs.Words.{ServesAll};
 
+use crate::counts::{Count, Counts, count_payments, count_runs};
 use ftd_entries::{enrol, open_year, pay, report, report_year, take_calendar, void_payment};
 use ftd_holidays::add_holiday;
 use ftd_machine::{Account, Answer, Request};
@@ -15,35 +20,202 @@ use ftd_store::{StoreFault, Tx};
 use sqlite::Alter;
 use std::alloc::Global;
 
+/// The answer to a request, and the counts after it.
+#[derive(Drop)]
+pub(crate) struct Served {
+    pub answer: Answer,
+    pub counts: Counts,
+}
+
+/// The answers to some requests, and the counts after them.
+#[derive(Drop)]
+pub(crate) struct ServedAll {
+    pub answers: Vec<Answer>,
+    pub counts: Counts,
+}
+
 /// Answers the requests one after the other within a transaction.
 pub(crate) fn serve_all<S: Alter>(
     tx: &mut Tx<'_, S>,
     alloc: Global,
+    counts: Counts,
     first: &Request,
     later: &[Request],
-) -> Result<Vec<Answer>, StoreFault>
+) -> Result<ServedAll, StoreFault>
     ensures call { Calls S.Store tx.old tx.new result
-        (λ answers. ServesAll (first.now ∷ later.now) answers.items) }
+        (ServesAll counts (first.now ∷ later.now)) }
 {
     let Ok(mut answers) = Vec::with_capacity(alloc, later.len() + 1) else {
         return tx.give_up(StoreFault::Memory);
     };
-    let answer = serve(tx, alloc, first)?;
-    answers.push_reserved(answer);
+    let served = serve(tx, alloc, counts, first)?;
+    answers.push_reserved(served.answer);
+    let mut counts = served.counts;
     for request in later {
-        let answer = serve(tx, alloc, request)?;
-        answers.push_reserved(answer);
+        let served = serve(tx, alloc, counts, request)?;
+        answers.push_reserved(served.answer);
+        counts = served.counts;
     }
-    Ok(answers)
+    Ok(ServedAll { answers, counts })
 }
 
 /// Answers the request within a transaction.
 pub(crate) fn serve<S: Alter>(
     tx: &mut Tx<'_, S>,
     alloc: Global,
+    counts: Counts,
+    request: &Request,
+) -> Result<Served, StoreFault>
+    ensures call { Calls S.Store tx.old tx.new result (ServesCounted counts request.now) }
+    ensures repairs { Calls S.Store tx.old tx.new result (λ served before after.
+        Repairs request.now served.answer before.now after.now) }
+{
+    match request {
+        Request::Post {
+            account,
+            run,
+            payday,
+            fit,
+            ss,
+            medicare,
+        } => {
+            let content = PayRun {
+                payday: *payday,
+                fit: *fit,
+                ss: *ss,
+                medicare: *medicare,
+            };
+            serve_post(tx, alloc, counts, account.as_str(), *run, content)
+        }
+        Request::Pay {
+            account,
+            payment,
+            paid,
+            for_day,
+            cents,
+        } => {
+            let content = Payment {
+                paid: *paid,
+                for_day: *for_day,
+                cents: *cents,
+            };
+            serve_pay(tx, alloc, counts, account.as_str(), *payment, content)
+        }
+        Request::Void { account, run } => {
+            let answer = void(tx, alloc, account.as_str(), *run)?;
+            Ok(Served { answer, counts })
+        }
+        _ => {
+            let answer = serve_entry(tx, alloc, request)?;
+            Ok(Served { answer, counts })
+        }
+    }
+}
+
+/// Posts a run. The account's runs are counted where their count is not kept.
+fn serve_post<S: Alter>(
+    tx: &mut Tx<'_, S>,
+    alloc: Global,
+    counts: Counts,
+    name: &str,
+    number: u32,
+    run: PayRun,
+) -> Result<Served, StoreFault>
+    ensures call { Calls S.Store tx.old tx.new result (ServesCounted counts
+        (Post name.now number run.payday run.fit run.ss run.medicare)) }
+    ensures repairs { Calls S.Store tx.old tx.new result (λ served before after.
+        Becoming (PostsRun name.now number run) served.answer before.now after.now) }
+{
+    let Counts { runs, payments } = counts;
+    match runs {
+        Some(count) if count.is_of(name) => {
+            post_counted(tx, alloc, count, payments, name, number, run)
+        }
+        _ => {
+            let count = count_runs(tx, alloc, name)?;
+            post_counted(tx, alloc, count, payments, name, number, run)
+        }
+    }
+}
+
+/// Posts a run of an account whose runs are counted.
+fn post_counted<S: Alter>(
+    tx: &mut Tx<'_, S>,
+    alloc: Global,
+    count: Count,
+    payments: Option<Count>,
+    name: &str,
+    number: u32,
+    run: PayRun,
+) -> Result<Served, StoreFault>
+    requires { count.account ≡ name.now }
+    ensures call { Calls S.Store tx.old tx.new result
+        (ServesCounted (record { runs = Some count; payments = payments })
+        (Post name.now number run.payday run.fit run.ss run.medicare)) }
+    ensures repairs { Calls S.Store tx.old tx.new result (λ served before after.
+        Becoming (PostsRun name.now number run) served.answer before.now after.now) }
+{
+    let answer = post(tx, alloc, name, number, run, count.number)?;
+    let runs = count.after(&answer);
+    let counts = Counts { runs, payments };
+    Ok(Served { answer, counts })
+}
+
+/// Takes a payment. The account's payments are counted where their count is not kept.
+fn serve_pay<S: Alter>(
+    tx: &mut Tx<'_, S>,
+    alloc: Global,
+    counts: Counts,
+    name: &str,
+    number: u32,
+    payment: Payment,
+) -> Result<Served, StoreFault>
+    ensures call { Calls S.Store tx.old tx.new result (ServesCounted counts
+        (Pay name.now number payment.paid payment.for_day payment.cents)) }
+{
+    let Counts { runs, payments } = counts;
+    match payments {
+        Some(count) if count.is_of(name) => {
+            pay_counted(tx, alloc, count, runs, name, number, payment)
+        }
+        _ => {
+            let count = count_payments(tx, alloc, name)?;
+            pay_counted(tx, alloc, count, runs, name, number, payment)
+        }
+    }
+}
+
+/// Takes a payment of an account whose payments are counted.
+fn pay_counted<S: Alter>(
+    tx: &mut Tx<'_, S>,
+    alloc: Global,
+    count: Count,
+    runs: Option<Count>,
+    name: &str,
+    number: u32,
+    payment: Payment,
+) -> Result<Served, StoreFault>
+    requires { count.account ≡ name.now }
+    ensures call { Calls S.Store tx.old tx.new result
+        (ServesCounted (record { runs = runs; payments = Some count })
+        (Pay name.now number payment.paid payment.for_day payment.cents)) }
+{
+    let answer = pay(tx, alloc, name, number, payment, count.number)?;
+    let payments = count.after(&answer);
+    let counts = Counts { runs, payments };
+    Ok(Served { answer, counts })
+}
+
+/// Answers a request that is on no run, and adds no payment.
+#[tactic(auto, using(crate::proofs::Counting::on_ok), unfolding(ftd_machine::specs::Laws::adds_entry, ftd_machine::specs::Laws::is_on_run))]
+fn serve_entry<S: Alter>(
+    tx: &mut Tx<'_, S>,
+    alloc: Global,
     request: &Request,
 ) -> Result<Answer, StoreFault>
     ensures call { Calls S.Store tx.old tx.new result (Serves request.now) }
+    ensures adds_none { OnOk result (adds_entry request.now ≡ false) }
+    ensures on_none { OnOk result (is_on_run request.now ≡ false) }
 {
     match request {
         Request::Enrol {
@@ -72,64 +244,23 @@ pub(crate) fn serve<S: Alter>(
             cents,
         } => report_year(tx, account.as_str(), *year, *cents),
         Request::OpenYear { account, year } => open_year(tx, alloc, account.as_str(), *year),
-        _ => serve_deposits(tx, alloc, request),
-    }
-}
-
-/// The same, of requests on pay runs and payments.
-fn serve_deposits<S: Alter>(
-    tx: &mut Tx<'_, S>,
-    alloc: Global,
-    request: &Request,
-) -> Result<Answer, StoreFault>
-    ensures call { Calls S.Store tx.old tx.new result (Serves request.now) }
-{
-    match request {
-        Request::Post {
-            account,
-            run,
-            payday,
-            fit,
-            ss,
-            medicare,
-        } => {
-            let content = PayRun {
-                payday: *payday,
-                fit: *fit,
-                ss: *ss,
-                medicare: *medicare,
-            };
-            post(tx, alloc, account.as_str(), *run, content)
-        }
-        Request::Void { account, run } => void(tx, alloc, account.as_str(), *run),
-        Request::Pay {
-            account,
-            payment,
-            paid,
-            for_day,
-            cents,
-        } => {
-            let content = Payment {
-                paid: *paid,
-                for_day: *for_day,
-                cents: *cents,
-            };
-            pay(tx, alloc, account.as_str(), *payment, content)
-        }
-        Request::VoidPay { account, payment } => void_payment(tx, account.as_str(), *payment),
         _ => serve_question(tx, alloc, request),
     }
 }
 
-/// The same, of questions.
+/// The same, of a payment's void and of questions.
+#[tactic(auto, using(crate::proofs::Counting::on_ok), unfolding(ftd_machine::specs::Laws::adds_entry, ftd_machine::specs::Laws::is_on_run))]
 fn serve_question<S: Alter>(
     tx: &mut Tx<'_, S>,
     alloc: Global,
     request: &Request,
 ) -> Result<Answer, StoreFault>
     ensures call { Calls S.Store tx.old tx.new result (Serves request.now) }
+    ensures adds_none { OnOk result (adds_entry request.now ≡ false) }
+    ensures on_none { OnOk result (is_on_run request.now ≡ false) }
 {
     match request {
+        Request::VoidPay { account, payment } => void_payment(tx, account.as_str(), *payment),
         Request::Status { account, day } => status(tx, alloc, account.as_str(), *day),
         Request::DueList {
             account,

@@ -8,14 +8,18 @@ mod added;
 #[cfg(test)]
 mod annual;
 #[cfg(test)]
-mod asked;
+mod changed;
 #[cfg(test)]
 mod deposits;
+#[cfg(test)]
+mod desks;
+#[cfg(test)]
+mod limits;
 #[cfg(test)]
 mod questions;
 #[cfg(test)]
 mod stopped;
 #[cfg(test)]
-mod together;
+mod telling;
 #[cfg(test)]
-mod told;
+mod together;

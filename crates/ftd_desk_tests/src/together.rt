@@ -1,8 +1,8 @@
 //! A list of requests, one by one and in one transaction.
 
 use crate::accounts::ASH;
-use crate::asked::request;
-use crate::told::{ask, desk, told};
+use crate::desks::desk;
+use ftd_lines::{ask, request, told};
 use ftd_machine::Request;
 use std::alloc::Global;
 use std::test::Fail;

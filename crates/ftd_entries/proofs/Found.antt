@@ -1,7 +1,7 @@
 -- What the rows of an account tell of its entry.
-use Rattle.std.proofs.Common.{◌≡◌, ℕ, Bool, true, false, pos, List, [], ◌∷◌, map, Option, None, Some, refl, sym, ap, ◌∙◌}
+use Rattle.std.proofs.Common.{◌≡◌, ℕ, Bool, true, false, pos, List, [], ◌∷◌, map, Option, None, Some, refl, sym, ap, subst, ◌∙◌}
 use Rattle.std.proofs.Math.IntN.{◌+ℤ◌, -ℤ-+ℤ_cancel}
-use Rattle.std.specs.Prelude.{filter, find, bytes_eq, option_map, if◌then◌else◌}
+use Rattle.std.specs.Prelude.{filter, find, bytes_eq, option_map, unwrap_or, if◌then◌else◌}
 use Rattle.ftd_rules.specs.declared.Form.{Form}
 use Rattle.ftd_rules.specs.declared.Form.TheVariants.{F941, F943}
 use Rattle.ftd_schema.specs.Rows.{AccountRow, FormRow}
@@ -12,9 +12,10 @@ use Rattle.ftd_rows.specs.Cells.{day_number, flag_number, form_number}
 use Rattle.ftd_rows.specs.Rows.{account_row, form_row}
 use Rattle.ftd_rows.specs.Reading.{rows_of}
 use Rattle.ftd_store.specs.Finds.{FindsAccount, FindsForm}
+use Rattle.ftd_machine.specs.declared.entries.Account.{Account}
 use Rattle.ftd_machine.specs.State.{Enrolled, is_named, account_of}
 use Rattle.ftd_entries.specs.Standing.{enrolled_row, enrolled_form}
-use Rattle.ftd_entries.specs.Known.{KnowsAccount, joined}
+use Rattle.ftd_entries.specs.Known.{KnowsAccount, HasForm, joined}
 
 pub day_is : (a b : ℕ) → day_number a ≡ day_number b → a ≡ b
 day_is a b h =
@@ -66,3 +67,12 @@ account_is name found form (x ∷ xs) h k = step (bytes_eq x.name name) found fo
 pub knows_account : (name : List ℕ) (found : Option StoredAccount) (form : Option Form) (t : Tables) → FindsAccount name found t → FindsForm name form t → KnowsAccount name (joined found form) t
 knows_account name found form t account kind s stands =
     account_is name found form s.accounts (ap (filter (is_account name)) (sym stands.accounts) ∙ account) (ap (filter (is_form_of name)) (sym stands.forms) ∙ kind)
+
+-- and its form is that of its row
+pub has_form : (name : List ℕ) (found : Option StoredAccount) (form : Option Form) (t : Tables) → FindsForm name form t → HasForm name (joined found form) t
+has_form name None form t finds a is = absurd cc
+has_form name (Some x) None t finds a is = absurd cc
+has_form name (Some x) (Some f) t finds a is =
+    let known : Account = record { start = x.start; carried = x.carried; form = f } in
+    let same : f ≡ a.form = ap (λ (o : Option Account). (unwrap_or o known).form) is in
+    subst (λ k. FindsForm name (Some k) t) same finds

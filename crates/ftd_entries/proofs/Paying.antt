@@ -11,7 +11,7 @@ use Rattle.ftd_schema.specs.Standing.{Tables, with_rows}
 use Rattle.ftd_sql.specs.Tests.{is_payment, voided_payment}
 use Rattle.ftd_tables.specs.Kept.{changed}
 use Rattle.ftd_store.specs.Changes.{with_payment, with_void_payment}
-use Rattle.ftd_store.specs.Finds.{FindsPayment}
+use Rattle.ftd_store.specs.Finds.{FindsPayment, CountsPayments}
 use Rattle.ftd_machine.specs.declared.entries.Account.{Account}
 use Rattle.ftd_machine.specs.declared.requests.Request.TheVariants.{Pay, VoidPay}
 use Rattle.ftd_machine.specs.declared.replies.Reply.TheVariants.{Done}
@@ -53,24 +53,24 @@ ReadsPayment name number = Both (KnowsAccount name) (FindsPayment name number)
 
 -- ---- a payment is taken
 
-module _ (name : List ℕ) (number : ℕ) (payment : Payment) where
+module _ (name : List ℕ) (number : ℕ) (payment : Payment) (count : ℕ) where
   abbrev pub KnowsAll : KnownForPay → Tables → Type 0
   KnowsAll = KnowsForPay name number (year_of payment.for_day)
 
   abbrev pub checks : KnownForPay → Option Answer
-  checks known = first_of (pay_checks name number payment known.account known.payment known.is_open known.count)
+  checks known = first_of (pay_checks name number payment known.account known.payment known.is_open count)
 
   abbrev checks_on : Entries → Option Answer
   checks_on own = first_of (pay_checks name number payment own.account (kept_at number own.payments) (is_open own (year_of payment.for_day)) (length own.payments))
 
   -- the checks of what is kept are those of what was read
-  checks_are : (known : KnownForPay) (t : Tables) (s : State) → StandsFor t s → KnowsAll known t → checks_on (entries_of s name) ≡ checks known
-  checks_are known t s stands knows =
+  checks_are : (known : KnownForPay) (t : Tables) (s : State) → StandsFor t s → CountsPayments name count t → KnowsAll known t → checks_on (entries_of s name) ≡ checks known
+  checks_are known t s stands counted knows =
       let own = entries_of s name in
       ap (λ a. first_of (pay_checks name number payment a (kept_at number own.payments) (is_open own (year_of payment.for_day)) (length own.payments))) (knows.account s stands)
       ∙ ap (λ k. first_of (pay_checks name number payment known.account k (is_open own (year_of payment.for_day)) (length own.payments))) (kept_payment name t s stands number known.payment knows.payment)
       ∙ ap (λ y. first_of (pay_checks name number payment known.account known.payment y (length own.payments))) (knows.is_open s stands)
-      ∙ ap (λ n. first_of (pay_checks name number payment known.account known.payment known.is_open n)) (counted_payments name t s stands known.count knows.count)
+      ∙ ap (λ n. first_of (pay_checks name number payment known.account known.payment known.is_open n)) (counted_payments name t s stands count counted)
 
   abbrev Next : State → State
   Next s = record s { payments = with_entry s.payments name number (taken payment) }
@@ -83,15 +83,15 @@ module _ (name : List ℕ) (number : ℕ) (payment : Payment) where
 
   -- a check decides
   pub pay_decided : (known : KnownForPay) (answer : Answer) → checks known ≡ Some answer
-      → (t : Tables) (s : State) → StandsFor t s → IsSound s → KnowsAll known t → Step s (Pay name number payment.paid payment.for_day payment.cents) answer s
-  pay_decided known answer is t s stands sound knows = decided _ s answer _ (checks_are known t s stands knows ∙ is)
+      → (t : Tables) (s : State) → StandsFor t s → IsSound s → CountsPayments name count t → KnowsAll known t → Step s (Pay name number payment.paid payment.for_day payment.cents) answer s
+  pay_decided known answer is t s stands sound counted knows = decided _ s answer _ (checks_are known t s stands counted knows ∙ is)
 
   -- all checks pass
   pub pay_done : (known : KnownForPay) → checks known ≡ None
-      → (t : Tables) (s : State) → StandsFor t s → IsSound s → KnowsAll known t
+      → (t : Tables) (s : State) → StandsFor t s → IsSound s → CountsPayments name count t → KnowsAll known t
       → (next : State) × Step s (Pay name number payment.paid payment.for_day payment.cents) (Ok Done) next × StandsFor (with_payment name number payment t) next
-  pay_done known is t s stands sound knows =
-      (Next s, passed _ s (Ok Done) (Next s) _ (checks_are known t s stands knows ∙ is) (refl, refl), next_stands t s stands)
+  pay_done known is t s stands sound counted knows =
+      (Next s, passed _ s (Ok Done) (Next s) _ (checks_are known t s stands counted knows ∙ is) (refl, refl), next_stands t s stands)
 
 -- ---- a payment is voided
 

@@ -1,13 +1,10 @@
 -- What two readings tell, one after the other, and a change of a row that is there.
-use Rattle.std.proofs.Common.{◌≡◌, true, List, Result, Ok, Err, sym, subst}
-use Rattle.std.specs.Prelude.{is_err}
+use Rattle.std.proofs.Common.{List, Result, Ok, Err}
 use Rattle.sqlite.specs.Store as store
-use Rattle.sqlite.specs.State as database
 use Rattle.ftd_schema.specs.Standing.{Tables}
 use Rattle.ftd_store.specs.declared.tx.Tx.{Tx}
 use Rattle.ftd_rows.specs.declared.faults.StoreFault.{StoreFault}
-use Rattle.ftd_store.specs.Frame.{Frame, Calls, Reads, Writes, WritesOne}
-use Rattle.ftd_store.proofs.Going.{then_fails}
+use Rattle.ftd_store.specs.Frame.{Reads, Writes, WritesOne}
 use Rattle.ftd_store.proofs.Telling.{reads_on, then_reads}
 
 abbrev pub Both : {A B : Type 0} → (A → Tables → Type 0) → (B → Tables → Type 0) → A × B → Tables → Type 0
@@ -16,6 +13,14 @@ Both First Second found t = First found.0 t × Second found.1 t
 pub both_read : {S A B : Type 0} (g : store.Ghosts S) (old mid new : Tx S) (x : A) (y : B) (First : A → Tables → Type 0) (Second : B → Tables → Type 0)
     → Reads g old mid (Ok x) First → Reads g mid new (Ok y) Second → Reads g old new (Ok (x, y)) (Both First Second)
 both_read g old mid new x y First Second p q = then_reads g old mid new x y (x, y) First Second (Both First Second) (λ t first second. (first, second)) p q
+
+-- one reading tells two things
+pub reads_too : {S A : Type 0} (g : store.Ghosts S) (old new : Tx S) (x : A) (First Second : A → Tables → Type 0)
+    → Reads g old new (Ok x) First → Reads g old new (Ok x) Second → Reads g old new (Ok x) (λ y t. First y t × Second y t)
+reads_too g old new x First Second p q = record {
+  frame = p.frame;
+  does = λ clean t stands. let one = p.does clean t stands in ((one.0, (q.does clean t stands).0), one.1);
+}
 
 -- the row of a key is changed, which is there
 pub one_written : {S A X : Type 0} (g : store.Ghosts S) (old new : Tx S) (x : A) (found : Tables → List X) (change : Tables → Tables)
@@ -27,17 +32,6 @@ pub reads_as : {S A : Type 0} (g : store.Ghosts S) (old new : Tx S) (result : Re
     → Reads g old new result Fact → Reads g old new result More
 reads_as g old new (Ok x) Fact More tells r = reads_on g old new x x Fact More (tells x) r
 reads_as g old new (Err e) Fact More tells r = record { frame = r.frame; does = λ clean. tt }
-
--- a call that gives up after another
-pub gave_up : {S A B : Type 0} (g : store.Ghosts S) (old mid new : Tx S) (x : A) (result : Result B StoreFault) (Does : B → database.State → database.State → Tables → Type 0) → is_err result ≡ true
-    → Frame g old mid (Ok x) → Frame g mid new result → Calls g old new result Does
-gave_up g old mid new x (Ok y) Does failed p q = absurd cc
-gave_up g old mid new x (Err e) Does failed p q = record { frame = then_fails g old mid new x e p q; does = λ clean. tt }
-
--- a call that fails after another, whatever it would have told
-pub failed_after : {S A B C : Type 0} (g : store.Ghosts S) (old mid new : Tx S) (x : A) (e : StoreFault) (result : Result C StoreFault) (Does : C → database.State → database.State → Tables → Type 0) → result ≡ Err e
-    → Frame g old mid (Ok x) → Frame {A = B} g mid new (Err e) → Calls g old new result Does
-failed_after {C = C} g old mid new x e result Does is p q = subst (λ r. Calls {A = C} g old new r Does) (sym is) (record { frame = then_fails g old mid new x e p q; does = λ clean. tt })
 
 -- three readings, and four
 module _ {S A : Type 0} (g : store.Ghosts S) (start one two three : Tx S) (a b c : A) (First Second Third : A → Tables → Type 0) (p : Reads g start one (Ok a) First) (q : Reads g one two (Ok b) Second) (r : Reads g two three (Ok c) Third) where

@@ -4,6 +4,7 @@ use Rattle.ftd_rules.specs.declared.Form.{Form}
 use Rattle.ftd_schema.specs.Standing.{Tables}
 use Rattle.ftd_rows.specs.declared.accounts.Account.{Account as StoredAccount}
 use Rattle.ftd_store.specs.Changes.{with_account, with_form}
+use Rattle.ftd_store.specs.Finds.{FindsForm}
 use Rattle.ftd_machine.specs.declared.entries.Account.{Account}
 use Rattle.ftd_machine.specs.State.{State, entries_of, is_open}
 use Rattle.ftd_entries.specs.Standing.{StandsFor}
@@ -17,6 +18,10 @@ joined None form = None
 -- the account is what each state keeps for which the tables stand
 abbrev pub KnowsAccount : List ℕ → Option Account → Tables → Type 0
 KnowsAccount name found t = (s : State) → StandsFor t s → (entries_of s name).account ≡ found
+
+-- the form of an account that is known is that of its row
+abbrev pub HasForm : List ℕ → Option Account → Tables → Type 0
+HasForm name found t = (account : Account) → found ≡ Some account → FindsForm name (Some account.form) t
 
 -- an account more, with its form
 abbrev pub with_enrolled : List ℕ → Account → Tables → Tables

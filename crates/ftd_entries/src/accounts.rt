@@ -3,7 +3,7 @@
 ghost use Rattle.std.specs.Prelude.{◌≡◌};
 ghost use Rattle.ftd_store.specs.Seen.{shown};
 ghost use Rattle.ftd_store.specs.Frame.{Calls, Reads, Writes};
-ghost use Rattle.ftd_entries.specs.Known.{KnowsAccount, joined, with_enrolled};
+ghost use Rattle.ftd_entries.specs.Known.{KnowsAccount, HasForm, joined, with_enrolled};
 ghost use Rattle.ftd_machine.specs.declared.requests.Request.TheVariants.{Enrol};
 ghost use Rattle.ftd_entries.specs.Words.{Serves};
 
@@ -16,6 +16,7 @@ use sqlite::Alter;
 /// What is kept of an account: its first day and whether it was carried, and its form.
 pub fn known<S: Alter>(tx: &mut Tx<'_, S>, name: &str) -> Result<Option<Account>, StoreFault>
     ensures call { Reads S.Store tx.old tx.new result (KnowsAccount name.now) }
+    ensures form { Reads S.Store tx.old tx.new result (HasForm name.now) }
 {
     let found = tx.account(name)?;
     let form = tx.form(name)?;

@@ -1,6 +1,7 @@
 //! Payments are taken, and voided.
 
 ghost use Rattle.ftd_days.specs.Calendar.{year_of};
+ghost use Rattle.ftd_store.specs.Finds.{CountsPayments};
 ghost use Rattle.ftd_store.specs.Frame.{Calls, Reads};
 ghost use Rattle.ftd_machine.specs.declared.requests.Request.TheVariants.{Pay, VoidPay};
 ghost use Rattle.ftd_entries.specs.Payments.{KnowsForPay};
@@ -24,8 +25,6 @@ pub(crate) struct KnownForPay {
     pub payment: Option<Voidable<Payment>>,
     /// Whether the year of the day that the payment is for is open.
     pub is_open: bool,
-    /// How many payments the account has, voided ones too.
-    pub count: u32,
 }
 
 /// What is known of an account before a payment of this number is taken for the day.
@@ -42,25 +41,27 @@ fn known_for_pay<S: Alter>(
     let account = known(tx, name)?;
     let payment = tx.payment(name, number)?;
     let is_open = is_open(tx, alloc, name, for_day.year())?;
-    let count = tx.count_payments(name)?;
     Ok(KnownForPay {
         account,
         payment,
         is_open,
-        count,
     })
 }
 
-/// Takes a payment of an account, under its number.
+/// Takes a payment of an account, under its number. The account has so many payments, voided ones
+/// too.
 pub fn pay<S: Alter>(
     tx: &mut Tx<'_, S>,
     alloc: Global,
     name: &str,
     number: u32,
     payment: Payment,
+    count: u32,
 ) -> Result<Answer, StoreFault>
-    ensures call { Calls S.Store tx.old tx.new result
-        (Serves (Pay name.now number payment.paid payment.for_day payment.cents)) }
+    ensures call { Calls S.Store tx.old tx.new result (λ answer before after t.
+        CountsPayments name.now count t
+        → Serves (Pay name.now number payment.paid payment.for_day payment.cents)
+        answer before after t) }
 {
     let before = known_for_pay(tx, alloc, name, number, payment.for_day)?;
     let checked = pay_check(
@@ -70,7 +71,7 @@ pub fn pay<S: Alter>(
         before.account,
         before.payment,
         before.is_open,
-        before.count,
+        count,
     );
     if let Some(answer) = checked {
         return Ok(answer);

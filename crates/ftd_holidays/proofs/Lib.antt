@@ -1,6 +1,5 @@
 pub mod ReadYears
 pub mod DueAgain
 pub mod MovedRows
-pub mod Turned
 pub mod MovedOwed
 pub mod AddedDay

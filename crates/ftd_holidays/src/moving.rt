@@ -4,7 +4,7 @@ ghost use Rattle.std.specs.Prelude.{◌≤◌};
 ghost use Rattle.ftd_days.specs.Calendar.{year_of};
 ghost use Rattle.ftd_days.specs.Holidays.{holidays_of};
 ghost use Rattle.ftd_store.specs.Changes.{with_added_holiday};
-ghost use Rattle.ftd_repairs.specs.Turning.{Turns};
+ghost use Rattle.ftd_store.specs.Frame.{Turns};
 ghost use Rattle.ftd_holidays.specs.Moved.{AddsHoliday, MovesDue};
 
 use crate::reading::holidays_with;

@@ -11,7 +11,7 @@ use Rattle.ftd_machine.specs.declared.entries.Account.{Account}
 use Rattle.ftd_rules.specs.declared.run.PayRun.{PayRun}
 use Rattle.ftd_rules.specs.declared.payment.Payment.{Payment}
 use Rattle.ftd_rules.specs.declared.run.Voidable.{Voidable}
-use Rattle.ftd_machine.specs.Limits.{is_account_name}
+use Rattle.ftd_rules.specs.Accounts.{is_account_name}
 use Rattle.ftd_machine.specs.Checks.{first_of, finds, meets}
 use Rattle.ftd_machine.specs.Requests.{is_form, same_flag, same_account, same_amount, same_run, same_payment, same_days, is_voided, is_on, days_of_year, enrol_checks, calendar_checks, add_holiday_checks, report_checks, report_year_checks, open_year_checks, post_checks, void_checks, pay_checks, void_payment_checks}
 use Rattle.ftd_machine.specs.declared.replies.Refusal.{Refusal}

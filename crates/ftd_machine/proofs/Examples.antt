@@ -6,7 +6,7 @@ use Rattle.std.specs.Prelude.{codes}
 use Rattle.ftd_days.specs.Calendar.{month_of, month_from, month_start}
 use Rattle.ftd_days.specs.declared.cents.Cents.{Cents}
 use Rattle.ftd_rules.specs.declared.Form.TheVariants.{F941, F943}
-use Rattle.ftd_machine.specs.Limits.{is_account_name}
+use Rattle.ftd_rules.specs.Accounts.{is_account_name}
 use Rattle.ftd_machine.specs.State.{State, nothing}
 use Rattle.ftd_machine.specs.Runs.{IsRun}
 use Rattle.ftd_machine.specs.declared.replies.Reply.TheVariants.{Done, Already}

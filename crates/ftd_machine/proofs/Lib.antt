@@ -13,3 +13,4 @@ pub mod Few
 pub mod Soundness
 pub mod Alike
 pub mod Examples
+pub mod Counted

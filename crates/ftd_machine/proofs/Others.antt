@@ -2,7 +2,7 @@
 use Rattle.std.proofs.Common.{◌≡◌, ◌∙◌, inl, inr, refl, ap, ℕ, List, Option, None, Some, Ok}
 use Rattle.ftd_machine.specs.State.{State, Entries, entries_of}
 use Rattle.ftd_machine.specs.Checks.{Answer, Decides}
-use Rattle.ftd_machine.specs.Step.{Step, OpensNext, taken}
+use Rattle.ftd_machine.specs.Step.{Step, OpensNext, taken, with_entry}
 use Rattle.ftd_machine.specs.Posting.{IsPosted}
 use Rattle.ftd_machine.specs.Laws.{Names}
 use Rattle.ftd_rules.specs.declared.run.PayRun.{PayRun}
@@ -13,62 +13,63 @@ use Rattle.ftd_machine.specs.declared.requests.Request.TheVariants.{Enrol, Calen
 use Rattle.ftd_machine.proofs.Adding.{account_other, entry_other, voided_other}
 use Rattle.ftd_machine.proofs.Leaving.{asked_leaves}
 
-module _ (s : State) (answer : Answer) (new : State) (account : List ℕ) where
+-- what is told of a state, and stays where a request leaves what it is told of
+module _ {X : Type 0} (told : State → X) (s : State) (answer : Answer) (new : State) where
   abbrev Stay : State → Type 0
-  Stay after = entries_of after account ≡ entries_of s account
+  Stay after = told after ≡ told s
 
-  -- where the state is as it was, or another one in which the entries stay
+  -- where the state is as it was, or another one of which the same is told
   stays : (after : State) → new ≡ after → Stay after → Stay new
-  stays after is same = ap (λ x. entries_of x account) is ∙ same
+  stays after is same = ap told is ∙ same
 
-  done_stays : (check : Option Answer) (after : State)
+  pub done_stays : (check : Option Answer) (after : State)
       → Decides check s answer new ((answer ≡ Ok Done) × (new ≡ after)) → Stay after → Stay new
   done_stays (Some given) after step same = stays s step.1 refl
   done_stays None after step same = stays after step.1 same
 
-  post_stays : (check : Option Answer) (after : State) (holidays : List ℕ) (own then : Entries) (payday : ℕ)
+  pub post_stays : (check : Option Answer) (after : State) (holidays : List ℕ) (own then : Entries) (payday : ℕ)
       → Decides check s answer new ((new ≡ after) × IsPosted holidays own then payday answer) → Stay after → Stay new
   post_stays (Some given) after holidays own then payday step same = stays s step.1 refl
   post_stays None after holidays own then payday step same = stays after step.0 same
 
-  void_stays : (check : Option Answer) (after : State) (holidays : List ℕ) (own then : Entries) (known : Option (Voidable PayRun))
+  pub void_stays : (check : Option Answer) (after : State) (holidays : List ℕ) (own then : Entries) (known : Option (Voidable PayRun))
       → Decides check s answer new ((run : Voidable PayRun) × (known ≡ Some run) × (new ≡ after) × IsPosted holidays own then run.value.payday answer)
       → Stay after → Stay new
   void_stays (Some given) after holidays own then known step same = stays s step.1 refl
   void_stays None after holidays own then known step same = stays after step.2 same
 
-  next_stays : (name : List ℕ) (year : ℕ) → (name ≡ account → ⊥) → OpensNext s answer new name year → Stay new
-  next_stays name year other (inl missing) = stays s missing.2.1 refl
-  next_stays name year other (inr found) =
-      done_stays _ _ found.2 (rw (entry_other s.open_years name year tt account other) refl)
+  next_stays : (name : List ℕ) (year : ℕ) → OpensNext s answer new name year
+      → Stay (record s { open_years = with_entry s.open_years name year tt }) → Stay new
+  next_stays name year (inl missing) same = stays s missing.2.1 refl
+  next_stays name year (inr found) same = done_stays _ _ found.2 same
 
-  open_stays : (check : Option Answer) (name : List ℕ) (year : ℕ) → (name ≡ account → ⊥)
-      → Decides check s answer new (OpensNext s answer new name year) → Stay new
-  open_stays (Some given) name year other step = stays s step.1 refl
-  open_stays None name year other step = next_stays name year other step
+  pub open_stays : (check : Option Answer) (name : List ℕ) (year : ℕ) → Decides check s answer new (OpensNext s answer new name year)
+      → Stay (record s { open_years = with_entry s.open_years name year tt }) → Stay new
+  open_stays (Some given) name year step same = stays s step.1 refl
+  open_stays None name year step same = next_stays name year step same
 
 pub others : (s : State) (request : Request) (answer : Answer) (next : State) (account : List ℕ)
     → Step s request answer next → (Names request account → ⊥) → entries_of next account ≡ entries_of s account
 others s (Enrol name start carried form) answer next account step other =
-    done_stays s answer next account _ _ step (rw (account_other s.accounts name (record { start = start; carried = carried; form = form }) account other) refl)
+    done_stays (λ x. entries_of x account) s answer next _ _ step (rw (account_other s.accounts name (record { start = start; carried = carried; form = form }) account other) refl)
 others s (Calendar year days) answer next account step other =
-    done_stays s answer next account _ _ step refl
+    done_stays (λ x. entries_of x account) s answer next _ _ step refl
 others s (AddHoliday day) answer next account step other =
-    done_stays s answer next account _ _ step refl
+    done_stays (λ x. entries_of x account) s answer next _ _ step refl
 others s (Report name quarter cents) answer next account step other =
-    done_stays s answer next account _ _ step (rw (entry_other s.reported name quarter cents account other) refl)
+    done_stays (λ x. entries_of x account) s answer next _ _ step (rw (entry_other s.reported name quarter cents account other) refl)
 others s (ReportYear name year cents) answer next account step other =
-    done_stays s answer next account _ _ step (rw (entry_other s.reported_years name year cents account other) refl)
+    done_stays (λ x. entries_of x account) s answer next _ _ step (rw (entry_other s.reported_years name year cents account other) refl)
 others s (OpenYear name year) answer next account step other =
-    open_stays s answer next account _ name year other step
+    open_stays (λ x. entries_of x account) s answer next _ name year step (rw (entry_other s.open_years name year tt account other) refl)
 others s (Post name number payday fit ss medicare) answer next account step other =
-    post_stays s answer next account _ _ _ _ _ _ step (rw (entry_other s.runs name number (taken (record { payday = payday; fit = fit; ss = ss; medicare = medicare })) account other) refl)
+    post_stays (λ x. entries_of x account) s answer next _ _ _ _ _ _ step (rw (entry_other s.runs name number (taken (record { payday = payday; fit = fit; ss = ss; medicare = medicare })) account other) refl)
 others s (Void name number) answer next account step other =
-    void_stays s answer next account _ _ _ _ _ _ step (rw (voided_other s.runs name number account other) refl)
+    void_stays (λ x. entries_of x account) s answer next _ _ _ _ _ _ step (rw (voided_other s.runs name number account other) refl)
 others s (Pay name number paid for_day cents) answer next account step other =
-    done_stays s answer next account _ _ step (rw (entry_other s.payments name number (taken (record { paid = paid; for_day = for_day; cents = cents })) account other) refl)
+    done_stays (λ x. entries_of x account) s answer next _ _ step (rw (entry_other s.payments name number (taken (record { paid = paid; for_day = for_day; cents = cents })) account other) refl)
 others s (VoidPay name number) answer next account step other =
-    done_stays s answer next account _ _ step (rw (voided_other s.payments name number account other) refl)
+    done_stays (λ x. entries_of x account) s answer next _ _ step (rw (voided_other s.payments name number account other) refl)
 others s (Status name day) answer next account step other = ap (λ x. entries_of x account) (asked_leaves _ s answer next _ step)
 others s (DueList name quarter as_of) answer next account step other = ap (λ x. entries_of x account) (asked_leaves _ s answer next _ step)
 others s (ScheduleB name quarter) answer next account step other = ap (λ x. entries_of x account) (asked_leaves _ s answer next _ step)

@@ -295,7 +295,7 @@ still_done s t (ScheduleB name quarter) more =
 -- ---- a step
 
 -- what was done with a change: the checks passed, and what stands last holds; and then it was done before
-does : (s : State) (answer : Answer) (new : State) (P P' : List (Option Answer)) (Else : Type 0) → Turns P P'
+pub does : (s : State) (answer : Answer) (new : State) (P P' : List (Option Answer)) (Else : Type 0) → Turns P P'
     → Decides (first_of P) s answer new Else → is_change answer ≡ true → Else × (first_of P' ≡ done_before)
 does s answer new P P' Else turns step changes =
     elim (either (first_of P) s answer new Else step) [

@@ -1,5 +1,5 @@
 -- Words of the laws on requests.
-use Rattle.std.specs.Prelude.{◌≡◌, ◌⊎◌, ℕ, Bool, true, false, List, Ok, Err}
+use Rattle.std.specs.Prelude.{◌≡◌, ◌⊎◌, ℕ, Bool, true, false, List, length, Ok, Err}
 use Rattle.ftd_machine.specs.State.{State, entries_of}
 use Rattle.ftd_machine.specs.Checks.{Answer}
 use Rattle.ftd_machine.specs.Runs.{IsFault}
@@ -32,6 +32,25 @@ Names (VoidPay name number) account = name ≡ account
 Names (Status name day) account = name ≡ account
 Names (DueList name quarter as_of) account = name ≡ account
 Names (ScheduleB name quarter) account = name ≡ account
+
+-- the request asks for a run or a payment more
+unfoldable pub adds_entry : Request → Bool
+adds_entry (Post name number payday fit ss medicare) = true
+adds_entry (Pay name number paid for_day cents) = true
+adds_entry request = false
+
+-- the request is on a run: it posts or voids one
+unfoldable pub is_on_run : Request → Bool
+is_on_run (Post name number payday fit ss medicare) = true
+is_on_run (Void name number) = true
+is_on_run request = false
+
+-- how many runs the account has, and how many payments, voided ones too
+abbrev pub runs_of : List ℕ → State → ℕ
+runs_of account s = length (entries_of s account).runs
+
+abbrev pub payments_of : List ℕ → State → ℕ
+payments_of account s = length (entries_of s account).payments
 
 -- two states agree on the entries of an account, on the calendars and on the added holidays
 pub record AgreeOn (account : List ℕ) (s t : State) : Type 0 where

@@ -1,19 +1,8 @@
--- The names of accounts, and the limits of what a request may say.
-use Rattle.std.specs.Prelude.{ℕ, ◌==◌, ◌||◌, ◌&&◌, nat_le, nat_lt, Bool, false, List, [], ◌∷◌, length, drop, zip}
-use Rattle.std.specs.Char.{is_ascii_lowercase, is_ascii_digit}
+-- The limits of what a request may say.
+use Rattle.std.specs.Prelude.{ℕ, ◌==◌, ◌&&◌, nat_le, nat_lt, Bool, List, length, drop, zip}
 use Rattle.std.specs.List.{list_all}
 use Rattle.ftd_days.specs.Calendar.{year_of}
 use Rattle.ftd_days.specs.declared.cents.Cents.{Cents}
-
--- a lower-case letter, a digit or a hyphen
-abbrev pub is_name_byte : ℕ → Bool
-is_name_byte byte = is_ascii_lowercase byte || is_ascii_digit byte || (byte == 45)
-
--- an account name: 1 to 20 bytes, a lower-case letter, then lower-case letters, digits and hyphens
-unfoldable pub is_account_name : List ℕ → Bool
-is_account_name [] = false
-is_account_name (first ∷ others) =
-    is_ascii_lowercase first && nat_lt (length others) 20 && list_all is_name_byte others
 
 -- the year is one of these
 abbrev pub is_between : ℕ → ℕ → ℕ → Bool

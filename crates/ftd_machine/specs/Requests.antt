@@ -10,7 +10,8 @@ use Rattle.ftd_machine.specs.declared.entries.Account.{Account}
 use Rattle.ftd_rules.specs.declared.run.PayRun.{PayRun}
 use Rattle.ftd_rules.specs.declared.payment.Payment.{Payment}
 use Rattle.ftd_rules.specs.declared.run.Voidable.{Voidable}
-use Rattle.ftd_machine.specs.Limits.{is_account_name, is_between, is_amount, is_number, is_calendar, most_holidays, most_entries}
+use Rattle.ftd_rules.specs.Accounts.{is_account_name}
+use Rattle.ftd_machine.specs.Limits.{is_between, is_amount, is_number, is_calendar, most_holidays, most_entries}
 use Rattle.ftd_machine.specs.Checks.{Answer, needs, done_if, finds, meets, is_new}
 use Rattle.ftd_machine.specs.declared.replies.Refusal.TheVariants.{BadName, BadYear, BadDay, BadCents, BadCalendar, BadNumber, UnknownAccount, AccountDiffers, CalendarDiffers, QuarterDiffers, RunDiffers, PaymentDiffers, UnknownRun, UnknownPayment, BeforeStart, CalendarMissing, YearNotOpen, TooManyRuns, TooManyPayments, WrongForm, YearDiffers}
 

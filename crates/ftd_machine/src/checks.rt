@@ -7,12 +7,11 @@ ghost use Rattle.ftd_machine.specs.Requests.{is_form, same_account, same_run, sa
 
 use crate::entries::Account;
 use crate::limits::{
-    MOST_ENTRIES, MOST_HOLIDAYS, is_account_name, is_amount, is_before_end, is_between,
-    is_calendar, is_number,
+    MOST_ENTRIES, MOST_HOLIDAYS, is_amount, is_before_end, is_between, is_calendar, is_number,
 };
 use crate::replies::{Refusal, Reply};
 use ftd_days::{Cents, Day, Quarter};
-use ftd_rules::{Form, PayRun, Payment, Voidable};
+use ftd_rules::{Form, PayRun, Payment, Voidable, is_account_name};
 
 /// What a request is answered.
 pub type Answer = Result<Reply, Refusal>;

@@ -1,9 +1,9 @@
-//! The names of accounts, and the limits of what a request may say.
+//! The limits of what a request may say.
 
 ghost use Rattle.std.specs.Prelude.{◌≡◌, ◌+◌, ◌==◌, nat_lt};
 ghost use Rattle.std.specs.List.{list_all};
 ghost use Rattle.ftd_days.specs.Calendar.{quarter_start, year_of};
-ghost use Rattle.ftd_machine.specs.Limits.{is_account_name, is_name_byte, is_between, is_amount, is_number, are_rising, is_calendar};
+ghost use Rattle.ftd_machine.specs.Limits.{is_between, is_amount, is_number, are_rising, is_calendar};
 
 use ftd_days::{Cents, Day, Quarter};
 
@@ -15,32 +15,6 @@ pub const MOST_HOLIDAYS: usize = 60;
 
 /// The largest amount that a request may name, in cents.
 const MOST_CENTS: u64 = 99_999_999_999;
-
-/// Whether the text is the name of an account: 1 to 20 bytes, a lower-case ASCII letter and then
-/// lower-case letters, digits and hyphens.
-#[tactic(auto, unfolding(crate::specs::Limits::is_account_name))]
-pub fn is_account_name(text: &[u8]) -> bool
-    ensures { result ≡ is_account_name text.now }
-{
-    let Some((first, others)) = text.split_first() else {
-        return false;
-    };
-    first.is_ascii_lowercase() && others.len() < 20 && are_name_bytes(others)
-}
-
-/// Whether each byte may stand in a name after the first.
-fn are_name_bytes(bytes: &[u8]) -> bool
-    ensures { result ≡ list_all is_name_byte bytes.now }
-{
-    bytes.iter().all(|byte| is_name_byte(*byte))
-}
-
-/// Whether the byte may stand in a name after the first.
-fn is_name_byte(byte: u8) -> bool
-    ensures { result ≡ is_name_byte byte }
-{
-    byte.is_ascii_lowercase() || byte.is_ascii_digit() || byte == b'-'
-}
 
 /// Whether the year is one of these.
 pub(crate) fn is_between(from: u32, to: u32, year: u32) -> bool

@@ -1,3 +1,4 @@
+pub mod Becoming
 pub mod Patching
 pub mod Differing
 pub mod RowsPlaced
@@ -6,5 +7,4 @@ pub mod HolidaysRead
 pub mod RightByAll
 pub mod LinesAfter
 pub mod Reposting
-pub mod Turning
 pub mod PostedRuns

@@ -13,6 +13,7 @@ use Rattle.ftd_schema.specs.Standing.{Tables}
 use Rattle.ftd_sql.specs.Tests.{is_run, voided_run}
 use Rattle.ftd_tables.specs.Kept.{changed}
 use Rattle.ftd_store.specs.Changes.{with_run, with_void_run}
+use Rattle.ftd_store.specs.Finds.{CountsRuns}
 use Rattle.ftd_machine.specs.declared.entries.Account.{Account}
 use Rattle.ftd_machine.specs.declared.requests.Request.{Request}
 use Rattle.ftd_machine.specs.declared.requests.Request.TheVariants.{Post, Void}
@@ -25,7 +26,9 @@ use Rattle.ftd_machine.specs.Step.{Step, with_entry, with_voided, voided_if, is_
 use Rattle.ftd_machine.specs.Sound.{IsSound, AreDistinct, place_of}
 use Rattle.ftd_machine.proofs.Adding.{same_name, entry_own, entry_other, voided_own, voided_other}
 use Rattle.ftd_machine.proofs.Deciding.{decided, passed}
-use Rattle.ftd_machine.proofs.Heads.{Gives, gives_finds, skip_needs, skip_finds, skip_done}
+use Rattle.ftd_machine.specs.Laws.{is_change}
+use Rattle.ftd_machine.proofs.Again.{post_turns, void_turns}
+use Rattle.ftd_machine.proofs.Heads.{IsNoChange, Gives, gives_finds, skip_needs, skip_finds, skip_done}
 use Rattle.ftd_machine.proofs.Soundness.{has_filtered}
 use Rattle.ftd_rows.proofs.Found.{both}
 use Rattle.ftd_entries.specs.Standing.{StandsFor, run_entry}
@@ -50,7 +53,7 @@ form_is known account name t s stands knows is = ap form_of (knows s stands ∙ 
 
 -- ---- a run is posted
 
-module _ (name : List ℕ) (number : ℕ) (run : PayRun) where
+module _ (name : List ℕ) (number : ℕ) (run : PayRun) (count : ℕ) where
   abbrev pub KnowsAll : KnownForPost → Tables → Type 0
   KnowsAll = KnowsForPost name number (year_of run.payday)
 
@@ -58,19 +61,19 @@ module _ (name : List ℕ) (number : ℕ) (run : PayRun) where
   Asked = Post name number run.payday run.fit run.ss run.medicare
 
   abbrev pub checks : KnownForPost → Option Answer
-  checks known = first_of (post_checks name number run known.account known.kept known.is_open known.count)
+  checks known = first_of (post_checks name number run known.account known.kept known.is_open count)
 
   abbrev checks_on : Entries → Option Answer
   checks_on own = first_of (post_checks name number run own.account (kept_at number own.runs) (is_open own (year_of run.payday)) (length own.runs))
 
   -- the checks of what is kept are those of what was read
-  checks_are : (known : KnownForPost) (t : Tables) (s : State) → StandsFor t s → KnowsAll known t → checks_on (entries_of s name) ≡ checks known
-  checks_are known t s stands knows =
+  checks_are : (known : KnownForPost) (t : Tables) (s : State) → StandsFor t s → CountsRuns name count t → KnowsAll known t → checks_on (entries_of s name) ≡ checks known
+  checks_are known t s stands counted knows =
       let own = entries_of s name in
       ap (λ a. first_of (post_checks name number run a (kept_at number own.runs) (is_open own (year_of run.payday)) (length own.runs))) (knows.account s stands)
       ∙ ap (λ k. first_of (post_checks name number run known.account k (is_open own (year_of run.payday)) (length own.runs))) (kept_run name t s stands number known.kept knows.kept)
       ∙ ap (λ y. first_of (post_checks name number run known.account known.kept y (length own.runs))) (knows.is_open s stands)
-      ∙ ap (λ n. first_of (post_checks name number run known.account known.kept known.is_open n)) (counted_runs name t s stands known.count knows.count)
+      ∙ ap (λ n. first_of (post_checks name number run known.account known.kept known.is_open n)) (counted_runs name t s stands count counted)
 
   abbrev More : Entry (Voidable PayRun)
   More = record { name = name; key = number; content = taken run }
@@ -87,25 +90,31 @@ module _ (name : List ℕ) (number : ℕ) (run : PayRun) where
   -- the account of a run that passes is known
   pub account_known : (known : KnownForPost) → checks known ≡ None → is_some known.account ≡ true
   account_known known is =
-      let finds : Gives (post_checks name number run known.account known.kept known.is_open known.count) (is_some known.account ≡ true) =
+      let finds : Gives (post_checks name number run known.account known.kept known.is_open count) (is_some known.account ≡ true) =
       skip_needs _ _ _ _ (skip_needs _ _ _ _ (skip_needs _ _ _ _ (skip_needs _ _ _ _ (gives_finds _ _ _)))) in
       finds.fact is
 
+  -- a check that decides tells of no change
+  pub post_quiet : (known : KnownForPost) (answer : Answer) → checks known ≡ Some answer → is_change answer ≡ false
+  post_quiet known answer is =
+      let kept : Option (Voidable PayRun) = Some (record { value = run; voided = false }) in
+      subst IsNoChange is (post_turns name number run known.account known.kept kept known.is_open known.is_open count count (λ none. refl)).no_change
+
   -- a check decides
-  pub post_decided : (known : KnownForPost) (answer : Answer) → checks known ≡ Some answer → (t : Tables) (s : State) → StandsFor t s → IsSound s → KnowsAll known t → Step s Asked answer s
-  post_decided known answer is t s stands sound knows = decided _ s answer _ (checks_are known t s stands knows ∙ is)
+  pub post_decided : (known : KnownForPost) (answer : Answer) → checks known ≡ Some answer → (t : Tables) (s : State) → StandsFor t s → IsSound s → CountsRuns name count t → KnowsAll known t → Step s Asked answer s
+  post_decided known answer is t s stands sound counted knows = decided _ s answer _ (checks_are known t s stands counted knows ∙ is)
 
   -- all checks pass
   pub post_done : (known : KnownForPost) (account : Account) (difference : Difference) → checks known ≡ None → known.account ≡ Some account
-      → (t u : Tables) (s : State) → StandsFor t s → IsSound s → KnowsAll known t → IsReposted name account.form run.payday t (with_run name number run t) u difference
+      → (t u : Tables) (s : State) → StandsFor t s → IsSound s → CountsRuns name count t → KnowsAll known t → IsReposted name account.form run.payday t (with_run name number run t) u difference
       → (next : State) × Step s Asked (told difference) next × StandsFor u next
-  post_done known account difference is account_is t u s stands sound knows reposted =
+  post_done known account difference is account_is t u s stands sound counted knows reposted =
       let form = form_is known.account account name t s stands knows.account account_is in
       let changes = run_added t s stands in
       let done = subst (λ f. IsReposted name f run.payday t (with_run name number run t) u difference) (sym form) reposted in
       let next : State = with_runs s (with_entry s.runs name number (taken run)) in (
         next,
-        passed _ s (told difference) next _ (checks_are known t s stands knows ∙ is) (refl, reposted_told t u s name run.payday _ _ difference stands sound changes done),
+        passed _ s (told difference) next _ (checks_are known t s stands counted knows ∙ is) (refl, reposted_told t u s name run.payday _ _ difference stands sound changes done),
         reposted_stands t u s name run.payday _ _ difference stands sound changes done,
       )
 
@@ -191,6 +200,11 @@ module _ (name : List ℕ) (number : ℕ) where
       let finds : Gives (void_checks name number known.account known.kept) (is_some known.kept ≡ true) =
       skip_needs _ _ _ _ (skip_needs _ _ _ _ (skip_finds _ _ _ _ (skip_done _ _ _ (gives_finds _ _ _)))) in
       finds.fact is
+
+  -- a check that decides tells of no change
+  pub void_quiet : (known : KnownForVoid) (answer : Answer) → first_of (void_checks name number known.account known.kept) ≡ Some answer → is_change answer ≡ false
+  void_quiet known answer is =
+      subst IsNoChange is (void_turns name number known.account known.kept (option_map as_voided known.kept) (λ v has. (as_voided v, ap (option_map as_voided) has, refl))).no_change
 
   -- a check decides
   pub void_decided : (known : KnownForVoid) (answer : Answer) → void_checked known ≡ Some answer

@@ -30,8 +30,6 @@ pub(crate) struct KnownForPost {
     pub kept: Option<Voidable<PayRun>>,
     /// Whether the year of the payday is open.
     pub is_open: bool,
-    /// How many runs the account has, voided ones too.
-    pub count: u32,
 }
 
 /// What is known of an account before its run of this number is voided.
@@ -60,11 +58,9 @@ pub(crate) fn known_for_post<S: Alter>(
 {
     let before = known_for_void(tx, name, number)?;
     let is_open = is_open(tx, alloc, name, payday.year())?;
-    let count = tx.count_runs(name)?;
     Ok(KnownForPost {
         account: before.account,
         kept: before.kept,
         is_open,
-        count,
     })
 }

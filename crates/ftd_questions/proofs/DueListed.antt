@@ -1,13 +1,12 @@
 -- The rows by what was read of the quarter's return are the machine's due list.
-use Rattle.std.proofs.Common.{◌≡◌, ◌↔◌, ℕ, ◌+◌, ◌*◌, ◌<◌, ◌≤◌, ◌==◌, ◌&&◌, ◌||◌, Bool, true, false, inl, inr, List, [], ◌∷◌, Vec, Global, Ok, refl, sym, ap, ◌∙◌, subst, arith}
-use Rattle.std.specs.Prelude.{filter, nat_le, IsTrue}
-use Rattle.std.specs.List.{list_any}
-use Rattle.std.proofs.lemmas.Bool.{cases_Bool, eqb-true, eq-eqb, leb-true, le-leb}
-use Rattle.ftd_days.specs.Calendar.{last_day, year_of, year_start, quarter_of, quarter_year, quarter_start}
+use Rattle.std.proofs.Common.{◌≡◌, ◌↔◌, ℕ, ◌+◌, ◌<◌, ◌≤◌, Bool, inl, inr, List, [], ◌∷◌, Vec, Global, Ok, refl, sym, ap, ◌∙◌, subst, arith}
+use Rattle.std.specs.Prelude.{IsTrue}
+use Rattle.std.proofs.lemmas.Bool.{eqb-true, eq-eqb}
+use Rattle.ftd_days.specs.Calendar.{year_of, year_start, quarter_of, quarter_year, quarter_start}
 use Rattle.ftd_days.specs.Holidays.{YearDays, holidays_of}
 use Rattle.ftd_days.specs.declared.cents.Cents.{Cents}
 use Rattle.ftd_days.proofs.Business.{on_or_after_one}
-use Rattle.ftd_days.proofs.Months.{month_start-mono, month_start_grows, month_start-end, year_is}
+use Rattle.ftd_days.proofs.Months.{year_is}
 use Rattle.ftd_rules.specs.declared.Form.{Form}
 use Rattle.ftd_rules.specs.declared.Form.TheVariants.{F941, F943}
 use Rattle.ftd_rules.specs.declared.Obligation.{Obligation}
@@ -19,19 +18,14 @@ use Rattle.ftd_rules.specs.Lists.{Has, KeysRise}
 use Rattle.ftd_rules.specs.Obligations.{ByFirstDay}
 use Rattle.ftd_rules.specs.Payments.{paid_by}
 use Rattle.ftd_rules.specs.Periods.{return_period_of, return_period_first, return_period_end}
-use Rattle.ftd_rules.specs.Private.Obligations.{IsOwedPiece}
 use Rattle.ftd_rules.specs.Returns.{month_after_ends, IsReturnDue, IsMakeup, IsSmallQuarter}
 use Rattle.ftd_rules.specs.Verdicts.{IsVerdict}
-use Rattle.ftd_rules.proofs.Covering.{within_period}
 use Rattle.ftd_rules.proofs.Cuts.{lt_or_le}
 use Rattle.ftd_rules.proofs.DueDates.{due_later}
 use Rattle.ftd_rules.proofs.Near.{due_near}
-use Rattle.ftd_rules.proofs.Quarters.{one_quarter}
-use Rattle.ftd_rules.proofs.Stated.{piece_owed}
-use Rattle.ftd_rules.proofs.Status.{quarter_only, return_period_is, return_period_only, return_period_grows}
+use Rattle.ftd_rules.proofs.Status.{return_period_is}
 use Rattle.ftd_schema.specs.Standing.{Tables}
 use Rattle.ftd_rows.specs.Lists.{Pairs}
-use Rattle.ftd_rows.proofs.Found.{both}
 use Rattle.ftd_machine.specs.State.{State, Entries, entries_of, holidays}
 use Rattle.ftd_machine.specs.History.{form_of, live_sums, live_payments}
 use Rattle.ftd_machine.specs.Sound.{IsSound}
@@ -40,15 +34,17 @@ use Rattle.ftd_machine.specs.declared.replies.Reply.TheVariants.{Due}
 use Rattle.ftd_machine.proofs.Soundness.{has_filtered}
 use Rattle.ftd_entries.specs.Standing.{StandsFor, IsSettled}
 use Rattle.ftd_questions.specs.Calendars.{HasTwoYears}
-use Rattle.ftd_questions.specs.Returns.{begins_on, KnowsObligations, KnowsPeriod}
-use Rattle.ftd_questions.specs.DueRows.{begins_in, is_next_day_row, IsReturnBy, IsRowBy}
+use Rattle.ftd_questions.specs.Returns.{KnowsPeriod}
+use Rattle.ftd_questions.specs.DueRows.{begins_in, IsReturnBy, IsRowBy}
+use Rattle.ftd_questions.specs.Walks.{begun}
 use Rattle.ftd_questions.specs.declared.return_periods.ReturnPeriod.{ReturnPeriod}
 use Rattle.ftd_questions.specs.declared.due_rows.QuarterReturn.{QuarterReturn}
 use Rattle.ftd_questions.proofs.HolidaysRead.{holiday_read}
 use Rattle.ftd_questions.proofs.OneVerdict.{same_test, verdict_one}
 use Rattle.ftd_questions.proofs.OwedRows.{kept_by_first_day}
 use Rattle.ftd_questions.proofs.ReturnDates.{AgreeIn, return_same, makeup_same, makeup_one}
-use Rattle.ftd_questions.proofs.Sifted.{filter_in, filter_out, keeps_has}
+use Rattle.ftd_questions.proofs.OwedDays.{quarter_begins, piece, period_days, some_days}
+use Rattle.ftd_questions.proofs.Sifted.{keeps_has}
 
 -- ---- lists that go pair by pair
 
@@ -82,43 +78,22 @@ rows_rise R of (o ∷ os) (row ∷ rows) rise pairs = (
   rows_rise R of os rows rise.1 pairs.1,
 )
 
--- one of what a test keeps meets another test
-any_kept : {X : Type 0} (p r q : X → Bool) (xs : List X) → ((x : X) → Has xs x → p x ≡ r x) → list_any q (filter p xs) ≡ list_any (λ x. r x && q x) xs
-any_kept p r q [] same = refl
-any_kept p r q (x ∷ xs) same =
-    let rest = any_kept p r q xs (λ y has. same y (inr has)) in
-    elim (cases_Bool (p x)) [
-      | inl kept ↦
-          (let here : r x ≡ true = sym (same x (inl refl)) ∙ kept in
-          ap (list_any q) (filter_in p x xs kept) ∙ (ap (λ b. q x || b) rest ∙ sym (ap (λ b. (b && q x) || list_any (λ y. r y && q y) xs) here)))
-      | inr left ↦
-          (let here : r x ≡ false = sym (same x (inl refl)) ∙ left in
-          ap (list_any q) (filter_out p x xs left) ∙ (rest ∙ sym (ap (λ b. (b && q x) || list_any (λ y. r y && q y) xs) here)))
-    ]
-
 -- ---- return periods
 
 same_year : (form : Form) (a b : ℕ) → return_period_of form a ≡ return_period_of form b → year_of a ≡ year_of b
 same_year F941 a b e = omega arith
 same_year F943 a b e = omega arith
 
-same_return : (form : Form) (a b : ℕ) → quarter_of a ≡ quarter_of b → return_period_of form a ≡ return_period_of form b
+pub same_return : (form : Form) (a b : ℕ) → quarter_of a ≡ quarter_of b → return_period_of form a ≡ return_period_of form b
 same_return F941 a b e = e
 same_return F943 a b e = omega arith
 
-quarter_begins : (quarter : ℕ) → quarter_year quarter ≤ 2098 → quarter_of (quarter_start quarter) ≡ quarter
-quarter_begins quarter early =
-    let top = month_start-mono (3 * quarter + 3) 3600 (omega arith) in
-    let end = month_start-end in
-    let grows = month_start_grows (3 * quarter) 3 in
-    quarter_only (quarter_start quarter) quarter (omega arith) (omega arith) (omega arith)
-
 -- ---- the list
 
-module _ (name : List ℕ) (quarter as_of : ℕ) (given : List YearDays) (period : ReturnPeriod) (next_day : Bool) (found : List Obligation) (of_return : QuarterReturn) (rows : List DueRow) (from_2001 : 2001 ≤ quarter_year quarter) (to_2098 : quarter_year quarter ≤ 2098)
-    (t : Tables) (s : State) (stands : StandsFor t s) (sound : IsSound s) (is_return : IsReturnBy (form_of (entries_of s name).account) quarter next_day period given of_return) (is_next_day_in : next_day ≡ list_any is_next_day_row found)
-    (are_rows : Pairs (IsRowBy of_return as_of) (filter (begins_in quarter) found) rows) (years : HasTwoYears (quarter_year quarter) (holidays_of given) t) (known : KnowsPeriod name (form_of (entries_of s name).account) quarter period t)
-    (are_found : KnowsObligations name period.first period.last found t) where
+module _ (name : List ℕ) (quarter as_of : ℕ) (given : List YearDays) (period : ReturnPeriod) (next_day : Bool) (of_return : QuarterReturn) (rows : List DueRow) (from_2001 : 2001 ≤ quarter_year quarter) (to_2098 : quarter_year quarter ≤ 2098)
+    (t : Tables) (s : State) (stands : StandsFor t s) (sound : IsSound s) (is_return : IsReturnBy (form_of (entries_of s name).account) quarter next_day period given of_return)
+    (next_day_is : next_day ≡ has_next_day (form_of (entries_of s name).account) (stands.settled name).owed (return_period (form_of (entries_of s name).account) quarter))
+    (are_rows : Pairs (IsRowBy of_return as_of) (begun stands name quarter) rows) (years : HasTwoYears (quarter_year quarter) (holidays_of given) t) (known : KnowsPeriod name (form_of (entries_of s name).account) quarter period t) where
   abbrev own : Entries
   own = entries_of s name
 
@@ -152,64 +127,15 @@ module _ (name : List ℕ) (quarter as_of : ℕ) (given : List YearDays) (period
 
   -- ---- the account's obligations
 
-  piece : (o : Obligation) → Has owed o → IsOwedPiece form (stands.settled name).lines (live_sums own) all o
-  piece o has = piece_owed form (stands.settled name).lines (live_sums own) all o (((stands.settled name).are_owed.all o).0 has)
-
-  period_days : (o : Obligation) → Has owed o → (return_period_of form o.last ≡ return_period_of form o.first) × (o.last ≤ last_day)
-  period_days o has = one_quarter form (stands.settled name).lines (live_sums own) all o (stands.settled name).are_lines.schedules (piece o has)
-
-  some_days : (o : Obligation) → Has owed o → o.first ≤ o.last
-  some_days o has = (within_period form (stands.settled name).lines (live_sums own) all o (piece o has)).1
-
-  begins_is : (o : Obligation) → Has owed o → begins_on period.first period.last o ≡ (return_period_of form o.first == number)
-  begins_is o has = same_test {P = return_period_of form o.first ≡ number} (begins_on period.first period.last o) (return_period_of form o.first == number) ((λ k. it k), (λ e. back e)) ((λ k. eqb-true (return_period_of form o.first) number k), (λ e. eq-eqb (return_period_of form o.first) number e))
-    where
-      is_day : o.first ≤ last_day
-      is_day = let some = some_days o has in let within = (period_days o has).1 in omega arith
-
-      it : begins_on period.first period.last o ≡ true → return_period_of form o.first ≡ number
-      it k =
-          let days = both (nat_le period.first o.first) (nat_le o.first period.last) k in
-          let low = leb-true period.first o.first days.0 in
-          let high = leb-true o.first period.last days.1 in
-          let first = known.first in
-          let last = known.last in
-          let grows = return_period_grows form number in
-          return_period_only form o.first number is_day (omega arith) (omega arith)
-
-      back : return_period_of form o.first ≡ number → begins_on period.first period.last o ≡ true
-      back e =
-          let days = return_period_is form o.first is_day in
-          let low : return_period_first form number ≤ o.first = subst (λ n. return_period_first form n ≤ o.first) e days.0 in
-          let high : o.first < return_period_end form number = subst (λ n. o.first < return_period_end form n) e days.1 in
-          let first = known.first in
-          let last = known.last in
-          let since : nat_le period.first o.first ≡ true = le-leb period.first o.first (omega arith) in
-          let until : nat_le o.first period.last ≡ true = le-leb o.first period.last (omega arith) in
-          rw (since, until) refl
-
-  found_is : found ≡ filter (begins_on period.first period.last) owed
-  found_is = are_found s stands
-
   in_period : (o : Obligation) → quarter_of o.first ≡ quarter → return_period_of form o.first ≡ number
   in_period o its = same_return form o.first (quarter_start quarter) (its ∙ sym (quarter_begins quarter to_2098))
 
-  -- an obligation that begins in the quarter is one that was found, and the reverse
-  found_has : (o : Obligation) → Has owed o → quarter_of o.first ≡ quarter → Has (filter (begins_in quarter) found) o
-  found_has o has its =
-      let begins : begins_on period.first period.last o ≡ true = begins_is o has ∙ eq-eqb (return_period_of form o.first) number (in_period o its) in
-      keeps_has (begins_in quarter) found o (subst (λ os. Has os o) (sym found_is) (keeps_has (begins_on period.first period.last) owed o has begins)) (eq-eqb (quarter_of o.first) quarter its)
+  -- an obligation that begins in the quarter is one of the list, and the reverse
+  begun_has : (o : Obligation) → Has owed o → quarter_of o.first ≡ quarter → Has (begun stands name quarter) o
+  begun_has o has its = keeps_has (begins_in quarter) owed o has (eq-eqb (quarter_of o.first) quarter its)
 
-  has_found : (o : Obligation) → Has (filter (begins_in quarter) found) o → Has owed o × (quarter_of o.first ≡ quarter)
-  has_found o has =
-      let its = has_filtered (begins_in quarter) found o has in
-      ((has_filtered (begins_on period.first period.last) owed o (subst (λ os. Has os o) found_is its.0)).0, eqb-true (quarter_of o.first) quarter its.1)
-
-  next_day_is : next_day ≡ has_next_day form owed number
-  next_day_is =
-      is_next_day_in
-      ∙ ap (list_any is_next_day_row) found_is
-      ∙ any_kept (begins_on period.first period.last) (λ o. return_period_of form o.first == number) is_next_day_row owed begins_is
+  has_begun : (o : Obligation) → Has (begun stands name quarter) o → Has owed o × (quarter_of o.first ≡ quarter)
+  has_begun o has = let its = has_filtered (begins_in quarter) owed o has in (its.0, eqb-true (quarter_of o.first) quarter its.1)
 
   -- ---- the return
 
@@ -253,8 +179,8 @@ module _ (name : List ℕ) (quarter as_of : ℕ) (given : List YearDays) (period
   paid_so : (o : Obligation) → Has owed o → quarter_of o.first ≡ quarter → (day : ℕ) → paid_by of_return.payments.items o.first o.last as_of day ≡ paid_for own o as_of day
   paid_so o has its day =
       let e : return_period_of form o.first ≡ number = in_period o its in
-      let within = period_days o has in
-      let some = some_days o has in
+      let within = period_days name t s stands o has in
+      let some = some_days name t s stands o has in
       let within1 = within.1 in
       let begins = return_period_is form o.first (omega arith) in
       let ends = return_period_is form o.last within.1 in
@@ -266,10 +192,10 @@ module _ (name : List ℕ) (quarter as_of : ℕ) (given : List YearDays) (period
 
   makeup_is : (o : Obligation) (makeup : ℕ) → Has owed o → quarter_of o.first ≡ quarter → IsMakeup of_return.form (holidays_of of_return.holidays) o.rule o.last o.due makeup → IsMakeup form all o.rule o.last o.due makeup
   makeup_is o makeup has its m =
-      let within = period_days o has in
+      let within = period_days name t s stands o has in
       let same : year_of o.last ≡ year_of o.first = same_year form o.last o.first within.0 in
       let its_year : year_of o.last ≡ year = omega arith in
-      let due = (piece o has).due in
+      let due = (piece name t s stands o has).due in
       let near = due_near all o.rule o.last o.due sound.few (omega arith) due in
       makeup_same read all year from_2001 to_2098 sound.few agree form o.rule o.last o.due makeup its_year within.1 (due_later all o.rule o.last o.due within.1 due) near.1.1
       (subst (λ f. IsMakeup f read o.rule o.last o.due makeup) is_return.form_is (subst (λ (ys : List YearDays). IsMakeup of_return.form (holidays_of ys) o.rule o.last o.due makeup) is_return.holidays_are m))
@@ -340,15 +266,15 @@ module _ (name : List ℕ) (quarter as_of : ℕ) (given : List YearDays) (period
 
   of_listed : (row : DueRow) → Has rows row → IsDueRow all own owed quarter as_of row
   of_listed row has =
-      let from = paired_from (IsRowBy of_return as_of) (filter (begins_in quarter) found) rows row are_rows has in
+      let from = paired_from (IsRowBy of_return as_of) (begun stands name quarter) rows row are_rows has in
       let same : row.obligation ≡ from.0 = from.2.obligation in
-      let there = has_found from.0 from.1 in
+      let there = has_begun from.0 from.1 in
       row_is row (subst (Has owed) (sym same) there.0) (ap (λ (p : Obligation). quarter_of p.first) same ∙ there.1) (subst (λ o. IsRowBy of_return as_of o row) (sym same) from.2)
 
   is_listed : (row : DueRow) → IsDueRow all own owed quarter as_of row → Has rows row
   is_listed row is =
       let o : Obligation = row.obligation in
-      let to = paired_to (IsRowBy of_return as_of) (filter (begins_in quarter) found) rows o are_rows (found_has o is.owed is.begins) in
+      let to = paired_to (IsRowBy of_return as_of) (begun stands name quarter) rows o are_rows (begun_has o is.owed is.begins) in
       subst (Has rows) (sym (row_one row to.0 to.2.obligation is (of_listed to.0 to.1))) to.1
 
   pub due_listed : IsDueList all own quarter as_of (Ok (Due rows))
@@ -356,8 +282,7 @@ module _ (name : List ℕ) (quarter as_of : ℕ) (given : List YearDays) (period
     rows = owed;
     owed = ((stands.settled name).lines, (stands.settled name).are_lines, (stands.settled name).are_owed);
     listed = rows;
-    by_first_day = rows_rise (IsRowBy of_return as_of) (λ o row r. r.obligation) (filter (begins_in quarter) found) rows
-        (kept_by_first_day (begins_in quarter) found (subst ByFirstDay (sym found_is) (kept_by_first_day (begins_on period.first period.last) owed (stands.settled name).are_owed.by_first_day))) are_rows;
+    by_first_day = rows_rise (IsRowBy of_return as_of) (λ o row r. r.obligation) (begun stands name quarter) rows (kept_by_first_day (begins_in quarter) owed (stands.settled name).are_owed.by_first_day) are_rows;
     all = λ row. (of_listed row, is_listed row);
     told = refl;
   }

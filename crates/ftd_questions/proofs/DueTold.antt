@@ -15,6 +15,7 @@ use Rattle.ftd_machine.specs.declared.entries.Account.{Account}
 use Rattle.ftd_machine.specs.declared.requests.Request.TheVariants.{DueList}
 use Rattle.ftd_machine.specs.declared.replies.Reply.TheVariants.{Due}
 use Rattle.ftd_machine.specs.Checks.{Answer, first_of}
+use Rattle.ftd_machine.specs.Asking.{return_period, has_next_day}
 use Rattle.ftd_machine.specs.History.{form_of}
 use Rattle.ftd_machine.specs.Limits.{is_between}
 use Rattle.ftd_machine.specs.Requests.{due_list_checks}
@@ -27,18 +28,37 @@ use Rattle.ftd_entries.specs.Standing.{StandsFor}
 use Rattle.ftd_questions.specs.Calendars.{HasTwoYears}
 use Rattle.ftd_questions.specs.Returns.{KnowsObligations, KnowsPeriod}
 use Rattle.ftd_questions.specs.DueRows.{begins_in, is_next_day_row, IsReturnBy, IsRowBy, KnowsForDue, KnowsDueList}
+use Rattle.ftd_questions.specs.Telling.{Passes, KnowsAsked, KnowsRows}
+use Rattle.ftd_questions.specs.Walks.{KnowsNextDayOfReturn}
+use Rattle.ftd_questions.specs.declared.asking.KnownReturn.{KnownReturn}
 use Rattle.ftd_questions.specs.declared.return_periods.ReturnPeriod.{ReturnPeriod}
 use Rattle.ftd_questions.specs.declared.due_rows.QuarterReturn.{QuarterReturn}
 use Rattle.ftd_questions.specs.declared.due.KnownForDue.{KnownForDue}
 use Rattle.ftd_questions.proofs.DueListed.{due_listed}
+use Rattle.ftd_questions.proofs.FoundRows.{next_day_found, found_begun}
 
 -- the rows by what was read are the due list of each sound state
 pub due_known : (name : List ℕ) (form : Form) (quarter as_of : ℕ) (given : List YearDays) (period : ReturnPeriod) (next_day : Bool) (found : List Obligation) (of_return : QuarterReturn) (rows : List DueRow) → 2001 ≤ quarter_year quarter → quarter_year quarter ≤ 2098
     → IsReturnBy form quarter next_day period given of_return → next_day ≡ list_any is_next_day_row found → Pairs (IsRowBy of_return as_of) (filter (begins_in quarter) found) rows
     → (t : Tables) → HasTwoYears (quarter_year quarter) (holidays_of given) t → KnowsPeriod name form quarter period t → KnowsObligations name period.first period.last found t → KnowsDueList name form quarter as_of rows t
 due_known name form quarter as_of given period next_day found of_return rows from to is_return is_next are_rows t years known are_found s stands sound form_is =
-    due_listed name quarter as_of given period next_day found of_return rows from to t s stands sound (subst (λ f. IsReturnBy f quarter next_day period given of_return) (sym form_is) is_return) is_next are_rows years
-    (subst (λ f. KnowsPeriod name f quarter period t) (sym form_is) known) are_found
+    let known_so = subst (λ f. KnowsPeriod name f quarter period t) (sym form_is) known in
+    due_listed name quarter as_of given period next_day of_return rows from to t s stands sound (subst (λ f. IsReturnBy f quarter next_day period given of_return) (sym form_is) is_return)
+    (is_next ∙ next_day_found name quarter to period found t s stands known_so are_found)
+    (subst (λ (os : List Obligation). Pairs (IsRowBy of_return as_of) os rows) (found_begun name quarter to period found t s stands known_so are_found) are_rows) years known_so
+
+-- so are those told row by row
+pub rows_known : (name : List ℕ) (quarter as_of : ℕ) (read : KnownReturn) (next_day : Bool) (of_return : QuarterReturn) → 2001 ≤ quarter_year quarter → quarter_year quarter ≤ 2098
+    → IsReturnBy read.form quarter next_day read.period read.holidays of_return → (t : Tables) → KnowsAsked name quarter as_of (Ok read) t → KnowsNextDayOfReturn name read.form quarter next_day t → KnowsRows name quarter as_of of_return t
+rows_known name quarter as_of read next_day of_return from to is_return t knows is_next s stands sound rows are_rows =
+    let asked = knows.1 s stands in
+    let form_is = asked.1 in
+    passed _ s (Ok (Due rows)) s _ asked.0 (
+      refl,
+      due_listed name quarter as_of read.holidays read.period next_day of_return rows from to t s stands sound (subst (λ f. IsReturnBy f quarter next_day read.period read.holidays of_return) (sym form_is) is_return)
+          (subst (λ f. next_day ≡ has_next_day f (stands.settled name).owed (return_period f quarter)) (sym form_is) (is_next s stands)) are_rows knows.0.holidays
+          (subst (λ f. KnowsPeriod name f quarter read.period t) (sym form_is) knows.0.period),
+    )
 
 module _ (name : List ℕ) (quarter as_of : ℕ) (known : KnownForDue) where
   abbrev pub checks : Option Answer
@@ -51,8 +71,16 @@ module _ (name : List ℕ) (quarter as_of : ℕ) (known : KnownForDue) where
       ∙ ap (λ b. first_of (due_list_checks name quarter as_of known.account b)) (knows.is_open s stands)
 
   -- a check decides
+  pub due_refused : (answer : Answer) → checks ≡ Some answer → (t : Tables) (s : State) → StandsFor t s → KnowsForDue name quarter known t → Step s (DueList name quarter as_of) answer s
+  due_refused answer is t s stands knows = decided _ s answer _ (checks_are t s stands knows ∙ is)
+
   pub due_decided : (answer : Answer) → checks ≡ Some answer → (t : Tables) (s : State) → StandsFor t s → IsSound s → KnowsForDue name quarter known t → Step s (DueList name quarter as_of) answer s
-  due_decided answer is t s stands sound knows = decided _ s answer _ (checks_are t s stands knows ∙ is)
+  due_decided answer is t s stands sound knows = due_refused answer is t s stands knows
+
+  -- no check does
+  pub due_passes : (form : Form) → checks ≡ None → form_of known.account ≡ form → (t : Tables) → KnowsForDue name quarter known t → (s : State) → StandsFor t s
+      → Passes s name quarter as_of × (form_of (entries_of s name).account ≡ form)
+  due_passes form is of t knows s stands = (checks_are t s stands knows ∙ is, ap form_of (knows.account s stands) ∙ of)
 
   -- all checks pass
   pub in_years : checks ≡ None → (2001 ≤ quarter_year quarter) × (quarter_year quarter ≤ 2098)

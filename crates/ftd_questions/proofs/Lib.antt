@@ -15,5 +15,11 @@ mod LiabilityRead
 mod ReturnDates
 mod Preceding
 mod OneVerdict
+mod OwedDays
+mod NextDays
+mod Walked
 mod DueListed
+mod FoundRows
 mod DueTold
+mod Dropped
+mod RowsTold

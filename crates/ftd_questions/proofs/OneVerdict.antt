@@ -9,7 +9,7 @@ use Rattle.ftd_rules.specs.Verdicts.{place_of, IsVerdict}
 use Rattle.ftd_rules.proofs.Cuts.{lt_or_le}
 
 -- verdicts at one place in the order are the same
-same_place : (v w : Verdict) → place_of v ≡ place_of w → v ≡ w
+pub same_place : (v w : Verdict) → place_of v ≡ place_of w → v ≡ w
 same_place v w e = sym (back v) ∙ (ap at e ∙ back w)
   where
     at : ℕ → Verdict

@@ -1,5 +1,5 @@
 -- The obligation rows that were read are those of the account's obligations that begin on the days.
-use Rattle.std.proofs.Common.{◌≡◌, ℕ, ℤ, pos, inl, inr, List, [], ◌∷◌, map, Bool, false, ◌&&◌, Vec, refl, sym, ap, ◌∙◌, subst, arith}
+use Rattle.std.proofs.Common.{◌≡◌, ℕ, ℤ, pos, inl, inr, List, [], ◌∷◌, ◌++◌, map, Bool, false, ◌&&◌, Vec, refl, sym, ap, ◌∙◌, subst, arith}
 use Rattle.std.proofs.Math.IntN.{◌+ℤ◌, -ℤ-+ℤ_cancel}
 use Rattle.std.specs.Prelude.{filter, nat_le, int_le, ◌≤ℤ◌, ◌≤◌}
 use Rattle.std.specs.List.Sorted.{IsPermutation}
@@ -12,11 +12,12 @@ use Rattle.ftd_rules.specs.declared.Obligation.{Obligation}
 use Rattle.ftd_rules.specs.Lists.{KeysRise}
 use Rattle.ftd_rules.specs.Obligations.{ByFirstDay}
 use Rattle.ftd_rules.proofs.Rising.{sorted_is, next_do_not_fall}
+use Rattle.ftd_tables.specs.Order.{EachToNext}
 use Rattle.ftd_schema.specs.Rows.{ObligationRow}
 use Rattle.ftd_sql.specs.Orders.{ObligationsRise}
 use Rattle.ftd_sql.specs.Tests.{is_obligation_between}
 use Rattle.ftd_rows.specs.Cells.{day_number, rule_number}
-use Rattle.ftd_rows.specs.Lists.{Pairs, Lists}
+use Rattle.ftd_rows.specs.Lists.{Pairs, Lists, ListsFirst}
 use Rattle.ftd_rows.specs.Rows.{obligation_row}
 use Rattle.ftd_schema.specs.declared.TableName.TheVariants.{Obligations}
 use Rattle.ftd_schema.specs.Standing.{Tables}
@@ -148,18 +149,39 @@ module _ (account : List ℕ) (first last : ℕ) where
   paired (r ∷ rows) [] pairs = absurd pairs
   paired (r ∷ rows) (o ∷ os) pairs = ap (λ x. x ∷ rows) pairs.0 ∙ ap (λ rs. row o ∷ rs) (paired rows os pairs.1)
 
+  -- the rows in order that begin on the days are those of the obligations that do
+  sorted_so : (rows ordered : List ObligationRow) (owed : List Obligation) → ByFirstDay owed → IsPermutation (filter own rows) (map row owed)
+      → IsPermutation (filter begins rows) ordered → EachToNext ObligationsRise ordered → ordered ≡ map row (filter (begins_on first last) owed)
+  sorted_so rows ordered owed rise had same rises =
+      let kept : List Obligation = filter (begins_on first last) owed in
+      let moved : IsPermutation (filter begins rows) (map row kept) =
+      subst (λ l. IsPermutation l (map row kept)) (own_begin rows) (subst (λ l. IsPermutation (filter begins (filter own rows)) l) (rows_begin owed) (sifted begins (filter own rows) (map row owed) had)) in
+      sorted_is first_key (map row kept) ordered (rows_rise kept (kept_by_first_day (begins_on first last) owed rise))
+      (next_do_not_fall first_key ordered (λ k d less. key_rises _ _ (rises k d less)))
+      (IsPermutation-trans _ _ _ (IsPermutation-sym _ _ moved) same)
+
   -- what was listed of the rows of some obligations are those that begin on the days
   pub obligations_listed : (rows : List ObligationRow) (owed found : List Obligation) → ByFirstDay owed → IsPermutation (filter own rows) (map row owed)
       → Lists ObligationsRise (IsObligation account) (filter begins rows) found → found ≡ filter (begins_on first last) owed
   obligations_listed rows owed found rise had lists =
-      let kept : List Obligation = filter (begins_on first last) owed in
-      let moved : IsPermutation (filter begins rows) (map row kept) =
-      subst (λ l. IsPermutation l (map row kept)) (own_begin rows) (subst (λ l. IsPermutation (filter begins (filter own rows)) l) (rows_begin owed) (sifted begins (filter own rows) (map row owed) had)) in
-      let sorted : lists.ordered ≡ map row kept =
-      sorted_is first_key (map row kept) lists.ordered (rows_rise kept (kept_by_first_day (begins_on first last) owed rise))
-      (next_do_not_fall first_key lists.ordered (λ k d less. key_rises _ _ (lists.rise k d less)))
-      (IsPermutation-trans _ _ _ (IsPermutation-sym _ _ moved) lists.same) in
-      obligations_same found kept (sym (paired lists.ordered found lists.pairs) ∙ sorted)
+      obligations_same found (filter (begins_on first last) owed) (sym (paired lists.ordered found lists.pairs) ∙ sorted_so rows lists.ordered owed rise had lists.same lists.rise)
+
+  -- rows that begin with those of some obligations
+  front : (os kept : List Obligation) (rest : List ObligationRow) → map row os ++ rest ≡ map row kept → (more : List Obligation) × (kept ≡ os ++ more)
+  front [] kept rest e = (kept, refl)
+  front (o ∷ os) [] rest e = absurd cc
+  front (o ∷ os) (k ∷ kept) rest e =
+      let heads : row o ≡ row k = cc in
+      let tails : map row os ++ rest ≡ map row kept = cc in
+      let more = front os kept rest tails in
+      (more.0, ap (λ x. x ∷ kept) (sym (obligation_is account o k heads)) ∙ ap (λ xs. o ∷ xs) more.1)
+
+  -- the first that were listed are the first of those that begin on the days
+  pub first_listed : (rows : List ObligationRow) (owed found : List Obligation) → ByFirstDay owed → IsPermutation (filter own rows) (map row owed)
+      → ListsFirst ObligationsRise (IsObligation account) (filter begins rows) found → (more : List Obligation) × (filter (begins_on first last) owed ≡ found ++ more)
+  first_listed rows owed found rise had lists =
+      front found (filter (begins_on first last) owed) lists.rest
+      (ap (λ xs. xs ++ lists.rest) (sym (paired lists.first found lists.pairs)) ∙ sorted_so rows (lists.first ++ lists.rest) owed rise had lists.same lists.rise)
 
 -- the obligations that were listed are the account's that begin on the days
 pub obligations_known : {A : Type 0} (name : List ℕ) (first last : ℕ) (found : Vec Obligation A) (t : Tables) → ListsObligations name first last found t → KnowsObligations name first last found.items t

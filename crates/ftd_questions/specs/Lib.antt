@@ -2,3 +2,6 @@ pub mod Schedules
 pub mod Calendars
 pub mod Returns
 pub mod DueRows
+pub mod Walks
+pub mod Faults
+pub mod Telling

@@ -28,7 +28,7 @@ pub(crate) struct KnownForDue {
 }
 
 /// What is known of an account before its due list of the quarter is told.
-fn known_for_due<S: Alter>(
+pub(crate) fn known_for_due<S: Alter>(
     tx: &mut Tx<'_, S>,
     alloc: Global,
     name: &str,

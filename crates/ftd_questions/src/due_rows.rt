@@ -32,14 +32,21 @@ pub(crate) struct QuarterReturn {
     pub holidays: Holidays,
 }
 
+/// Whether the obligation is a next-day one.
+pub(crate) fn is_next_day(obligation: &Obligation) -> bool
+    ensures { result ≡ is_next_day_row obligation.now }
+{
+    match obligation.rule {
+        Rule::Monthly | Rule::Semiweekly => false,
+        Rule::NextDay => true,
+    }
+}
+
 /// Whether one of the obligations is a next-day one.
 pub(crate) fn has_next_day(obligations: &[Obligation]) -> bool
     ensures { result ≡ list_any is_next_day_row obligations.now }
 {
-    obligations.iter().any(|obligation| match obligation.rule {
-        Rule::Monthly | Rule::Semiweekly => false,
-        Rule::NextDay => true,
-    })
+    obligations.iter().any(|obligation| is_next_day(obligation))
 }
 
 /// How the return of the quarter stands, by what is known of its return period, and whether a

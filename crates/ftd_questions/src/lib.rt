@@ -1,14 +1,21 @@
 //! Requests that ask: the deposit schedule of a day, what must be deposited for a quarter, and its
-//! liability by day. Each is one function on a transaction, whose contract is the machine's step.
+//! liability by day. Each is one function on a transaction, whose contract is the machine's step. A
+//! due list is also told row by row, on the store.
 #![tactic(auto)]
 
+mod asking;
 mod due;
 mod due_rows;
+mod faults;
 mod holidays;
 mod liable;
 mod return_periods;
 mod schedules;
+mod telling;
+mod walking;
 
 pub use crate::due::due_list;
+pub use crate::faults::{DueFault, refusal_of};
 pub use crate::liable::schedule_b;
 pub use crate::schedules::status;
+pub use crate::telling::due_into;

@@ -10,7 +10,7 @@ ghost use Rattle.ftd_store.specs.Frame.{Reads};
 ghost use Rattle.ftd_questions.specs.Returns.{KnowsLiability, KnowsPayments, KnowsPreceding, KnowsPeriod};
 
 use ftd_days::{Cents, Day, Quarter};
-use ftd_rules::{DaySum, Form, Payment};
+use ftd_rules::{DaySum, Form, Payment, period};
 use ftd_store::{StoreFault, Tx};
 use sqlite::Alter;
 use std::alloc::Global;
@@ -31,26 +31,6 @@ pub(crate) struct ReturnPeriod {
     pub total: Cents,
     /// The figure of the quarter before, which counts on Form 941 alone.
     pub preceding: Option<Cents>,
-}
-
-/// The first and the last day of the return period of a day: of its quarter, or of its year.
-fn return_days(form: Form, day: Day) -> (Day, Day)
-    ensures first { result.0 ≡ return_period_first form (return_period_of form day) }
-    ensures last { result.1 ≡ return_period_last form (return_period_of form day) }
-{
-    match form {
-        Form::F941 => {
-            let quarter = day.quarter();
-            (quarter.first(), quarter.last())
-        }
-        Form::F943 => {
-            let january = day.month_number() / 12 * 12;
-            (
-                Day::first_of_month(january),
-                Day::last_of_month(january + 11),
-            )
-        }
-    }
 }
 
 /// The amount of the sums, or None where it reaches 60,000,000,000,000.00.
@@ -149,7 +129,7 @@ pub(crate) fn return_period<S: Alter>(
     ensures small { IfOk result (λ period.
         sum_by payment_cents period.payments.items < 6_000_000_000_000_000) }
 {
-    let (first, last) = return_days(form, quarter.first());
+    let (first, last) = period::return_period(form, quarter.first());
     let payments = payments_of(tx, alloc, name, first, last)?;
     let total = liability_of(tx, alloc, name, first, last)?;
     let preceding = preceding(tx, name, form, quarter)?;

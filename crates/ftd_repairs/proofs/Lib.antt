@@ -1,4 +1,3 @@
-pub mod Turning
 pub mod Begun
 pub mod Items
 pub mod Differing

@@ -12,15 +12,14 @@ use Rattle.ftd_sql.specs.Orders.{YearsRise}
 use Rattle.ftd_sql.specs.Tests.{is_year_of}
 use Rattle.ftd_rows.specs.Rows.{year_row}
 use Rattle.ftd_store.specs.declared.tx.Tx.{Tx}
-use Rattle.ftd_store.specs.Frame.{Reads}
+use Rattle.ftd_store.specs.Frame.{Reads, Turns}
 use Rattle.ftd_repairs.specs.declared.Difference.{Difference}
 use Rattle.ftd_repairs.specs.declared.reading.KnownYears.{KnownYears}
 use Rattle.ftd_repairs.specs.Calendars.{KnowsYears}
 use Rattle.ftd_repairs.specs.Rescheduled.{HasLines}
 use Rattle.ftd_repairs.specs.Reposted.{Repatches, RepairsRows, IsReposted}
-use Rattle.ftd_repairs.specs.Turning.{Turns}
 use Rattle.ftd_repairs.proofs.Differing.{are_listed}
-use Rattle.ftd_repairs.proofs.Turning.{reads_turn, turns_then}
+use Rattle.ftd_store.proofs.Turning.{reads_turn, turns_then}
 
 -- the rows are those of the lines that were read, and stay so where only other tables change
 has_lines : (account : List ℕ) (day : ℕ) (known : KnownYears) (t u : Tables) → KnowsYears account day known t → u Years ≡ t Years → HasLines account known.lines.items u

@@ -1,4 +1,3 @@
-pub mod Turning
 pub mod Repaired
 pub mod Calendars
 pub mod Replaced

@@ -5,7 +5,7 @@ ghost use Rattle.ftd_rules.specs.declared.YearLine.{YearLine};
 ghost use Rattle.ftd_rows.specs.Amounts.{IsStorable};
 ghost use Rattle.ftd_repairs.specs.Rescheduled.{IsRescheduled, IsUnnamed, HasLines, PutsPatch};
 ghost use Rattle.ftd_repairs.specs.Reposted.{RepairsRows};
-ghost use Rattle.ftd_repairs.specs.Turning.{Turns};
+ghost use Rattle.ftd_store.specs.Frame.{Turns};
 
 use crate::Difference;
 use crate::comparing::compare_rows;

@@ -4,7 +4,7 @@ ghost use Rattle.std.specs.Prelude.{IsTrue};
 ghost use Rattle.ftd_rows.specs.Amounts.{HasStorableAmounts};
 ghost use Rattle.ftd_store.specs.Changes.{with_run, with_void_run};
 ghost use Rattle.ftd_repairs.specs.Reposted.{IsReposted};
-ghost use Rattle.ftd_repairs.specs.Turning.{Turns};
+ghost use Rattle.ftd_store.specs.Frame.{Turns};
 
 use crate::Difference;
 use crate::patching::{is_storable, repair_rows};

@@ -139,19 +139,27 @@ next_form (a ∷ accounts) (suc i) row rest h =
 pub no_form_added : (db : Database) (t : Tables) → Stands db t → Becomes db db (with_rows Forms (t Forms ++ []) t)
 no_form_added db t stands = (stands_same db t (with_rows Forms (t Forms ++ []) t) (set_own Forms (t Forms ++ []) t (append-nil (t Forms))) stands, λ name u at place other. (place, refl))
 
-pub form_added : (old mid new : State) (count : ℕ) (accounts : List AccountRow) (names : List Row) (i : ℕ) (row : Row) (v : Value) (t : Tables)
-    → names ≡ map name_shown accounts → drop i names ≡ row ∷ drop (i + 1) names → v ≡ column row 0 → Becomes old.now mid.now (with_rows Forms (t Forms ++ map on_form_941 (take i accounts)) t)
-    → Executes (add_of Forms) (bound_value v ∷ Int (pos 0) ∷ []) mid new (Ok count) → Becomes old.now new.now (with_rows Forms (t Forms ++ map on_form_941 (take (i + 1) accounts)) t)
-form_added old mid new count accounts names i row v t are at is before ran =
+-- a name's row with Form 941 is added
+pub form_added : (old new : State) (count : ℕ) (account : AccountRow) (row : Row) (v : Value) (t : Tables) → row ≡ name_shown account → v ≡ column row 0 → Stands old.now t
+    → Executes (add_of Forms) (bound_value v ∷ Int (pos 0) ∷ []) old new (Ok count) → Becomes old.now new.now (with_rows Forms (t Forms ++ on_form_941 account ∷ []) t)
+form_added old new count account row v t names is stands ran =
+    let cell : bound_value v ≡ Text account.name = ap bound_value (is ∙ ap (λ r. column r 0) names) in
+    adds Forms (on_form_941 account) old new count t stands (subst (λ w. Executes (add_of Forms) (w ∷ Int (pos 0) ∷ []) old new (Ok count)) cell ran)
+
+-- one more of the forms is added
+pub more_forms : (old mid new : Database) (accounts : List AccountRow) (names : List Row) (i : ℕ) (row : Row) (t : Tables)
+    → names ≡ map name_shown accounts → drop i names ≡ row ∷ drop (i + 1) names → Becomes old mid (with_rows Forms (t Forms ++ map on_form_941 (take i accounts)) t)
+    → ((account : AccountRow) (u : Tables) → row ≡ name_shown account → Stands mid u → Becomes mid new (with_rows Forms (u Forms ++ on_form_941 account ∷ []) u))
+    → Becomes old new (with_rows Forms (t Forms ++ map on_form_941 (take (i + 1) accounts)) t)
+more_forms old mid new accounts names i row t are at before adds_one =
     let next = next_form accounts i row (drop (i + 1) names) (subst (λ rows. drop i rows ≡ row ∷ drop (i + 1) names) are at) in
     let form = on_form_941 next.0 in
     let so_far = t Forms ++ map on_form_941 (take i accounts) in
     let more : suc i ≡ i + 1 = omega arith in
-    let cell : bound_value v ≡ Text next.0.name = ap bound_value (is ∙ ap (λ r. column r 0) next.1) in
-    let added = adds Forms form mid new count (with_rows Forms so_far t) before.0 (subst (λ w. Executes (add_of Forms) (w ∷ Int (pos 0) ∷ []) mid new (Ok count)) cell ran) in
+    let added = adds_one next.0 (with_rows Forms so_far t) next.1 before.0 in
     let all : so_far ++ form ∷ [] ≡ t Forms ++ map on_form_941 (take (i + 1) accounts) = append_assoc (t Forms) (map on_form_941 (take i accounts)) (form ∷ []) ∙ ap (λ forms. t Forms ++ forms) (subst (λ k. map on_form_941 (take i accounts) ++ form ∷ [] ≡ map on_form_941 (take k accounts)) more next.2) in (
-      stands_same new.now (with_rows Forms (so_far ++ form ∷ []) (with_rows Forms so_far t)) _ (λ n. set_twice Forms so_far (so_far ++ form ∷ []) t n ∙ ap (λ rows. with_rows Forms rows t n) all) added.0,
-      foreign_then old.now mid.now new.now before.1 added.1,
+      stands_same new (with_rows Forms (so_far ++ form ∷ []) (with_rows Forms so_far t)) _ (λ n. set_twice Forms so_far (so_far ++ form ∷ []) t n ∙ ap (λ rows. with_rows Forms rows t n) all) added.0,
+      foreign_then old mid new before.1 added.1,
     )
 
 -- what adding a form for each name that was read comes to

@@ -1,6 +1,6 @@
 //! From version 1 to version 2.
 
-ghost use Rattle.std.specs.Prelude.{◌≡◌, ◌++◌, pos, codes, map, List};
+ghost use Rattle.std.specs.Prelude.{◌≡◌, ◌++◌, ◌∷◌, [], pos, codes, map, List};
 ghost use Rattle.std.specs.List.Sorted.{IsPermutation};
 ghost use Rattle.ftd_tables.specs.Kept.{changed};
 ghost use Rattle.ftd_schema.specs.declared.TableName.TheVariants.{Metas, Accounts, Forms};
@@ -22,6 +22,17 @@ use sqlite::{Alter, Row, Transaction, params};
 // Form 941, as it is stored
 const FORM_941: i64 = 0;
 
+// puts the account of this name on Form 941
+fn add_form<S: Alter>(tx: &mut Transaction<'_, S>, name: &Row) -> Result<(), StoreFault>
+    ensures step { Steps S.Store tx.old tx.new result (λ _ old new. (account : AccountRow) (t : Tables)
+        → name.now ≡ name_shown account → Stands old.now t
+        → Becomes old.now new.now (with_rows Forms (t Forms ++ (on_form_941 account ∷ [])) t)) }
+{
+    let form = ValueRef::Int(FORM_941);
+    run(tx, texts::ADD_FORM, &[name.get_ref(0)?, form])?;
+    Ok(())
+}
+
 // puts the accounts of these names on Form 941
 fn add_forms<S: Alter>(tx: &mut Transaction<'_, S>, names: &[Row]) -> Result<(), StoreFault>
     ensures step { Steps S.Store tx.old tx.new result (λ _ old new. (accounts : List AccountRow) (t : Tables)
@@ -29,11 +40,7 @@ fn add_forms<S: Alter>(tx: &mut Transaction<'_, S>, names: &[Row]) -> Result<(),
         → Becomes old.now new.now (with_rows Forms (t Forms ++ map on_form_941 accounts) t)) }
 {
     for name in names {
-        run(
-            tx,
-            texts::ADD_FORM,
-            &[name.get_ref(0)?, ValueRef::Int(FORM_941)],
-        )?;
+        add_form(tx, name)?;
     }
     Ok(())
 }

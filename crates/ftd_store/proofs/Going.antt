@@ -73,9 +73,9 @@ then_call g old mid new x (Ok y) p q = then_goes g old mid new x y y p q
 then_call g old mid new x (Err e) p q = then_fails g old mid new x e p q
 
 -- a call that fails after another
-pub fails_after : {S A B : Type 0} (g : store.Ghosts S) (old mid new : Tx S) (x : A) (e : StoreFault) (result : Result B StoreFault) (Does : B → State → State → Tables → Type 0) → result ≡ Err e → Frame g old mid (Ok x) → Frame {A = B} g mid new (Err e)
+pub fails_after : {S A B C : Type 0} (g : store.Ghosts S) (old mid new : Tx S) (x : A) (e : StoreFault) (result : Result C StoreFault) (Does : C → State → State → Tables → Type 0) → result ≡ Err e → Frame g old mid (Ok x) → Frame {A = B} g mid new (Err e)
     → Calls g old new result Does
-fails_after {B = B} g old mid new x e result Does is p q = subst (λ r. Calls {A = B} g old new r Does) (sym is) (record { frame = then_fails g old mid new x e p q; does = λ clean. tt })
+fails_after {C = C} g old mid new x e result Does is p q = subst (λ r. Calls {A = C} g old new r Does) (sym is) (record { frame = then_fails g old mid new x e p q; does = λ clean. tt })
 
 -- two changes, one after the other
 pub then_writes : {S A B C : Type 0} (g : store.Ghosts S) (old mid new : Tx S) (x : A) (y : B) (z : C) (f h both : Tables → Tables) → ((t : Tables) (n : TableName) → h (f t) n ≡ both t n)

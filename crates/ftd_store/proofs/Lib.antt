@@ -7,3 +7,4 @@ pub mod Sums
 pub mod YearRows
 pub mod Putting
 pub mod Walks
+pub mod Turning

@@ -53,6 +53,10 @@ Reads g old new result Fact = Calls g old new result (λ x before after t. Fact 
 abbrev pub Writes : {S A : Type 0} → store.Ghosts S → Tx S → Tx S → Result A StoreFault → (Tables → Tables) → Type 0
 Writes g old new result change = Calls g old new result (λ x before after t. Becomes before.now after.now (change t))
 
+-- a call that makes other rows of those that there are, which stand so to them, and keeps every table of another name
+abbrev pub Turns : {S A : Type 0} → store.Ghosts S → Tx S → Tx S → Result A StoreFault → (A → Tables → Tables → Type 0) → Type 0
+Turns g old new result So = Calls g old new result (λ x before after t. (u : Tables) × So x t u × Becomes before.now after.now u)
+
 -- there is exactly one such row
 abbrev pub IsOne : {X : Type 0} → List X → Type 0
 IsOne {X = X} rows = (x : X) × (rows ≡ x ∷ [])

@@ -16,7 +16,6 @@ use Rattle.ftd_sql.specs.Orders.{ObligationsRise}
 use Rattle.ftd_sql.specs.Tests.{is_obligation_between}
 use Rattle.ftd_rows.specs.Cells.{day_number, obligation_cells}
 use Rattle.ftd_rows.specs.Lists.{Lists, ListsFirst}
-use Rattle.ftd_store.specs.declared.obligation_rows.ObligationRows.{ObligationRows}
 use Rattle.ftd_store.specs.Finds.{IsObligation}
 
 -- the obligations of the account with a first day in the quarter
@@ -25,8 +24,8 @@ rows_in account quarter t = filter (is_obligation_between account (day_number (q
 
 module _ {S : Type 0} (g : store.Ghosts S) where
   -- what is shown of the store that they borrow
-  abbrev pub walked : ObligationRows S g → State
-  walked it = state g it.rows.conn.now
+  abbrev pub walked : Rows S g → State
+  walked rows = state g rows.conn.now
 
   -- these obligations of the account's quarter have been given
   abbrev pub HasListed : List ℕ → ℕ → Rows S g → List Obligation → Type 0
@@ -37,5 +36,5 @@ module _ {S : Type 0} (g : store.Ghosts S) where
   abbrev pub Continues : List ℕ → ℕ → Rows S g → List Obligation → Option Obligation → Type 0
   Continues account quarter rows listed (Some o) =
       HasListed account quarter rows (listed ++ o ∷ [])
-      × ((t : Tables) → Stands (state g rows.conn.now).now t → ListsFirst ObligationsRise (IsObligation account) (rows_in account quarter t) (listed ++ o ∷ []))
-  Continues account quarter rows listed None = (t : Tables) → Stands (state g rows.conn.now).now t → Lists ObligationsRise (IsObligation account) (rows_in account quarter t) listed
+      × ((t : Tables) → Stands (walked rows).now t → ListsFirst ObligationsRise (IsObligation account) (rows_in account quarter t) (listed ++ o ∷ []))
+  Continues account quarter rows listed None = (t : Tables) → Stands (walked rows).now t → Lists ObligationsRise (IsObligation account) (rows_in account quarter t) listed

@@ -16,7 +16,7 @@ mod store;
 mod tx;
 mod years;
 
-pub use crate::obligation_rows::{ObligationRows, Reader};
+pub use crate::obligation_rows::{next_obligation, rows_of};
 pub use crate::store::Store;
 pub use crate::tx::Tx;
 pub use ftd_rows::{Account, AccountObligation, StoreFault};

@@ -41,10 +41,8 @@ impl<'store, S: Alter> Tx<'store, S> {
         ensures call { Writes S.Store self.old self.new result
             (without_obligations account.now from to) }
     {
-        self.change(
-            texts::REMOVE_OBLIGATIONS,
-            params![account, StoredDay(from), StoredDay(to)],
-        )?;
+        let (first, last) = (StoredDay(from), StoredDay(to));
+        self.change(texts::REMOVE_OBLIGATIONS, params![account, first, last])?;
         Ok(())
     }
 

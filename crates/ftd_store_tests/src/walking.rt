@@ -3,13 +3,13 @@
 use crate::lists::{enrol_with_obligations, june, late_may, may};
 use crate::support::{begin, has, quarter, store};
 use ftd_rules::Obligation;
-use ftd_store::{ObligationRows, Store};
-use sqlite::Alter;
+use ftd_store::{Store, next_obligation, rows_of};
+use sqlite::{Alter, Rows};
 use std::alloc::Global;
 use std::test::Fail;
 
-fn read<S: Alter>(rows: &mut ObligationRows<'_, S>) -> Result<Option<Obligation>, Fail> {
-    Ok(rows.next()?)
+fn read<S: Alter>(rows: &mut Rows<'_, S>) -> Result<Option<Obligation>, Fail> {
+    Ok(next_obligation(rows)?)
 }
 
 /// The first obligations of an account's quarter, at most so many.
@@ -20,9 +20,7 @@ fn first<S: Alter>(
     of: &str,
     most: usize,
 ) -> Result<Vec<Obligation>, Fail> {
-    let mut rows = ObligationRows {
-        rows: store.reader().rows_of(name, quarter(of)?)?,
-    };
+    let mut rows = rows_of(store.lend(), name, quarter(of)?)?;
     let mut found = Vec::new(alloc);
     for _ in 0..most {
         match read(&mut rows)? {

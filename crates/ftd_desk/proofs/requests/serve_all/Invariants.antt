@@ -1,13 +1,13 @@
-use Rattle.std.proofs.Common.{◌≡◌, ◌≤◌, ◌+◌, ◌∷◌, List, Ok, length, take}
+use Rattle.std.proofs.Common.{◌≡◌, ◌≤◌, ◌+◌, ◌∷◌, Ok, length, take}
 use Rattle.std.specs.Prelude.{vec_len, vec_capacity}
-use Rattle.ftd_machine.specs.Checks.{Answer}
 use Rattle.ftd_store.specs.Frame.{Calls}
 use Rattle.ftd_desk.specs.Words.{ServesAll}
+use Rattle.ftd_desk.specs.declared.requests.ServedAll.{ServedAll}
 use Rattle.ftd_desk.proofs.requests.serve_all.Given as goal
 
 abbrev pub invariant-loop-request : goal.invariant-loop-request
 invariant-loop-request g l = record {
   count : vec_len l.answers ≡ l.request-index + 1;
   room : length l.later + 1 ≤ vec_capacity l.answers;
-  serves : Calls {A = List Answer} g.S.Store l.fn.tx l.tx (Ok l.answers.items) (ServesAll (l.fn.first ∷ take l.request-index l.later));
+  serves : Calls {A = ServedAll} g.S.Store l.fn.tx l.tx (Ok (record { answers = l.answers; counts = l.counts })) (ServesAll l.fn.counts (l.fn.first ∷ take l.request-index l.later));
 }

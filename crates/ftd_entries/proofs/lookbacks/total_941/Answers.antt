@@ -5,7 +5,9 @@ use Rattle.ftd_machine.specs.State.{entries_of}
 use Rattle.ftd_machine.proofs.Soundness.{sound_once}
 use Rattle.ftd_entries.specs.Totals.{KnowsTotalOn941}
 use Rattle.ftd_entries.proofs.Kept.{kept_reported}
-use Rattle.ftd_entries.proofs.Reading.{failed_after, gave_up, three_read, four_read}
+use Rattle.ftd_entries.proofs.Reading.{three_read, four_read}
+use Rattle.ftd_store.proofs.Going.{fails_after}
+use Rattle.ftd_store.proofs.Turning.{gave_up_after}
 use Rattle.ftd_entries.proofs.Totals.{quarters_known}
 use Rattle.ftd_entries.proofs.lookbacks.total_941.Goals as goal
 
@@ -17,7 +19,7 @@ returns-in_err-reported-4 g c =
     c.in_ok-reported.ensures.call c.in_ok-reported-2.ensures.call c.in_ok-reported-3.ensures.call in
     let failed : c.from_residual-in_err-reported-4.result ≡ Err c.in_err-reported-4.field-0.0 = search rules in
     record {
-      call = failed_after g.S.Store c.args.tx.now c.reported-3.new.self c.reported-4.new.self c.in_ok-reported-3.field-0 c.in_err-reported-4.field-0.0 c.from_residual-in_err-reported-4.result _
+      call = fails_after g.S.Store c.args.tx.now c.reported-3.new.self c.reported-4.new.self c.in_ok-reported-3.field-0 c.in_err-reported-4.field-0.0 c.from_residual-in_err-reported-4.result _
           failed read.frame c.in_err-reported-4.ensures.call.frame;
     }
 
@@ -53,5 +55,5 @@ returns-in-Err g c =
     c.in_ok-reported.ensures.call c.in_ok-reported-2.ensures.call c.in_ok-reported-3.ensures.call
     c.reported-4.new.self c.in_ok-reported-4.field-0 (FindsReported name c.at-second.result) c.in_ok-reported-4.ensures.call in
     record {
-      call = gave_up g.S.Store c.args.tx.now c.reported-4.new.self c.give_up.new.self c.in_ok-reported-4.field-0 c.give_up.result _ c.give_up.ensures.fails read.frame c.give_up.ensures.frame;
+      call = gave_up_after g.S.Store c.args.tx.now c.reported-4.new.self c.give_up.new.self c.in_ok-reported-4.field-0 c.give_up.result _ read.frame c.give_up.ensures.frame c.give_up.ensures.fails;
     }

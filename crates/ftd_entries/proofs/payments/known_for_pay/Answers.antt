@@ -1,6 +1,6 @@
 use Rattle.std.proofs.Common.{subst, Ok}
 use Rattle.ftd_days.specs.Calendar.{year_of}
-use Rattle.ftd_store.specs.Finds.{FindsPayment, CountsPayments}
+use Rattle.ftd_store.specs.Finds.{FindsPayment}
 use Rattle.ftd_store.specs.Frame.{Reads}
 use Rattle.ftd_store.proofs.Telling.{then_reads}
 use Rattle.ftd_entries.specs.Known.{KnowsAccount, KnowsYear}
@@ -17,10 +17,8 @@ returns g c =
     subst (λ y. Reads g.S.Store c.payment.new.self c.is_open.new.tx (Ok c.in_ok-is_open.is_open) (KnowsYear name y)) c.year.ensures c.in_ok-is_open.ensures.call in
     let account = both_read g.S.Store c.args.tx.now c.known.new.tx c.payment.new.self c.in_ok-account.account c.in_ok-payment.payment
     (KnowsAccount name) (FindsPayment name number) c.in_ok-account.ensures.call c.in_ok-payment.ensures.call in
-    let year_too = both_read g.S.Store c.args.tx.now c.payment.new.self c.is_open.new.tx _ c.in_ok-is_open.is_open
-    (Both (KnowsAccount name) (FindsPayment name number)) (KnowsYear name year) account opened in
     record {
-      call = then_reads g.S.Store c.args.tx.now c.is_open.new.tx c.count_payments.new.self _ c.in_ok-count.count _
-          (Both (Both (KnowsAccount name) (FindsPayment name number)) (KnowsYear name year)) (CountsPayments name) (KnowsForPay name number year)
-          (λ t told count. record { account = told.0.0; payment = told.0.1; is_open = told.1; count = count }) year_too c.in_ok-count.ensures.call;
+      call = then_reads g.S.Store c.args.tx.now c.payment.new.self c.is_open.new.tx _ c.in_ok-is_open.is_open _
+          (Both (KnowsAccount name) (FindsPayment name number)) (KnowsYear name year) (KnowsForPay name number year)
+          (λ t told year_is. record { account = told.0; payment = told.1; is_open = year_is }) account opened;
     }

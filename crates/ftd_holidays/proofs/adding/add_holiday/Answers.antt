@@ -6,7 +6,7 @@ use Rattle.ftd_entries.proofs.Reading.{Both, both_read}
 use Rattle.ftd_entries.proofs.Serving.{served_looked}
 use Rattle.ftd_holidays.specs.Moved.{AddsHoliday}
 use Rattle.ftd_holidays.proofs.AddedDay.{checks, added_decided, added_done}
-use Rattle.ftd_holidays.proofs.Turned.{served_turned}
+use Rattle.ftd_entries.proofs.Serving.{served_turned}
 use Rattle.ftd_holidays.proofs.adding.add_holiday.Goals as goal
 
 pub returns-in-Some : goal.returns-in-Some

@@ -7,7 +7,7 @@ use Rattle.ftd_store.specs.Changes.{with_added_holiday}
 use Rattle.ftd_store.proofs.Telling.{then_reads}
 use Rattle.ftd_holidays.specs.Known.{KnowsHolidays}
 use Rattle.ftd_holidays.specs.Moved.{AddsHoliday, MovesDue}
-use Rattle.ftd_holidays.proofs.Turned.{read_then_turn}
+use Rattle.ftd_store.proofs.Turning.{read_then_turn}
 use Rattle.ftd_holidays.proofs.moving.add_and_move.Goals as goal
 
 pub returns : goal.returns

@@ -6,7 +6,7 @@ use Rattle.ftd_rows.specs.declared.obligations.AccountObligation.{AccountObligat
 use Rattle.ftd_store.specs.Changes.{with_added_holiday, with_due_date}
 use Rattle.ftd_store.proofs.Going.{fails_after}
 use Rattle.ftd_store.proofs.Replaced.{all_taken}
-use Rattle.ftd_repairs.proofs.Turning.{writes_turn, one_turns, turns_on, turns_then}
+use Rattle.ftd_store.proofs.Turning.{writes_turn, one_turns, turns_on, turns_then}
 use Rattle.ftd_holidays.specs.Moved.{IsDueThen, MovesDue}
 use Rattle.ftd_holidays.proofs.MovedRows.{same_where, moves_none, moves_same, moves_more}
 use Rattle.ftd_holidays.proofs.moving.add_to_year.Goals.{then-ne+in_ok-move_due, else-ne}

@@ -1,7 +1,7 @@
 use Rattle.std.proofs.Common.{Ok, take}
 use Rattle.ftd_days.specs.Holidays.{holidays_of}
 use Rattle.ftd_store.specs.Changes.{with_added_holiday}
-use Rattle.ftd_repairs.specs.Turning.{Turns}
+use Rattle.ftd_store.specs.Frame.{Turns}
 use Rattle.ftd_holidays.specs.Moved.{MovesDue}
 use Rattle.ftd_holidays.proofs.moving.add_to_year.Given as goal
 

@@ -1,10 +1,8 @@
 use Rattle.std.proofs.Common.{subst, Ok}
 use Rattle.ftd_days.specs.Calendar.{year_of}
-use Rattle.ftd_store.specs.Finds.{CountsRuns}
 use Rattle.ftd_store.specs.Frame.{Reads}
 use Rattle.ftd_store.proofs.Telling.{then_reads}
 use Rattle.ftd_entries.specs.Known.{KnowsYear}
-use Rattle.ftd_entries.proofs.Reading.{Both, both_read}
 use Rattle.ftd_posting.specs.Runs.{KnowsForPost, KnowsForVoid}
 use Rattle.ftd_posting.proofs.known_runs.known_for_post.Goals as goal
 
@@ -15,10 +13,8 @@ returns g c =
     let year = year_of c.args.payday in
     let opened : Reads g.S.Store c.known_for_void.new.tx c.is_open.new.tx (Ok c.in_ok-is_open.is_open) (KnowsYear name year) =
     subst (λ y. Reads g.S.Store c.known_for_void.new.tx c.is_open.new.tx (Ok c.in_ok-is_open.is_open) (KnowsYear name y)) c.year.ensures c.in_ok-is_open.ensures.call in
-    let both = both_read g.S.Store c.args.tx.now c.known_for_void.new.tx c.is_open.new.tx c.in_ok-before.before c.in_ok-is_open.is_open
-    (KnowsForVoid name number) (KnowsYear name year) c.in_ok-before.ensures.call opened in
     record {
-      call = then_reads g.S.Store c.args.tx.now c.is_open.new.tx c.count_runs.new.self _ c.in_ok-count.count _
-          (Both (KnowsForVoid name number) (KnowsYear name year)) (CountsRuns name) (KnowsForPost name number year)
-          (λ t told count. record { account = told.0.account; kept = told.0.kept; is_open = told.1; count = count }) both c.in_ok-count.ensures.call;
+      call = then_reads g.S.Store c.args.tx.now c.known_for_void.new.tx c.is_open.new.tx c.in_ok-before.before c.in_ok-is_open.is_open _
+          (KnowsForVoid name number) (KnowsYear name year) (KnowsForPost name number year)
+          (λ t told year_is. record { account = told.account; form = told.form; kept = told.kept; is_open = year_is }) c.in_ok-before.ensures.call opened;
     }

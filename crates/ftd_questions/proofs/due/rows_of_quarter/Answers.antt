@@ -7,7 +7,7 @@ use Rattle.ftd_rows.specs.Lists.{Pairs}
 use Rattle.ftd_store.specs.Finds.{ListsObligations}
 use Rattle.ftd_store.proofs.Going.{then_goes}
 use Rattle.ftd_store.proofs.Telling.{then_reads}
-use Rattle.ftd_entries.proofs.Reading.{gave_up}
+use Rattle.ftd_store.proofs.Turning.{gave_up_after}
 use Rattle.ftd_questions.specs.Calendars.{HasTwoYears}
 use Rattle.ftd_questions.specs.Returns.{KnowsPeriod}
 use Rattle.ftd_questions.specs.DueRows.{IsRowBy, KnowsDueList, begins_in, is_next_day_row}
@@ -45,5 +45,5 @@ returns g c =
     let two = then_goes g.S.Store c.args.tx.now c.two_years.new.tx c.return_period.new.tx given period period c.in_ok-holidays.ensures.call.frame c.in_ok-period.ensures.call.frame in
     let three = then_goes g.S.Store c.args.tx.now c.return_period.new.tx c.obligations.new.self period found found two c.in_ok-obligations.ensures.call.frame in
     record {
-      call = gave_up g.S.Store c.args.tx.now c.obligations.new.self c.give_up.new.self found c.give_up.result _ c.give_up.ensures.fails three c.give_up.ensures.frame;
+      call = gave_up_after g.S.Store c.args.tx.now c.obligations.new.self c.give_up.new.self found c.give_up.result _ three c.give_up.ensures.frame c.give_up.ensures.fails;
     }

@@ -10,8 +10,8 @@ returns-clause-call g c =
     let form = c.args.form in
     let quarter = c.args.quarter in
     let start = c.args.tx.now in
-    let from = c.return_days-first.result.0 in
-    let to = c.return_days-first.result.1 in
+    let from = c.return_period-first.result.0 in
+    let to = c.return_period-first.result.1 in
     let payments = c.in_ok-payments.payments in
     let total = c.in_ok-total.total in
     let two = then_reads g.S.Store start c.payments_of.new.tx c.liability_of.new.tx payments total total (λ ps. KnowsPayments name from to ps.items) (KnowsLiability name from to)
@@ -19,8 +19,8 @@ returns-clause-call g c =
     then_reads g.S.Store start c.liability_of.new.tx c.preceding.new.tx total c.in_ok-preceding.preceding _ (λ n t. KnowsPayments name from to payments.items t × KnowsLiability name from to n t) (KnowsPreceding name form quarter)
     (KnowsPeriod name form quarter)
     (λ t told before. record {
-      first = c.return_days-first.ensures.first ∙ ap (λ d. return_period_first form (return_period_of form d)) c.first.ensures;
-      last = c.return_days-first.ensures.last ∙ ap (λ d. return_period_last form (return_period_of form d)) c.first.ensures;
+      first = c.return_period-first.ensures.first ∙ ap (λ d. return_period_first form (return_period_of form d)) c.first.ensures;
+      last = c.return_period-first.ensures.last ∙ ap (λ d. return_period_last form (return_period_of form d)) c.first.ensures;
       payments = told.0;
       total = told.1;
       preceding = before;

@@ -5,7 +5,7 @@ use Rattle.ftd_schema.specs.Standing.{Tables}
 use Rattle.ftd_store.specs.Changes.{with_year, with_obligations}
 use Rattle.ftd_store.proofs.Replaced.{all_taken}
 use Rattle.ftd_repairs.specs.Rescheduled.{HasLines, IsRescheduled, IsUnnamed, PutsPatch}
-use Rattle.ftd_repairs.proofs.Turning.{writes_turn, turns_on, turns_then}
+use Rattle.ftd_store.proofs.Turning.{writes_turn, turns_on, turns_then}
 use Rattle.ftd_repairs.proofs.Putting.{PutSoFar, put_none, put_more, put_same, put_all}
 use Rattle.ftd_repairs.proofs.patching.put_patch.Goals as goal
 use Rattle.ftd_repairs.proofs.patching.put_patch.Goals.{in-Some+in_ok-put_year, in_default}

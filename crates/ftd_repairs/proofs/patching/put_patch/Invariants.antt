@@ -1,6 +1,6 @@
 use Rattle.std.proofs.Common.{Ok}
 use Rattle.ftd_repairs.specs.Rescheduled.{HasLines}
-use Rattle.ftd_repairs.specs.Turning.{Turns}
+use Rattle.ftd_store.specs.Frame.{Turns}
 use Rattle.ftd_repairs.proofs.Putting.{PutSoFar}
 use Rattle.ftd_repairs.proofs.patching.put_patch.Given as goal
 

@@ -9,7 +9,7 @@ use Rattle.ftd_repairs.specs.Replaced.{ComparesRows}
 use Rattle.ftd_repairs.specs.Rescheduled.{HasLines, PutsPatch}
 use Rattle.ftd_repairs.specs.Reposted.{Repatches}
 use Rattle.ftd_repairs.proofs.Fed.{repairs_all}
-use Rattle.ftd_repairs.proofs.Turning.{reads_turn, turns_then}
+use Rattle.ftd_store.proofs.Turning.{reads_turn, turns_then}
 use Rattle.ftd_repairs.proofs.patching.repair_rows.Goals as goal
 
 pub returns : goal.returns

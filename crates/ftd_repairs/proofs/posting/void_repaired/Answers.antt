@@ -1,7 +1,7 @@
 use Rattle.std.proofs.Common.{refl}
 use Rattle.ftd_store.specs.Changes.{with_void_run}
 use Rattle.ftd_repairs.proofs.Reposting.{reposts}
-use Rattle.ftd_repairs.proofs.Turning.{one_turns}
+use Rattle.ftd_store.proofs.Turning.{one_turns}
 use Rattle.ftd_repairs.proofs.posting.void_repaired.Goals as goal
 
 pub returns : goal.returns

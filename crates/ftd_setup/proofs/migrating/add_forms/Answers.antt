@@ -7,7 +7,7 @@ use Rattle.ftd_schema.specs.Standing.{Tables, with_rows, Stands, Becomes}
 use Rattle.ftd_sql.specs.Answers.{name_shown}
 use Rattle.ftd_sql.specs.States.{within}
 use Rattle.ftd_setup.specs.Versions.{on_form_941}
-use Rattle.ftd_setup.proofs.Made.{no_form_added, form_added}
+use Rattle.ftd_setup.proofs.Made.{no_form_added, more_forms}
 use Rattle.ftd_setup.proofs.Stepping.{steps_none, steps_both, steps_so}
 use Rattle.ftd_setup.proofs.migrating.add_forms.Goals as goal
 
@@ -21,10 +21,10 @@ loop-name-preserved g c =
     let row : Row = c.name-item.result in
     let cut0 : drop i names ≡ get_or names i row ∷ drop (i + 1) names = rw add-one (drop-cons names i row c.loop-name-test.true) in
     let cut : drop i names ≡ row ∷ drop (i + 1) names = rw (← c.name-item.is) at cut0 in
-    steps_both g.S.Store c.args.tx.now c.loop-name.tx c.run.new.tx _ _ (tt {0}) _ _ (λ _ old new. (accounts : List AccountRow) (t : Tables) → names ≡ map name_shown accounts → Stands old.now t
+    steps_both g.S.Store c.args.tx.now c.loop-name.tx c.add_form.new.tx _ _ (tt {0}) _ _ (λ _ old new. (accounts : List AccountRow) (t : Tables) → names ≡ map name_shown accounts → Stands old.now t
     → Becomes old.now new.now (with_rows Forms (t Forms ++ map on_form_941 (take (i + 1) accounts)) t))
-    (λ before ran accounts t are stands. form_added (within g.S.Store c.args.tx.now) (within g.S.Store c.loop-name.tx) (within g.S.Store c.run.new.tx) _ accounts names i row _ t are cut c.in_ok-get_ref.ensures.ok.1 (before accounts t are stands) ran)
-    c.loop-name.invariant c.in_ok-run.ensures.step
+    (λ before adds accounts t are stands. more_forms (within g.S.Store c.args.tx.now).now (within g.S.Store c.loop-name.tx).now (within g.S.Store c.add_form.new.tx).now accounts names i row t are cut (before accounts t are stands) (λ account u. adds account u))
+    c.loop-name.invariant c.in_ok-add_form.ensures.step
 
 pub returns : goal.returns
 returns g c =

@@ -1,7 +1,7 @@
 use Rattle.std.proofs.Common.{◌≡◌, ◌∙◌, ◌+◌, sym, ap, subst, arith, take, length, List, ◌∷◌, ◌++◌, []}
 use Rattle.std.proofs.Math.Seq.{take-length}
 use Rattle.std.proofs.lemmas.List.{take_more}
-use Rattle.ftd_store.specs.Seen.{seen}
+use Rattle.ftd_desk.specs.Desks.{held}
 use Rattle.ftd_machine.specs.declared.requests.Request.{Request}
 use Rattle.ftd_desk.specs.Words.{HandlesAll}
 use Rattle.ftd_desk.proofs.Running.{all_none, all_more}
@@ -11,7 +11,7 @@ pub loop-request-init : goal.loop-request-init
 loop-request-init g c = record {
   count = c.in_ok-answers.ensures.len;
   room = c.in_ok-answers.ensures.capacity;
-  handles = rw c.in_ok-answers.ensures.items (all_none (seen g.S.Store c.args.self.now.store));
+  handles = rw c.in_ok-answers.ensures.items (all_none (held g.S.Store c.args.self.now));
 }
 
 pub push_reserved-requires : goal.push_reserved-requires
@@ -39,4 +39,4 @@ returns-clause-runs g c =
     let i = c.loop-request.request-index in
     let at_end : i ≡ length xs = let low = c.loop-request-test.false in let high = c.loop-request.auto.request-index-end in omega arith in
     let all : take i xs ≡ xs = rw at_end (take-length xs) in
-    subst (λ ys. HandlesAll (seen g.S.Store c.args.self.now.store) (seen g.S.Store c.loop-request.self.store) ys c.loop-request.answers.items) all c.loop-request.invariant.handles
+    subst (λ ys. HandlesAll (held g.S.Store c.args.self.now) (held g.S.Store c.loop-request.self) ys c.loop-request.answers.items) all c.loop-request.invariant.handles

@@ -1,0 +1,609 @@
+#!/usr/bin/env python3
+"""Random requests to the desk beside a plain reading of the rules, which computes everything anew.
+
+Run it at the top after `cd crates/ftd_desk_bench && rt run < stdin` has built the program. It makes seeded lists of
+requests (several accounts on both forms, late pay runs, voids, openings, added holidays, nonsense), gives them to the
+program, which asks a desk over a file, and compares each answer and, at the end, each row of each table, which Python's
+sqlite3 reads from the file. `bench/desk.py COUNT SEED..` takes how many requests a list has, and the seeds.
+"""
+import contextlib
+import datetime
+import os
+import random
+import re
+import sqlite3
+import subprocess
+import sys
+import tempfile
+
+DAY = datetime.timedelta(1)
+
+
+def date(text):
+    return datetime.date.fromisoformat(text)
+
+
+def money(cents):
+    return f"{cents // 100}.{cents % 100:02}"
+
+
+def number(day):
+    return (day - datetime.date(1970, 1, 1)).days
+
+
+def quarter_of(day):
+    return (day.year, (day.month + 2) // 3)
+
+
+def first_of(quarter):
+    return datetime.date(quarter[0], 3 * quarter[1] - 2, 1)
+
+
+def next_quarter(quarter):
+    return (quarter[0] + 1, 1) if quarter[1] == 4 else (quarter[0], quarter[1] + 1)
+
+
+def quarter_before(quarter):
+    return (quarter[0] - 1, 4) if quarter[1] == 1 else (quarter[0], quarter[1] - 1)
+
+
+def last_of(quarter):
+    return first_of(next_quarter(quarter)) - DAY
+
+
+def name_of(quarter):
+    return f"{quarter[0]}Q{quarter[1]}"
+
+
+def month_end(day):
+    after = day.replace(day=28) + 4 * DAY
+    return after.replace(day=1) - DAY
+
+
+def close(day):
+    """The last day of the run of days from Wednesday to Friday, or from Saturday to Tuesday."""
+    return day + (4 - day.weekday()) * DAY if day.weekday() in (2, 3, 4) else day + ((1 - day.weekday()) % 7) * DAY
+
+
+def opens(day):
+    end = close(day)
+    return end - 2 * DAY if end.weekday() == 4 else end - 3 * DAY
+
+
+class Refused(Exception):
+    pass
+
+
+def refuse(number, name, what=""):
+    raise Refused(f"refused {number} {name}{' ' if what != '' else ''}{what}")
+
+
+class Desk:
+    def __init__(self):
+        self.accounts, self.calendars, self.added = {}, {}, set()
+        self.reported, self.years_reported, self.open = {}, {}, {}
+        self.runs, self.payments = {}, {}
+
+    # ---- business days
+
+    def is_business(self, day):
+        return day.weekday() < 5 and day not in self.added and day not in self.calendars.get(day.year, ())
+
+    def on(self, day):
+        while not self.is_business(day):
+            day += DAY
+        return day
+
+    def nth(self, day, count):
+        while count:
+            day += DAY
+            count -= self.is_business(day)
+        return day
+
+    # ---- the history of an account
+
+    def liability(self, name):
+        sums = {}
+        for (owner, _), run in self.runs.items():
+            if owner == name and not run["voided"]:
+                sums[run["payday"]] = sums.get(run["payday"], 0) + sum(run["amounts"])
+        return {day: cents for day, cents in sums.items() if cents}
+
+    def lookback(self, name, year):
+        start, _, form = self.accounts[name]
+        if form == "943":
+            if datetime.date(year - 2, 12, 31) < start:
+                return 0
+            if (name, year - 2) not in self.years_reported:
+                refuse(25, "YearMissing", year - 2)
+            return self.years_reported[name, year - 2]
+        total, quarter = 0, (year - 2, 3)
+        for _ in range(4):
+            if last_of(quarter) >= start:
+                if (name, quarter) not in self.reported:
+                    refuse(17, "QuarterMissing", name_of(quarter))
+                total += self.reported[name, quarter]
+            quarter = next_quarter(quarter)
+        return total
+
+    def lines(self, name, sums):
+        lines, turned = {}, False
+        for year in sorted(self.open.get(name, ())):
+            look = self.lookback(name, year)
+            carried = self.accounts[name][1] and not lines
+            semiweekly = look > 5_000_000 or carried or turned
+            turn = None
+            if not semiweekly:
+                for day in sorted(d for d in sums if d.year == year):
+                    month = [sums[d] for d in sums if (d.year, d.month) == (year, day.month) and d <= day]
+                    if sum(month) >= 10_000_000:
+                        turn = day
+                        break
+            lines[year] = (look, carried, semiweekly, turn)
+            turned = turn is not None
+        return lines
+
+    def frame(self, form, line, day):
+        """The first and the last day of the deposit period of a day, and whether it is semiweekly."""
+        look, carried, semiweekly, turn = line
+        year_first, year_last = datetime.date(day.year, 1, 1), datetime.date(day.year, 12, 31)
+        if semiweekly or (turn and day > turn):
+            first, last = opens(day), close(day)
+            if form == "941":
+                first, last = max(first, first_of(quarter_of(day))), min(last, last_of(quarter_of(day)))
+            if not semiweekly:
+                first = max(first, turn + DAY)
+            return max(first, year_first), min(last, year_last), True
+        last = month_end(day)
+        return day.replace(day=1), min(last, turn) if turn else last, False
+
+    def obligations(self, name):
+        if name not in self.accounts:
+            return []
+        sums = self.liability(name)
+        lines = self.lines(name, sums)
+        form = self.accounts[name][2]
+        frames = {}
+        for day in sorted(sums):
+            if day.year in lines:
+                first, last, semiweekly = self.frame(form, lines[day.year], day)
+                frames.setdefault((first, last, semiweekly), []).append(day)
+        rows = []
+        for (first, last, semiweekly), days in sorted(frames.items()):
+            begin, held = first, 0
+            for day in days:
+                held += sums[day]
+                if held >= 10_000_000:
+                    rows.append((begin, day, "next-day", held, self.nth(day, 1)))
+                    begin, held = day + DAY, 0
+            if held:
+                due = self.nth(close(last), 3) if semiweekly else self.on(month_end(last) + 15 * DAY)
+                rows.append((begin, last, "semiweekly" if semiweekly else "monthly", held, due))
+        return rows
+
+    # ---- due lists
+
+    def return_due(self, form, quarter):
+        day = datetime.date(quarter[0] + 1, 1, 31) if form == "943" else month_end(last_of(quarter) + DAY)
+        return self.on(day)
+
+    def makeup(self, form, rule, last, due):
+        back = self.return_due(form, quarter_of(last))
+        if rule == "monthly":
+            return back
+        day = month_end(due) + 15 * DAY
+        while day.weekday() not in (2, 4):
+            day += DAY
+        return self.on(min(back, day))
+
+    def paid(self, name, first, last, *by):
+        return sum(
+            p["cents"]
+            for (owner, _), p in self.payments.items()
+            if owner == name and not p["voided"] and first <= p["for"] <= last and all(p["paid"] <= day for day in by)
+        )
+
+    def due_rows(self, name, quarter, as_of):
+        form, rows = self.accounts[name][2], self.obligations(name)
+        if form == "943":
+            first, last, before = datetime.date(quarter[0], 1, 1), datetime.date(quarter[0], 12, 31), None
+        else:
+            first, last = first_of(quarter), last_of(quarter)
+            before = self.reported.get((name, quarter_before(quarter)))
+        total = sum(cents for day, cents in self.liability(name).items() if first <= day <= last)
+        next_day = any(row[2] == "next-day" and first <= row[0] <= last for row in rows)
+        small = not next_day and (total < 250_000 or (before is not None and before < 250_000))
+        back = self.return_due(form, quarter)
+        back_paid = self.paid(name, first, last, back) >= total
+        for begin, end, rule, cents, due in rows:
+            if quarter_of(begin) != quarter:
+                continue
+            makeup = self.makeup(form, rule, end, due)
+            short = cents - self.paid(name, begin, end, due, as_of)
+            tolerated = short <= 10_000 or 50 * short <= cents
+            if short <= 0:
+                verdict = "met"
+            elif small and (as_of <= back or back_paid):
+                verdict = "with-return"
+            elif as_of <= due:
+                verdict = "open"
+            elif tolerated and self.paid(name, begin, end, makeup, as_of) >= cents:
+                verdict = "made-up"
+            elif tolerated and as_of <= makeup:
+                verdict = "short"
+            else:
+                verdict = "late"
+            yield (begin, end, rule, money(cents), due, makeup, money(self.paid(name, begin, end, as_of)), verdict)
+
+    # ---- requests
+
+    def known(self, name):
+        if name not in self.accounts:
+            refuse(7, "UnknownAccount")
+        return self.accounts[name]
+
+    def named(self, name):
+        if not re.fullmatch(r"[a-z][a-z0-9-]{0,19}", name):
+            refuse(1, "BadName")
+
+    def opened(self, name, year):
+        if year not in self.open.get(name, ()):
+            refuse(18, "YearNotOpen", year)
+
+    def posted(self, name, payday, before):
+        after = self.obligations(name)
+        gone, come = set(before) - set(after), set(after) - set(before)
+        days = gone | come
+        first = min((row[0] for row in days), default=payday)
+        last = max((row[1] for row in days), default=payday)
+        return f"{first}..{last} -{len(gone)} +{len(come)}"
+
+    def ask(self, line):
+        words = line.split(" ")
+        try:
+            return getattr(self, "ask_" + words[0].replace("-", "_"))(*words[1:])
+        except Refused as refusal:
+            return str(refusal)
+
+    def ask_enrol(self, name, start, *flags):
+        self.named(name)
+        content = (date(start), "carried" in flags, "943" if "943" in flags else "941")
+        if content[0].year > 2098:
+            refuse(3, "BadDay")
+        if name in self.accounts:
+            if self.accounts[name] != content:
+                refuse(8, "AccountDiffers")
+            return "already"
+        self.accounts[name] = content
+        return "done"
+
+    def ask_calendar(self, year, *days):
+        year, days = int(year), [date(day) for day in days]
+        if not 2001 <= year <= 2099:
+            refuse(2, "BadYear")
+        if len(days) > 60 or days != sorted(set(days)) or any(day.year != year for day in days):
+            refuse(5, "BadCalendar")
+        if year in self.calendars:
+            if self.calendars[year] != days:
+                refuse(9, "CalendarDiffers")
+            return "already"
+        self.calendars[year] = days
+        return "done"
+
+    def ask_add_holiday(self, day):
+        day = date(day)
+        if not 2001 <= day.year <= 2099:
+            refuse(3, "BadDay")
+        given = self.calendars.get(day.year)
+        if day in self.added or day in (given or ()):
+            return "already"
+        if given is None:
+            refuse(16, "CalendarMissing", day.year)
+        if len(given) + sum(other.year == day.year for other in self.added) >= 60:
+            refuse(5, "BadCalendar")
+        self.added.add(day)
+        return "done"
+
+    def ask_report(self, name, *rest):
+        self.named(name)
+        yearly = rest[0] == "year"
+        key = int(rest[1]) if yearly else (int(rest[0][:4]), int(rest[0][5]))
+        cents = round(float(rest[-1]) * 100)
+        if not 1999 <= (key if yearly else key[0]) <= 2098:
+            refuse(2, "BadYear")
+        if cents > 99_999_999_999:
+            refuse(4, "BadCents")
+        start, _, form = self.known(name)
+        if (form == "943") != yearly:
+            refuse(23, "WrongForm")
+        kept = self.years_reported if yearly else self.reported
+        if (name, key) in kept:
+            if kept[name, key] != cents:
+                refuse(24, "YearDiffers") if yearly else refuse(10, "QuarterDiffers")
+            return "already"
+        if (datetime.date(key, 12, 31) if yearly else last_of(key)) < start:
+            refuse(15, "BeforeStart")
+        kept[name, key] = cents
+        return "done"
+
+    def ask_open(self, name, year):
+        year = int(year)
+        self.named(name)
+        if not 2001 <= year <= 2098:
+            refuse(2, "BadYear")
+        start, _, _ = self.known(name)
+        years = self.open.get(name, set())
+        if year in years:
+            return "already"
+        if year < start.year:
+            refuse(15, "BeforeStart")
+        for needed in (year, year + 1):
+            if needed not in self.calendars:
+                refuse(16, "CalendarMissing", needed)
+        self.lookback(name, year)
+        if years and year - 1 not in years:
+            refuse(18, "YearNotOpen", year - 1)
+        self.open.setdefault(name, set()).add(year)
+        return "done"
+
+    def ask_post(self, name, number, payday, *amounts):
+        number, payday = int(number), date(payday)
+        amounts = tuple(round(float(amount) * 100) for amount in amounts)
+        amounts += (0,) * (3 - len(amounts))
+        self.named(name)
+        if not 2001 <= payday.year <= 2098:
+            refuse(3, "BadDay")
+        if max(amounts) > 99_999_999_999:
+            refuse(4, "BadCents")
+        if not 1 <= number <= 999_999_999:
+            refuse(6, "BadNumber")
+        start, _, _ = self.known(name)
+        if (name, number) in self.runs:
+            run = self.runs[name, number]
+            if (run["payday"], run["amounts"]) != (payday, amounts):
+                refuse(11, "RunDiffers")
+            return "already"
+        if payday < start:
+            refuse(15, "BeforeStart")
+        self.opened(name, payday.year)
+        before = self.obligations(name)
+        self.runs[name, number] = {"payday": payday, "amounts": amounts, "voided": False}
+        return self.posted(name, payday, before)
+
+    def ask_void(self, name, number):
+        number = int(number)
+        self.named(name)
+        if not 1 <= number <= 999_999_999:
+            refuse(6, "BadNumber")
+        self.known(name)
+        run = self.runs.get((name, number))
+        if run and run["voided"]:
+            return "already"
+        if not run:
+            refuse(13, "UnknownRun")
+        before = self.obligations(name)
+        run["voided"] = True
+        return self.posted(name, run["payday"], before)
+
+    def ask_pay(self, name, number, paid, for_day, amount):
+        number, content = int(number), (date(paid), date(for_day), round(float(amount) * 100))
+        self.named(name)
+        if not (2001 <= content[0].year <= 2099 and 2001 <= content[1].year <= 2098):
+            refuse(3, "BadDay")
+        if not 1 <= content[2] <= 99_999_999_999:
+            refuse(4, "BadCents")
+        if not 1 <= number <= 999_999_999:
+            refuse(6, "BadNumber")
+        start, _, _ = self.known(name)
+        if (name, number) in self.payments:
+            kept = self.payments[name, number]
+            if (kept["paid"], kept["for"], kept["cents"]) != content:
+                refuse(12, "PaymentDiffers")
+            return "already"
+        if content[1] < start:
+            refuse(15, "BeforeStart")
+        self.opened(name, content[1].year)
+        self.payments[name, number] = dict(zip(("paid", "for", "cents"), content), voided=False)
+        return "done"
+
+    def ask_void_pay(self, name, number):
+        number = int(number)
+        self.named(name)
+        if not 1 <= number <= 999_999_999:
+            refuse(6, "BadNumber")
+        self.known(name)
+        payment = self.payments.get((name, number))
+        if payment and payment["voided"]:
+            return "already"
+        if not payment:
+            refuse(14, "UnknownPayment")
+        payment["voided"] = True
+        return "done"
+
+    def ask_status(self, name, day):
+        day = date(day)
+        self.named(name)
+        if not 2001 <= day.year <= 2098:
+            refuse(3, "BadDay")
+        self.known(name)
+        self.opened(name, day.year)
+        lines = self.lines(name, self.liability(name))
+        look, carried, semiweekly, turn = lines[day.year]
+        kind = "semiweekly" if semiweekly or (turn and day > turn) else "monthly"
+        before = lines.get(day.year - 1, (0, False, False, None))[3]
+        if kind == "monthly" or look > 5_000_000:
+            return f"{kind} lookback"
+        if before:
+            return f"{kind} turned {before}"
+        return f"{kind} carried" if carried else f"{kind} turned {turn}"
+
+    def asked_of_quarter(self, name, quarter):
+        quarter = (int(quarter[:4]), int(quarter[5]))
+        self.named(name)
+        if not 2001 <= quarter[0] <= 2098:
+            refuse(2, "BadYear")
+        return quarter
+
+    def ask_due(self, name, quarter, as_of):
+        quarter, as_of = self.asked_of_quarter(name, quarter), date(as_of)
+        if not 2001 <= as_of.year <= 2099:
+            refuse(3, "BadDay")
+        self.known(name)
+        self.opened(name, quarter[0])
+        return "".join(" ".join(map(str, row)) + "; " for row in self.due_rows(name, quarter, as_of))
+
+    def ask_schedule_b(self, name, quarter):
+        quarter = self.asked_of_quarter(name, quarter)
+        if self.known(name)[2] == "943":
+            refuse(23, "WrongForm")
+        self.opened(name, quarter[0])
+        sums = sorted(self.liability(name).items())
+        return "".join(f"{day} {money(cents)}; " for day, cents in sums if quarter_of(day) == quarter)
+
+
+    # ---- tables
+
+    def tables(self):
+        """The rows that each table of the database has to hold."""
+        owed = {name: self.obligations(name) for name in self.accounts}
+        lines = {name: self.lines(name, self.liability(name)) for name in self.accounts}
+        rules = ["monthly", "semiweekly", "next-day"]
+        return {
+            "ftd_meta": [("ftd", 2)],
+            "account": [(name, number(start), int(carried)) for name, (start, carried, _) in self.accounts.items()],
+            "account_form": [(name, int(form == "943")) for name, (_, _, form) in self.accounts.items()],
+            "reported": [(name, *quarter, cents) for (name, quarter), cents in self.reported.items()],
+            "reported_year": [(name, year, cents) for (name, year), cents in self.years_reported.items()],
+            "calendar_year": [(year,) for year in self.calendars],
+            "holiday": [(number(day), year) for year, days in self.calendars.items() for day in days],
+            "added_holiday": [(number(day), day.year) for day in self.added],
+            "year": [
+                (name, year, look, int(semiweekly), turn and number(turn))
+                for name in lines
+                for year, (look, _, semiweekly, turn) in lines[name].items()
+            ],
+            "run": [(*key, number(r["payday"]), *r["amounts"], int(r["voided"])) for key, r in self.runs.items()],
+            "payment": [
+                (*key, number(p["paid"]), number(p["for"]), p["cents"], int(p["voided"])) for key, p in self.payments.items()
+            ],
+            "bucket": [
+                (name, number(first), number(last), rules.index(rule), cents, number(due))
+                for name in owed
+                for first, last, rule, cents, due in owed[name]
+            ],
+        }
+
+
+# ---- random requests
+
+NAMES = ["ash", "birch", "cedar", "elm", "fir", "oak", "pine", "rye", "nobody", "Bad"]
+YEARS = range(2022, 2028)
+
+
+def some_day(rng, first=2022, last=2027):
+    if rng.random() < 0.02:
+        return rng.choice(["2000-12-31", "2099-05-05", "2021-06-06", "2030-01-02"])
+    return str(datetime.date(rng.randint(first, last), 1, 1) + rng.randrange(365) * DAY)
+
+
+def amount(rng):
+    if rng.random() < 0.01:
+        return "999999999.99"
+    cents = rng.choice([rng.randrange(300_000), rng.randrange(2_000_000), rng.randrange(9_900_000, 10_100_000), 0, 10_000_000])
+    return money(min(cents, 99_999_999_999))
+
+
+def holidays(rng, year):
+    days = sorted(rng.sample(range(365), rng.choice([0, 3, 12, 12, 12, 40])))
+    return " ".join(str(datetime.date(year, 1, 1) + day * DAY) for day in days)
+
+
+def preparing(rng):
+    for year in range(2021, 2029):
+        yield f"calendar {year} {holidays(rng, year)}".rstrip()
+    for name in NAMES[:8]:
+        start = rng.choice(["2022-01-01", "2020-01-01", "2023-07-01", "2024-05-01"])
+        form = " 943" if rng.random() < 0.3 else ""
+        yield f"enrol {name} {start}{' carried' if rng.random() < 0.3 else ''}{form}"
+        for year in range(2020, 2027):
+            figure = rng.choice(["0.00", "2499.99", "2500.00", "12500.00", "12500.01", "50000.00", "50000.01"])
+            if form:
+                yield f"report {name} year {year} {figure}"
+            else:
+                for quarter in range(1, 5):
+                    yield f"report {name} {year}Q{quarter} {figure if rng.random() < 0.7 else '12500.00'}"
+        for year in YEARS:
+            yield f"open {name} {year}"
+
+
+def one(rng, posted, paid):
+    name = rng.choice(NAMES[:8] * 6 + NAMES)
+    kind = rng.random()
+    if kind < 0.35:
+        number = rng.choice(posted.get(name, [0])) if rng.random() < 0.1 else len(posted.get(name, [])) + 1
+        posted.setdefault(name, []).append(number)
+        tail = f" {amount(rng)} {amount(rng)}" if rng.random() < 0.2 else ""
+        return f"post {name} {number} {some_day(rng)} {amount(rng)}{tail}"
+    if kind < 0.47:
+        return f"void {name} {rng.randint(0, len(posted.get(name, [])) + 1)}"
+    if kind < 0.6:
+        number = len(paid.get(name, [])) + 1
+        paid.setdefault(name, []).append(number)
+        for_day = date(some_day(rng))
+        day = min(for_day + rng.randrange(60) * DAY, datetime.date(2098, 1, 1))
+        return f"pay {name} {number} {day} {for_day} {amount(rng)}"
+    if kind < 0.63:
+        return f"void-pay {name} {rng.randint(0, len(paid.get(name, [])) + 1)}"
+    if kind < 0.73:
+        return f"status {name} {some_day(rng)}"
+    quarter = f"{rng.choice(YEARS)}Q{rng.randint(1, 4)}"
+    if kind < 0.9:
+        as_of = first_of((int(quarter[:4]), int(quarter[5]))) + rng.randrange(240) * DAY
+        return f"due {name} {quarter} {as_of}"
+    if kind < 0.96:
+        return f"schedule-b {name} {quarter}"
+    if kind < 0.97:
+        return f"add-holiday {some_day(rng, 2021, 2028)}"
+    return rng.choice([f"open {name} {rng.randint(2020, 2029)}", f"report {name} 2023Q1 1.00", f"report {name} year 2023 1.00",
+                       f"calendar {rng.randint(2020, 2030)}", f"enrol {name} 2022-01-01"])
+
+
+def compare(program, file, seed, count):
+    """Asks the requests of a seed, and compares answers and tables. It answers how many requests there were."""
+    rng = random.Random(seed)
+    lines = list(preparing(rng))
+    posted, paid = {}, {}
+    lines += [one(rng, posted, paid) for _ in range(count)]
+    done = subprocess.run([program, file], input="\n".join(lines), capture_output=True, text=True)
+    if done.returncode != 0:
+        raise SystemExit(f"seed {seed}: status {done.returncode}: {done.stderr}")
+    answers, desk = done.stdout.split("\n"), Desk()
+    for place, line in enumerate(lines):
+        right = desk.ask(line)
+        if answers[place] != right:
+            raise SystemExit(f"seed {seed}, request {place}: {line}\n  the desk: {answers[place]}\n  the rules: {right}")
+    with contextlib.closing(sqlite3.connect(file)) as conn:
+        for table, rows in desk.tables().items():
+            found = conn.execute(f"SELECT * FROM {table}").fetchall()
+            if sorted(found, key=repr) != sorted(rows, key=repr):
+                only = [row for row in found if row not in rows], [row for row in rows if row not in found]
+                raise SystemExit(f"seed {seed}, table {table}: too many {only[0]}, missing {only[1]}")
+    return len(lines)
+
+
+def main():
+    top = os.path.dirname(os.path.dirname(os.path.abspath(__file__)))
+    program = os.path.join(top, "crates", "ftd_desk_bench", "out", "ftd_desk_bench")
+    count = int(sys.argv[1]) if len(sys.argv) > 1 else 5_000
+    seeds = [int(word) for word in sys.argv[2:]] or range(1, 21)
+    asked = 0
+    with tempfile.TemporaryDirectory() as folder:
+        for seed in seeds:
+            requests = compare(program, os.path.join(folder, f"{seed}.db"), seed, count)
+            asked += requests
+            print(f"seed {seed}: {requests} requests, 0 differences", flush=True)
+    print(f"{asked} requests and the twelve tables of {len(seeds)} databases, 0 differences")
+
+
+if __name__ == "__main__":
+    main()

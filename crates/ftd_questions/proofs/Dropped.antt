@@ -1,0 +1,44 @@
+-- A transaction that was dropped after some reading.
+use Rattle.std.proofs.Common.{inr, Result, Ok, Err, sym, subst, List, ℕ, IsTrue, ◌⊎◌}
+use Rattle.std.specs.Prelude.{MatchResult}
+use Rattle.sqlite.specs.Effect.{Database}
+use Rattle.sqlite.specs.State as database
+use Rattle.sqlite.specs.State.{HasCleanDisk, KeepsCommit}
+use Rattle.ftd_sql.specs.States.{CrashKeeps}
+use Rattle.ftd_sql.proofs.Controls.{crash_then, undone_all}
+use Rattle.ftd_schema.specs.Standing.{Tables, Stands}
+use Rattle.ftd_store.specs.Ends.{Begins, EndsAs}
+use Rattle.ftd_machine.specs.Runs.{IsFault}
+use Rattle.ftd_machine.specs.declared.replies.Refusal.{Refusal}
+use Rattle.ftd_questions.specs.Telling.{KnowsAsked}
+use Rattle.ftd_questions.specs.Walks.{Stays, IsSeen}
+use Rattle.ftd_questions.specs.declared.asking.KnownReturn.{KnownReturn}
+use Rattle.ftd_questions.proofs.Walked.{clean_before, stood}
+
+-- from what was seen before it to its end: as it began, as it was dropped, and afterwards
+module _ (a b m e : database.State) (entered : CrashKeeps a b) (begun : HasCleanDisk b → Begins a b) (crash : CrashKeeps b m) (kept : HasCleanDisk m → KeepsCommit b m)
+    (undone : HasCleanDisk e → IsTrue e.is_open → EndsAs e m.committed) (left : CrashKeeps m e) (opens : HasCleanDisk e → IsTrue e.is_open → IsTrue m.is_open) where
+  pub dropped_stays : Stays a e
+  dropped_stays = record {
+    rows = λ clean.
+        let clean_m = clean_before m e left clean in
+        let began = begun (clean_before b m crash clean_m) in
+        record {
+          was_open = λ on. began.shows.was_open;
+          now_is = λ on. (undone_all a b m e began.shows (kept clean_m) (opens clean on) (undone clean on) began.settled).0;
+          committed_is = λ on. (undone_all a b m e began.shows (kept clean_m) (opens clean on) (undone clean on) began.settled).1;
+        };
+    crash = crash_then a b e entered (crash_then b m e crash left);
+  }
+
+  -- rows that the tables have now they had in it
+  pub stood_in_it : IsSeen e → (t : Tables) → Stands e.now t → Stands b.now t
+  stood_in_it is t stands =
+      let clean_b = clean_before b m crash (clean_before m e left is.0) in
+      subst (λ (db : Database). Stands db t) (sym (begun clean_b).shows.now_is) (stood a e dropped_stays is t stands)
+
+-- what was read in it, with no fault
+pub answered : (name : List ℕ) (quarter as_of : ℕ) (t : Tables) (asked : Result KnownReturn Refusal) → KnowsAsked name quarter as_of asked t
+    → MatchResult asked (λ known. KnowsAsked name quarter as_of (Ok known) t) (λ refusal. IsFault (Err refusal) ⊎ KnowsAsked name quarter as_of (Err refusal) t)
+answered name quarter as_of t (Ok known) knows = knows
+answered name quarter as_of t (Err refusal) knows = inr knows

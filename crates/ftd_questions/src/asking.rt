@@ -1,0 +1,134 @@
+//! What a due list that is told row by row rests on besides its obligations, or why it is refused.
+
+ghost use Rattle.std.specs.Prelude.{◌≡◌, ◌⊎◌, ◌<◌, ◌≤◌, None, Some, Ok, Err, IfOk, IfErr, MatchResult};
+ghost use Rattle.std.specs.List.{sum_by};
+ghost use Rattle.ftd_days.specs.Calendar.{quarter_year};
+ghost use Rattle.ftd_rules.specs.Payments.{payment_cents};
+ghost use Rattle.ftd_schema.specs.Standing.{Tables, Stands};
+ghost use Rattle.ftd_store.specs.Frame.{Reads};
+ghost use Rattle.ftd_store.specs.Seen.{seen};
+ghost use Rattle.ftd_machine.specs.History.{form_of};
+ghost use Rattle.ftd_machine.specs.Checks.{first_of};
+ghost use Rattle.ftd_machine.specs.Requests.{due_list_checks};
+ghost use Rattle.ftd_machine.specs.Runs.{IsFault};
+ghost use Rattle.ftd_questions.specs.Telling.{KnowsReturn, KnowsAsked};
+ghost use Rattle.ftd_questions.specs.Walks.{Stays, IsSeen};
+
+use crate::due::{KnownForDue, known_for_due};
+use crate::faults::refusal_of;
+use crate::holidays::two_years;
+use crate::return_periods::{ReturnPeriod, return_period};
+use ftd_days::{Day, Holidays, Quarter};
+use ftd_machine::{Refusal, due_list_check};
+use ftd_rules::Form;
+use ftd_store::{Store, StoreFault, Tx};
+use sqlite::Alter;
+use std::alloc::Global;
+
+/// What the rows of an account's due list rest on besides its obligations.
+#[derive(Drop)]
+pub(crate) struct KnownReturn {
+    /// The account's form.
+    pub form: Form,
+    /// The holidays of the year of the quarter and of the next.
+    pub holidays: Holidays,
+    /// What is known of the return period.
+    pub period: ReturnPeriod,
+}
+
+/// The account's form, or why its due list is refused by what is known.
+fn asked_form(
+    name: &str,
+    quarter: Quarter,
+    as_of: Day,
+    known: &KnownForDue,
+) -> Result<Form, Refusal>
+    ensures passed { IfOk result (λ form. (first_of (due_list_checks name.now quarter as_of
+        known.now.account known.now.is_open) ≡ None) × (form_of known.now.account ≡ form)) }
+    ensures refused { IfErr result (λ refusal. first_of (due_list_checks name.now quarter as_of
+        known.now.account known.now.is_open) ≡ Some (Err refusal)) }
+{
+    match &due_list_check(name, quarter, as_of, known.account, known.is_open) {
+        Some(Err(refusal)) => Err(*refusal),
+        _ => match known.account {
+            Some(account) => Ok(account.form),
+            None => Err(Refusal::UnknownAccount),
+        },
+    }
+}
+
+/// The holidays and the return period of the quarter, for an account on the form.
+fn known_return<S: Alter>(
+    tx: &mut Tx<'_, S>,
+    alloc: Global,
+    name: &str,
+    form: Form,
+    quarter: Quarter,
+) -> Result<KnownReturn, StoreFault>
+    requires from { 2001 ≤ quarter_year quarter }
+    requires to { quarter_year quarter ≤ 2098 }
+    ensures call { Reads S.Store tx.old tx.new result (KnowsReturn name.now quarter) }
+    ensures form { IfOk result (λ known. known.form ≡ form) }
+    ensures small { IfOk result (λ known.
+        sum_by payment_cents known.period.payments.items < 6_000_000_000_000_000) }
+{
+    let holidays = two_years(tx, alloc, quarter.year())?;
+    let period = return_period(tx, alloc, name, form, quarter)?;
+    Ok(KnownReturn {
+        form,
+        holidays,
+        period,
+    })
+}
+
+/// What the account's due list rests on, or why it is refused.
+fn asked<S: Alter>(
+    tx: &mut Tx<'_, S>,
+    alloc: Global,
+    name: &str,
+    quarter: Quarter,
+    as_of: Day,
+) -> Result<Result<KnownReturn, Refusal>, StoreFault>
+    ensures call { Reads S.Store tx.old tx.new result (KnowsAsked name.now quarter as_of) }
+    ensures years { IfOk result (λ asked. IfOk asked (λ known.
+        (2001 ≤ quarter_year quarter) × (quarter_year quarter ≤ 2098))) }
+    ensures small { IfOk result (λ asked. IfOk asked (λ known.
+        sum_by payment_cents known.period.payments.items < 6_000_000_000_000_000)) }
+{
+    let before = known_for_due(tx, alloc, name, quarter)?;
+    let form = match asked_form(name, quarter, as_of, &before) {
+        Ok(form) => form,
+        Err(refusal) => return Ok(Err(refusal)),
+    };
+    let known = known_return(tx, alloc, name, form, quarter)?;
+    Ok(Ok(known))
+}
+
+/// The same, in a transaction that is dropped. `Memory` and `Store` also where there was no memory
+/// or the store failed.
+pub(crate) fn read_return<S: Alter>(
+    store: &mut Store<S>,
+    alloc: Global,
+    name: &str,
+    quarter: Quarter,
+    as_of: Day,
+) -> Result<KnownReturn, Refusal>
+    ensures knows { IsSeen (seen S.Store store.new) → (t : Tables)
+        → Stands (seen S.Store store.new).now t → MatchResult result
+        (λ known. KnowsAsked name.now quarter as_of (Ok known) t)
+        (λ refusal. IsFault (Err refusal) ⊎ KnowsAsked name.now quarter as_of (Err refusal) t) }
+    ensures years { IfOk result (λ known.
+        (2001 ≤ quarter_year quarter) × (quarter_year quarter ≤ 2098)) }
+    ensures small { IfOk result (λ known.
+        sum_by payment_cents known.period.payments.items < 6_000_000_000_000_000) }
+    ensures stays { Stays (seen S.Store store.old) (seen S.Store store.new) }
+{
+    let mut tx = match store.begin() {
+        Ok(tx) => tx,
+        Err(fault) => return Err(refusal_of(fault)),
+    };
+    match asked(&mut tx, alloc, name, quarter, as_of) {
+        Ok(asked) => asked,
+        Err(fault) => Err(refusal_of(fault)),
+    }
+}

@@ -1,0 +1,3 @@
+pub mod AppFacts
+pub mod Simple
+pub mod TaskFacts

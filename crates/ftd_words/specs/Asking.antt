@@ -1,0 +1,175 @@
+-- What the values of a subcommand ask.
+use Rattle.std.specs.Prelude.{ℕ, ◌≡◌, ◌||◌, nat_lt, List, Result, Ok, Err, if◌then◌else◌, ⊤}
+use Rattle.clap.specs.Words.{Row, Text}
+use Rattle.ftd_machine.specs.declared.requests.Request.{Request}
+use Rattle.ftd_machine.specs.declared.requests.Request.TheVariants as request
+use Rattle.ftd_rules.specs.Accounts.{is_account_name}
+use Rattle.ftd_words.specs.declared.fault.WordFault.{WordFault}
+use Rattle.ftd_words.specs.declared.fault.WordFault.TheVariants as fault
+use Rattle.ftd_words.specs.declared.table.Name.{Name}
+use Rattle.ftd_words.specs.declared.table.Name.TheVariants as name
+use Rattle.ftd_words.specs.declared.table.Word.TheVariants as word
+use Rattle.ftd_words.specs.Values.{cents_in, day_in, days_in, form_in, is_given, port_in, quarter_in, text_in, whole_in}
+
+-- what follows from a value, or its fault
+abbrev pub then_with : {X Y : Type 0} → Result X WordFault → (X → Result Y WordFault) → Result Y WordFault
+then_with (Err f) next = Err f
+then_with (Ok value) next = next value
+
+-- what was read, seen in these words, is what the values say, unless memory ran out
+abbrev pub TellsAs : {X Y : Type 0} → (X → Y) → Result X WordFault → Result Y WordFault → Type 0
+TellsAs view (Ok value) said = said ≡ Ok (view value)
+TellsAs view (Err fault.Memory) said = ⊤
+TellsAs view (Err (fault.BadWord word)) said = said ≡ Err (fault.BadWord word)
+TellsAs view (Err fault.NoForm) said = said ≡ Err fault.NoForm
+TellsAs view (Err fault.NoCommand) said = said ≡ Err fault.NoCommand
+
+abbrev pub Tells : {X : Type 0} → Result X WordFault → Result X WordFault → Type 0
+Tells {X} read said = TellsAs (λ (x : X). x) read said
+
+-- ---- requests to the desk
+unfoldable pub enrol_of : List Row → Result Request WordFault
+enrol_of rows =
+    then_with (text_in word.Account rows) (λ account.
+    then_with (day_in word.Start rows) (λ start.
+    then_with (form_in rows) (λ form.
+    Ok (request.Enrol account start (is_given word.Carried rows) form))))
+
+unfoldable pub calendar_of : List Row → Result Request WordFault
+calendar_of rows =
+    then_with (whole_in word.Year rows) (λ year.
+    then_with (days_in word.Days rows) (λ days.
+    Ok (request.Calendar year days)))
+
+unfoldable pub add_holiday_of : List Row → Result Request WordFault
+add_holiday_of rows =
+    then_with (day_in word.Day rows) (λ day.
+    Ok (request.AddHoliday day))
+
+unfoldable pub report_of : List Row → Result Request WordFault
+report_of rows =
+    then_with (text_in word.Account rows) (λ account.
+    then_with (quarter_in word.Quarter rows) (λ quarter.
+    then_with (cents_in word.Amount rows) (λ cents.
+    Ok (request.Report account quarter cents))))
+
+unfoldable pub report_year_of : List Row → Result Request WordFault
+report_year_of rows =
+    then_with (text_in word.Account rows) (λ account.
+    then_with (whole_in word.Year rows) (λ year.
+    then_with (cents_in word.Amount rows) (λ cents.
+    Ok (request.ReportYear account year cents))))
+
+unfoldable pub open_year_of : List Row → Result Request WordFault
+open_year_of rows =
+    then_with (text_in word.Account rows) (λ account.
+    then_with (whole_in word.Year rows) (λ year.
+    Ok (request.OpenYear account year)))
+
+unfoldable pub post_of : List Row → Result Request WordFault
+post_of rows =
+    then_with (text_in word.Account rows) (λ account.
+    then_with (whole_in word.Run rows) (λ run.
+    then_with (day_in word.Payday rows) (λ payday.
+    then_with (cents_in word.Fit rows) (λ fit.
+    then_with (cents_in word.Ss rows) (λ ss.
+    then_with (cents_in word.Medicare rows) (λ medicare.
+    Ok (request.Post account run payday fit ss medicare)))))))
+
+unfoldable pub void_of : List Row → Result Request WordFault
+void_of rows =
+    then_with (text_in word.Account rows) (λ account.
+    then_with (whole_in word.Run rows) (λ run.
+    Ok (request.Void account run)))
+
+unfoldable pub pay_of : List Row → Result Request WordFault
+pay_of rows =
+    then_with (text_in word.Account rows) (λ account.
+    then_with (whole_in word.Payment rows) (λ payment.
+    then_with (day_in word.Paid rows) (λ paid.
+    then_with (day_in word.For rows) (λ for_day.
+    then_with (cents_in word.Amount rows) (λ cents.
+    Ok (request.Pay account payment paid for_day cents))))))
+
+unfoldable pub void_pay_of : List Row → Result Request WordFault
+void_pay_of rows =
+    then_with (text_in word.Account rows) (λ account.
+    then_with (whole_in word.Payment rows) (λ payment.
+    Ok (request.VoidPay account payment)))
+
+unfoldable pub status_of : List Row → Result Request WordFault
+status_of rows =
+    then_with (text_in word.Account rows) (λ account.
+    then_with (day_in word.Day rows) (λ day.
+    Ok (request.Status account day)))
+
+unfoldable pub due_of : List Row → Result Request WordFault
+due_of rows =
+    then_with (text_in word.Account rows) (λ account.
+    then_with (quarter_in word.Quarter rows) (λ quarter.
+    then_with (day_in word.AsOf rows) (λ as_of.
+    Ok (request.DueList account quarter as_of))))
+
+unfoldable pub schedule_b_of : List Row → Result Request WordFault
+schedule_b_of rows =
+    then_with (text_in word.Account rows) (λ account.
+    then_with (quarter_in word.Quarter rows) (λ quarter.
+    Ok (request.ScheduleB account quarter)))
+
+-- ---- what a subcommand asks: the deposits of pay runs from standard input, a server, an import, or a request to the desk in a
+-- database
+pub data Wanted : Type 0 where
+  plain : Text → ℕ → List ℕ → Wanted
+  serve : Text → ℕ → ℕ → Wanted
+  import : Text → Text → Wanted
+  ask : Text → Request → Wanted
+
+-- `plain` wants an account name, and a year of 2001 to 2098
+abbrev pub account_in : List Row → Result Text WordFault
+account_in rows = then_with (text_in word.Account rows) (λ text. if is_account_name text then Ok text else Err (fault.BadWord word.Account))
+
+abbrev pub year_in : List Row → Result ℕ WordFault
+year_in rows = then_with (whole_in word.Year rows) (λ year. if nat_lt year 2001 || nat_lt 2098 year then Err (fault.BadWord word.Year) else Ok year)
+
+unfoldable pub plain_of : List Row → Result Wanted WordFault
+plain_of rows =
+    then_with (account_in rows) (λ account.
+    then_with (year_in rows) (λ year.
+    then_with (days_in word.Holidays rows) (λ holidays.
+    Ok (plain account year holidays))))
+
+unfoldable pub serve_of : List Row → Result Wanted WordFault
+serve_of rows =
+    then_with (text_in word.Db rows) (λ db.
+    then_with (port_in word.Port rows) (λ port.
+    then_with (whole_in word.Connections rows) (λ connections.
+    Ok (serve db port connections))))
+
+unfoldable pub import_of : List Row → Result Wanted WordFault
+import_of rows =
+    then_with (text_in word.Db rows) (λ db.
+    then_with (text_in word.CsvFile rows) (λ file.
+    Ok (import db file)))
+
+-- a request, to the desk in the database
+abbrev pub asked : List Row → Request → Result Wanted WordFault
+asked rows request = then_with (text_in word.Db rows) (λ db. Ok (ask db request))
+
+-- what the subcommand asks with these values
+unfoldable pub wanted_of : Name → List Row → Result Wanted WordFault
+wanted_of name.Plain rows = plain_of rows
+wanted_of name.Serve rows = serve_of rows
+wanted_of name.Import rows = import_of rows
+wanted_of name.Enrol rows = then_with (enrol_of rows) (asked rows)
+wanted_of name.Calendar rows = then_with (calendar_of rows) (asked rows)
+wanted_of name.AddHoliday rows = then_with (add_holiday_of rows) (asked rows)
+wanted_of name.Report rows = then_with (report_of rows) (asked rows)
+wanted_of name.ReportYear rows = then_with (report_year_of rows) (asked rows)
+wanted_of name.OpenYear rows = then_with (open_year_of rows) (asked rows)
+wanted_of name.Post rows = then_with (post_of rows) (asked rows)
+wanted_of name.Void rows = then_with (void_of rows) (asked rows)
+wanted_of name.Pay rows = then_with (pay_of rows) (asked rows)
+wanted_of name.VoidPay rows = then_with (void_pay_of rows) (asked rows)
+wanted_of name.Status rows = then_with (status_of rows) (asked rows)
+wanted_of name.Due rows = then_with (due_of rows) (asked rows)
+wanted_of name.ScheduleB rows = then_with (schedule_b_of rows) (asked rows)

@@ -1,0 +1,6 @@
+pub mod Table
+pub mod Apps
+pub mod Parses
+pub mod Values
+pub mod Asking
+pub mod Tasks

@@ -1,0 +1,92 @@
+-- What the words of a command line ask.
+use Rattle.std.specs.Prelude.{◌≡◌, ◌⊎◌, List, [], ◌∷◌, Option, Some, None, Result, Ok, Err, ⊤}
+use Rattle.std.specs.List.{find}
+use Rattle.std.specs.Str.{bytes_eq}
+use Rattle.std.specs.String.{string_bytes}
+use Rattle.clap.specs.Words.{IsAmong, Kinds, Row, Text, fault_of, subcommand_of}
+use Rattle.clap.specs.declared.error.ErrorKind.{ErrorKind}
+use Rattle.clap.specs.declared.error.ErrorKind.TheVariants as kind
+use Rattle.ftd_words.specs.Apps.{ftd_app}
+use Rattle.ftd_words.specs.Asking.{Wanted, ask, import, plain, serve, wanted_of}
+use Rattle.ftd_words.specs.Table.{all_names, name_text}
+use Rattle.ftd_words.specs.declared.fault.WordFault.{WordFault}
+use Rattle.ftd_words.specs.declared.fault.WordFault.TheVariants as values
+use Rattle.ftd_words.specs.declared.table.Name.{Name}
+use Rattle.ftd_words.specs.declared.tasks.CliFault.{CliFault}
+use Rattle.ftd_words.specs.declared.tasks.CliFault.TheVariants as fault
+use Rattle.ftd_words.specs.declared.tasks.Job.{Job}
+use Rattle.ftd_words.specs.declared.tasks.Job.TheVariants as job
+use Rattle.ftd_words.specs.declared.tasks.Task.{Task}
+use Rattle.ftd_words.specs.declared.tasks.Task.TheVariants as task
+
+-- the subcommand that is written so
+unfoldable pub command_named : Text → Option Name
+command_named text = find (λ name. bytes_eq (name_text name) text) all_names
+
+-- what the subcommand of this name asks with these values
+abbrev pub wanted_as : Option Name → List Row → Result Wanted WordFault
+wanted_as None rows = Err values.NoCommand
+wanted_as (Some name) rows = wanted_of name rows
+
+unfoldable pub wanted_in : Option (Text × List Row) → Result Wanted WordFault
+wanted_in None = Err values.NoCommand
+wanted_in (Some called) = wanted_as (command_named called.0) called.1
+
+-- why words ask nothing: `clap` finds these faults in them, or their values ask nothing
+pub data Refused : Type 0 where
+  words : Kinds → Refused
+  value : WordFault → Refused
+
+abbrev pub by_value : Result Wanted WordFault → Result Wanted Refused
+by_value (Ok wanted) = Ok wanted
+by_value (Err f) = Err (value f)
+
+abbrev pub without_fault : Kinds → Result Wanted WordFault → Result Wanted Refused
+without_fault [] said = by_value said
+without_fault (k ∷ kinds) said = Err (words (k ∷ kinds))
+
+-- what the words ask, of which the first is the program's name. They go to the arguments as `clap`
+-- assigns those of the command line of the table.
+unfoldable pub task_of : List Text → Result Wanted Refused
+task_of given = without_fault (fault_of ftd_app given) (wanted_in (subcommand_of ftd_app given))
+
+-- what a task stands for
+abbrev pub job_view : Text → Job → Wanted
+job_view db (job.Import file) = import db (string_bytes file)
+job_view db (job.Ask request) = ask db request
+
+abbrev pub task_view : Task → Wanted
+task_view (task.Plain asked) = plain asked.account asked.year asked.holidays
+task_view (task.Serve db port connections) = serve (string_bytes db) port connections
+task_view (task.Local local) = job_view (string_bytes local.db) local.job
+
+-- help or the version is asked for
+abbrev pub AsksHelp : ErrorKind → Type 0
+AsksHelp k = (k ≡ kind.DisplayHelp) ⊎ (k ≡ kind.DisplayVersion)
+
+-- the words ask for help; or they are no command line: one of the faults is another, a form is
+-- none, or no subcommand is named
+abbrev pub IsHelp : Result Wanted Refused → Type 0
+IsHelp (Ok wanted) = ⊥
+IsHelp (Err (words kinds)) = (k : ErrorKind) × IsAmong k kinds × AsksHelp k
+IsHelp (Err (value f)) = ⊥
+
+abbrev pub IsUsage : Result Wanted Refused → Type 0
+IsUsage (Ok wanted) = ⊥
+IsUsage (Err (words kinds)) = (k : ErrorKind) × IsAmong k kinds × ¬ AsksHelp k
+IsUsage (Err (value values.NoForm)) = ⊤
+IsUsage (Err (value values.NoCommand)) = ⊤
+IsUsage (Err (value (values.BadWord word))) = ⊥
+IsUsage (Err (value values.Memory)) = ⊥
+
+-- what is answered is what the words ask, or why they ask nothing; want of memory may come at any
+-- point
+abbrev pub Fails : CliFault → Result Wanted Refused → Type 0
+Fails (fault.BadArgument word) said = said ≡ Err (value (values.BadWord word))
+Fails (fault.Usage text) said = IsUsage said
+Fails (fault.Help text) said = IsHelp said
+Fails fault.Memory said = ⊤
+
+abbrev pub Gives : Result Task CliFault → Result Wanted Refused → Type 0
+Gives (Ok given) said = said ≡ Ok (task_view given)
+Gives (Err f) said = Fails f said

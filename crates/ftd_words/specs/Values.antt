@@ -1,0 +1,69 @@
+-- The values that the words of a subcommand were given.
+use Rattle.std.specs.Prelude.{ℕ, ◌^◌, nat_lt, List, [], Option, Some, None, option_and_then, option_map, Bool, false, codes, if◌then◌else◌, Result, Ok, Err}
+use Rattle.std.specs.Str.{bytes_eq}
+use Rattle.std.specs.Option.{option_map_or}
+use Rattle.clap.specs.Words.{Row, Text, all_of, first_of}
+use Rattle.ftd_days.specs.Spelling.{cents_of, day_of, days_of, spelled_quarter, whole_number}
+use Rattle.ftd_days.specs.declared.cents.Cents.{Cents}
+use Rattle.ftd_rules.specs.declared.Form.{Form}
+use Rattle.ftd_rules.specs.declared.Form.TheVariants.{F941, F943}
+use Rattle.ftd_words.specs.declared.fault.WordFault.{WordFault}
+use Rattle.ftd_words.specs.declared.fault.WordFault.TheVariants as fault
+use Rattle.ftd_words.specs.declared.table.Word.{Word}
+use Rattle.ftd_words.specs.declared.table.Word.TheVariants as word
+use Rattle.ftd_words.specs.Table.{word_text}
+
+-- the word is there
+abbrev pub is_given : Word → List Row → Bool
+is_given word rows = option_map_or (λ text. bytes_eq text (codes "true")) (first_of (word_text word) rows) false
+
+-- a value, or the word that has none
+abbrev pub needed : {X : Type 0} → Word → Option X → Result X WordFault
+needed word None = Err (fault.BadWord word)
+needed word (Some value) = Ok value
+
+-- the value of a word: its text, and the day, the quarter, the amount or the number that the text spells
+abbrev pub text_in : Word → List Row → Result Text WordFault
+text_in word rows = needed word (first_of (word_text word) rows)
+
+abbrev pub spelled_in : {X : Type 0} → (Text → Option X) → Word → List Row → Result X WordFault
+spelled_in value word rows = needed word (option_and_then value (first_of (word_text word) rows))
+
+abbrev pub day_in : Word → List Row → Result ℕ WordFault
+day_in word rows = spelled_in day_of word rows
+
+abbrev pub quarter_in : Word → List Row → Result ℕ WordFault
+quarter_in word rows = spelled_in spelled_quarter word rows
+
+abbrev pub in_cents : ℕ → Cents
+in_cents amount = record { 0 = amount }
+
+abbrev pub cents_in : Word → List Row → Result Cents WordFault
+cents_in word rows = spelled_in (λ text. option_map in_cents (cents_of text)) word rows
+
+abbrev pub whole_in : Word → List Row → Result ℕ WordFault
+whole_in word rows = spelled_in whole_number word rows
+
+-- a port: a number below 65,536
+abbrev pub port_of : Text → Option ℕ
+port_of text = option_and_then (λ number. if nat_lt number (2 ^ 16) then Some number else None) (whole_number text)
+
+abbrev pub port_in : Word → List Row → Result ℕ WordFault
+port_in word rows = spelled_in port_of word rows
+
+-- the days that the values of a word spell, of which there may be none
+abbrev pub texts_of : Option (List Text) → List Text
+texts_of None = []
+texts_of (Some texts) = texts
+
+abbrev pub days_in : Word → List Row → Result (List ℕ) WordFault
+days_in word rows = needed word (days_of (texts_of (all_of (word_text word) rows)))
+
+-- the form of an account
+abbrev pub form_of : Option Text → Result Form WordFault
+form_of None = Err fault.NoForm
+form_of (Some text) =
+    if bytes_eq text (codes "941") then Ok F941 else if bytes_eq text (codes "943") then Ok F943 else Err fault.NoForm
+
+abbrev pub form_in : List Row → Result Form WordFault
+form_in rows = form_of (first_of (word_text word.Form) rows)

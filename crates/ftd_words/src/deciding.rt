@@ -1,0 +1,210 @@
+//! What the words of a command line ask.
+
+ghost use Rattle.std.specs.Prelude.{◌≡◌, Err, Result, map};
+ghost use Rattle.std.specs.String.{string_bytes};
+ghost use Rattle.clap.specs.Words.{IsAmong, Kinds, found_of, kind_of, rows_of, subcommand_rows_of};
+ghost use Rattle.ftd_words.specs.Asking.{Tells, TellsAs, Wanted, account_in, asked, import_of, plain_of, serve_of, wanted_of, year_in};
+ghost use Rattle.ftd_words.specs.Tasks.{Fails, Gives, IsUsage, Refused, command_named, task_of, task_view, value, wanted_in, words};
+
+use crate::asking::{
+    account_at, add_holiday, calendar, due, enrol, open_year, pay, post, report, report_year,
+    schedule_b, status, void, void_pay,
+};
+use crate::fault::WordFault;
+use crate::parse::{ParseFault, parsed};
+use crate::reading::{days_at, owned_text, port_at, whole_at};
+use crate::table::{NAMES, Name, Word};
+use crate::tasks::{CliFault, Job, LocalTask, PlainTask, Task};
+use clap::error::ErrorKind;
+use clap::{ArgMatches, Error};
+use ftd_machine::{AccountName, Request};
+use ftd_rules::is_account_name;
+use std::alloc::Global;
+
+/// What is told of words that name no subcommand.
+const NO_COMMAND: &str = "\
+error: no command is named
+
+For more information, try '--help'.
+";
+
+/// What is told of a form that there is none of.
+const NO_FORM: &str = "\
+error: invalid value for '--form <FORM>'
+  [possible values: 941, 943]
+
+For more information, try '--help'.
+";
+
+/// An account name, for `plain`.
+fn named_account(alloc: Global, inner: &ArgMatches<'_>) -> Result<AccountName, WordFault>
+    ensures { Tells result (account_in (rows_of (found_of inner.now))) }
+{
+    let account = account_at(alloc, inner)?;
+    if !is_account_name(account.as_str().as_bytes()) {
+        return Err(WordFault::BadWord(Word::Account));
+    }
+    Ok(account)
+}
+
+/// A year, for `plain`.
+fn plain_year(inner: &ArgMatches<'_>) -> Result<u32, WordFault>
+    ensures { result ≡ year_in (rows_of (found_of inner.now)) }
+{
+    let year = whole_at(inner, Word::Year)?;
+    if year < 2001 || year > 2098 {
+        return Err(WordFault::BadWord(Word::Year));
+    }
+    Ok(year)
+}
+
+/// What `plain` asks.
+#[tactic(auto, unfolding(crate::specs::Asking::plain_of))]
+fn plain(alloc: Global, inner: &ArgMatches<'_>) -> Result<Task, WordFault>
+    ensures { TellsAs task_view result (plain_of (rows_of (found_of inner.now))) }
+{
+    let account = named_account(alloc, inner)?;
+    let year = plain_year(inner)?;
+    let holidays = days_at(alloc, inner, Word::Holidays)?;
+    Ok(Task::Plain(PlainTask {
+        account,
+        year,
+        holidays,
+    }))
+}
+
+/// What `serve` asks.
+#[tactic(auto, unfolding(crate::specs::Asking::serve_of))]
+fn serve(alloc: Global, inner: &ArgMatches<'_>) -> Result<Task, WordFault>
+    ensures { TellsAs task_view result (serve_of (rows_of (found_of inner.now))) }
+{
+    let db = owned_text(alloc, inner, Word::Db)?;
+    let port = port_at(inner, Word::Port)?;
+    let connections = whole_at(inner, Word::Connections)?;
+    Ok(Task::Serve {
+        db,
+        port,
+        connections,
+    })
+}
+
+/// What `import` asks.
+#[tactic(auto, unfolding(crate::specs::Asking::import_of))]
+fn import(alloc: Global, inner: &ArgMatches<'_>) -> Result<Task, WordFault>
+    ensures { TellsAs task_view result (import_of (rows_of (found_of inner.now))) }
+{
+    let db = owned_text(alloc, inner, Word::Db)?;
+    let file = owned_text(alloc, inner, Word::CsvFile)?;
+    Ok(Task::Local(LocalTask {
+        db,
+        job: Job::Import(file),
+    }))
+}
+
+/// The request, to the desk in the database.
+fn local(alloc: Global, inner: &ArgMatches<'_>, request: Request) -> Result<Task, WordFault>
+    ensures { TellsAs task_view result (asked (rows_of (found_of inner.now)) request) }
+{
+    let db = owned_text(alloc, inner, Word::Db)?;
+    Ok(Task::Local(LocalTask {
+        db,
+        job: Job::Ask(request),
+    }))
+}
+
+/// What the subcommand asks.
+#[tactic(auto, unfolding(crate::specs::Asking::wanted_of))]
+fn task_for(alloc: Global, name: Name, inner: &ArgMatches<'_>) -> Result<Task, WordFault>
+    ensures { TellsAs task_view result (wanted_of name (rows_of (found_of inner.now))) }
+{
+    match name {
+        Name::Plain => plain(alloc, inner),
+        Name::Serve => serve(alloc, inner),
+        Name::Import => import(alloc, inner),
+        Name::Enrol => local(alloc, inner, enrol(alloc, inner)?),
+        Name::Calendar => local(alloc, inner, calendar(alloc, inner)?),
+        Name::AddHoliday => local(alloc, inner, add_holiday(inner)?),
+        Name::Report => local(alloc, inner, report(alloc, inner)?),
+        Name::ReportYear => local(alloc, inner, report_year(alloc, inner)?),
+        Name::OpenYear => local(alloc, inner, open_year(alloc, inner)?),
+        Name::Post => local(alloc, inner, post(alloc, inner)?),
+        Name::Void => local(alloc, inner, void(alloc, inner)?),
+        Name::Pay => local(alloc, inner, pay(alloc, inner)?),
+        Name::VoidPay => local(alloc, inner, void_pay(alloc, inner)?),
+        Name::Status => local(alloc, inner, status(alloc, inner)?),
+        Name::Due => local(alloc, inner, due(alloc, inner)?),
+        Name::ScheduleB => local(alloc, inner, schedule_b(alloc, inner)?),
+    }
+}
+
+/// The subcommand that is written so.
+#[tactic(auto, unfolding(crate::specs::Tasks::command_named))]
+fn command_named(text: &str) -> Option<Name>
+    ensures { result ≡ command_named text.now }
+{
+    NAMES.iter().copied().find(|name| name.text() == text)
+}
+
+/// What the subcommand of the words asks.
+fn task_in(alloc: Global, matches: &ArgMatches<'_>) -> Result<Task, WordFault>
+    ensures { TellsAs task_view result (wanted_in (subcommand_rows_of matches.now)) }
+{
+    let Some((text, inner)) = matches.subcommand() else {
+        return Err(WordFault::NoCommand);
+    };
+    let Some(name) = command_named(text) else {
+        return Err(WordFault::NoCommand);
+    };
+    task_for(alloc, name, inner)
+}
+
+/// What an error of `clap` tells.
+fn told_error(alloc: Global, error: &Error) -> CliFault
+    ensures { (kinds : Kinds) → IsAmong (kind_of error.now) kinds
+        → Fails result (Err (words kinds)) }
+{
+    let Ok(text) = error.to_string(alloc) else {
+        return CliFault::Memory;
+    };
+    match error.kind() {
+        ErrorKind::DisplayHelp | ErrorKind::DisplayVersion => CliFault::Help(text),
+        _ => CliFault::Usage(text),
+    }
+}
+
+/// What a fault of the values tells.
+fn told_fault(alloc: Global, fault: WordFault) -> CliFault
+    ensures { Fails result (Err (value fault)) }
+{
+    match fault {
+        WordFault::BadWord(word) => CliFault::BadArgument(word),
+        WordFault::Memory => CliFault::Memory,
+        WordFault::NoForm => usage(alloc, NO_FORM),
+        WordFault::NoCommand => usage(alloc, NO_COMMAND),
+    }
+}
+
+/// The text, as what is told of words that are no command line.
+fn usage(alloc: Global, text: &str) -> CliFault
+    ensures { (said : Result Wanted Refused) → IsUsage said → Fails result said }
+{
+    match String::from_str(alloc, text) {
+        Ok(text) => CliFault::Usage(text),
+        Err(_) => CliFault::Memory,
+    }
+}
+
+/// What the words ask, of which the first is the program's name. `BadArgument` names the first word
+/// whose value is none of its kind; `Usage` and `Help` have the text that is printed.
+pub fn decide(alloc: Global, words: &[String]) -> Result<Task, CliFault>
+    ensures { Gives result (task_of (map string_bytes words.now)) }
+{
+    match parsed(alloc, words) {
+        Ok(matches) => match task_in(alloc, &matches) {
+            Ok(task) => Ok(task),
+            Err(fault) => Err(told_fault(alloc, fault)),
+        },
+        Err(ParseFault::Memory) => Err(CliFault::Memory),
+        Err(ParseFault::Refused(error)) => Err(told_error(alloc, &error)),
+    }
+}

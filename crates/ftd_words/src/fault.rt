@@ -1,0 +1,39 @@
+//! Why the values of a subcommand ask nothing.
+
+use crate::table::Word;
+use std::alloc::{AllocError, AllocFailed};
+
+/// Why the values of a subcommand ask nothing.
+#[derive(Clone, Copy, Debug, PartialEq, Eq)]
+pub enum WordFault {
+    /// The first word whose value is none of its kind.
+    BadWord(Word),
+    /// The form is neither 941 nor 943.
+    NoForm,
+    /// The words name no subcommand. `clap` refuses such words before.
+    NoCommand,
+    /// Out of memory.
+    Memory,
+}
+
+impl From<AllocError> for WordFault {
+    ghost use Rattle.std.specs.Prelude.{◌≡◌};
+    ghost use Rattle.ftd_words.specs.declared.fault.WordFault.TheVariants.{Memory};
+
+    ghost from_gives = { λ _ e. e ≡ Memory };
+
+    fn from(_: AllocError) -> WordFault {
+        WordFault::Memory
+    }
+}
+
+impl<T: Drop> From<AllocFailed<T>> for WordFault {
+    ghost use Rattle.std.specs.Prelude.{◌≡◌};
+    ghost use Rattle.ftd_words.specs.declared.fault.WordFault.TheVariants.{Memory};
+
+    ghost from_gives = { λ _ e. e ≡ Memory };
+
+    fn from(_: AllocFailed<T>) -> WordFault {
+        WordFault::Memory
+    }
+}

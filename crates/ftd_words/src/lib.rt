@@ -1,0 +1,15 @@
+//! What the words of the command line ask.
+#![tactic(auto)]
+
+mod asking;
+mod command;
+mod deciding;
+mod fault;
+mod parse;
+mod reading;
+mod table;
+mod tasks;
+
+pub use crate::deciding::decide;
+pub use crate::table::Word;
+pub use crate::tasks::{CliFault, Job, LocalTask, PlainTask, Task};

@@ -1,0 +1,141 @@
+//! The values that a subcommand's words were given.
+
+ghost use Rattle.std.specs.Prelude.{◌≡◌, map, option_map};
+ghost use Rattle.std.specs.String.{string_bytes};
+ghost use Rattle.clap.specs.Words.{all_of, first_of, found_of, rows_of};
+ghost use Rattle.ftd_days.specs.Spelling.{days_of};
+ghost use Rattle.ftd_words.specs.Table.{word_text};
+ghost use Rattle.ftd_words.specs.Values.{cents_in, day_in, days_in, form_in, is_given, needed, port_in, quarter_in, text_in, whole_in};
+ghost use Rattle.ftd_words.specs.Asking.{Tells, TellsAs};
+
+use crate::fault::WordFault;
+use crate::table::Word;
+use clap::ArgMatches;
+use ftd_days::digits::whole_number;
+use ftd_days::{Cents, Day, Quarter};
+use ftd_machine::Days;
+use ftd_rules::Form;
+use std::alloc::Global;
+
+/// The value of a word.
+pub fn text_at<'a>(inner: &ArgMatches<'a>, word: Word) -> Option<&'a str>
+    ensures { option_map (λ s. s.now) result
+        ≡ first_of (word_text word) (rows_of (found_of inner.now)) }
+{
+    inner.get_str(word.text())
+}
+
+/// The values of a word that takes any number of them.
+pub fn texts_at<'m, 'a>(inner: &'m ArgMatches<'a>, word: Word) -> Option<&'m [&'a str]>
+    ensures { option_map (λ s. map (λ v. v.now) s.now) result
+        ≡ all_of (word_text word) (rows_of (found_of inner.now)) }
+{
+    inner.get_strs(word.text())
+}
+
+/// Whether a word that takes nothing is there.
+pub fn is_given(inner: &ArgMatches<'_>, word: Word) -> bool
+    ensures { result ≡ is_given word (rows_of (found_of inner.now)) }
+{
+    match text_at(inner, word) {
+        Some(text) => text == "true",
+        None => false,
+    }
+}
+
+/// The day that the value of a word spells.
+pub fn day_at(inner: &ArgMatches<'_>, word: Word) -> Result<Day, WordFault>
+    ensures { result ≡ day_in word (rows_of (found_of inner.now)) }
+{
+    let Some(text) = text_at(inner, word) else {
+        return Err(WordFault::BadWord(word));
+    };
+    Day::read(text.as_bytes()).ok_or(WordFault::BadWord(word))
+}
+
+/// The quarter that the value of a word spells.
+pub fn quarter_at(inner: &ArgMatches<'_>, word: Word) -> Result<Quarter, WordFault>
+    ensures { result ≡ quarter_in word (rows_of (found_of inner.now)) }
+{
+    let Some(text) = text_at(inner, word) else {
+        return Err(WordFault::BadWord(word));
+    };
+    Quarter::read(text.as_bytes()).ok_or(WordFault::BadWord(word))
+}
+
+/// The amount that the value of a word spells.
+pub fn cents_at(inner: &ArgMatches<'_>, word: Word) -> Result<Cents, WordFault>
+    ensures { result ≡ cents_in word (rows_of (found_of inner.now)) }
+{
+    let Some(text) = text_at(inner, word) else {
+        return Err(WordFault::BadWord(word));
+    };
+    Cents::read(text.as_bytes()).ok_or(WordFault::BadWord(word))
+}
+
+/// The whole number that the value of a word spells.
+pub fn whole_at(inner: &ArgMatches<'_>, word: Word) -> Result<u32, WordFault>
+    ensures { result ≡ whole_in word (rows_of (found_of inner.now)) }
+{
+    let Some(text) = text_at(inner, word) else {
+        return Err(WordFault::BadWord(word));
+    };
+    whole_number(text).ok_or(WordFault::BadWord(word))
+}
+
+/// The port that the value of a word spells.
+pub fn port_at(inner: &ArgMatches<'_>, word: Word) -> Result<u16, WordFault>
+    ensures { result ≡ port_in word (rows_of (found_of inner.now)) }
+{
+    let Some(text) = text_at(inner, word) else {
+        return Err(WordFault::BadWord(word));
+    };
+    let Some(number) = whole_number(text) else {
+        return Err(WordFault::BadWord(word));
+    };
+    u16::try_from(number).or(Err(WordFault::BadWord(word)))
+}
+
+/// The form of an account.
+pub fn form_at(inner: &ArgMatches<'_>) -> Result<Form, WordFault>
+    ensures { result ≡ form_in (rows_of (found_of inner.now)) }
+{
+    match text_at(inner, Word::Form) {
+        Some(text) if text == "941" => Ok(Form::F941),
+        Some(text) if text == "943" => Ok(Form::F943),
+        _ => Err(WordFault::NoForm),
+    }
+}
+
+/// The value of a word as a text of its own.
+pub fn owned_text(alloc: Global, inner: &ArgMatches<'_>, word: Word) -> Result<String, WordFault>
+    ensures { TellsAs string_bytes result (text_in word (rows_of (found_of inner.now))) }
+{
+    let Some(text) = text_at(inner, word) else {
+        return Err(WordFault::BadWord(word));
+    };
+    Ok(String::from_str(alloc, text)?)
+}
+
+/// The days that the values of a word spell.
+pub fn days_at(alloc: Global, inner: &ArgMatches<'_>, word: Word) -> Result<Days, WordFault>
+    ensures { Tells result (days_in word (rows_of (found_of inner.now))) }
+{
+    let texts = texts_at(inner, word).unwrap_or(&[]);
+    Ok(Days::from_vec(read_days(alloc, texts, word)?))
+}
+
+/// The days that the texts spell, which are the values of the word.
+fn read_days(alloc: Global, texts: &[&str], word: Word) -> Result<Vec<Day>, WordFault>
+    ensures { TellsAs (λ days. days.items) result
+        (needed word (days_of (map (λ text. text.now) texts.now))) }
+{
+    let mut days = Vec::new(alloc);
+    for text in texts {
+        let Some(day) = Day::read(text.as_bytes()) else {
+            return Err(WordFault::BadWord(word));
+        };
+        days.push(day)?;
+    }
+    Ok(days)
+}

@@ -1,0 +1,321 @@
+//! The subcommands and their words, as a table.
+
+ghost use Rattle.std.specs.Prelude.{◌≡◌};
+ghost use Rattle.ftd_words.specs.Table.{is_option, name_text, takes_of, word_text, words_of};
+
+/// What a word takes.
+#[derive(Clone, Copy, Debug)]
+pub enum Takes {
+    /// One text, which must be there.
+    Text,
+    /// One whole number between these, which must be there.
+    Number(i64, i64),
+    /// Any number of texts.
+    Texts,
+    /// Nothing: it is there or not.
+    Nothing,
+    /// A text, 941 if it is not there.
+    Form,
+}
+
+/// A subcommand.
+#[derive(Clone, Copy, Debug, PartialEq, Eq)]
+pub enum Name {
+    Plain,
+    Serve,
+    Import,
+    Enrol,
+    Calendar,
+    Report,
+    ReportYear,
+    OpenYear,
+    Post,
+    Void,
+    Pay,
+    VoidPay,
+    Status,
+    Due,
+    ScheduleB,
+    AddHoliday,
+}
+
+/// A word of a subcommand.
+#[derive(Clone, Copy, Debug, PartialEq, Eq)]
+pub enum Word {
+    Db,
+    Port,
+    Connections,
+    CsvFile,
+    Account,
+    Start,
+    Carried,
+    Form,
+    Year,
+    Holidays,
+    Days,
+    Quarter,
+    Amount,
+    Run,
+    Payday,
+    Fit,
+    Ss,
+    Medicare,
+    Payment,
+    Paid,
+    For,
+    Day,
+    AsOf,
+}
+
+impl Name {
+    /// The subcommand as it is written.
+    pub fn text<'a>(self) -> &'a str
+        ensures { result.now ≡ name_text self }
+    {
+        match self {
+            Name::Plain => "plain",
+            Name::Serve => "serve",
+            Name::Import => "import",
+            Name::Enrol => "enrol",
+            Name::Calendar => "calendar",
+            Name::Report => "report",
+            Name::ReportYear => "report-year",
+            Name::OpenYear => "open-year",
+            Name::Post => "post",
+            Name::Void => "void",
+            Name::Pay => "pay",
+            Name::VoidPay => "void-pay",
+            Name::Status => "status",
+            Name::Due => "due",
+            Name::ScheduleB => "schedule-b",
+            Name::AddHoliday => "add-holiday",
+        }
+    }
+
+    /// Its words, in their order.
+    pub fn words(self) -> &'static [Word]
+        ensures { result.now ≡ words_of self }
+    {
+        match self {
+            Name::Plain => &[Word::Account, Word::Year, Word::Holidays],
+            Name::Serve => &[Word::Db, Word::Port, Word::Connections],
+            Name::Import => &[Word::Db, Word::CsvFile],
+            Name::Enrol => &[
+                Word::Db,
+                Word::Account,
+                Word::Start,
+                Word::Carried,
+                Word::Form,
+            ],
+            Name::Calendar => &[Word::Db, Word::Year, Word::Days],
+            Name::Report => &[Word::Db, Word::Account, Word::Quarter, Word::Amount],
+            Name::ReportYear => &[Word::Db, Word::Account, Word::Year, Word::Amount],
+            Name::OpenYear => &[Word::Db, Word::Account, Word::Year],
+            Name::Post => &[
+                Word::Db,
+                Word::Account,
+                Word::Run,
+                Word::Payday,
+                Word::Fit,
+                Word::Ss,
+                Word::Medicare,
+            ],
+            Name::Void => &[Word::Db, Word::Account, Word::Run],
+            Name::Pay => &[
+                Word::Db,
+                Word::Account,
+                Word::Payment,
+                Word::Paid,
+                Word::For,
+                Word::Amount,
+            ],
+            Name::VoidPay => &[Word::Db, Word::Account, Word::Payment],
+            Name::Status => &[Word::Db, Word::Account, Word::Day],
+            Name::Due => &[Word::Db, Word::Account, Word::Quarter, Word::AsOf],
+            Name::ScheduleB => &[Word::Db, Word::Account, Word::Quarter],
+            Name::AddHoliday => &[Word::Db, Word::Day],
+        }
+    }
+
+    /// What help says of it, in a line.
+    pub fn about<'a>(self) -> &'a str {
+        match self {
+            Name::Plain => "Print the deposits of pay runs from standard input; keeps nothing",
+            Name::Serve => "Answer HTTP requests on 127.0.0.1",
+            Name::Import => "Post the pay runs of a CSV file",
+            Name::Enrol => "Enrol an employer's account",
+            Name::Calendar => "Give the legal holidays of a year",
+            Name::Report => "Report the tax of a lookback quarter, as on its Form 941",
+            Name::ReportYear => "Report the tax of a lookback year, as on its Form 943",
+            Name::OpenYear => "Open a year of an account for pay runs",
+            Name::Post => "Post a pay run",
+            Name::Void => "Void a pay run",
+            Name::Pay => "Record a deposit that was paid",
+            Name::VoidPay => "Void a recorded deposit",
+            Name::Status => "Say whether an account is a monthly or a semiweekly depositor",
+            Name::Due => "List the deposits of a quarter: how much, by which day, paid or not",
+            Name::ScheduleB => "List the liability of a quarter by day, as for Schedule B",
+            Name::AddHoliday => "Add a legal holiday to a year that was given",
+        }
+    }
+
+    /// How it is used, for the end of its help.
+    pub fn example<'a>(self) -> &'a str {
+        match self {
+            Name::Plain => "Example: ftd plain elm 2024 2024-05-27 2024-07-04 < runs.csv",
+            Name::Serve => "Example: ftd serve --db office.db --port 8080 --connections 1000",
+            Name::Import => "Example: ftd import --db office.db runs.csv",
+            Name::Enrol => "Example: ftd enrol --db office.db elm 2024-05-01",
+            Name::Calendar => "Example: ftd calendar --db office.db 2024 2024-01-01 2024-01-15",
+            Name::Report => "Example: ftd report --db office.db elm 2022Q3 12500.00",
+            Name::ReportYear => "Example: ftd report-year --db office.db rye 2022 50000.00",
+            Name::OpenYear => "Example: ftd open-year --db office.db elm 2024",
+            Name::Post => {
+                "Example: ftd post --db office.db elm 1 2024-05-08 20000.00 16000.00 4000.00"
+            }
+            Name::Void => "Example: ftd void --db office.db elm 1",
+            Name::Pay => "Example: ftd pay --db office.db elm 1 2024-06-17 2024-05-08 40000.00",
+            Name::VoidPay => "Example: ftd void-pay --db office.db elm 1",
+            Name::Status => "Example: ftd status --db office.db elm 2024-05-08",
+            Name::Due => "Example: ftd due --db office.db elm 2024Q2 2024-06-30",
+            Name::ScheduleB => "Example: ftd schedule-b --db office.db elm 2024Q2",
+            Name::AddHoliday => "Example: ftd add-holiday --db office.db 2024-06-17",
+        }
+    }
+}
+
+impl Word {
+    /// The name of the word.
+    pub fn text<'a>(self) -> &'a str
+        ensures { result.now ≡ word_text self }
+    {
+        match self {
+            Word::Db => "db",
+            Word::Port => "port",
+            Word::Connections => "connections",
+            Word::CsvFile => "CSVFILE",
+            Word::Account => "ACCOUNT",
+            Word::Start => "START",
+            Word::Carried => "carried",
+            Word::Form => "form",
+            Word::Year => "YEAR",
+            Word::Holidays => "HOLIDAY",
+            Word::Days => "DAY",
+            Word::Quarter => "QUARTER",
+            Word::Amount => "AMOUNT",
+            Word::Run => "RUN",
+            Word::Payday => "PAYDAY",
+            Word::Fit => "FIT",
+            Word::Ss => "SS",
+            Word::Medicare => "MEDICARE",
+            Word::Payment => "PAYMENT",
+            Word::Paid => "PAID",
+            Word::For => "FOR",
+            Word::Day => "DAY",
+            Word::AsOf => "ASOF",
+        }
+    }
+
+    /// Whether it stands behind two hyphens, and not by its place.
+    pub fn is_option(self) -> bool
+        ensures { result ≡ is_option self }
+    {
+        matches!(
+            self,
+            Word::Db | Word::Port | Word::Connections | Word::Carried | Word::Form
+        )
+    }
+
+    /// What it takes.
+    pub fn takes(self) -> Takes
+        ensures { result ≡ takes_of self }
+    {
+        match self {
+            Word::Db => Takes::Text,
+            Word::Port => Takes::Number(1, 65_535),
+            Word::Connections => Takes::Number(1, 1_000_000),
+            Word::CsvFile => Takes::Text,
+            Word::Account => Takes::Text,
+            Word::Start => Takes::Text,
+            Word::Carried => Takes::Nothing,
+            Word::Form => Takes::Form,
+            Word::Year => Takes::Number(0, 4_294_967_295),
+            Word::Holidays => Takes::Texts,
+            Word::Days => Takes::Texts,
+            Word::Quarter => Takes::Text,
+            Word::Amount => Takes::Text,
+            Word::Run => Takes::Number(0, 4_294_967_295),
+            Word::Payday => Takes::Text,
+            Word::Fit => Takes::Text,
+            Word::Ss => Takes::Text,
+            Word::Medicare => Takes::Text,
+            Word::Payment => Takes::Number(0, 4_294_967_295),
+            Word::Paid => Takes::Text,
+            Word::For => Takes::Text,
+            Word::Day => Takes::Text,
+            Word::AsOf => Takes::Text,
+        }
+    }
+
+    /// What help calls its value.
+    pub fn value<'a>(self) -> &'a str {
+        match self {
+            Word::Db => "FILE",
+            Word::Form => "FORM",
+            Word::Port | Word::Connections => "N",
+            word => word.text(),
+        }
+    }
+
+    /// What help says of it.
+    pub fn help<'a>(self) -> &'a str {
+        match self {
+            Word::Db => "The desk's database, made where it is not there",
+            Word::Port => "The port to listen at, 1 to 65535",
+            Word::Connections => "How many connections are taken before the program ends",
+            Word::CsvFile => {
+                "CSV under the header employer,run,payday,fit,ss,medicare; - is standard input"
+            }
+            Word::Account =>
+                "The account's name: a lower-case letter, then letters, digits or hyphens",
+            Word::Start => "The employer's first day, YYYY-MM-DD",
+            Word::Carried => "The account turned semiweekly in the year before its first open one",
+            Word::Form => "The form that the employer files, 941 or 943",
+            Word::Year => "The year, YYYY",
+            Word::Holidays => { "Legal holidays of the year and the next, YYYY-MM-DD, rising" }
+            Word::Days => "Legal holidays in the District of Columbia, YYYY-MM-DD, rising",
+            Word::Quarter => "The quarter, as 2024Q1",
+            Word::Amount => "The amount in dollars, as 1234.50",
+            Word::Run => "The number of the pay run, 1 to 999999999",
+            Word::Payday => "The day on which the wages are paid, YYYY-MM-DD",
+            Word::Fit => "The federal income tax withheld, as 1234.50",
+            Word::Ss => "Both shares of social security tax, as 1234.50",
+            Word::Medicare => "Both shares of Medicare tax, as 1234.50",
+            Word::Payment => "The number of the deposit, 1 to 999999999",
+            Word::Paid => "The day on which it was paid, YYYY-MM-DD",
+            Word::For => "A day of the period that it is paid for, YYYY-MM-DD",
+            Word::Day => "The day, YYYY-MM-DD",
+            Word::AsOf => "Deposits paid up to this day count, YYYY-MM-DD",
+        }
+    }
+}
+
+/// The subcommands, as help lists them: in the order in which an employer needs them.
+pub const NAMES: [Name; 16] = [
+    Name::Calendar,
+    Name::Enrol,
+    Name::Report,
+    Name::ReportYear,
+    Name::OpenYear,
+    Name::Post,
+    Name::Import,
+    Name::Due,
+    Name::Pay,
+    Name::Status,
+    Name::ScheduleB,
+    Name::Void,
+    Name::VoidPay,
+    Name::AddHoliday,
+    Name::Plain,
+    Name::Serve,
+];

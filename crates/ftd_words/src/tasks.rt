@@ -1,0 +1,61 @@
+//! What words may ask, and why they may ask nothing.
+
+ghost use Rattle.std.specs.Prelude.{◌≤◌};
+
+use crate::table::Word;
+use ftd_machine::{AccountName, Days, Request};
+
+/// The deposits of an account in a year, from pay runs on standard input.
+#[derive(Drop)]
+pub struct PlainTask {
+    /// The account's name.
+    pub account: AccountName,
+    /// The year, one of 2001 to 2098.
+    pub year: u32,
+    /// The holidays of the year and the next.
+    pub holidays: Days,
+    pub ghost from: { 2001 ≤ year },
+    pub ghost to: { year ≤ 2098 },
+}
+
+/// What is to be done with the desk in a database.
+#[derive(Drop)]
+pub enum Job {
+    /// The pay runs of this CSV file are posted; `-` is standard input.
+    Import(String),
+    /// A request.
+    Ask(Request),
+}
+
+/// A job, and the file of the desk's database.
+#[derive(Drop)]
+pub struct LocalTask {
+    pub db: String,
+    pub job: Job,
+}
+
+/// What words ask.
+#[derive(Drop)]
+pub enum Task {
+    Plain(PlainTask),
+    /// HTTP requests are answered on this port, for so many connections, by the desk in a database.
+    Serve {
+        db: String,
+        port: u16,
+        connections: u32,
+    },
+    Local(LocalTask),
+}
+
+/// Why words ask nothing.
+#[derive(Drop)]
+pub enum CliFault {
+    /// The first word whose value is none of its kind.
+    BadArgument(Word),
+    /// They are no command line: this text tells why.
+    Usage(String),
+    /// They ask for help, or for the version: this text.
+    Help(String),
+    /// Out of memory.
+    Memory,
+}
