@@ -224,3 +224,16 @@ served_err g request counts later taken old new fault is c forgotten = record {
   kept = c.frame.kept;
   answered = λ clean s k counted. inl (is_fault fault, forgotten s);
 }
+
+-- a fault in the place of an answer that changed nothing
+pub served_less : (b m : database.State) (counts later : Counts) (request : Request) (answer : Answer) → ServesBy b m counts later request answer → is_change answer ≡ false
+    → ServesBy b m counts later request (Err refusal.Store)
+served_less b m counts later request answer serves stays = record {
+  crash = serves.crash;
+  kept = serves.kept;
+  answered = λ clean s k counted.
+      inl (inr refl, elim (serves.answered clean s k counted) [
+        | inl fault ↦ fault.1
+        | inr x ↦ subst (λ n. AreCounted later n) (leaves s request answer x.0 x.1 stays) x.4
+      ]);
+}

@@ -1,6 +1,6 @@
 pub mod Repairing
 pub mod Counting
 mod Handling
-mod Running
+pub mod Running
 mod Together
 mod Handled

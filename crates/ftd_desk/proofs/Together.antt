@@ -1,5 +1,6 @@
 -- Requests one after the other within a transaction.
-use Rattle.std.proofs.Common.{◌≡◌, refl, sym, subst, arith, IsTrue, Ok, List, [], ◌∷◌, ◌++◌}
+use Rattle.std.proofs.Common.{◌≡◌, ◌∙◌, refl, sym, subst, arith, IsTrue, false, Ok, List, [], ◌∷◌, ◌++◌, length-append}
+use Rattle.std.proofs.lemmas.List.Folds.{list_any-append}
 use Rattle.sqlite.specs.Store as store
 use Rattle.sqlite.specs.State.{HasCleanDisk}
 use Rattle.ftd_store.specs.declared.tx.Tx.{Tx}
@@ -12,7 +13,7 @@ use Rattle.ftd_machine.specs.declared.requests.Request.{Request}
 use Rattle.ftd_store.specs.Seen.{shown}
 use Rattle.ftd_entries.specs.Words.{IsKept}
 use Rattle.ftd_desk.specs.Counted.{AreCounted, ServesCounted}
-use Rattle.ftd_desk.specs.Words.{AreSteps, ServesAll}
+use Rattle.ftd_desk.specs.Words.{AreAnswers, AreSteps, ServesAll, is_fault}
 use Rattle.ftd_desk.specs.declared.counts.Counts.{Counts}
 use Rattle.ftd_desk.specs.declared.requests.Served.{Served}
 use Rattle.ftd_desk.specs.declared.requests.ServedAll.{ServedAll}
@@ -24,6 +25,16 @@ steps_more s [] [] mid request answer end are step = (end, subst (λ from. Step 
 steps_more s [] (a ∷ answers) mid request answer end are step = absurd are
 steps_more s (r ∷ requests) [] mid request answer end are step = absurd are
 steps_more s (r ∷ requests) (a ∷ answers) mid request answer end are step = (are.0, are.1, steps_more are.0 requests answers mid request answer end are.2 step)
+
+-- answers that are no faults
+pub answers_first : (request : Request) (answer : Answer) → is_fault answer ≡ false → AreAnswers (request ∷ []) (answer ∷ [])
+answers_first request answer sure = record { count = refl; no_fault = rw sure refl }
+
+pub answers_more : (requests : List Request) (answers : List Answer) (request : Request) (answer : Answer) → AreAnswers requests answers → is_fault answer ≡ false → AreAnswers (requests ++ request ∷ []) (answers ++ answer ∷ [])
+answers_more requests answers request answer are sure = record {
+  count = let first = length-append answers (answer ∷ []) in let second = length-append requests (request ∷ []) in let same = are.count in omega arith;
+  no_fault = list_any-append is_fault answers (answer ∷ []) ∙ (rw (are.no_fault, sure) refl);
+}
 
 module _ {S : Type 0} (g : store.Ghosts S) (counts : Counts) where
   -- the first request

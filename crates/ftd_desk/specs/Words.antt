@@ -1,5 +1,5 @@
 -- What a request does to the database.
-use Rattle.std.specs.Prelude.{◌≡◌, ◌⊎◌, Bool, true, false, IsTrue, List, [], ◌∷◌, ◌++◌, Result, Ok, Err, Vec}
+use Rattle.std.specs.Prelude.{◌≡◌, ◌⊎◌, Bool, true, false, IsTrue, List, [], ◌∷◌, ◌++◌, length, Result, Ok, Err, Vec}
 use Rattle.std.specs.List.{list_any}
 use Rattle.sqlite.specs.Effect.{Database}
 use Rattle.sqlite.specs.State as database
@@ -87,6 +87,18 @@ AreSteps s [] (answer ∷ answers) end = ⊥
 AreSteps s (request ∷ requests) [] end = ⊥
 AreSteps s (request ∷ requests) (answer ∷ answers) end =
     (next : State) × Step s request answer next × AreSteps next requests answers end
+
+-- there was no memory, or the store failed
+abbrev pub is_fault : Answer → Bool
+is_fault (Ok reply) = false
+is_fault (Err Memory) = true
+is_fault (Err Store) = true
+is_fault (Err refusal) = false
+
+-- there is one answer for each request, none of which is a fault
+pub record AreAnswers (requests : List Request) (answers : List Answer) : Type 0 where
+  pub count : length answers ≡ length requests
+  pub no_fault : list_any is_fault answers ≡ false
 
 -- within a transaction over rows that stand for a state, the requests are answered so, the rows are those of the machine's
 -- state at the end, and the counts stay right

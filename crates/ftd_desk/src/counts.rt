@@ -4,8 +4,9 @@ ghost use Rattle.std.specs.Prelude.{◌≡◌, ◌+◌, bytes_eq, if◌then◌el
 ghost use Rattle.ftd_store.specs.Finds.{CountsRuns, CountsPayments};
 ghost use Rattle.ftd_store.specs.Frame.{Reads};
 ghost use Rattle.ftd_machine.specs.Laws.{is_change};
+ghost use Rattle.ftd_desk.specs.Words.{is_fault};
 
-use ftd_machine::{AccountName, Answer, Reply};
+use ftd_machine::{AccountName, Answer, Refusal, Reply};
 use ftd_store::{StoreFault, Tx};
 use sqlite::Alter;
 use std::alloc::{AllocError, Global};
@@ -29,6 +30,13 @@ pub(crate) fn is_change(answer: &Answer) -> bool
     ensures { result ≡ is_change answer.now }
 {
     matches!(answer, Ok(Reply::Done | Reply::Posted { .. }))
+}
+
+/// Whether the answer says that there was no memory, or that the store failed.
+pub(crate) fn is_fault(answer: &Answer) -> bool
+    ensures { result ≡ is_fault answer.now }
+{
+    matches!(answer, Err(Refusal::Memory | Refusal::Store))
 }
 
 impl Counts {

@@ -1,13 +1,16 @@
 //! The desk: requests one after the other, each in a transaction of its own.
 
-ghost use Rattle.std.specs.Prelude.{◌≡◌, Err, IfOk, OnErr};
+ghost use Rattle.std.specs.Prelude.{◌≡◌, ◌⊎◌, Err, IfOk, OnErr};
 ghost use Rattle.ftd_store.specs.Seen.{seen};
+ghost use Rattle.ftd_machine.specs.Limits.{IsBounded};
 ghost use Rattle.ftd_machine.specs.State.{State};
 ghost use Rattle.ftd_desk.specs.Desks.{store_of, IsStopped, held, Rests, Keeps};
-ghost use Rattle.ftd_desk.specs.Words.{Handles, RepairsRows, HandlesAll, HandlesTogether, listed};
+ghost use Rattle.ftd_sql.specs.States.{CrashKeeps};
+ghost use Rattle.ftd_desk.specs.Words.{AreAnswers, Handles, RepairsRows, HandlesAll, HandlesTogether, listed};
 
 mod telling;
 
+use crate::bounds::bounded;
 use crate::counts::{Counts, is_change};
 use crate::requests::{Served, serve, serve_all};
 use ftd_machine::{Answer, Refusal, Request};
@@ -50,12 +53,15 @@ impl<S: Alter> Desk<S> {
     }
 
     /// Answers the request. `Memory` and `Store` change nothing. After a commit that failed the desk
-    /// is stopped: it answers `Store` to everything, and does not touch the tables.
+    /// is stopped: it answers `Store` to everything, and does not touch the tables. A list of which
+    /// the amounts are together 6,000,000,000,000,000 cents or more is none of an account's, and
+    /// answered with `Store`.
     pub fn handle(&mut self, request: &Request) -> Answer
         ensures handles { Handles (held S.Store self.old) (held S.Store self.new)
             request.now result }
         ensures repairs { RepairsRows (held S.Store self.old).db (held S.Store self.new).db
             request.now result }
+        ensures bounded { IfOk result IsBounded }
         ensures stopped { IsStopped self.old
             → (result ≡ Err Refusal.Store) × (self.new ≡ self.old) }
     {
@@ -73,7 +79,7 @@ impl<S: Alter> Desk<S> {
         };
         if !is_change(&answer) {
             self.counts = counts;
-            return answer;
+            return bounded(answer);
         }
         if tx.commit().is_err() {
             self.stopped = true;
@@ -100,10 +106,13 @@ impl<S: Alter> Desk<S> {
 
     /// Answers the requests one after the other in one transaction: what they change is kept together,
     /// or, where there is a fault, not at all. `Memory` and `Store` change nothing. After a commit
-    /// that failed the desk is stopped.
+    /// that failed the desk is stopped; only then may a crash find what they change.
     pub fn together(&mut self, requests: &[Request]) -> Result<Vec<Answer>, Refusal>
         ensures together { HandlesTogether (held S.Store self.old)
             (held S.Store self.new) requests.now (listed result) }
+        ensures answers { IfOk result (λ answers. AreAnswers requests.now answers.items) }
+        ensures keeps { OnErr result (IsStopped self.new
+            ⊎ CrashKeeps (held S.Store self.old).db (held S.Store self.new).db) }
         ensures stopped { IsStopped self.old
             → (listed result ≡ Err Refusal.Store) × (self.new ≡ self.old) }
     {

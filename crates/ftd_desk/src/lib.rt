@@ -1,6 +1,7 @@
 //! The deposit desk over its tables: each request in one transaction.
 #![tactic(auto)]
 
+mod bounds;
 mod counts;
 mod desk;
 mod requests;

@@ -1,15 +1,15 @@
 //! Each request goes to its function.
 
-ghost use Rattle.std.specs.Prelude.{◌≡◌, ◌∷◌, false, OnOk, Some};
+ghost use Rattle.std.specs.Prelude.{◌≡◌, ◌∷◌, false, IfOk, OnOk, Some};
 ghost use Rattle.ftd_store.specs.Frame.{Calls};
 ghost use Rattle.ftd_machine.specs.Laws.{adds_entry, is_on_run};
 ghost use Rattle.ftd_machine.specs.declared.requests.Request.TheVariants.{Post, Void, Pay};
 ghost use Rattle.ftd_entries.specs.Words.{Serves};
 ghost use Rattle.ftd_posting.specs.Repaired.{Becoming, PostsRun, VoidsRun, Repairs};
 ghost use Rattle.ftd_desk.specs.Counted.{ServesCounted};
-ghost use Rattle.ftd_desk.specs.Words.{ServesAll};
+ghost use Rattle.ftd_desk.specs.Words.{AreAnswers, ServesAll, is_fault};
 
-use crate::counts::{Count, Counts, count_payments, count_runs};
+use crate::counts::{Count, Counts, count_payments, count_runs, is_fault};
 use ftd_entries::{enrol, open_year, pay, report, report_year, take_calendar, void_payment};
 use ftd_holidays::add_holiday;
 use ftd_machine::{Account, Answer, Request};
@@ -44,19 +44,39 @@ pub(crate) fn serve_all<S: Alter>(
 ) -> Result<ServedAll, StoreFault>
     ensures call { Calls S.Store tx.old tx.new result
         (ServesAll counts (first.now ∷ later.now)) }
+    ensures answers { IfOk result (λ served.
+        AreAnswers (first.now ∷ later.now) served.answers.items) }
 {
     let Ok(mut answers) = Vec::with_capacity(alloc, later.len() + 1) else {
         return tx.give_up(StoreFault::Memory);
     };
-    let served = serve(tx, alloc, counts, first)?;
+    let served = serve_sure(tx, alloc, counts, first)?;
     answers.push_reserved(served.answer);
     let mut counts = served.counts;
     for request in later {
-        let served = serve(tx, alloc, counts, request)?;
+        let served = serve_sure(tx, alloc, counts, request)?;
         answers.push_reserved(served.answer);
         counts = served.counts;
     }
     Ok(ServedAll { answers, counts })
+}
+
+/// Answers the request within a transaction, and never by a fault.
+fn serve_sure<S: Alter>(
+    tx: &mut Tx<'_, S>,
+    alloc: Global,
+    counts: Counts,
+    request: &Request,
+) -> Result<Served, StoreFault>
+    ensures call { Calls S.Store tx.old tx.new result (ServesCounted counts request.now) }
+    ensures sure { IfOk result (λ served. is_fault served.answer ≡ false) }
+{
+    let served = serve(tx, alloc, counts, request)?;
+    // no step of the machine is a fault
+    if is_fault(&served.answer) {
+        return tx.give_up(StoreFault::Failed);
+    }
+    Ok(served)
 }
 
 /// Answers the request within a transaction.

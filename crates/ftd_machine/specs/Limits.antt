@@ -1,8 +1,12 @@
 -- The limits of what a request may say.
-use Rattle.std.specs.Prelude.{ℕ, ◌==◌, ◌&&◌, nat_le, nat_lt, Bool, List, length, drop, zip}
-use Rattle.std.specs.List.{list_all}
+use Rattle.std.specs.Prelude.{ℕ, ◌==◌, ◌&&◌, ◌<◌, nat_le, nat_lt, Bool, List, length, drop, zip, ⊤}
+use Rattle.std.specs.List.{list_all, sum_by}
 use Rattle.ftd_days.specs.Calendar.{year_of}
 use Rattle.ftd_days.specs.declared.cents.Cents.{Cents}
+use Rattle.ftd_rules.specs.Liability.{cents_of}
+use Rattle.ftd_rules.specs.Verdicts.{amount_of}
+use Rattle.ftd_machine.specs.declared.replies.Reply.{Reply}
+use Rattle.ftd_machine.specs.declared.replies.Reply.TheVariants.{Due, Days}
 
 -- the year is one of these
 abbrev pub is_between : ℕ → ℕ → ℕ → Bool
@@ -33,3 +37,13 @@ is_calendar year days =
 -- the most runs of an account, and the most payments, voided ones too
 abbrev pub most_entries : ℕ
 most_entries = 20_000
+
+-- the amounts of an account are together below this, in cents: of 20,000 runs with three amounts each
+abbrev pub amounts_end : ℕ
+amounts_end = 6_000_000_000_000_000
+
+-- the amounts of a list that is answered are together below it
+abbrev pub IsBounded : Reply → Type 0
+IsBounded (Due rows) = sum_by amount_of rows < amounts_end
+IsBounded (Days sums) = sum_by cents_of sums < amounts_end
+IsBounded _ = ⊤

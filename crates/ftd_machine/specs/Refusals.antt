@@ -1,5 +1,5 @@
--- The numbers of the refusals.
-use Rattle.std.specs.Prelude.{ℕ}
+-- The numbers and the names of the refusals.
+use Rattle.std.specs.Prelude.{ℕ, List, codes}
 use Rattle.ftd_machine.specs.declared.replies.Refusal.{Refusal}
 use Rattle.ftd_machine.specs.declared.replies.Refusal.TheVariants.{BadName, BadYear, BadDay, BadCents, BadCalendar, BadNumber, UnknownAccount, AccountDiffers, CalendarDiffers, QuarterDiffers, RunDiffers, PaymentDiffers, UnknownRun, UnknownPayment, BeforeStart, CalendarMissing, QuarterMissing, YearNotOpen, TooManyRuns, TooManyPayments, Memory, Store, WrongForm, YearDiffers, YearMissing}
 
@@ -29,3 +29,30 @@ number_of Store = 22
 number_of WrongForm = 23
 number_of YearDiffers = 24
 number_of (YearMissing year) = 25
+
+abbrev pub name_text : Refusal → List ℕ
+name_text BadName = codes "BadName"
+name_text BadYear = codes "BadYear"
+name_text BadDay = codes "BadDay"
+name_text BadCents = codes "BadCents"
+name_text BadCalendar = codes "BadCalendar"
+name_text BadNumber = codes "BadNumber"
+name_text UnknownAccount = codes "UnknownAccount"
+name_text AccountDiffers = codes "AccountDiffers"
+name_text CalendarDiffers = codes "CalendarDiffers"
+name_text QuarterDiffers = codes "QuarterDiffers"
+name_text RunDiffers = codes "RunDiffers"
+name_text PaymentDiffers = codes "PaymentDiffers"
+name_text UnknownRun = codes "UnknownRun"
+name_text UnknownPayment = codes "UnknownPayment"
+name_text BeforeStart = codes "BeforeStart"
+name_text (CalendarMissing year) = codes "CalendarMissing"
+name_text (QuarterMissing quarter) = codes "QuarterMissing"
+name_text (YearNotOpen year) = codes "YearNotOpen"
+name_text TooManyRuns = codes "TooManyRuns"
+name_text TooManyPayments = codes "TooManyPayments"
+name_text Memory = codes "Memory"
+name_text Store = codes "Store"
+name_text WrongForm = codes "WrongForm"
+name_text YearDiffers = codes "YearDiffers"
+name_text (YearMissing year) = codes "YearMissing"

@@ -19,7 +19,7 @@ pub use crate::checks::{
     void_check, void_payment_check,
 };
 pub use crate::entries::Account;
-pub use crate::limits::{MOST_ENTRIES, MOST_HOLIDAYS};
+pub use crate::limits::{MOST_ENTRIES, MOST_HOLIDAYS, are_sums_bounded, is_bounded};
 pub use crate::lists::{AccountName, DaySums, Days, DueRows};
 pub use crate::replies::{Reason, Refusal, Reply};
 pub use crate::requests::Request;

@@ -1,11 +1,15 @@
 //! The limits of what a request may say.
 
-ghost use Rattle.std.specs.Prelude.{◌≡◌, ◌+◌, ◌==◌, nat_lt};
-ghost use Rattle.std.specs.List.{list_all};
+ghost use Rattle.std.specs.Prelude.{◌≡◌, ◌<◌, ◌+◌, ◌==◌, ◌↔◌, IsTrue, nat_lt};
+ghost use Rattle.std.specs.List.{list_all, sum_by};
 ghost use Rattle.ftd_days.specs.Calendar.{quarter_start, year_of};
-ghost use Rattle.ftd_machine.specs.Limits.{is_between, is_amount, is_number, are_rising, is_calendar};
+ghost use Rattle.ftd_rules.specs.Liability.{cents_of};
+ghost use Rattle.ftd_rules.specs.Verdicts.{amount_of};
+ghost use Rattle.ftd_machine.specs.Limits.{IsBounded, amounts_end, is_between, is_amount, is_number, are_rising, is_calendar};
 
+use crate::replies::Reply;
 use ftd_days::{Cents, Day, Quarter};
+use ftd_rules::{DaySum, DueRow};
 
 /// The most runs of an account, and the most payments, voided ones too.
 pub const MOST_ENTRIES: u32 = 20_000;
@@ -15,6 +19,9 @@ pub const MOST_HOLIDAYS: usize = 60;
 
 /// The largest amount that a request may name, in cents.
 const MOST_CENTS: u64 = 99_999_999_999;
+
+/// What the amounts of an account stay below together, in cents: 20,000 runs with three amounts each.
+const AMOUNTS_END: u64 = 6_000_000_000_000_000;
 
 /// Whether the year is one of these.
 pub(crate) fn is_between(from: u32, to: u32, year: u32) -> bool
@@ -65,4 +72,44 @@ pub(crate) fn is_before_end(day: Day, quarter: Quarter) -> bool
     ensures { result ≡ nat_lt day (quarter_start (quarter + 1)) }
 {
     day <= quarter.last()
+}
+
+/// Whether the amounts of a list that is answered are together below 6,000,000,000,000,000 cents, as
+/// those of an account are.
+pub fn is_bounded(reply: &Reply) -> bool
+    ensures { IsTrue result ↔ IsBounded reply.now }
+{
+    match reply {
+        Reply::Due(rows) => are_rows_bounded(rows.as_slice()),
+        Reply::Days(sums) => are_sums_bounded(sums.as_slice()),
+        _ => true,
+    }
+}
+
+/// Whether the amounts of the rows are together below the end.
+fn are_rows_bounded(rows: &[DueRow]) -> bool
+    ensures { IsTrue result ↔ (sum_by amount_of rows.now < amounts_end) }
+{
+    let mut total = 0;
+    for row in rows {
+        if row.obligation.cents.0 >= AMOUNTS_END - total {
+            return false;
+        }
+        total += row.obligation.cents.0;
+    }
+    true
+}
+
+/// Whether the amounts of the days are together below 6,000,000,000,000,000 cents.
+pub fn are_sums_bounded(sums: &[DaySum]) -> bool
+    ensures { IsTrue result ↔ (sum_by cents_of sums.now < amounts_end) }
+{
+    let mut total = 0;
+    for sum in sums {
+        if sum.cents.0 >= AMOUNTS_END - total {
+            return false;
+        }
+        total += sum.cents.0;
+    }
+    true
 }

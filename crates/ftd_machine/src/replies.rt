@@ -128,7 +128,7 @@ pub enum Refusal {
 }
 
 impl Refusal {
-    ghost use Rattle.ftd_machine.specs.Refusals.{number_of};
+    ghost use Rattle.ftd_machine.specs.Refusals.{name_text, number_of};
 
     /// The refusal's number, 1 to 25.
     pub fn number(self) -> u8
@@ -160,6 +160,39 @@ impl Refusal {
             Refusal::WrongForm => 23,
             Refusal::YearDiffers => 24,
             Refusal::YearMissing(_) => 25,
+        }
+    }
+
+    /// The refusal's name: that of its variant.
+    pub fn name(self) -> &'static str
+        ensures { result.now ≡ name_text self }
+    {
+        match self {
+            Refusal::BadName => "BadName",
+            Refusal::BadYear => "BadYear",
+            Refusal::BadDay => "BadDay",
+            Refusal::BadCents => "BadCents",
+            Refusal::BadCalendar => "BadCalendar",
+            Refusal::BadNumber => "BadNumber",
+            Refusal::UnknownAccount => "UnknownAccount",
+            Refusal::AccountDiffers => "AccountDiffers",
+            Refusal::CalendarDiffers => "CalendarDiffers",
+            Refusal::QuarterDiffers => "QuarterDiffers",
+            Refusal::RunDiffers => "RunDiffers",
+            Refusal::PaymentDiffers => "PaymentDiffers",
+            Refusal::UnknownRun => "UnknownRun",
+            Refusal::UnknownPayment => "UnknownPayment",
+            Refusal::BeforeStart => "BeforeStart",
+            Refusal::CalendarMissing(_) => "CalendarMissing",
+            Refusal::QuarterMissing(_) => "QuarterMissing",
+            Refusal::YearNotOpen(_) => "YearNotOpen",
+            Refusal::TooManyRuns => "TooManyRuns",
+            Refusal::TooManyPayments => "TooManyPayments",
+            Refusal::Memory => "Memory",
+            Refusal::Store => "Store",
+            Refusal::WrongForm => "WrongForm",
+            Refusal::YearDiffers => "YearDiffers",
+            Refusal::YearMissing(_) => "YearMissing",
         }
     }
 }

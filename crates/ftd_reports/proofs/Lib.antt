@@ -1,3 +1,4 @@
 pub mod LineFacts
 pub mod MonthFacts
 pub mod RowFacts
+pub mod LateFacts

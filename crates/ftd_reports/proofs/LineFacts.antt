@@ -10,7 +10,8 @@ use Rattle.ftd_days.specs.Text.{cents_text}
 use Rattle.ftd_days.proofs.Numerals.{two_same}
 use Rattle.ftd_rules.specs.declared.verdict.DueRow.{DueRow}
 use Rattle.ftd_reports.specs.Columns.{amount_in}
-use Rattle.ftd_reports.specs.DueLists.{amount_of, due_line, total_line}
+use Rattle.ftd_rules.specs.Verdicts.{amount_of}
+use Rattle.ftd_reports.specs.DueLists.{due_line, total_line}
 
 -- spaces, dollars, and the point with the cents are an amount in its column
 pub amount_parts : (amount width : ℕ) (spaces : List ℕ) → width ≡ 14 - length (decimal (amount / 100)) → spaces ≡ replicate width 32

@@ -8,20 +8,21 @@ use Rattle.std.proofs.lemmas.List.Sums.{sum_by-append, sum_by-cons}
 use Rattle.ftd_ports.specs.Writing.{WritesPrefix}
 use Rattle.ftd_ports.proofs.WritingFacts.{HasWritten, breaks_off, prefix_more}
 use Rattle.ftd_rules.specs.declared.verdict.DueRow.{DueRow}
-use Rattle.ftd_reports.specs.DueLists.{amount_of, due_head, due_line, due_text, total_line}
+use Rattle.ftd_rules.specs.Verdicts.{amount_of}
+use Rattle.ftd_reports.specs.DueLists.{due_head, due_line, due_text, total_line}
 use Rattle.ftd_reports.specs.DueTexts.{HasRows, TakesRow, writer_of, total_of}
 use Rattle.ftd_reports.specs.declared.due_texts.DueText.{DueText}
 
 -- ---- one more row
-lines_more : (head : List ℕ) (rows : List DueRow) (row : DueRow) → (head ++ flat_map due_line rows) ++ due_line row ≡ head ++ flat_map due_line (rows ++ row ∷ [])
+pub lines_more : (head : List ℕ) (rows : List DueRow) (row : DueRow) → (head ++ flat_map due_line rows) ++ due_line row ≡ head ++ flat_map due_line (rows ++ row ∷ [])
 lines_more head rows row =
     append_assoc head (flat_map due_line rows) (due_line row)
     ∙ ap (λ z. head ++ z) (ap (λ z. flat_map due_line rows ++ z) (sym (append-nil (due_line row))) ∙ sym (flat_map-append due_line rows (row ∷ [])))
 
-appends_as : (before after : Option (List ℕ)) (text same : List ℕ) → text ≡ same → Appends before after text → Appends before after same
+pub appends_as : (before after : Option (List ℕ)) (text same : List ℕ) → text ≡ same → Appends before after text → Appends before after same
 appends_as before after text same e h = let P : List ℕ → Type 0 = λ z. Appends before after z in subst P e h
 
-total_more : (before after : ℕ) (rows : List DueRow) (row : DueRow) → before ≡ sum_by amount_of rows → after ≡ before + amount_of row → after ≡ sum_by amount_of (rows ++ row ∷ [])
+pub total_more : (before after : ℕ) (rows : List DueRow) (row : DueRow) → before ≡ sum_by amount_of rows → after ≡ before + amount_of row → after ≡ sum_by amount_of (rows ++ row ∷ [])
 total_more before after rows row e f =
     let more = sum_by-append amount_of rows (row ∷ []) in
     let one = sum_by-cons amount_of row [] in
@@ -37,7 +38,7 @@ rows_more taken start account quarter as_of rows row before after takes has = re
 }
 
 -- ---- what is left to write
-left : (head lines : List ℕ) (row : DueRow) (others : List DueRow) (last : List ℕ) → head ++ ((lines ++ flat_map due_line (row ∷ others)) ++ last) ≡ (head ++ lines) ++ (due_line row ++ (flat_map due_line others ++ last))
+pub left : (head lines : List ℕ) (row : DueRow) (others : List DueRow) (last : List ℕ) → head ++ ((lines ++ flat_map due_line (row ∷ others)) ++ last) ≡ (head ++ lines) ++ (due_line row ++ (flat_map due_line others ++ last))
 left head lines row others last = simp append_assoc
 
 -- with these rows written, the text of them and any others has begun

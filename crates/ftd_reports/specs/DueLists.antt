@@ -3,7 +3,7 @@ use Rattle.std.specs.Prelude.{ℕ, List, [], ◌∷◌, ◌++◌, codes}
 use Rattle.std.specs.List.{sum_by, flat_map, join_with_byte}
 use Rattle.ftd_days.specs.Text.{day_text, quarter_text}
 use Rattle.ftd_rules.specs.Text.{rule_text}
-use Rattle.ftd_rules.specs.Verdicts.{verdict_text}
+use Rattle.ftd_rules.specs.Verdicts.{amount_of, verdict_text}
 use Rattle.ftd_rules.specs.declared.verdict.DueRow.{DueRow}
 use Rattle.ftd_reports.specs.Columns.{space, line_end, left_in, amount_in}
 
@@ -22,10 +22,6 @@ columns_of row =
 -- the line of a row: its columns, with one space between
 unfoldable pub due_line : DueRow → List ℕ
 due_line row = join_with_byte space (columns_of row) ++ (line_end ∷ [])
-
--- the amount of a row's obligation, in cents
-abbrev pub amount_of : DueRow → ℕ
-amount_of row = row.obligation.cents.0
 
 -- the last line: `TOTAL` and the sum of the amounts
 abbrev pub total_line : ℕ → List ℕ

@@ -4,7 +4,8 @@ use Rattle.std.specs.Io.KnownBytes.{Appends}
 use Rattle.std.specs.List.{flat_map, sum_by}
 use Rattle.ftd_ports.specs.Writing.{WritesPrefix}
 use Rattle.ftd_rules.specs.declared.verdict.DueRow.{DueRow}
-use Rattle.ftd_reports.specs.DueLists.{amount_of, due_head, due_line}
+use Rattle.ftd_rules.specs.Verdicts.{amount_of}
+use Rattle.ftd_reports.specs.DueLists.{due_head, due_line}
 use Rattle.ftd_reports.specs.declared.due_texts.DueText.{DueText}
 
 -- the writer that the text is written to, the sum of the amounts of its rows in cents, and whether

@@ -4,7 +4,8 @@ ghost use Rattle.std.specs.Prelude.{◌≡◌, ◌<◌, true, OnOk, OnErr};
 ghost use Rattle.std.specs.List.{sum_by};
 ghost use Rattle.std.specs.Io.KnownBytes.{Appends};
 ghost use Rattle.ftd_ports.specs.Writing.{WritesPrefix};
-ghost use Rattle.ftd_reports.specs.DueLists.{due_head, due_line, total_line, due_text, amount_of};
+ghost use Rattle.ftd_rules.specs.Verdicts.{amount_of};
+ghost use Rattle.ftd_reports.specs.DueLists.{due_head, due_line, total_line, due_text};
 
 use crate::values::{amount_column, day_bytes, quarter_bytes, rule_column, verdict_name};
 use ftd_days::{Cents, Day, Quarter};

@@ -1,11 +1,12 @@
 //! A due list that is written row by row.
 
-ghost use Rattle.std.specs.Prelude.{◌≡◌, ◌⊎◌, ◌∷◌, ◌++◌, [], ℕ, List, Option, true, IfOk, IfErr, IsErrAnd, OnOk, OnErr};
+ghost use Rattle.std.specs.Prelude.{◌≡◌, ◌⊎◌, ◌<◌, ◌≤◌, ◌+◌, ◌∷◌, ◌++◌, [], ℕ, List, Option, None, true, IfOk, IfErr, IfSome, IsErrAnd, OnOk, OnErr};
 ghost use Rattle.std.specs.Io.KnownBytes.{Appends};
 ghost use Rattle.ftd_ports.specs.Writing.{WritesPrefix};
 ghost use Rattle.ftd_rules.specs.declared.verdict.DueRow.{DueRow};
+ghost use Rattle.ftd_rules.specs.Verdicts.{amount_of};
 ghost use Rattle.ftd_reports.specs.DueLists.{due_head, due_text};
-ghost use Rattle.ftd_reports.specs.DueTexts.{HasRows, has_failed, writer_of};
+ghost use Rattle.ftd_reports.specs.DueTexts.{HasRows, has_failed, most_total, writer_of};
 
 use crate::due_lists::{write_head, write_row, write_total};
 use ftd_days::{Cents, Day, Quarter};
@@ -29,6 +30,16 @@ pub struct DueText<W> {
 #[derive(Drop)]
 pub struct Unwritten<W> {
     pub writer: W,
+}
+
+/// The sum with the amount of the row, where it stays below what no due list reaches.
+pub(crate) fn total_with(total: u64, row: &DueRow) -> Option<u64>
+    ensures counts { IfSome result
+        (λ sum. (sum ≡ total + amount_of row.now) × (sum < most_total)) }
+    ensures full { result ≡ None → most_total ≤ total + amount_of row.now }
+{
+    let total = total.saturating_add(row.obligation.cents.0);
+    if total < MOST_TOTAL { Some(total) } else { None }
 }
 
 impl<W: Target> DueText<W> {
@@ -120,11 +131,10 @@ impl<W: Target> DueSink for DueText<W> {
         if self.failed {
             return Err(SinkFault);
         }
-        let total = self.total.saturating_add(row.obligation.cents.0);
-        if total >= MOST_TOTAL {
+        let Some(total) = total_with(self.total, row) else {
             self.failed = true;
             return Err(SinkFault);
-        }
+        };
         match write_row(row, &mut self.writer) {
             Ok(()) => {
                 self.total = total;

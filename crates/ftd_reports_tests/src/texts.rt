@@ -2,7 +2,7 @@
 
 ghost use Rattle.std.specs.Prelude.{◌≡◌, ◌<◌, IfOk};
 ghost use Rattle.std.specs.List.{sum_by};
-ghost use Rattle.ftd_reports.specs.DueLists.{amount_of};
+ghost use Rattle.ftd_rules.specs.Verdicts.{amount_of};
 
 use ftd_days::{Cents, Day, Quarter};
 use ftd_ports::{Port, PortFault, Source, Target, WriteFault};

@@ -1,6 +1,7 @@
 use Rattle.std.proofs.Common.{◌++◌, ◌+◌, ◌≡◌, drop}
 use Rattle.std.specs.List.{sum_by, flat_map}
-use Rattle.ftd_reports.specs.DueLists.{due_line, total_line, due_text, amount_of}
+use Rattle.ftd_rules.specs.Verdicts.{amount_of}
+use Rattle.ftd_reports.specs.DueLists.{due_line, total_line, due_text}
 use Rattle.ftd_ports.proofs.WritingFacts.{HasWritten}
 use Rattle.ftd_reports.proofs.due_lists.due_list.Given as goal
 

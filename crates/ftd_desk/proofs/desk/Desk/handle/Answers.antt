@@ -1,11 +1,14 @@
-use Rattle.std.proofs.Common.{◌≡◌, true, false, Err, rules, refl, sym, subst}
+use Rattle.std.proofs.Common.{◌≡◌, true, false, inl, inr, Err, rules, refl, sym, subst}
 use Rattle.std.specs.Prelude.{is_err}
 use Rattle.ftd_store.specs.Seen.{seen, shown}
-use Rattle.ftd_store.specs.declared.store.Store.{Store}
+use Rattle.ftd_store.specs.declared.store.Store.{Store as StoreOf}
 use Rattle.ftd_desk.specs.Desks.{Held, held}
+use Rattle.ftd_machine.specs.Checks.{Answer}
+use Rattle.ftd_machine.specs.Laws.{is_change}
+use Rattle.ftd_machine.specs.declared.replies.Refusal.TheVariants.{Store}
 use Rattle.ftd_questions.specs.Faults.{refusal_of}
 use Rattle.ftd_desk.specs.Words.{Handles}
-use Rattle.ftd_desk.proofs.Handling.{none_counted, served_ok, served_err, handles_dropped, handles_uncommitted, handles_committed, at_err, at_ok}
+use Rattle.ftd_desk.proofs.Handling.{ServesBy, none_counted, served_ok, served_err, served_less, handles_dropped, handles_uncommitted, handles_committed, at_err, at_ok}
 use Rattle.ftd_desk.proofs.desk.Desk.handle.Goals as goal
 
 pub returns-then-not-is_change-clause-handles : goal.returns-then-not-is_change-clause-handles
@@ -15,12 +18,22 @@ returns-then-not-is_change-clause-handles g c =
     let m = shown g.S.Store c.serve.new.tx in
     let end = c.drop-tx-then-not-is_change.new.self.0 in
     let served = c.in-Ok-serve.served in
-    let new : Store g.row.S.Denot → Held = λ store. record { db = seen g.S.Store store; counts = served.counts } in
+    let new : StoreOf g.row.S.Denot → Held = λ store. record { db = seen g.S.Store store; counts = served.counts } in
     let same : end ≡ c.self-then-not-is_change-1.given.0 = search rules in
-    subst (λ store. Handles old (new store) c.args.request.now served.answer) same
-    (handles_dropped old (new end) b m served.counts c.args.request.now served.answer c.in-Ok.ensures.crash c.in-Ok.ensures.begun
-    (served_ok g.S.Store c.args.request.now old.counts c.replace-counts.result c.in-Ok.tx c.serve.new.tx served (search rules) c.in-Ok-serve.ensures.call)
-    c.drop-tx-then-not-is_change.ensures.undone c.drop-tx-then-not-is_change.ensures.crash c.drop-tx-then-not-is_change.ensures.opens (λ s counted. counted) (search rules))
+    let serves : ServesBy b m old.counts served.counts c.args.request.now served.answer =
+        served_ok g.S.Store c.args.request.now old.counts c.replace-counts.result c.in-Ok.tx c.serve.new.tx served (search rules) c.in-Ok-serve.ensures.call
+    in
+    let quiet : is_change served.answer ≡ false = search rules in
+    let dropped : (answer : Answer) → ServesBy b m old.counts served.counts c.args.request.now answer → is_change answer ≡ false → Handles old (new end) c.args.request.now answer =
+        λ answer by stays.
+            handles_dropped old (new end) b m served.counts c.args.request.now answer c.in-Ok.ensures.crash c.in-Ok.ensures.begun by
+            c.drop-tx-then-not-is_change.ensures.undone c.drop-tx-then-not-is_change.ensures.crash c.drop-tx-then-not-is_change.ensures.opens (λ s counted. counted) stays
+    in
+    subst (λ store. Handles old (new store) c.args.request.now c.bounded.result) same
+    (elim c.bounded.ensures.same [
+      | inl as_it_is ↦ subst (λ answer. Handles old (new end) c.args.request.now answer) (sym as_it_is) (dropped served.answer serves quiet)
+      | inr fault ↦ subst (λ answer. Handles old (new end) c.args.request.now answer) (sym fault) (dropped (Err Store) (served_less b m old.counts served.counts c.args.request.now served.answer serves quiet) refl)
+    ])
 
 pub returns-then-is_err-clause-handles : goal.returns-then-is_err-clause-handles
 returns-then-is_err-clause-handles g c =
@@ -30,7 +43,7 @@ returns-then-is_err-clause-handles g c =
     let end = c.commit.new.self.0 in
     let served = c.in-Ok-serve.served in
     let none = c.replace-counts.new.dest in
-    let new : Store g.row.S.Denot → Held = λ store. record { db = seen g.S.Store store; counts = none } in
+    let new : StoreOf g.row.S.Denot → Held = λ store. record { db = seen g.S.Store store; counts = none } in
     let failed : is_err c.commit.result ≡ true = search rules in
     let same : end ≡ c.self-2-1.given.0 = search rules in
     subst (λ store. Handles old (new store) c.args.request.now (Err _)) same
@@ -45,7 +58,7 @@ returns-clause-handles g c =
     let m = shown g.S.Store c.serve.new.tx in
     let end = c.commit.new.self.0 in
     let served = c.in-Ok-serve.served in
-    let new : Store g.row.S.Denot → Held = λ store. record { db = seen g.S.Store store; counts = served.counts } in
+    let new : StoreOf g.row.S.Denot → Held = λ store. record { db = seen g.S.Store store; counts = served.counts } in
     let went : is_err c.commit.result ≡ false = search rules in
     let same : end ≡ c.self-2-1.given.0 = search rules in
     subst (λ store. Handles old (new store) c.args.request.now served.answer) same
@@ -61,7 +74,7 @@ returns-in-Err-serve-clause-handles g c =
     let end = c.drop-tx.new.self.0 in
     let fault = c.in-Err-serve.fault in
     let none = c.replace-counts.new.dest in
-    let new : Store g.row.S.Denot → Held = λ store. record { db = seen g.S.Store store; counts = none } in
+    let new : StoreOf g.row.S.Denot → Held = λ store. record { db = seen g.S.Store store; counts = none } in
     let same : end ≡ c.self-in-Err-serve-1.given.0 = search rules in
     let forgotten = none_counted none (search rules) (search rules) in
     subst (λ store. Handles old (new store) c.args.request.now (Err c.refusal_of-in-Err-serve.result)) same

@@ -1,6 +1,8 @@
-use Rattle.std.proofs.Common.{◌≡◌, ◌∷◌, true, false, rules, refl, subst, Ok, Err}
+use Rattle.std.proofs.Common.{◌≡◌, ◌∷◌, true, false, inr, rules, refl, subst, Ok, Err}
 use Rattle.std.specs.Prelude.{is_err}
 use Rattle.ftd_machine.specs.declared.replies.Refusal.TheVariants as refusal
+use Rattle.ftd_sql.specs.States.{CrashKeeps}
+use Rattle.ftd_sql.proofs.Controls.{crash_then}
 use Rattle.ftd_store.specs.Seen.{seen, shown}
 use Rattle.ftd_store.specs.declared.store.Store.{Store}
 use Rattle.ftd_desk.specs.Desks.{Held, held}
@@ -46,3 +48,14 @@ returns-clause-together g c =
     (rw whole (together_committed old (new end) b m all c.in-Ok.ensures.crash c.in-Ok.ensures.begun call.frame.crash call.frame.kept
     served.answers.items served.counts (served_all g.S.Store old.counts all c.replace-counts.result c.in-Ok.tx c.serve_all.new.tx served (search rules) call) c.commit.ensures.crash
     (λ clean. at_ok c.commit.result went (c.commit.ensures.ok clean)) (λ clean. at_ok c.commit.result went (c.commit.ensures.lasts clean)) refl))
+
+pub returns-in-Err-serve_all-clause-keeps : goal.returns-in-Err-serve_all-clause-keeps
+returns-in-Err-serve_all-clause-keeps g c =
+    let old = seen g.S.Store c.args.self.now.store in
+    let b = shown g.S.Store c.in-Ok.tx in
+    let m = shown g.S.Store c.serve_all.new.tx in
+    let end = c.drop-tx.new.self.0 in
+    let call = c.in-Err-serve_all.ensures.call in
+    let same : end ≡ c.self-in-Err-serve_all-1.given.0 = search rules in
+    inr (subst (λ (store : Store g.row.S.Denot). CrashKeeps old (seen g.S.Store store)) same
+    (crash_then old b (seen g.S.Store end) c.in-Ok.ensures.crash (crash_then b m (seen g.S.Store end) call.frame.crash c.drop-tx.ensures.crash)))
