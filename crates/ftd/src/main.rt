@@ -1,58 +1,119 @@
 //! The federal tax deposit desk.
 #![tactic(auto)]
 
-use ftd_cli::{Command, CommandFault, MOST_INPUT, PlainFault, read_words, run_command};
-use std::io::{ErrorKind, Read, Write};
+mod faults;
+mod input;
+
+use crate::faults::ProgramFault;
+use crate::input::{import_input, standard_input, words};
+use ftd_desk::Desk;
+use ftd_ports::Port;
+use ftd_program::{perform, print_plain, tell};
+use ftd_serving::{Limits, serve_on};
+use ftd_store::Store;
+use ftd_words::{Job, LocalTask, PlainTask, Task, decide};
+use sqlite::{Alter, Connection};
+use std::io;
+use std::net::TcpListener;
 use std::process::ExitCode;
-use std::rt::Env;
-use std::{env, io};
+
+/// How many seconds a read or a write waits for a peer.
+const SILENCE: u32 = 10;
+
+/// For how many seconds a connection is read and written at most.
+const DURATION: u32 = 60;
 
 fn main(rt: HostRuntime) -> ExitCode {
     match run(&rt) {
-        Ok(()) => ExitCode::SUCCESS,
+        Ok(status) => ExitCode::from(status),
         Err(fault) => {
             // Where standard error fails as well, the status still tells.
-            let _ = eprint!(rt; "{fault}");
-            ExitCode::from(fault.status())
+            let _ = eprint!(rt; "{fault}\n");
+            ExitCode::from(3)
         }
     }
 }
 
-/// Runs the command that the words ask for, and prints its text.
-fn run(rt: &(impl AllocGlobal + Env + Input + Print)) -> Result<(), CommandFault> {
+/// Does what the words ask, and gives the exit status.
+fn run(rt: &HostRuntime) -> Result<u8, ProgramFault> {
     let words = words(rt)?;
-    let command = read_words(rt.alloc(), &words)?;
-    let input = match &command {
-        Command::Help => Vec::new(rt.alloc()),
-        Command::Plain(_) => standard_input(rt)?,
+    match decide(rt.alloc(), &words) {
+        Ok(Task::Plain(task)) => plain(rt, &task),
+        Ok(Task::Local(task)) => local(rt, &task),
+        Ok(Task::Serve {
+            db,
+            port,
+            connections,
+        }) => serve(rt, &db, port, connections),
+        Err(fault) => {
+            let mut out = Port::new(io::writer(rt));
+            let mut err = Port::new(rt.stderr());
+            Ok(tell(&fault, &mut out, &mut err))
+        }
+    }
+}
+
+/// Prints the deposits of an account in a year, from the pay runs of standard input.
+fn plain(rt: &HostRuntime, task: &PlainTask) -> Result<u8, ProgramFault> {
+    let input = standard_input(rt)?;
+    let (out, err) = (Port::new(io::writer(rt)), Port::new(rt.stderr()));
+    Ok(print_plain(rt.alloc(), task, &input, out, err).status)
+}
+
+/// What is done with the desk of a database file.
+#[derive(Drop)]
+enum Work<'a> {
+    /// The job of a task, over an input.
+    Job(&'a LocalTask, Vec<u8>),
+    /// Connections are served.
+    Serve(TcpListener, Limits),
+}
+
+/// Does the work with the desk.
+fn with_desk<S: Alter>(rt: &HostRuntime, desk: &mut Desk<S>, work: &Work<'_>) -> u8 {
+    let mut out = Port::new(io::writer(rt));
+    let mut err = Port::new(rt.stderr());
+    match work {
+        Work::Job(task, input) => perform(rt.alloc(), task, desk, input, out, err).status,
+        Work::Serve(listener, limits) => {
+            serve_on(rt, listener, *limits, desk, &mut out, &mut err)
+        }
+    }
+}
+
+/// Does the work with the desk of the database file, which is made where it is not there.
+fn over_file(rt: &HostRuntime, db: &str, work: &Work<'_>) -> Result<u8, ProgramFault> {
+    let (done, conn) = match Store::open(Connection::open(rt, db)?) {
+        Ok(store) => {
+            let mut desk = Desk::new(rt.alloc(), store);
+            let status = with_desk(rt, &mut desk, work);
+            (Ok(status), desk.into_store().close())
+        }
+        Err(refused) => (Err(refused.fault.into()), refused.connection),
     };
-    let text = run_command(rt.alloc(), &command, &input)?;
-    io::writer(rt)
-        .write_all(&text)
-        .map_err(|_| CommandFault::Output)
+    // What was committed stands in the log where it can't be copied into the file.
+    let _ = conn.close();
+    done
 }
 
-/// The words of the command line, the program's name first.
-fn words(rt: &(impl AllocGlobal + Env)) -> Result<Vec<String>, CommandFault> {
-    match env::args(rt) {
-        Ok(words) => Ok(words.collect(rt.alloc())?),
-        Err(e) => Err(fault_of(&e, CommandFault::Usage)),
-    }
+/// Does the job of the task.
+fn local(rt: &HostRuntime, task: &LocalTask) -> Result<u8, ProgramFault> {
+    let input = match &task.job {
+        Job::Import(file) => import_input(rt, file)?,
+        Job::Ask(_) => Vec::new(rt.alloc()),
+    };
+    over_file(rt, &task.db, &Work::Job(task, input))
 }
 
-/// The bytes of standard input, as many as a command looks at.
-fn standard_input(rt: &(impl AllocGlobal + Input)) -> Result<Vec<u8>, CommandFault> {
-    let mut input = Vec::new(rt.alloc());
-    match rt.reader().take(MOST_INPUT).read_to_end(&mut input) {
-        Ok(_) => Ok(input),
-        Err(e) => Err(fault_of(&e, CommandFault::File)),
-    }
-}
-
-/// Want of memory, or else this fault.
-fn fault_of(error: &io::Error, fault: CommandFault) -> CommandFault {
-    match error.kind() {
-        ErrorKind::OutOfMemory => CommandFault::Plain(PlainFault::Memory),
-        _ => fault,
-    }
+/// Serves so many connections of this machine, one after the other.
+fn serve(rt: &HostRuntime, db: &str, port: u16, connections: u32) -> Result<u8, ProgramFault> {
+    let Ok(listener) = TcpListener::bind(rt, ("127.0.0.1", port)) else {
+        return Err(ProgramFault::Net);
+    };
+    let limits = Limits {
+        connections,
+        silence: SILENCE,
+        duration: DURATION,
+    };
+    over_file(rt, db, &Work::Serve(listener, limits))
 }

@@ -2,4 +2,3 @@ pub mod Calendars
 pub mod Members
 pub mod Sums
 pub mod TakingFacts
-pub mod WordFacts

@@ -1,5 +1,3 @@
 pub mod Faults
 pub mod Plain
-pub mod Words
-pub mod Commands
 pub mod Taking

@@ -1,23 +1,10 @@
-//! Why a command gives no text.
+//! Why `plain` prints no deposits.
 
-ghost use Rattle.std.specs.Prelude.{◌≡◌};
-ghost use Rattle.ftd_cli.specs.Faults.{status_of};
-
-use crate::words::Argument;
 use ftd_csv::RecordFault;
 use ftd_days::CalendarFault;
 use std::alloc::{AllocError, AllocFailed};
 use std::error::Error;
 use std::fmt;
-
-/// The usage of the program.
-pub const USAGE: &str = "\
-Usage: ftd plain ACCOUNT YEAR [HOLIDAY ..]
-
-Reads pay runs as CSV from standard input, with the header employer,run,payday,fit,ss,medicare,
-and prints the federal tax deposits of the account in the year, a line each:
-first day, last day, rule, amount, due date.
-";
 
 /// Why `plain` prints no deposits. Where several stand, the first of `TooLong`, `BadCalendar` and
 /// `BadHeader` is answered, and else that of the first record at fault; `Memory` may come at any
@@ -113,88 +100,5 @@ impl From<CalendarFault> for PlainFault {
             CalendarFault::BadCalendar => PlainFault::BadCalendar,
             CalendarFault::Memory => PlainFault::Memory,
         }
-    }
-}
-
-/// Why the program gives no text on standard output.
-#[derive(Clone, Copy, Debug, PartialEq, Eq)]
-pub enum CommandFault {
-    /// The words are no command.
-    Usage,
-    /// The first word that is none of its argument's form.
-    BadArgument(Argument),
-    /// `plain` prints no deposits.
-    Plain(PlainFault),
-    /// Standard input can't be read.
-    File,
-    /// Standard output takes no more.
-    Output,
-}
-
-impl CommandFault {
-    /// The exit status: 1 where the input is refused, 2 for a bad command line, and 3 where memory,
-    /// standard input or standard output fails.
-    pub fn status(self) -> u8
-        ensures { result ≡ status_of self }
-    {
-        match self {
-            CommandFault::Usage | CommandFault::BadArgument(_) => 2,
-            CommandFault::Plain(PlainFault::Memory) => 3,
-            CommandFault::Plain(_) => 1,
-            CommandFault::File | CommandFault::Output => 3,
-        }
-    }
-}
-
-/// The text that is printed on standard error: one line or the usage, with the line's end.
-impl fmt::Display for CommandFault {
-    ghost use Rattle.std.specs.Prelude.{Some};
-    ghost use Rattle.ftd_cli.specs.Faults.{command_fault_text};
-
-    ghost output = { λ fault. Some (command_fault_text fault) };
-
-    fn fmt<W: fmt::Write>(&self, f: &mut fmt::Formatter<W>) -> fmt::Result {
-        match *self {
-            CommandFault::Usage => f.write_str(USAGE),
-            CommandFault::BadArgument(argument) => write!(f, "bad argument {argument}\n"),
-            CommandFault::Plain(fault) => write!(f, "{fault}\n"),
-            CommandFault::File => f.write_str("failed File\n"),
-            CommandFault::Output => f.write_str("failed Output\n"),
-        }
-    }
-}
-
-impl Error for CommandFault {}
-
-impl From<AllocError> for CommandFault {
-    ghost use Rattle.std.specs.Prelude.{◌≡◌};
-    ghost use Rattle.ftd_cli.specs.Faults.{no_memory};
-
-    ghost from_gives = { λ _ e. e ≡ no_memory };
-
-    fn from(_: AllocError) -> CommandFault {
-        CommandFault::Plain(PlainFault::Memory)
-    }
-}
-
-impl<T: Drop> From<AllocFailed<T>> for CommandFault {
-    ghost use Rattle.std.specs.Prelude.{◌≡◌};
-    ghost use Rattle.ftd_cli.specs.Faults.{no_memory};
-
-    ghost from_gives = { λ _ e. e ≡ no_memory };
-
-    fn from(_: AllocFailed<T>) -> CommandFault {
-        CommandFault::Plain(PlainFault::Memory)
-    }
-}
-
-impl From<PlainFault> for CommandFault {
-    ghost use Rattle.std.specs.Prelude.{◌≡◌};
-    ghost use Rattle.ftd_cli.specs.declared.fault.CommandFault.TheVariants.{Plain};
-
-    ghost from_gives = { λ fault e. e ≡ Plain fault };
-
-    fn from(fault: PlainFault) -> CommandFault {
-        CommandFault::Plain(fault)
     }
 }

@@ -1,5 +1,5 @@
-//! Worked examples of `plain` and of the command line, through their public calls.
+//! Worked examples of `plain`, through its public call.
 #![tactic(auto)]
 
 #[cfg(test)]
-mod commands;
+mod deposits;

@@ -5,9 +5,11 @@
 #![tactic(auto)]
 
 mod asking;
+mod taker;
 mod telling;
 
 pub use crate::asking::request;
+pub use crate::taker::Taker;
 pub use crate::telling::{ask, told};
 use std::alloc::AllocError;
 use thiserror::Error;

@@ -1,0 +1,80 @@
+//! Why the program does not do what was asked.
+
+use ftd_rows::StoreFault;
+use ftd_setup::OpenFault;
+use sqlite::{Error, ErrorCode};
+use std::alloc::{AllocError, AllocFailed};
+use std::io::{self, ErrorKind};
+
+/// Why the program does not do what was asked. Its text is what is printed on standard error.
+#[derive(Clone, Copy, Debug, PartialEq, Eq, thiserror::Error)]
+pub enum ProgramFault {
+    /// A file can't be opened, made or read.
+    #[error("failed File")]
+    File,
+    /// Another program has the database file open.
+    #[error("failed File\nBusy: another program has the file open")]
+    Busy,
+    /// The database file is damaged or cut short.
+    #[error("failed File\nCorrupt: the file is damaged or cut short")]
+    Corrupt,
+    /// The file is no database, or not one of the desk's.
+    #[error("failed NotOurs")]
+    NotOurs,
+    /// The database was made by a later version of the desk.
+    #[error("failed Newer {0}")]
+    Newer(u64),
+    /// The port can't be listened on.
+    #[error("failed Net")]
+    Net,
+    /// There was no memory.
+    #[error("failed 21 Memory")]
+    Memory,
+    /// The database failed while it was opened.
+    #[error("failed 22 Store")]
+    Store,
+}
+
+impl From<Error> for ProgramFault {
+    fn from(error: Error) -> ProgramFault {
+        match error {
+            Error::SqliteFailure(ErrorCode::DatabaseBusy) => ProgramFault::Busy,
+            Error::SqliteFailure(ErrorCode::DatabaseCorrupt) => ProgramFault::Corrupt,
+            Error::SqliteFailure(ErrorCode::NotADatabase) => ProgramFault::NotOurs,
+            Error::SqliteFailure(ErrorCode::OutOfMemory) => ProgramFault::Memory,
+            _ => ProgramFault::File,
+        }
+    }
+}
+
+impl From<OpenFault> for ProgramFault {
+    fn from(fault: OpenFault) -> ProgramFault {
+        match fault {
+            OpenFault::NotOurs => ProgramFault::NotOurs,
+            OpenFault::Newer(version) => ProgramFault::Newer(version),
+            OpenFault::Store(StoreFault::Memory) => ProgramFault::Memory,
+            OpenFault::Store(StoreFault::Failed) => ProgramFault::Store,
+        }
+    }
+}
+
+impl From<io::Error> for ProgramFault {
+    fn from(error: io::Error) -> ProgramFault {
+        match error.kind() {
+            ErrorKind::OutOfMemory => ProgramFault::Memory,
+            _ => ProgramFault::File,
+        }
+    }
+}
+
+impl From<AllocError> for ProgramFault {
+    fn from(_: AllocError) -> ProgramFault {
+        ProgramFault::Memory
+    }
+}
+
+impl<T: Drop> From<AllocFailed<T>> for ProgramFault {
+    fn from(_: AllocFailed<T>) -> ProgramFault {
+        ProgramFault::Memory
+    }
+}

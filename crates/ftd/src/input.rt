@@ -1,0 +1,35 @@
+//! What the program reads.
+
+use crate::faults::ProgramFault;
+use ftd_csv::MOST_BYTES;
+use std::env;
+use std::fs::File;
+use std::io::Read;
+
+/// The words of the command line, the program's name first.
+pub fn words(rt: &HostRuntime) -> Result<Vec<String>, ProgramFault> {
+    Ok(env::args(rt)?.collect(rt.alloc())?)
+}
+
+/// As many bytes as are looked at: one more than a text of pay runs may have, by which a longer one
+/// is known.
+fn most_input() -> u64 {
+    u64::try_from(MOST_BYTES).unwrap_or(u64::MAX).saturating_add(1)
+}
+
+/// The bytes of standard input.
+pub fn standard_input(rt: &HostRuntime) -> Result<Vec<u8>, ProgramFault> {
+    let mut input = Vec::new(rt.alloc());
+    rt.reader().take(most_input()).read_to_end(&mut input)?;
+    Ok(input)
+}
+
+/// The bytes of the file, or of standard input where it is named `-`.
+pub fn import_input(rt: &HostRuntime, file: &str) -> Result<Vec<u8>, ProgramFault> {
+    if file == "-" {
+        return standard_input(rt);
+    }
+    let mut input = Vec::new(rt.alloc());
+    File::open(rt, file)?.take(most_input()).read_to_end(&mut input)?;
+    Ok(input)
+}

@@ -1,0 +1,2 @@
+pub mod ServeFacts
+pub mod TableFacts

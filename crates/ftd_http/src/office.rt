@@ -1,0 +1,46 @@
+//! Connections over the desk.
+
+ghost use Rattle.std.specs.Prelude.{IfOk, IfErr};
+ghost use Rattle.ftd_desk.specs.Desks.{held};
+ghost use Rattle.ftd_http.specs.Serving.{Serves, Breaks};
+ghost use Rattle.ftd_http.specs.Tables.{AnsweredBy, BrokenBy};
+
+use crate::connection::{ServeFault, Served, serve_machine};
+use crate::machine::Machine;
+use ftd_desk::Desk;
+use ftd_machine::{Answer, Request};
+use ftd_ports::{Source, Target};
+use sqlite::Alter;
+use std::alloc::Global;
+
+impl<S: Alter> Machine for Desk<S> {
+    ghost use Rattle.ftd_desk.specs.Desks.{held};
+    ghost use Rattle.ftd_desk.specs.Words.{Handles};
+
+    ghost goes = { λ desk request answer later.
+        Handles (held S.Store desk) (held S.Store later) request answer };
+
+    fn answer(&mut self, request: &Request) -> Answer {
+        self.handle(request)
+    }
+}
+
+/// Serves one connection: reads messages from the source, has the desk answer each, and writes the
+/// answers to the target. A connection has at most a hundred messages; what it takes in memory is
+/// one message and one answer. `ServeFault` where a read or a write fails, or there is no memory.
+pub fn serve<S: Alter, R: Source, W: Target>(
+    alloc: Global,
+    desk: &mut Desk<S>,
+    source: &mut R,
+    target: &mut W,
+) -> Result<Served, ServeFault>
+    ensures ok { IfOk result
+        (Serves (AnsweredBy (held S.Store desk.old) (held S.Store desk.new))
+        (R.left source.old) (R.left source.new) (W.taken target.old) (W.taken target.new)) }
+    ensures err { IfErr result
+        (Breaks (BrokenBy (held S.Store desk.old) (held S.Store desk.new))
+        (R.left source.old) (R.left source.new) (R.failed source.new)
+        (W.taken target.old) (W.taken target.new) (W.failed target.new)) }
+{
+    serve_machine(alloc, desk, source, target)
+}

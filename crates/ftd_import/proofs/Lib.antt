@@ -1,0 +1,6 @@
+pub mod Again
+pub mod Counting
+pub mod Joining
+pub mod Texts
+pub mod Together
+pub mod Outcomes

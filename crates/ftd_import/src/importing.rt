@@ -1,0 +1,46 @@
+//! Pay runs out of a text.
+
+ghost use Rattle.std.specs.Prelude.{◌≡◌, ◌⊎◌, true, IfErr, MatchResult};
+ghost use Rattle.ftd_desk.specs.Desks.{IsStopped, held};
+ghost use Rattle.ftd_import.specs.Imports.{Imports, Stops, StopsOneByOne, is_of_text};
+
+use crate::lists::post_lists;
+use crate::summary::{Stopped, Summary, cause_of};
+use ftd_csv::records;
+use ftd_desk::Desk;
+use sqlite::Alter;
+use std::alloc::Global;
+
+/// Posts the pay runs of a text, and says what became of its records, as if they were posted one
+/// after the other. The text is CSV with the header `employer,run,payday,fit,ss,medicare`, of at
+/// most 16 MiB. A malformed record is counted, noted and left out. The records go to the desk in
+/// lists of 256, each in one transaction; a list that meets a fault goes again, one record after
+/// the other.
+///
+/// It stops with `TooLong` or `BadHeader` where the text is too long or has another header, and
+/// nothing was posted then. It stops with `Memory` or `Store` at any record; those before it are
+/// posted and counted, and that one changed nothing, unless the store is a file and a commit
+/// failed: then a crash may find the whole list. The same text imported again goes on where it
+/// stopped.
+pub fn import<S: Alter>(alloc: Global, desk: &mut Desk<S>, text: &[u8]) -> Result<Summary, Stopped>
+    ensures imports { MatchResult result
+        (λ summary. Imports (held S.Store desk.old) (held S.Store desk.new) text.now summary)
+        (λ stopped. Stops (held S.Store desk.old) (held S.Store desk.new) text.now stopped) }
+    ensures one_by_one { IfErr result (λ stopped. IsStopped desk.new
+        ⊎ StopsOneByOne (held S.Store desk.old) (held S.Store desk.new) text.now stopped) }
+    ensures untouched { IfErr result
+        (λ stopped. is_of_text stopped.cause ≡ true → desk.new ≡ desk.old) }
+{
+    let mut done = Summary::none(alloc);
+    let records = match records(alloc, text) {
+        Ok(records) => records,
+        Err(fault) => {
+            let cause = cause_of(fault);
+            return Err(Stopped { done, cause });
+        }
+    };
+    match post_lists(alloc, desk, &records, &mut done) {
+        Ok(()) => Ok(done),
+        Err(cause) => Err(Stopped { done, cause }),
+    }
+}

@@ -1,0 +1,10 @@
+//! Pay runs out of CSV, posted to the desk.
+#![tactic(auto)]
+
+mod importing;
+mod lists;
+mod posting;
+mod summary;
+
+pub use crate::importing::import;
+pub use crate::summary::{Finding, Note, StopCause, Stopped, Summary};

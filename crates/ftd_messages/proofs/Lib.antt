@@ -1,0 +1,4 @@
+pub mod FieldFacts
+pub mod LengthFacts
+pub mod LookFacts
+pub mod ReadingFacts

@@ -1,0 +1,124 @@
+-- What the program prints of an answer, and its exit status.
+use Rattle.std.specs.Prelude.{◌≡◌, ◌⊎◌, ◌≤◌, ℕ, Bool, IsTrue, true, List, Option, Result, MatchResult, Ok, Err, codes}
+use Rattle.std.specs.Io.KnownBytes.{Appends}
+use Rattle.ftd_ports.specs.Writing.{WritesPrefix}
+use Rattle.sqlite.specs.State.{HasCleanDisk}
+use Rattle.std.specs.List.{sum_by}
+use Rattle.ftd_rules.specs.Verdicts.{amount_of}
+use Rattle.ftd_rules.specs.declared.verdict.DueRow.{DueRow}
+use Rattle.ftd_reports.specs.DueLists.{due_text}
+use Rattle.ftd_machine.specs.State.{State}
+use Rattle.ftd_machine.specs.Limits.{amounts_end}
+use Rattle.ftd_machine.specs.Runs.{IsFault}
+use Rattle.ftd_machine.specs.Checks.{Answer}
+use Rattle.ftd_machine.specs.declared.replies.Refusal.{Refusal}
+use Rattle.ftd_machine.specs.declared.replies.Reply.{Reply}
+use Rattle.ftd_machine.specs.declared.requests.Request.{Request}
+use Rattle.ftd_machine.specs.declared.requests.Request.TheVariants.{DueList}
+use Rattle.ftd_questions.specs.Telling.{Replies, Refuses}
+use Rattle.ftd_desk.specs.Desks.{Held, Keeps}
+use Rattle.ftd_desk.specs.Telling.{StandsAsBefore}
+use Rattle.ftd_desk.specs.Words.{Handles}
+use Rattle.ftd_import.specs.Imports.{Imports, Stops}
+use Rattle.ftd_import.specs.declared.summary.StopCause.{StopCause}
+use Rattle.ftd_import.specs.declared.summary.Stopped.{Stopped}
+use Rattle.ftd_import.specs.declared.summary.Summary.{Summary}
+use Rattle.ftd_words.specs.declared.tasks.Job.{Job}
+use Rattle.ftd_words.specs.declared.tasks.Job.TheVariants as job
+use Rattle.ftd_program.specs.Refusals.{refusal_status, refusal_text}
+use Rattle.ftd_program.specs.Replies.{reply_text}
+use Rattle.ftd_program.specs.Summaries.{cause_text, stop_status, summary_status, summary_text}
+use Rattle.ftd_program.specs.declared.performing.Performed.{Performed}
+
+-- the text was written whole, or its target failed after a prefix of it
+abbrev pub IsPut : Option (List ℕ) → Option (List ℕ) → Bool → List ℕ → Type 0
+IsPut before after failed text = Appends before after text ⊎ (WritesPrefix before after text × (failed ≡ true))
+
+module _ {O E : Type 0} (o_taken : O → Option (List ℕ)) (o_failed : O → Bool) (e_taken : E → Option (List ℕ)) (e_failed : E → Bool)
+    (out : O) (err : E) (p : Performed O E) where
+  -- the line of a refusal on standard error
+  pub record PrintsRefusal (refusal : Refusal) : Type 0 where
+    pub status_is : p.status ≡ refusal_status refusal
+    pub out_is : p.out ≡ out
+    pub line : IsPut (e_taken err) (e_taken p.err) (e_failed p.err) (refusal_text refusal)
+
+  -- a text on standard output, with this status
+  pub record PrintsText (status : ℕ) (text : List ℕ) : Type 0 where
+    pub status_is : p.status ≡ status
+    pub err_is : p.err ≡ err
+    pub whole : Appends (o_taken out) (o_taken p.out) text
+
+  -- standard output took no more than a prefix of it
+  pub record FailsOutput (text : List ℕ) : Type 0 where
+    pub status_is : p.status ≡ 3
+    pub part : WritesPrefix (o_taken out) (o_taken p.out) text
+    pub failed : o_failed p.out ≡ true
+    pub line : IsPut (e_taken err) (e_taken p.err) (e_failed p.err) (codes "failed Output\n")
+
+  abbrev pub PrintsOut : ℕ → List ℕ → Type 0
+  PrintsOut status text = PrintsText status text ⊎ FailsOutput text
+
+  abbrev pub PrintsReply : List ℕ → Type 0
+  PrintsReply text = PrintsOut 0 text
+
+  -- the summary of an import that stopped on standard output, and why it stopped on standard error
+  pub record PrintsBoth (why : StopCause) (text : List ℕ) : Type 0 where
+    pub status_is : p.status ≡ stop_status why
+    pub whole : Appends (o_taken out) (o_taken p.out) text
+    pub line : IsPut (e_taken err) (e_taken p.err) (e_failed p.err) (cause_text why)
+
+  abbrev pub PrintsStop : Stopped → Type 0
+  PrintsStop stopped = PrintsBoth stopped.cause (summary_text stopped.done) ⊎ FailsOutput (summary_text stopped.done)
+
+  -- the pay runs of the text were imported, and what became of them printed
+  pub record PerformsImport (old new : Held) (text : List ℕ) : Type 0 where
+    pub import : Result Summary Stopped
+    pub imports : MatchResult import (λ summary. Imports old new text summary) (λ stopped. Stops old new text stopped)
+    pub prints : MatchResult import (λ summary. PrintsOut (summary_status summary) (summary_text summary)) PrintsStop
+
+  -- the text of the reply, or the line of the refusal
+  abbrev pub Prints : Request → Answer → Type 0
+  Prints request (Ok reply) = PrintsReply (reply_text request reply)
+  Prints request (Err refusal) = PrintsRefusal refusal
+
+  -- the request was asked of the desk, and its answer printed
+  pub record Performs (old new : Held) (request : Request) : Type 0 where
+    pub answer : Answer
+    pub handles : Handles old new request answer
+    pub prints : Prints request answer
+
+  -- a prefix of the due list was printed: there was no memory, or the store failed, in the middle of it
+  pub record BreaksDue (refusal : Refusal) (rows : List DueRow) (account : List ℕ) (quarter as_of : ℕ) : Type 0 where
+    pub status_is : p.status ≡ 3
+    pub part : WritesPrefix (o_taken out) (o_taken p.out) (due_text account quarter as_of rows)
+    pub line : IsPut (e_taken err) (e_taken p.err) (e_failed p.err) (refusal_text refusal)
+
+  -- a prefix of it was printed: standard output failed, or the amounts came to more than those of an account can be
+  pub record FailsDue (rows : List DueRow) (account : List ℕ) (quarter as_of : ℕ) : Type 0 where
+    pub status_is : p.status ≡ 3
+    pub part : WritesPrefix (o_taken out) (o_taken p.out) (due_text account quarter as_of rows)
+    pub reason : (o_failed p.out ≡ true) ⊎ (amounts_end ≤ sum_by amount_of rows)
+    pub line : IsPut (e_taken err) (e_taken p.err) (e_failed p.err) (codes "failed Output\n")
+
+  -- what was printed of a due list: all of it; why it was refused; a prefix of it, or nothing, since there was no memory or the
+  -- store failed; a prefix of it, since standard output failed
+  pub data PrintsDue (s : State) (account : List ℕ) (quarter as_of : ℕ) : Type 0 where
+    whole : (rows : List DueRow) → Replies s account quarter as_of rows → PrintsText 0 (due_text account quarter as_of rows) → PrintsDue s account quarter as_of
+    refused : (refusal : Refusal) → Refuses s account quarter as_of refusal → PrintsRefusal refusal → PrintsDue s account quarter as_of
+    unbegun : (refusal : Refusal) → IsFault (Err refusal) → PrintsRefusal refusal → PrintsDue s account quarter as_of
+    broken : (refusal : Refusal) (rows : List DueRow) → IsFault (Err refusal) → Replies s account quarter as_of rows → BreaksDue refusal rows account quarter as_of → PrintsDue s account quarter as_of
+    failed : (rows : List DueRow) → Replies s account quarter as_of rows → FailsDue rows account quarter as_of → PrintsDue s account quarter as_of
+
+  -- the due list was asked of the desk, and printed from its rows as they came
+  pub record PerformsDue (old new : Held) (account : List ℕ) (quarter as_of : ℕ) : Type 0 where
+    pub stands : StandsAsBefore old new
+    pub prints : HasCleanDisk new.db → IsTrue new.db.is_open → (s : State) → Keeps old s → PrintsDue s account quarter as_of
+
+  abbrev pub Asks : Held → Held → Request → Type 0
+  Asks old new (DueList account quarter as_of) = PerformsDue old new account quarter as_of
+  Asks old new request = Performs old new request
+
+  -- the job of a task was done
+  abbrev pub Does : Held → Held → List ℕ → Job → Type 0
+  Does old new input (job.Import file) = PerformsImport old new input
+  Does old new input (job.Ask request) = Asks old new request

@@ -1,0 +1,247 @@
+//! A request is asked of the desk, and what it answers is printed.
+
+ghost use Rattle.std.specs.Prelude.{◌≡◌, codes};
+ghost use Rattle.ftd_desk.specs.Desks.{held};
+ghost use Rattle.ftd_program.specs.Performing.{Asks, Does, IsPut, Performs, PerformsDue, PerformsImport, PrintsOut, PrintsRefusal, PrintsReply, PrintsStop};
+ghost use Rattle.ftd_machine.specs.Limits.{IsBounded};
+ghost use Rattle.ftd_program.specs.Replies.{reply_text};
+ghost use Rattle.ftd_program.specs.Summaries.{cause_text, stop_status, summary_status, summary_text};
+
+use crate::refusals::{status_of, write_refusal};
+use crate::replies::write_reply;
+use crate::summaries::write_summary;
+use crate::telling::put;
+use ftd_days::{Day, Quarter};
+use ftd_desk::{Desk, DueFault};
+use ftd_import::{StopCause, Stopped, Summary, import};
+use ftd_machine::{Refusal, Reply, Request};
+use ftd_ports::Target;
+use ftd_reports::{LateDueText, Unwritten};
+use ftd_words::{Job, LocalTask};
+use sqlite::Alter;
+use std::alloc::Global;
+
+/// What was done: the exit status, and where the texts went.
+#[derive(Drop)]
+pub struct Performed<O, E> {
+    /// 0 where it was answered, 1 where it was refused, 3 where memory, the store or standard output
+    /// failed.
+    pub status: u8,
+    pub out: O,
+    pub err: E,
+}
+
+/// Does the job of a task: asks its request of the desk, or imports the pay runs of the input, CSV
+/// with the header `employer,run,payday,fit,ss,medicare`. What came of it goes to `out`, and the line
+/// of a refusal or of a fault to `err`. What the desk took stands, also where `out` fails: the status
+/// is 3 then, and a prefix of the text was written.
+pub fn perform<S: Alter, O: Target, E: Target>(
+    alloc: Global,
+    task: &LocalTask,
+    desk: &mut Desk<S>,
+    input: &[u8],
+    out: O,
+    err: E,
+) -> Performed<O, E>
+    ensures { Does O.taken O.failed E.taken E.failed out err result
+        (held S.Store desk.old) (held S.Store desk.new) input.now task.now.job }
+{
+    match &task.job {
+        Job::Import(_) => post_runs(alloc, desk, input, out, err),
+        Job::Ask(request) => ask(desk, request, out, err),
+    }
+}
+
+/// Asks the request of the desk. A due list is printed row by row, as it comes.
+fn ask<S: Alter, O: Target, E: Target>(
+    desk: &mut Desk<S>,
+    request: &Request,
+    out: O,
+    err: E,
+) -> Performed<O, E>
+    ensures { Asks O.taken O.failed E.taken E.failed out err result
+        (held S.Store desk.old) (held S.Store desk.new) request.now }
+{
+    match request {
+        Request::DueList {
+            account,
+            quarter,
+            as_of,
+        } => list_due(desk, account.as_str(), *quarter, *as_of, out, err),
+        _ => answer(desk, request, out, err),
+    }
+}
+
+/// Asks the request of the desk. The text of its reply goes to `out`, and the line of a refusal to
+/// `err`.
+fn answer<S: Alter, O: Target, E: Target>(
+    desk: &mut Desk<S>,
+    request: &Request,
+    out: O,
+    err: E,
+) -> Performed<O, E>
+    ensures { Performs O.taken O.failed E.taken E.failed out err result
+        (held S.Store desk.old) (held S.Store desk.new) request.now }
+{
+    let answer = desk.handle(request);
+    match &answer {
+        Ok(reply) => print_reply(request, reply, out, err),
+        Err(refusal) => print_refusal(refusal, out, err),
+    }
+}
+
+/// Prints the due list of an account's quarter as of a day, row by row. Nothing goes to `out` where
+/// the desk refuses it. Where memory or the store fails in the middle, the first lines stand there.
+fn list_due<S: Alter, O: Target, E: Target>(
+    desk: &mut Desk<S>,
+    account: &str,
+    quarter: Quarter,
+    as_of: Day,
+    out: O,
+    err: E,
+) -> Performed<O, E>
+    ensures { PerformsDue O.taken O.failed E.taken E.failed out err result
+        (held S.Store desk.old) (held S.Store desk.new) account.now quarter as_of }
+{
+    let mut text = LateDueText::new(account, quarter, as_of, out);
+    match desk.due_into(account, quarter, as_of, &mut text) {
+        Ok(()) => match text.end() {
+            Ok(out) => Performed {
+                status: 0,
+                out,
+                err,
+            },
+            Err(Unwritten { writer }) => fail_output(writer, err),
+        },
+        Err(DueFault::Refused(refusal)) => print_refusal(&refusal, text.into_writer(), err),
+        Err(DueFault::Sink) => fail_output(text.into_writer(), err),
+    }
+}
+
+/// Posts the pay runs of a text, CSV with the header `employer,run,payday,fit,ss,medicare`. The
+/// summary goes to `out`; where the import stops, why goes to `err`. The status is 1 where a record
+/// was refused or malformed, or where the text is too long or has another header.
+fn post_runs<S: Alter, O: Target, E: Target>(
+    alloc: Global,
+    desk: &mut Desk<S>,
+    input: &[u8],
+    out: O,
+    err: E,
+) -> Performed<O, E>
+    ensures { PerformsImport O.taken O.failed E.taken E.failed out err result
+        (held S.Store desk.old) (held S.Store desk.new) input.now }
+{
+    match import(alloc, desk, input) {
+        Ok(summary) => print_summary(&summary, out, err),
+        Err(stopped) => print_stop(&stopped, out, err),
+    }
+}
+
+/// The exit status of an import that did not stop.
+fn status_in(summary: &Summary) -> u8
+    ensures { result ≡ summary_status summary.now }
+{
+    if summary.refused == 0 && summary.malformed == 0 {
+        0
+    } else {
+        1
+    }
+}
+
+/// Prints the summary of an import.
+fn print_summary<O: Target, E: Target>(summary: &Summary, out: O, err: E) -> Performed<O, E>
+    ensures { PrintsOut O.taken O.failed E.taken E.failed out err result
+        (summary_status summary.now) (summary_text summary.now) }
+{
+    let mut out = out;
+    match write_summary(summary, &mut out) {
+        Ok(()) => Performed {
+            status: status_in(summary),
+            out,
+            err,
+        },
+        Err(_) => fail_output(out, err),
+    }
+}
+
+/// Prints the summary of an import that stopped, and why it did.
+fn print_stop<O: Target, E: Target>(stopped: &Stopped, out: O, err: E) -> Performed<O, E>
+    ensures { PrintsStop O.taken O.failed E.taken E.failed out err result stopped.now }
+{
+    let mut out = out;
+    match write_summary(&stopped.done, &mut out) {
+        Ok(()) => print_cause(stopped.cause, out, err),
+        Err(_) => fail_output(out, err),
+    }
+}
+
+/// Prints why an import stopped.
+fn print_cause<O, E: Target>(cause: StopCause, out: O, err: E) -> Performed<O, E>
+    ensures status { result.status ≡ stop_status cause }
+    ensures out { result.out ≡ out }
+    ensures line { IsPut (E.taken err) (E.taken result.err) (E.failed result.err)
+        (cause_text cause) }
+{
+    match cause {
+        StopCause::BadHeader => print_line(1, b"refused header\n", out, err),
+        StopCause::TooLong => print_line(1, b"refused length\n", out, err),
+        StopCause::Memory => print_line(3, b"failed 21 Memory\n", out, err),
+        StopCause::Store => print_line(3, b"failed 22 Store\n", out, err),
+    }
+}
+
+/// Prints a line on standard error, and answers the status.
+fn print_line<O, E: Target>(status: u8, line: &[u8], out: O, err: E) -> Performed<O, E>
+    ensures status { result.status ≡ status }
+    ensures out { result.out ≡ out }
+    ensures line { IsPut (E.taken err) (E.taken result.err) (E.failed result.err) line.now }
+{
+    let mut err = err;
+    put(line, &mut err);
+    Performed { status, out, err }
+}
+
+/// Prints the text of a reply.
+fn print_reply<O: Target, E: Target>(
+    request: &Request,
+    reply: &Reply,
+    out: O,
+    err: E,
+) -> Performed<O, E>
+    requires bounded { IsBounded reply.now }
+    ensures { PrintsReply O.taken O.failed E.taken E.failed out err result
+        (reply_text request.now reply.now) }
+{
+    let mut out = out;
+    match write_reply(request, reply, &mut out) {
+        Ok(()) => Performed {
+            status: 0,
+            out,
+            err,
+        },
+        Err(_) => fail_output(out, err),
+    }
+}
+
+/// Says that standard output failed.
+pub(crate) fn fail_output<O, E: Target>(out: O, err: E) -> Performed<O, E>
+    ensures status { result.status ≡ 3 }
+    ensures out { result.out ≡ out }
+    ensures line { IsPut (E.taken err) (E.taken result.err) (E.failed result.err)
+        (codes "failed Output\n") }
+{
+    print_line(3, b"failed Output\n", out, err)
+}
+
+/// Prints the line of a refusal.
+fn print_refusal<O: Target, E: Target>(refusal: &Refusal, out: O, err: E) -> Performed<O, E>
+    ensures { PrintsRefusal O.taken O.failed E.taken E.failed out err result refusal.now }
+{
+    let mut err = err;
+    let _ = write_refusal(refusal, &mut err);
+    Performed {
+        status: status_of(*refusal),
+        out,
+        err,
+    }
+}

@@ -1,0 +1,108 @@
+//! The text of an import's summary.
+
+ghost use Rattle.std.specs.Prelude.{◌≡◌, true, OnOk, OnErr};
+ghost use Rattle.std.specs.Io.KnownBytes.{Appends};
+ghost use Rattle.ftd_ports.specs.Writing.{WritesPrefix};
+ghost use Rattle.ftd_program.specs.Summaries.{counts_text, field_text, finding_text, note_text, record_text, summary_text};
+
+use crate::refusals::write_refusal;
+use ftd_import::{Finding, Note, Summary};
+use ftd_ports::{Target, WriteFault, write_pieces};
+use itoa::Buffer;
+
+/// Writes the summary of an import: its counts, and a line for each note.
+pub fn write_summary<W: Target>(summary: &Summary, target: &mut W) -> Result<(), WriteFault>
+    ensures ok { OnOk result
+        (Appends (W.taken target.old) (W.taken target.new) (summary_text summary.now)) }
+    ensures err { OnErr result
+        (WritesPrefix (W.taken target.old) (W.taken target.new) (summary_text summary.now)) }
+    ensures fault { OnErr result (W.failed target.new ≡ true) }
+{
+    write_counts(summary, target)?;
+    for note in &summary.notes {
+        write_note(note, target)?;
+    }
+    Ok(())
+}
+
+/// Writes the counts.
+fn write_counts<W: Target>(summary: &Summary, target: &mut W) -> Result<(), WriteFault>
+    ensures ok { OnOk result
+        (Appends (W.taken target.old) (W.taken target.new) (counts_text summary.now)) }
+    ensures err { OnErr result
+        (WritesPrefix (W.taken target.old) (W.taken target.new) (counts_text summary.now)) }
+    ensures fault { OnErr result (W.failed target.new ≡ true) }
+{
+    let (mut posted_digits, mut already_digits) = (Buffer::new(), Buffer::new());
+    let (mut refused_digits, mut malformed_digits) = (Buffer::new(), Buffer::new());
+    let posted = posted_digits.format(summary.posted).as_bytes();
+    let already = already_digits.format(summary.already).as_bytes();
+    let refused = refused_digits.format(summary.refused).as_bytes();
+    let malformed = malformed_digits.format(summary.malformed).as_bytes();
+    write_pieces(
+        target,
+        &[
+            b"posted ",
+            posted,
+            b" already ",
+            already,
+            b" refused ",
+            refused,
+            b" malformed ",
+            malformed,
+            b"\n",
+        ],
+    )
+}
+
+/// Writes the line of a note.
+fn write_note<W: Target>(note: &Note, target: &mut W) -> Result<(), WriteFault>
+    ensures ok { OnOk result
+        (Appends (W.taken target.old) (W.taken target.new) (note_text note.now)) }
+    ensures err { OnErr result
+        (WritesPrefix (W.taken target.old) (W.taken target.new) (note_text note.now)) }
+    ensures fault { OnErr result (W.failed target.new ≡ true) }
+{
+    write_record(note.number, target)?;
+    write_finding(&note.finding, target)
+}
+
+/// Writes which record it is.
+fn write_record<W: Target>(number: u32, target: &mut W) -> Result<(), WriteFault>
+    ensures ok { OnOk result
+        (Appends (W.taken target.old) (W.taken target.new) (record_text number)) }
+    ensures err { OnErr result
+        (WritesPrefix (W.taken target.old) (W.taken target.new) (record_text number)) }
+    ensures fault { OnErr result (W.failed target.new ≡ true) }
+{
+    let mut digits = Buffer::new();
+    let number = digits.format(number).as_bytes();
+    write_pieces(target, &[b"record ", number, b" "])
+}
+
+/// Writes why the record was not posted.
+fn write_finding<W: Target>(finding: &Finding, target: &mut W) -> Result<(), WriteFault>
+    ensures ok { OnOk result
+        (Appends (W.taken target.old) (W.taken target.new) (finding_text finding.now)) }
+    ensures err { OnErr result
+        (WritesPrefix (W.taken target.old) (W.taken target.new) (finding_text finding.now)) }
+    ensures fault { OnErr result (W.failed target.new ≡ true) }
+{
+    match finding {
+        Finding::Malformed(field) => write_field(*field, target),
+        Finding::Refused(refusal) => write_refusal(refusal, target),
+    }
+}
+
+/// Writes which field is bad.
+fn write_field<W: Target>(field: u8, target: &mut W) -> Result<(), WriteFault>
+    ensures ok { OnOk result
+        (Appends (W.taken target.old) (W.taken target.new) (field_text field)) }
+    ensures err { OnErr result
+        (WritesPrefix (W.taken target.old) (W.taken target.new) (field_text field)) }
+    ensures fault { OnErr result (W.failed target.new ≡ true) }
+{
+    let mut digits = Buffer::new();
+    let field = digits.format(field).as_bytes();
+    write_pieces(target, &[b"malformed field ", field, b"\n"])
+}

@@ -1,0 +1,4 @@
+pub mod RouteFacts
+pub mod BodyFacts
+pub mod PathFacts
+pub mod AskFacts

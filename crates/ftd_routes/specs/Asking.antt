@@ -1,0 +1,49 @@
+-- What a message asks.
+use Rattle.std.specs.Prelude.{List, ℕ, Option, Some, None, codes, if◌then◌else◌}
+use Rattle.std.specs.Str.{is_utf8, bytes_eq}
+use Rattle.ftd_machine.specs.declared.requests.Request.{Request}
+use Rattle.ftd_routes.specs.Routes.{route_of}
+use Rattle.ftd_routes.specs.Requests.{request_of}
+use Rattle.ftd_routes.specs.declared.route.Ask.{Ask}
+use Rattle.ftd_routes.specs.declared.route.Ask.TheVariants as ask
+use Rattle.ftd_routes.specs.declared.ask.Method.{Method}
+use Rattle.ftd_routes.specs.declared.ask.Method.TheVariants.{Get, Post, Delete}
+use Rattle.ftd_routes.specs.declared.ask.Asked.{Asked}
+use Rattle.ftd_routes.specs.declared.ask.Asked.TheVariants as asked
+
+-- a method
+abbrev pub method_text : Method → List ℕ
+method_text Get = codes "GET"
+method_text Post = codes "POST"
+method_text Delete = codes "DELETE"
+
+-- the method of a route
+abbrev pub method_of : Ask → Method
+method_of ask.Enrol = Post
+method_of ask.Calendar = Post
+method_of ask.AddHoliday = Post
+method_of ask.Report = Post
+method_of ask.ReportYear = Post
+method_of ask.OpenYear = Post
+method_of ask.Post = Post
+method_of ask.Void = Delete
+method_of ask.Pay = Post
+method_of ask.VoidPay = Delete
+method_of ask.Status = Get
+method_of ask.DueList = Get
+method_of ask.ScheduleB = Get
+
+-- what a message of the right method asks
+abbrev pub formed : Option Request → Asked
+formed None = asked.BadForm
+formed (Some request) = asked.Asks request
+
+-- what a message asks that has this route
+abbrev pub routed : List ℕ → List ℕ → List ℕ → Option Ask → Asked
+routed method target body None = asked.NoRoute
+routed method target body (Some route) =
+    if bytes_eq method (method_text (method_of route)) then formed (request_of route target body) else asked.OtherMethod (method_of route)
+
+-- what a message of this method, this target and this body asks; a target that is no UTF-8 has no route
+unfoldable pub asked_of : List ℕ → List ℕ → List ℕ → Asked
+asked_of method target body = if is_utf8 target then routed method target body (route_of target) else asked.NoRoute

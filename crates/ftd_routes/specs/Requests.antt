@@ -1,0 +1,117 @@
+-- The requests of the routes, by the parts of the target and the members of the body.
+use Rattle.std.specs.Prelude.{ℕ, List, Option, Some, option_and_then, codes}
+use Rattle.serde_json.specs.Data.{Data}
+use Rattle.serde_json.specs.Find.{get}
+use Rattle.ftd_days.specs.Spelling.{day_of, spelled_quarter}
+use Rattle.ftd_machine.specs.declared.requests.Request.{Request}
+use Rattle.ftd_machine.specs.declared.requests.Request.TheVariants as request
+use Rattle.ftd_routes.specs.Paths.{part}
+use Rattle.ftd_routes.specs.Values.{path_number}
+use Rattle.ftd_routes.specs.Bodies.{json_of, text_at, whole_at, flag_or_false, form_or_941, days_at, day_at, quarter_at, amount_at}
+use Rattle.ftd_routes.specs.declared.route.Ask.{Ask}
+use Rattle.ftd_routes.specs.declared.route.Ask.TheVariants as ask
+
+infixl 10 ◌>>=◌
+abbrev pub ◌>>=◌ : {A B : Type 0} → Option A → (A → Option B) → Option B
+o >>= f = option_and_then f o
+
+-- the account of a path
+abbrev pub account_in : List ℕ → List ℕ
+account_in target = part 2 target
+
+-- the requests with a body
+unfoldable pub enrol_in : Data → Option Request
+enrol_in d = do
+  account ← text_at (codes "account") d
+  start ← day_at (codes "start") d
+  carried ← flag_or_false (get (codes "carried") d)
+  form ← form_or_941 (get (codes "form") d)
+  Some (request.Enrol account start carried form)
+
+unfoldable pub calendar_in : Data → Option Request
+calendar_in d = do
+  year ← whole_at (codes "year") d
+  days ← days_at (codes "days") d
+  Some (request.Calendar year days)
+
+unfoldable pub add_holiday_in : Data → Option Request
+add_holiday_in d = do
+  day ← day_at (codes "day") d
+  Some (request.AddHoliday day)
+
+unfoldable pub report_in : List ℕ → Data → Option Request
+report_in target d = do
+  quarter ← quarter_at (codes "quarter") d
+  cents ← amount_at (codes "amount") d
+  Some (request.Report (account_in target) quarter cents)
+
+unfoldable pub report_year_in : List ℕ → Data → Option Request
+report_year_in target d = do
+  year ← whole_at (codes "year") d
+  cents ← amount_at (codes "amount") d
+  Some (request.ReportYear (account_in target) year cents)
+
+unfoldable pub open_year_in : List ℕ → Data → Option Request
+open_year_in target d = do
+  year ← whole_at (codes "year") d
+  Some (request.OpenYear (account_in target) year)
+
+unfoldable pub post_in : List ℕ → Data → Option Request
+post_in target d = do
+  run ← whole_at (codes "run") d
+  payday ← day_at (codes "payday") d
+  fit ← amount_at (codes "fit") d
+  ss ← amount_at (codes "ss") d
+  medicare ← amount_at (codes "medicare") d
+  Some (request.Post (account_in target) run payday fit ss medicare)
+
+unfoldable pub pay_in : List ℕ → Data → Option Request
+pay_in target d = do
+  payment ← whole_at (codes "payment") d
+  paid ← day_at (codes "paid") d
+  for_day ← day_at (codes "for") d
+  cents ← amount_at (codes "amount") d
+  Some (request.Pay (account_in target) payment paid for_day cents)
+
+-- the requests of a path alone
+unfoldable pub void_in : List ℕ → Option Request
+void_in target = do
+  run ← path_number (part 4 target)
+  Some (request.Void (account_in target) run)
+
+unfoldable pub void_payment_in : List ℕ → Option Request
+void_payment_in target = do
+  payment ← path_number (part 4 target)
+  Some (request.VoidPay (account_in target) payment)
+
+unfoldable pub status_in : List ℕ → Option Request
+status_in target = do
+  day ← day_of (part 4 target)
+  Some (request.Status (account_in target) day)
+
+unfoldable pub due_list_in : List ℕ → Option Request
+due_list_in target = do
+  quarter ← spelled_quarter (part 4 target)
+  as_of ← day_of (part 5 target)
+  Some (request.DueList (account_in target) quarter as_of)
+
+unfoldable pub schedule_b_in : List ℕ → Option Request
+schedule_b_in target = do
+  quarter ← spelled_quarter (part 4 target)
+  Some (request.ScheduleB (account_in target) quarter)
+
+-- the request of a route
+abbrev pub request_of : Ask → List ℕ → List ℕ → Option Request
+request_of ask.Enrol target body = json_of body >>= enrol_in
+request_of ask.Calendar target body = json_of body >>= calendar_in
+request_of ask.AddHoliday target body = json_of body >>= add_holiday_in
+request_of ask.Report target body = json_of body >>= report_in target
+request_of ask.ReportYear target body = json_of body >>= report_year_in target
+request_of ask.OpenYear target body = json_of body >>= open_year_in target
+request_of ask.Post target body = json_of body >>= post_in target
+request_of ask.Void target body = void_in target
+request_of ask.Pay target body = json_of body >>= pay_in target
+request_of ask.VoidPay target body = void_payment_in target
+request_of ask.Status target body = status_in target
+request_of ask.DueList target body = due_list_in target
+request_of ask.ScheduleB target body = schedule_b_in target

@@ -1,0 +1,296 @@
+//! The requests of the routes.
+
+ghost use Rattle.std.specs.Prelude.{◌≡◌, IfOk};
+ghost use Rattle.serde_json.specs.View.{view};
+ghost use Rattle.ftd_routes.specs.Requests.{enrol_in, calendar_in, add_holiday_in, report_in};
+ghost use Rattle.ftd_routes.specs.Requests.{report_year_in, open_year_in, post_in, pay_in, void_in};
+ghost use Rattle.ftd_routes.specs.Requests.{void_payment_in, status_in, due_list_in, schedule_b_in};
+ghost use Rattle.ftd_routes.specs.Requests.{request_of};
+
+use crate::Ask;
+use crate::body::{
+    amount_at, day_at, days_at, flag_at, form_at, json, quarter_at, text_at, whole_at,
+};
+use crate::path::part;
+use crate::values::{name, path_number};
+use ftd_days::{Day, Quarter};
+use ftd_machine::{Days, Request};
+use serde_json::Value;
+use std::alloc::{AllocError, Global};
+
+/// The request of a route, by its target and its body.
+pub fn make_request(
+    alloc: Global,
+    route: Ask,
+    target: &str,
+    body: &[u8],
+) -> Result<Option<Request>, AllocError>
+    ensures { IfOk result (λ request. request ≡ request_of route target.now body.now) }
+{
+    match route {
+        Ask::Void => void(alloc, target),
+        Ask::VoidPay => void_payment(alloc, target),
+        Ask::Status => status(alloc, target),
+        Ask::DueList => due_list(alloc, target),
+        Ask::ScheduleB => schedule_b(alloc, target),
+        Ask::Enrol => match json(alloc, body)? {
+            None => Ok(None),
+            Some(value) => enrol(alloc, &value),
+        },
+        Ask::Calendar => match json(alloc, body)? {
+            None => Ok(None),
+            Some(value) => calendar(alloc, &value),
+        },
+        Ask::AddHoliday => match json(alloc, body)? {
+            None => Ok(None),
+            Some(value) => Ok(add_holiday(&value)),
+        },
+        Ask::Report => match json(alloc, body)? {
+            None => Ok(None),
+            Some(value) => report(alloc, target, &value),
+        },
+        Ask::ReportYear => match json(alloc, body)? {
+            None => Ok(None),
+            Some(value) => report_year(alloc, target, &value),
+        },
+        Ask::OpenYear => match json(alloc, body)? {
+            None => Ok(None),
+            Some(value) => open_year(alloc, target, &value),
+        },
+        Ask::Post => match json(alloc, body)? {
+            None => Ok(None),
+            Some(value) => post(alloc, target, &value),
+        },
+        Ask::Pay => match json(alloc, body)? {
+            None => Ok(None),
+            Some(value) => pay(alloc, target, &value),
+        },
+    }
+}
+
+/// A new account.
+#[tactic(auto, unfolding(crate::specs::Requests::enrol_in))]
+fn enrol(alloc: Global, value: &Value) -> Result<Option<Request>, AllocError>
+    ensures { IfOk result (λ request. request ≡ enrol_in (view value.now)) }
+{
+    let Some(account) = text_at(value, "account") else {
+        return Ok(None);
+    };
+    let Some(start) = day_at(value, "start") else {
+        return Ok(None);
+    };
+    let Some(carried) = flag_at(value, "carried") else {
+        return Ok(None);
+    };
+    let Some(form) = form_at(value, "form") else {
+        return Ok(None);
+    };
+    let account = name(alloc, account)?;
+    Ok(Some(Request::Enrol {
+        account,
+        start,
+        carried,
+        form,
+    }))
+}
+
+/// The holidays of a year.
+#[tactic(auto, unfolding(crate::specs::Requests::calendar_in))]
+fn calendar(alloc: Global, value: &Value) -> Result<Option<Request>, AllocError>
+    ensures { IfOk result (λ request. request ≡ calendar_in (view value.now)) }
+{
+    let Some(year) = whole_at(value, "year") else {
+        return Ok(None);
+    };
+    let Some(days) = days_at(alloc, value, "days")? else {
+        return Ok(None);
+    };
+    Ok(Some(Request::Calendar {
+        year,
+        days: Days::from_vec(days),
+    }))
+}
+
+/// A holiday that is added.
+#[tactic(auto, unfolding(crate::specs::Requests::add_holiday_in))]
+fn add_holiday(value: &Value) -> Option<Request>
+    ensures { result ≡ add_holiday_in (view value.now) }
+{
+    let day = day_at(value, "day")?;
+    Some(Request::AddHoliday { day })
+}
+
+/// A reported quarter.
+#[tactic(auto, unfolding(crate::specs::Requests::report_in))]
+fn report(alloc: Global, target: &str, value: &Value) -> Result<Option<Request>, AllocError>
+    ensures { IfOk result (λ request. request ≡ report_in target.now (view value.now)) }
+{
+    let Some(quarter) = quarter_at(value, "quarter") else {
+        return Ok(None);
+    };
+    let Some(cents) = amount_at(value, "amount") else {
+        return Ok(None);
+    };
+    let account = name(alloc, part(target, 2))?;
+    Ok(Some(Request::Report {
+        account,
+        quarter,
+        cents,
+    }))
+}
+
+/// A reported year.
+#[tactic(auto, unfolding(crate::specs::Requests::report_year_in))]
+fn report_year(alloc: Global, target: &str, value: &Value) -> Result<Option<Request>, AllocError>
+    ensures { IfOk result (λ request. request ≡ report_year_in target.now (view value.now)) }
+{
+    let Some(year) = whole_at(value, "year") else {
+        return Ok(None);
+    };
+    let Some(cents) = amount_at(value, "amount") else {
+        return Ok(None);
+    };
+    let account = name(alloc, part(target, 2))?;
+    Ok(Some(Request::ReportYear {
+        account,
+        year,
+        cents,
+    }))
+}
+
+/// A year that is opened.
+#[tactic(auto, unfolding(crate::specs::Requests::open_year_in))]
+fn open_year(alloc: Global, target: &str, value: &Value) -> Result<Option<Request>, AllocError>
+    ensures { IfOk result (λ request. request ≡ open_year_in target.now (view value.now)) }
+{
+    let Some(year) = whole_at(value, "year") else {
+        return Ok(None);
+    };
+    let account = name(alloc, part(target, 2))?;
+    Ok(Some(Request::OpenYear { account, year }))
+}
+
+/// A pay run.
+#[tactic(auto, unfolding(crate::specs::Requests::post_in))]
+fn post(alloc: Global, target: &str, value: &Value) -> Result<Option<Request>, AllocError>
+    ensures { IfOk result (λ request. request ≡ post_in target.now (view value.now)) }
+{
+    let Some(run) = whole_at(value, "run") else {
+        return Ok(None);
+    };
+    let Some(payday) = day_at(value, "payday") else {
+        return Ok(None);
+    };
+    let Some(fit) = amount_at(value, "fit") else {
+        return Ok(None);
+    };
+    let Some(ss) = amount_at(value, "ss") else {
+        return Ok(None);
+    };
+    let Some(medicare) = amount_at(value, "medicare") else {
+        return Ok(None);
+    };
+    let account = name(alloc, part(target, 2))?;
+    Ok(Some(Request::Post {
+        account,
+        run,
+        payday,
+        fit,
+        ss,
+        medicare,
+    }))
+}
+
+/// A payment.
+#[tactic(auto, unfolding(crate::specs::Requests::pay_in))]
+fn pay(alloc: Global, target: &str, value: &Value) -> Result<Option<Request>, AllocError>
+    ensures { IfOk result (λ request. request ≡ pay_in target.now (view value.now)) }
+{
+    let Some(payment) = whole_at(value, "payment") else {
+        return Ok(None);
+    };
+    let Some(paid) = day_at(value, "paid") else {
+        return Ok(None);
+    };
+    let Some(for_day) = day_at(value, "for") else {
+        return Ok(None);
+    };
+    let Some(cents) = amount_at(value, "amount") else {
+        return Ok(None);
+    };
+    let account = name(alloc, part(target, 2))?;
+    Ok(Some(Request::Pay {
+        account,
+        payment,
+        paid,
+        for_day,
+        cents,
+    }))
+}
+
+/// A pay run that is made void.
+#[tactic(auto, unfolding(crate::specs::Requests::void_in))]
+fn void(alloc: Global, target: &str) -> Result<Option<Request>, AllocError>
+    ensures { IfOk result (λ request. request ≡ void_in target.now) }
+{
+    let Some(run) = path_number(part(target, 4)) else {
+        return Ok(None);
+    };
+    let account = name(alloc, part(target, 2))?;
+    Ok(Some(Request::Void { account, run }))
+}
+
+/// A payment that is made void.
+#[tactic(auto, unfolding(crate::specs::Requests::void_payment_in))]
+fn void_payment(alloc: Global, target: &str) -> Result<Option<Request>, AllocError>
+    ensures { IfOk result (λ request. request ≡ void_payment_in target.now) }
+{
+    let Some(payment) = path_number(part(target, 4)) else {
+        return Ok(None);
+    };
+    let account = name(alloc, part(target, 2))?;
+    Ok(Some(Request::VoidPay { account, payment }))
+}
+
+/// The schedule on a day.
+#[tactic(auto, unfolding(crate::specs::Requests::status_in))]
+fn status(alloc: Global, target: &str) -> Result<Option<Request>, AllocError>
+    ensures { IfOk result (λ request. request ≡ status_in target.now) }
+{
+    let Some(day) = Day::read(part(target, 4).as_bytes()) else {
+        return Ok(None);
+    };
+    let account = name(alloc, part(target, 2))?;
+    Ok(Some(Request::Status { account, day }))
+}
+
+/// What is due for a quarter.
+#[tactic(auto, unfolding(crate::specs::Requests::due_list_in))]
+fn due_list(alloc: Global, target: &str) -> Result<Option<Request>, AllocError>
+    ensures { IfOk result (λ request. request ≡ due_list_in target.now) }
+{
+    let Some(quarter) = Quarter::read(part(target, 4).as_bytes()) else {
+        return Ok(None);
+    };
+    let Some(as_of) = Day::read(part(target, 5).as_bytes()) else {
+        return Ok(None);
+    };
+    let account = name(alloc, part(target, 2))?;
+    Ok(Some(Request::DueList {
+        account,
+        quarter,
+        as_of,
+    }))
+}
+
+/// The liability of a quarter.
+#[tactic(auto, unfolding(crate::specs::Requests::schedule_b_in))]
+fn schedule_b(alloc: Global, target: &str) -> Result<Option<Request>, AllocError>
+    ensures { IfOk result (λ request. request ≡ schedule_b_in target.now) }
+{
+    let Some(quarter) = Quarter::read(part(target, 4).as_bytes()) else {
+        return Ok(None);
+    };
+    let account = name(alloc, part(target, 2))?;
+    Ok(Some(Request::ScheduleB { account, quarter }))
+}

@@ -1,0 +1,98 @@
+//! The routes.
+
+ghost use Rattle.std.specs.Prelude.{◌≡◌, IfOk, OnOk, option_map};
+ghost use Rattle.matchit.specs.Seek.{first};
+ghost use Rattle.ftd_routes.specs.Routes.{all_routes, with_route};
+
+use matchit::{InsertError, Router};
+use std::alloc::Global;
+
+/// What a route asks.
+#[derive(Clone, Copy, Debug, PartialEq, Eq)]
+pub enum Ask {
+    /// A new account.
+    Enrol,
+    /// The holidays of a year.
+    Calendar,
+    /// A holiday that is added.
+    AddHoliday,
+    /// A reported quarter.
+    Report,
+    /// A reported year.
+    ReportYear,
+    /// A year that is opened.
+    OpenYear,
+    /// A pay run.
+    Post,
+    /// A pay run that is voided.
+    Void,
+    /// A payment.
+    Pay,
+    /// A payment that is voided.
+    VoidPay,
+    /// The schedule of a day.
+    Status,
+    /// What is due for a quarter.
+    DueList,
+    /// The liability of a quarter by day.
+    ScheduleB,
+}
+
+/// Puts in one more route.
+#[tactic(
+    auto,
+    using(crate::proofs::RouteFacts::inserted),
+    unfolding(crate::specs::Routes::with_route)
+)]
+fn put(router: &mut Router<Ask>, route: &str, ask: Ask) -> Result<(), InsertError>
+    ensures { OnOk result (router.new ≡ with_route route.now ask router.old) }
+{
+    router.insert(route, ask)
+}
+
+/// The router of all routes. An error says that there was no memory: no two routes are at odds.
+pub fn make_router(alloc: Global) -> Result<Router<Ask>, InsertError>
+    ensures { IfOk result (λ router. router ≡ all_routes) }
+{
+    let mut router = Router::new(alloc);
+    put(&mut router, "/accounts", Ask::Enrol)?;
+    put(&mut router, "/calendars", Ask::Calendar)?;
+    put(&mut router, "/holidays", Ask::AddHoliday)?;
+    put(&mut router, "/accounts/{account}/reported", Ask::Report)?;
+    put(
+        &mut router,
+        "/accounts/{account}/reported-years",
+        Ask::ReportYear,
+    )?;
+    put(&mut router, "/accounts/{account}/years", Ask::OpenYear)?;
+    put(&mut router, "/accounts/{account}/runs", Ask::Post)?;
+    put(&mut router, "/accounts/{account}/runs/{run}", Ask::Void)?;
+    put(&mut router, "/accounts/{account}/payments", Ask::Pay)?;
+    put(
+        &mut router,
+        "/accounts/{account}/payments/{payment}",
+        Ask::VoidPay,
+    )?;
+    put(&mut router, "/accounts/{account}/status/{day}", Ask::Status)?;
+    put(
+        &mut router,
+        "/accounts/{account}/due/{quarter}/{asof}",
+        Ask::DueList,
+    )?;
+    put(
+        &mut router,
+        "/accounts/{account}/schedule-b/{quarter}",
+        Ask::ScheduleB,
+    )?;
+    Ok(router)
+}
+
+/// The route of a target, if it has one.
+pub fn look_up(router: &Router<Ask>, target: &str) -> Option<Ask>
+    ensures { result ≡ option_map (λ r. r.value) (first router.now target.now) }
+{
+    match router.at(target) {
+        Ok(found) => Some(*found.value),
+        Err(_) => None,
+    }
+}
