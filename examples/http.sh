@@ -4,45 +4,20 @@
 set -u
 ftd=$(realpath "${1:?the path of ftd}")
 port=${2:-8080}
-page=$(dirname "$(realpath "$0")")/../docs/HTTP.md
+here=$(dirname "$(realpath "$0")")
 folder=$(mktemp -d)
 trap 'rm -r "$folder"' EXIT
 
-# the commands, and below each what it prints
-grep -c '^\$ curl ' "$page" > "$folder/count"
-awk '/^```/ { inside = ($0 == "```console"); next } inside' "$page" > "$folder/lines"
-
-"$ftd" serve --db "$folder/office.db" --port "$port" --connections "$(cat "$folder/count")" > "$folder/out" &
+sed "s/:8080\//:$port\//" "$here/../docs/HTTP.md" > "$folder/page"
+count=$(grep -c '^\$ curl ' "$folder/page")
+"$ftd" serve --db "$folder/office.db" --port "$port" --connections "$count" > "$folder/out" &
 server=$!
 for _ in $(seq 100); do
     grep -qs '^listening ' "$folder/out" && break
     sleep 0.1
 done
 
-failed=0
-compare() {
-    if [ -n "$command" ] && [ "$(bash -c "$command")" != "$wanted" ]; then
-        echo "differs: $command"
-        failed=1
-    fi
-}
-command=
-wanted=
-while IFS= read -r line; do
-    case $line in
-        '$ curl '*)
-            compare
-            command=${line#'$ '}
-            command=${command//:8080\//:$port/}
-            wanted=
-            ;;
-        *)
-            wanted=${wanted:+$wanted$'\n'}$line
-            ;;
-    esac
-done < "$folder/lines"
-compare
-
+"$here/said.sh" "$folder/page"
+failed=$?
 wait "$server" || { echo "serve ended with status $?"; failed=1; }
-[ "$failed" = 0 ] && echo "all $(cat "$folder/count") answers are as docs/HTTP.md has them"
 exit "$failed"

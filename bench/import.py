@@ -1,0 +1,151 @@
+#!/usr/bin/env python3
+"""Imports pay runs by the program `ftd`, beside a Python script with `csv` and `sqlite3` that writes the rows of the runs alone and
+computes nothing: time and peak memory, into a new file and again. Then it kills 50 imports at random moments, imports again, and
+compares the tables with those of one import."""
+
+import csv
+import os
+import random
+import shutil
+import signal
+import sqlite3
+import subprocess
+import sys
+import tempfile
+import time
+
+FTD = os.path.join(os.path.dirname(__file__), "..", "crates", "ftd", "out", "ftd")
+if len(sys.argv) > 1:
+    FTD = sys.argv[1]
+FTD = os.path.abspath(FTD)
+
+
+def ftd(*words):
+    """What the program does with the words: its exit status and its first line."""
+    done = subprocess.run([FTD, *words], stdout=subprocess.PIPE, stderr=subprocess.PIPE, text=True)
+    return done.returncode, (done.stdout or done.stderr).split("\n")[0]
+
+
+def new_desk(folder, accounts):
+    """A file with the accounts enrolled and 2024 open."""
+    db = os.path.join(folder, "office.db")
+    for words in (["calendar", "2024"], ["calendar", "2025"]):
+        assert ftd(*words, "--db", db) == (0, "done")
+    for account in accounts:
+        assert ftd("enrol", account, "2024-01-01", "--db", db) == (0, "done")
+        assert ftd("open-year", account, "2024", "--db", db) == (0, "done")
+    return db
+
+
+def write_runs(path, accounts, each, chosen):
+    """A text of pay runs, the paydays at random over 2024."""
+    with open(path, "w", newline="") as out:
+        writer = csv.writer(out, lineterminator="\n")
+        writer.writerow(["employer", "run", "payday", "fit", "ss", "medicare"])
+        for number in range(1, each + 1):
+            for account in accounts:
+                day = f"2024-{chosen.randrange(1, 13):02}-{chosen.randrange(1, 29):02}"
+                writer.writerow([account, number, day, "1.00", "0.62", "0.14"])
+
+
+SCRIPT = """
+import csv, sqlite3, sys
+from datetime import date
+db = sqlite3.connect(sys.argv[2])
+db.execute("PRAGMA journal_mode=WAL")
+db.execute("PRAGMA synchronous=FULL")
+db.execute("CREATE TABLE IF NOT EXISTS run (account TEXT NOT NULL, run INTEGER NOT NULL, payday INTEGER NOT NULL, "
+           "fit INTEGER NOT NULL, ss INTEGER NOT NULL, medicare INTEGER NOT NULL, voided INTEGER NOT NULL, "
+           "PRIMARY KEY (account, run)) STRICT")
+db.execute("CREATE INDEX IF NOT EXISTS run_by_payday ON run (account, payday)")
+start = date(1970, 1, 1)
+cents = lambda text: round(float(text) * 100)
+with open(sys.argv[1], newline="") as text:
+    rows = csv.reader(text)
+    next(rows)
+    for account, run, payday, fit, ss, medicare in rows:
+        row = (account, int(run), (date.fromisoformat(payday) - start).days, cents(fit), cents(ss), cents(medicare))
+        known = db.execute("SELECT * FROM run WHERE account = ? AND run = ?", row[:2]).fetchone()
+        if known is None:
+            db.execute("INSERT INTO run VALUES (?, ?, ?, ?, ?, ?, 0)", row)
+db.commit()
+"""
+
+
+def measured(words):
+    """The seconds and the peak memory in MB of a command."""
+    start = time.monotonic()
+    child = subprocess.Popen(words, stdout=subprocess.PIPE, text=True)
+    line = child.stdout.readline().strip()
+    child.stdout.read()
+    _, status, used = os.wait4(child.pid, 0)
+    return time.monotonic() - start, used.ru_maxrss / 1024, line
+
+
+def measure(folder, accounts, each, chosen):
+    text = os.path.join(folder, "runs.csv")
+    write_runs(text, accounts, each, chosen)
+    db = new_desk(folder, accounts)
+    other = os.path.join(folder, "python.db")
+    print(f"{each * len(accounts)} runs of {len(accounts)} accounts")
+    for name in ("into a new file", "again"):
+        seconds, memory, line = measured([FTD, "import", "--db", db, text])
+        python, held, _ = measured([sys.executable, "-c", SCRIPT, text, other])
+        print(f"  {name}: ftd {seconds:.2f} s, {memory:.0f} MB ({line}); Python {python:.2f} s, {held:.0f} MB; {seconds / python:.1f} times")
+
+
+def tables(db):
+    """All rows of the desk's tables."""
+    conn = sqlite3.connect(db)
+    names = [name for (name,) in conn.execute("SELECT name FROM sqlite_master WHERE type = 'table' ORDER BY name")]
+    rows = {name: sorted(conn.execute(f"SELECT * FROM {name}")) for name in names}
+    conn.close()
+    return rows
+
+
+def kill(folder, count, chosen):
+    """Imports that are killed at random moments, and then imported again."""
+    text = os.path.join(folder, "killed.csv")
+    write_runs(text, ["ash", "birch"], 1500, chosen)
+    begun = new_desk(folder, ["ash", "birch"])
+    whole = os.path.join(folder, "whole.db")
+    shutil.copy(begun, whole)
+    start = time.monotonic()
+    ftd("import", "--db", whole, text)
+    took = time.monotonic() - start
+    wanted = tables(whole)
+    right = 0
+    cut = 0
+    for _ in range(count):
+        db = os.path.join(folder, "killed.db")
+        for name in (db, db + "-wal"):
+            if os.path.exists(name):
+                os.remove(name)
+        shutil.copy(begun, db)
+        child = subprocess.Popen([FTD, "import", "--db", db, text], stdout=subprocess.DEVNULL)
+        time.sleep(chosen.random() * took)
+        child.send_signal(signal.SIGKILL)
+        child.wait()
+        status, line = ftd("import", "--db", db, text)
+        cut += "already 0" not in line and "posted 0" not in line
+        right += status == 0 and tables(db) == wanted
+    print(f"{count} imports killed, {cut} of them in the middle of the records; {right} end in the tables of one import")
+
+
+def main():
+    chosen = random.Random(20240115)
+    with tempfile.TemporaryDirectory() as folder:
+        db = new_desk(folder, ["ash"])
+        start = time.monotonic()
+        for _ in range(20):
+            ftd("status", "ash", "2024-01-05", "--db", db)
+        print(f"ftd status: {(time.monotonic() - start) / 20 * 1000:.0f} ms")
+    with tempfile.TemporaryDirectory() as folder:
+        measure(folder, ["ash"], 20_000, chosen)
+    with tempfile.TemporaryDirectory() as folder:
+        measure(folder, [f"a{number}" for number in range(100)], 2_000, chosen)
+    with tempfile.TemporaryDirectory() as folder:
+        kill(folder, 50, chosen)
+
+
+main()
