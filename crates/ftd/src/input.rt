@@ -14,7 +14,9 @@ pub fn words(rt: &HostRuntime) -> Result<Vec<String>, ProgramFault> {
 /// As many bytes as are looked at: one more than a text of pay runs may have, by which a longer one
 /// is known.
 fn most_input() -> u64 {
-    u64::try_from(MOST_BYTES).unwrap_or(u64::MAX).saturating_add(1)
+    u64::try_from(MOST_BYTES)
+        .unwrap_or(u64::MAX)
+        .saturating_add(1)
 }
 
 /// The bytes of standard input.
@@ -30,6 +32,8 @@ pub fn import_input(rt: &HostRuntime, file: &str) -> Result<Vec<u8>, ProgramFaul
         return standard_input(rt);
     }
     let mut input = Vec::new(rt.alloc());
-    File::open(rt, file)?.take(most_input()).read_to_end(&mut input)?;
+    File::open(rt, file)?
+        .take(most_input())
+        .read_to_end(&mut input)?;
     Ok(input)
 }

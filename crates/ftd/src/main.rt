@@ -40,11 +40,13 @@ fn run(rt: &HostRuntime) -> Result<u8, ProgramFault> {
     match decide(rt.alloc(), &words) {
         Ok(Task::Plain(task)) => plain(rt, &task),
         Ok(Task::Local(task)) => local(rt, &task),
-        Ok(Task::Serve {
-            db,
-            port,
-            connections,
-        }) => serve(rt, &db, port, connections),
+        Ok(
+            Task::Serve {
+                db,
+                port,
+                connections,
+            },
+        ) => serve(rt, &db, port, connections),
         Err(fault) => {
             let mut out = Port::new(io::writer(rt));
             let mut err = Port::new(rt.stderr());

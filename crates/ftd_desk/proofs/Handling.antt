@@ -232,8 +232,11 @@ served_less b m counts later request answer serves stays = record {
   crash = serves.crash;
   kept = serves.kept;
   answered = λ clean s k counted.
-      inl (inr refl, elim (serves.answered clean s k counted) [
-        | inl fault ↦ fault.1
-        | inr x ↦ subst (λ n. AreCounted later n) (leaves s request answer x.0 x.1 stays) x.4
-      ]);
+      inl (
+        inr refl,
+        elim (serves.answered clean s k counted) [
+          | inl fault ↦ fault.1
+          | inr x ↦ subst (λ n. AreCounted later n) (leaves s request answer x.0 x.1 stays) x.4
+        ],
+      );
 }

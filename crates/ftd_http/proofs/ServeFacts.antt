@@ -286,11 +286,11 @@ module _ {M : Type 0} (goes : M → Request → Answer → M → Type 0) where
       → (part : List ℕ) × BreaksOff goes before buf now later part why.Write × Appends taken taken' part
   half_answer before buf parts message what now later said close taken taken' at is closing responds p =
       let closing = closing_at before buf parts message close at closing in (
-    p.written,
-    in_answer message (drop parts.end buf) p.written p.unwritten why.Write (λ e. cc) at.is at.reads
-        (record { said = said; responds = responds_at buf parts message what now later said at is responds; is = sym p.parts ∙ ap (λ b. response_text said b) closing }),
-    p.appends,
-  )
+        p.written,
+        in_answer message (drop parts.end buf) p.written p.unwritten why.Write (λ e. cc) at.is at.reads
+            (record { said = said; responds = responds_at buf parts message what now later said at is responds; is = sym p.parts ∙ ap (λ b. response_text said b) closing }),
+        p.appends,
+      )
 
   -- the answer is written
   pub whole_answer : (before : ℕ) (buf : List ℕ) (parts : Parts) (message : Message) (what : Asked) (now later : M) (said : Said) (close : Bool) (taken taken' : Option (List ℕ))

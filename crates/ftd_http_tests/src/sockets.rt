@@ -61,7 +61,11 @@ fn a_silent_peer_fails_and_the_next_is_answered(rt: HostRuntime) -> Result<(), F
     let mut answers = Vec::new(alloc);
     stream.read_to_end(&mut answers)?;
     are_same(&rt, answers.as_slice(), OUTPUT);
-    are_same(&rt, err.into_inner().as_slice(), b"connection 1 failed Read\n");
+    are_same(
+        &rt,
+        err.into_inner().as_slice(),
+        b"connection 1 failed Read\n",
+    );
     let mut nothing = Vec::new(alloc);
     silent.read_to_end(&mut nothing)?;
     are_same(&rt, nothing.as_slice(), b"");

@@ -198,8 +198,20 @@ elm,2,2024-08-09,100.00,62.00,14.5
 elm,1,2024-05-08,1,0,0
 elm,1,2024-05-08,2,0,0
 ";
-    prints(&rt, rt.alloc(), &mut desk, (line, 1, "", "run 1 differs\n"), twice)?;
-    prints(&rt, rt.alloc(), &mut desk, (line, 1, "", "refused header\n"), b"")
+    prints(
+        &rt,
+        rt.alloc(),
+        &mut desk,
+        (line, 1, "", "run 1 differs\n"),
+        twice,
+    )?;
+    prints(
+        &rt,
+        rt.alloc(),
+        &mut desk,
+        (line, 1, "", "refused header\n"),
+        b"",
+    )
 }
 
 #[test]

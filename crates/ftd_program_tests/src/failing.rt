@@ -27,10 +27,21 @@ fn fails_after_each(rt: &impl Abort, alloc: Global, line: &str, text: &str) -> R
         let out = Port::new(Taker { taken, room });
         let done = done(alloc, &mut desk, line, b"", out, Port::new(Vec::new(alloc)))?;
         let whole = room == text.len();
-        let (status, told) = if whole { (0, "") } else { (3, "failed Output\n") };
+        let (status, told) = if whole {
+            (0, "")
+        } else {
+            (3, "failed Output\n")
+        };
         assert_eq!(rt; done.status, status, "{line} {room}");
-        assert_eq!(rt; done.out.into_inner().taken.as_slice(), &text.as_bytes()[..room]);
-        assert_eq!(rt; done.err.into_inner().as_slice(), told.as_bytes(), "{line} {room}");
+        assert_eq!(rt;
+            done.out.into_inner().taken.as_slice(),
+            &text.as_bytes()[..room]
+        );
+        assert_eq!(rt;
+            done.err.into_inner().as_slice(),
+            told.as_bytes(),
+            "{line} {room}"
+        );
     }
     Ok(())
 }
@@ -41,7 +52,12 @@ fn a_due_list_breaks_off_where_standard_output_fails(rt: HostRuntime) -> Result<
 2024-01-01 2024-01-31 monthly               882.50 2024-02-15 2024-04-30              0.00 with-return
 TOTAL                                       882.50
 ";
-    fails_after_each(&rt, rt.alloc(), "ftd due --db f ash 2024Q1 2024-02-20", text)
+    fails_after_each(
+        &rt,
+        rt.alloc(),
+        "ftd due --db f ash 2024Q1 2024-02-20",
+        text,
+    )
 }
 
 #[test]

@@ -39,7 +39,11 @@ pub(crate) fn total_with(total: u64, row: &DueRow) -> Option<u64>
     ensures full { result ≡ None → most_total ≤ total + amount_of row.now }
 {
     let total = total.saturating_add(row.obligation.cents.0);
-    if total < MOST_TOTAL { Some(total) } else { None }
+    if total < MOST_TOTAL {
+        Some(total)
+    } else {
+        None
+    }
 }
 
 impl<W: Target> DueText<W> {

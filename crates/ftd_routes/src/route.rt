@@ -39,11 +39,7 @@ pub enum Ask {
 }
 
 /// Puts in one more route.
-#[tactic(
-    auto,
-    using(crate::proofs::RouteFacts::inserted),
-    unfolding(crate::specs::Routes::with_route)
-)]
+#[tactic(auto, using(crate::proofs::RouteFacts::inserted), unfolding(crate::specs::Routes::with_route))]
 fn put(router: &mut Router<Ask>, route: &str, ask: Ask) -> Result<(), InsertError>
     ensures { OnOk result (router.new ≡ with_route route.now ask router.old) }
 {

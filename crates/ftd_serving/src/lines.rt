@@ -51,7 +51,13 @@ pub fn tell_failed<W: Target>(
 {
     let mut digits = Buffer::new();
     let number = digits.format(number).as_bytes();
-    let pieces: [&[u8]; 5] = [b"connection ", number, b" failed ", cause_text(cause), b"\n"];
+    let pieces: [&[u8]; 5] = [
+        b"connection ",
+        number,
+        b" failed ",
+        cause_text(cause),
+        b"\n",
+    ];
     tell_more(told, &pieces, err)
 }
 

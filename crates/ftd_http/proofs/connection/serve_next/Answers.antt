@@ -70,7 +70,9 @@ returns g c =
     let found = rw c.in-Whole.is at c.in-Ok.ensures.next in
     let (message, at) = found.0 in
     let done = c.in-Ok-answer.ensures.ok message (rw c.deref.ensures.value at) in
-    let few : c.args.answered < 99 = omega arith in
-    (few, λ start first said talk.
-    rw c.drop_front.ensures (goes_on g.M.Machine.goes _ _ _ _ _ _ _ _ _ _ c.in-Whole.parts message done.0
-    (reads g.M.Machine.goes _ _ _ _ _ _ _ _ _ _ talk c.in-Ok.ensures.reads) at done.1 done.2 c.if-parts.false few))
+    let few : c.args.answered < 99 = omega arith in (
+      few,
+      λ start first said talk.
+          rw c.drop_front.ensures (goes_on g.M.Machine.goes _ _ _ _ _ _ _ _ _ _ c.in-Whole.parts message done.0
+          (reads g.M.Machine.goes _ _ _ _ _ _ _ _ _ _ talk c.in-Ok.ensures.reads) at done.1 done.2 c.if-parts.false few),
+    )

@@ -10,9 +10,9 @@ pub returns-then-others-gt9 : goal.returns-then-others-gt9
 returns-then-others-gt9 c =
     let cut : c.args.text.now ≡ c.in_ok-first.first.now ∷ c.in_ok-first.others.now = c.in_ok-first.ensures.cases.0 in
     elim c.then-others-gt9.branch [
-      then-others-gt9-via-then-others-gt9 w ↦ rw cut (sym (none_long c.in_ok-first.first.now c.in_ok-first.others.now w.if-others-gt9.true))
-    | then-others-gt9-via-else-others-gt9+then-not-is_ascii_digit w ↦
-        rw cut (sym (none_first c.in_ok-first.first.now c.in_ok-first.others.now (sym w.if-not-is_ascii_digit.ensures.value)))
+      | then-others-gt9-via-then-others-gt9 w ↦ rw cut (sym (none_long c.in_ok-first.first.now c.in_ok-first.others.now w.if-others-gt9.true))
+      | then-others-gt9-via-else-others-gt9+then-not-is_ascii_digit w ↦
+          rw cut (sym (none_first c.in_ok-first.first.now c.in_ok-first.others.now (sym w.if-not-is_ascii_digit.ensures.value)))
     ]
 
 pub returns-in_err-low : goal.returns-in_err-low

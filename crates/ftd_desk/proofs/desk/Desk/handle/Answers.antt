@@ -21,13 +21,13 @@ returns-then-not-is_change-clause-handles g c =
     let new : StoreOf g.row.S.Denot → Held = λ store. record { db = seen g.S.Store store; counts = served.counts } in
     let same : end ≡ c.self-then-not-is_change-1.given.0 = search rules in
     let serves : ServesBy b m old.counts served.counts c.args.request.now served.answer =
-        served_ok g.S.Store c.args.request.now old.counts c.replace-counts.result c.in-Ok.tx c.serve.new.tx served (search rules) c.in-Ok-serve.ensures.call
+    served_ok g.S.Store c.args.request.now old.counts c.replace-counts.result c.in-Ok.tx c.serve.new.tx served (search rules) c.in-Ok-serve.ensures.call
     in
     let quiet : is_change served.answer ≡ false = search rules in
     let dropped : (answer : Answer) → ServesBy b m old.counts served.counts c.args.request.now answer → is_change answer ≡ false → Handles old (new end) c.args.request.now answer =
-        λ answer by stays.
-            handles_dropped old (new end) b m served.counts c.args.request.now answer c.in-Ok.ensures.crash c.in-Ok.ensures.begun by
-            c.drop-tx-then-not-is_change.ensures.undone c.drop-tx-then-not-is_change.ensures.crash c.drop-tx-then-not-is_change.ensures.opens (λ s counted. counted) stays
+    λ answer by stays.
+    handles_dropped old (new end) b m served.counts c.args.request.now answer c.in-Ok.ensures.crash c.in-Ok.ensures.begun by
+    c.drop-tx-then-not-is_change.ensures.undone c.drop-tx-then-not-is_change.ensures.crash c.drop-tx-then-not-is_change.ensures.opens (λ s counted. counted) stays
     in
     subst (λ store. Handles old (new store) c.args.request.now c.bounded.result) same
     (elim c.bounded.ensures.same [
