@@ -1,5 +1,5 @@
 -- A list of requests from its first call to its last.
-use Rattle.std.proofs.Common.{◌≡◌, ◌⊎◌, inr, refl, sym, subst, IsTrue, false, Ok, Err, List, []}
+use Rattle.std.proofs.Common.{◌≡◌, ◌⊎◌, inl, inr, refl, sym, subst, IsTrue, false, Ok, Err, List, []}
 use Rattle.std.proofs.lemmas.Bool.{true≢false}
 use Rattle.sqlite.specs.Effect.{Database}
 use Rattle.sqlite.specs.State as database
@@ -14,6 +14,9 @@ use Rattle.ftd_machine.specs.Checks.{Answer}
 use Rattle.ftd_machine.specs.declared.replies.Refusal.{Refusal}
 use Rattle.ftd_machine.specs.declared.replies.Refusal.TheVariants as refusal
 use Rattle.ftd_machine.specs.declared.requests.Request.{Request}
+use Rattle.ftd_rows.specs.declared.faults.StoreFault.{StoreFault}
+use Rattle.ftd_rows.specs.declared.faults.StoreFault.TheVariants as fault
+use Rattle.ftd_questions.specs.Faults.{refusal_of}
 use Rattle.ftd_entries.specs.Words.{IsKept}
 use Rattle.ftd_desk.specs.Counted.{AreCounted}
 use Rattle.ftd_desk.specs.Desks.{Held, Keeps}
@@ -24,6 +27,10 @@ use Rattle.ftd_desk.proofs.Handling.{rests_again, clean_at, kept_at, undone_rest
 -- a fault: there was no memory, or the store failed
 abbrev pub IsRefusedBy : Refusal → Type 0
 IsRefusedBy fault = (fault ≡ refusal.Memory) ⊎ (fault ≡ refusal.Store)
+
+pub refused : (fault : StoreFault) → IsRefusedBy (refusal_of fault)
+refused fault.Memory = inl refl
+refused fault.Failed = inr refl
 
 -- what a crash may leave of a list of requests
 abbrev pub MayLeaveAllOf : Held → List Request → Trees → Type 0

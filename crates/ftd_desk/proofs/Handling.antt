@@ -1,5 +1,5 @@
 -- A request from its first call to its last.
-use Rattle.std.proofs.Common.{◌≡◌, ◌⊎◌, inl, inr, refl, sym, subst, ◌∙◌, arith, IsTrue, true, false, None, Ok, Err, Result}
+use Rattle.std.proofs.Common.{◌≡◌, ◌⊎◌, inl, inr, refl, sym, subst, ◌∙◌, arith, ℕ, List, [], IsTrue, true, false, Ok, Err, Result}
 use Rattle.std.specs.Prelude.{is_err, OnOk, OnErr}
 use Rattle.std.proofs.lemmas.Bool.{true≢false}
 use Rattle.sqlite.specs.Effect.{Database}
@@ -13,7 +13,7 @@ use Rattle.ftd_store.specs.Ends.{Begins, LeavesRows, EndsAs, CrashLeaves}
 use Rattle.ftd_machine.specs.State.{State}
 use Rattle.ftd_machine.specs.Checks.{Answer}
 use Rattle.ftd_machine.specs.Step.{Step}
-use Rattle.ftd_machine.specs.Laws.{is_change}
+use Rattle.ftd_machine.specs.Laws.{is_change, runs_of, payments_of}
 use Rattle.ftd_machine.specs.Runs.{IsFault}
 use Rattle.ftd_machine.specs.declared.replies.Refusal.TheVariants as refusal
 use Rattle.ftd_machine.specs.declared.requests.Request.{Request}
@@ -26,10 +26,11 @@ use Rattle.ftd_store.specs.Seen.{shown}
 use Rattle.ftd_store.specs.Frame.{Calls}
 use Rattle.ftd_entries.specs.Words.{IsKept}
 use Rattle.ftd_questions.specs.Faults.{refusal_of}
-use Rattle.ftd_desk.specs.Counted.{AreRuns, ArePayments, AreCounted, ServesCounted}
+use Rattle.ftd_desk.specs.Counted.{AreRight, AreCounted, ServesCounted}
 use Rattle.ftd_desk.specs.Desks.{Held, Rests, Keeps}
 use Rattle.ftd_desk.specs.Words.{MayLeave, Handles}
 use Rattle.ftd_desk.specs.declared.counts.Counts.{Counts}
+use Rattle.ftd_desk.specs.declared.counts.Tally.{Tally}
 use Rattle.ftd_desk.specs.declared.requests.Served.{Served}
 
 -- what a crash may leave of a request
@@ -44,11 +45,11 @@ pub record ServesBy (old new : database.State) (counts later : Counts) (request 
       → (IsFault answer × AreCounted later s) ⊎ ((next : State) × Step s request answer next × IsKept new.now next × IsTrue new.is_open × AreCounted later next)
 
 -- no counts are right of each state
-pub none_counted : (counts : Counts) → counts.runs ≡ None → counts.payments ≡ None → (s : State) → AreCounted counts s
-none_counted counts runs payments s = record {
-  runs = subst (λ o. AreRuns o s) (sym runs) tt;
-  payments = subst (λ o. ArePayments o s) (sym payments) tt;
-}
+none_right : (count_of : List ℕ → State → ℕ) (tally : Tally) (s : State) → tally.counts.items ≡ [] → AreRight count_of tally s
+none_right count_of tally s none account = rw none tt
+
+pub none_counted : (counts : Counts) → counts.runs.counts.items ≡ [] → counts.payments.counts.items ≡ [] → (s : State) → AreCounted counts s
+none_counted counts runs payments s = record { runs = none_right runs_of counts.runs s runs; payments = none_right payments_of counts.payments s payments }
 
 -- the database is the same again
 pub rests_again : (old new : database.State) (s : State) → Rests old s → new.now ≡ old.now → new.committed ≡ old.committed → Rests new s

@@ -1,4 +1,5 @@
 pub mod Repairing
+pub mod Tallies
 pub mod Counting
 mod Handling
 pub mod Running

@@ -1,5 +1,5 @@
 -- What a request on a run makes of the rows, from its first call to its last.
-use Rattle.std.proofs.Common.{◌≡◌, false, sym, ap, subst, arith, ℕ, List, Result, Ok, Err}
+use Rattle.std.proofs.Common.{◌≡◌, false, sym, ap, subst, arith, ℕ, List, Option, Result, Ok, Err, inl, inr}
 use Rattle.std.proofs.lemmas.Bool.{true≢false}
 use Rattle.sqlite.specs.Effect.{Database}
 use Rattle.sqlite.specs.Store as store
@@ -19,6 +19,7 @@ use Rattle.ftd_machine.specs.Laws.{is_change, is_on_run}
 use Rattle.ftd_machine.specs.declared.requests.Request.{Request}
 use Rattle.ftd_machine.specs.declared.requests.Request.TheVariants.{Enrol, Calendar, AddHoliday, Report, ReportYear, OpenYear, Post, Void, Pay, VoidPay, Status, DueList, ScheduleB}
 use Rattle.ftd_posting.specs.Repaired.{PostsRun, VoidsRun, Becoming, Repairs}
+use Rattle.ftd_desk.specs.Counted.{Knows}
 use Rattle.ftd_desk.specs.Words.{RepairsRows}
 use Rattle.ftd_desk.specs.declared.requests.Served.{Served}
 
@@ -94,6 +95,14 @@ module _ {S : Type 0} (g : store.Ghosts S) where
         subst (λ db. Does served.answer db (shown g new).now t) same (c.does clean t (subst (λ db. Stands db t) (sym same) stands));
   }
   read_repairs old mid new x (Err e) Fact Does r c = record { frame = then_call g old mid new x (Err e) r.frame c.frame; does = λ clean. tt }
+
+  -- so where a number was known before, that was kept or read
+  pub known_repairs : (old mid new : Tx S) (known : Option ℕ) (IsCount : ℕ → Tables → Type 0) (count : ℕ) (answer : Answer) (served : Served) (Does : Answer → Database → Database → Tables → Type 0) → served.answer ≡ answer
+      → Knows g old mid (Ok count) known IsCount → Calls g mid new (Ok answer) (λ given before after. Does given before.now after.now) → Calls g old new (Ok served) (Told Does)
+  known_repairs old mid new known IsCount count answer served Does same (inl kept) c =
+      answer_repairs old new answer served Does same (subst (λ (tx : Tx S). Calls g tx new (Ok answer) (λ given before after. Does given before.now after.now)) kept.0 c)
+  known_repairs old mid new known IsCount count answer served Does same (inr read) c =
+      read_repairs old mid new count (Ok served) IsCount Does read (answer_repairs mid new answer served Does same c)
 
   -- from the beginning of the transaction to its commit
   pub committed_repairs : (a e : database.State) (request : Request) (old new : Tx S) (served : Served) → (HasCleanDisk (shown g old) → Begins a (shown g old)) → Survives (shown g new) e (λ left. left ≡ (shown g new).now.trees)

@@ -1,7 +1,11 @@
 -- The counts that a desk keeps from request to request.
-use Rattle.std.specs.Prelude.{◌≡◌, Option, None, Some}
+use Rattle.std.specs.Prelude.{◌≡◌, ℕ, Bool, List, Option, Some, Result, Ok, ◌⊎◌, bytes_eq, find, option_map, IfSome}
+use Rattle.sqlite.specs.Store as store
 use Rattle.sqlite.specs.State as database
+use Rattle.ftd_rows.specs.declared.faults.StoreFault.{StoreFault}
 use Rattle.ftd_schema.specs.Standing.{Tables}
+use Rattle.ftd_store.specs.declared.tx.Tx.{Tx}
+use Rattle.ftd_store.specs.Frame.{Reads}
 use Rattle.ftd_machine.specs.State.{State}
 use Rattle.ftd_machine.specs.Step.{Step}
 use Rattle.ftd_machine.specs.Sound.{IsSound}
@@ -11,22 +15,37 @@ use Rattle.ftd_entries.specs.Standing.{StandsFor}
 use Rattle.ftd_entries.specs.Words.{IsKept}
 use Rattle.ftd_desk.specs.declared.counts.Count.{Count}
 use Rattle.ftd_desk.specs.declared.counts.Counts.{Counts}
+use Rattle.ftd_desk.specs.declared.counts.Tally.{Tally}
 use Rattle.ftd_desk.specs.declared.requests.Served.{Served}
 
--- the account has so many runs
-abbrev pub AreRuns : Option Count → State → Type 0
-AreRuns None s = Unit {0}
-AreRuns (Some count) s = runs_of count.account s ≡ count.number
+abbrev pub is_count_of : List ℕ → Count → Bool
+is_count_of account count = bytes_eq count.account account
 
--- the account has so many payments
-abbrev pub ArePayments : Option Count → State → Type 0
-ArePayments None s = Unit {0}
-ArePayments (Some count) s = payments_of count.account s ≡ count.number
+abbrev pub number_of : Count → ℕ
+number_of count = count.number
+
+-- the number that is kept of an account, if one is
+abbrev pub kept : Tally → List ℕ → Option ℕ
+kept tally account = option_map number_of (find (is_count_of account) tally.counts.items)
+
+-- a number is taken for an account: it is what is kept of the account then, if anything is; and what is kept of another
+-- one then, if anything is, was kept of it before
+pub record Takes (old new : Tally) (account : List ℕ) (number : ℕ) : Type 0 where
+  pub own : IfSome (kept new account) (λ later. later ≡ number)
+  pub others : (other : List ℕ) → (account ≡ other → ⊥) → IfSome (kept new other) (λ later. kept old other ≡ Some later)
+
+-- what is kept of an account, if anything is, is how many it has
+abbrev pub AreRight : (List ℕ → State → ℕ) → Tally → State → Type 0
+AreRight count_of tally s = (account : List ℕ) → IfSome (kept tally account) (λ number. count_of account s ≡ number)
 
 -- the counts that are kept are those of the state
 pub record AreCounted (counts : Counts) (s : State) : Type 0 where
-  pub runs : AreRuns counts.runs s
-  pub payments : ArePayments counts.payments s
+  pub runs : AreRight runs_of counts.runs s
+  pub payments : AreRight payments_of counts.payments s
+
+-- a number that is kept, with which nothing is touched, or one that was counted in the tables
+abbrev pub Knows : {S : Type 0} → store.Ghosts S → Tx S → Tx S → Result ℕ StoreFault → Option ℕ → (ℕ → Tables → Type 0) → Type 0
+Knows g old new result known IsCount = ((new ≡ old) × (number : ℕ) × (known ≡ Some number) × (result ≡ Ok number)) ⊎ Reads g old new result IsCount
 
 -- within a transaction over rows that stand for a state, the request is answered as the machine answers it, the rows are
 -- those of the machine's next state, and the counts stay right

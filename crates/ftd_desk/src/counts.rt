@@ -1,28 +1,36 @@
 //! The counts that a desk keeps from request to request.
 
-ghost use Rattle.std.specs.Prelude.{◌≡◌, ◌+◌, bytes_eq, if◌then◌else◌, None, IfOk, IfSome};
-ghost use Rattle.ftd_store.specs.Finds.{CountsRuns, CountsPayments};
-ghost use Rattle.ftd_store.specs.Frame.{Reads};
+ghost use Rattle.std.specs.Prelude.{◌≡◌, ◌+◌, [], bytes_eq, if◌then◌else◌, IfOk, IfSome};
+ghost use Rattle.std.specs.List.{position};
 ghost use Rattle.ftd_machine.specs.Laws.{is_change};
+ghost use Rattle.ftd_desk.specs.Counted.{is_count_of, kept, Takes};
 ghost use Rattle.ftd_desk.specs.Words.{is_fault};
 
 use ftd_machine::{AccountName, Answer, Refusal, Reply};
-use ftd_store::{StoreFault, Tx};
-use sqlite::Alter;
+use ftd_rules::is_account_name;
 use std::alloc::{AllocError, Global};
 
-/// How many runs, or how many payments, an account has, voided ones too.
+/// Of how many accounts counts of one kind are kept at most.
+const MOST_ACCOUNTS: usize = 1_024;
+
+/// How many entries of one kind an account has, voided ones too.
 #[derive(Drop)]
 pub(crate) struct Count {
     pub account: AccountName,
     pub number: u32,
 }
 
-/// The counts of the accounts that were asked for last: of whose runs, and of whose payments.
+/// How many entries of one kind the accounts have that were asked for last.
+#[derive(Drop)]
+pub(crate) struct Tally {
+    pub counts: Vec<Count>,
+}
+
+/// How many runs and how many payments the accounts have that were asked for last.
 #[derive(Drop)]
 pub(crate) struct Counts {
-    pub runs: Option<Count>,
-    pub payments: Option<Count>,
+    pub runs: Tally,
+    pub payments: Tally,
 }
 
 /// Whether the answer says that something is kept that was not before.
@@ -39,22 +47,33 @@ pub(crate) fn is_fault(answer: &Answer) -> bool
     matches!(answer, Err(Refusal::Memory | Refusal::Store))
 }
 
+/// The number after one more was asked for, and answered so. None where no larger number is.
+fn after(number: u32, answer: &Answer) -> Option<u32>
+    ensures { IfSome result (λ later. later
+        ≡ (if is_change answer.now then number + 1 else number)) }
+{
+    if !is_change(answer) {
+        return Some(number);
+    }
+    number.checked_add(1)
+}
+
 impl Counts {
-    /// Nothing was counted yet.
-    pub fn none() -> Counts
-        ensures runs { result.runs ≡ None }
-        ensures payments { result.payments ≡ None }
+    /// Nothing was counted yet. What is counted later takes its memory from the allocator.
+    pub fn none(alloc: Global) -> Counts
+        ensures runs { result.runs.counts.items ≡ [] }
+        ensures payments { result.payments.counts.items ≡ [] }
     {
         Counts {
-            runs: None,
-            payments: None,
+            runs: Tally::none(alloc),
+            payments: Tally::none(alloc),
         }
     }
 }
 
 impl Count {
     /// So many of this account.
-    pub fn new(alloc: Global, name: &str, number: u32) -> Result<Count, AllocError>
+    fn new(alloc: Global, name: &str, number: u32) -> Result<Count, AllocError>
         ensures account { IfOk result (λ count. count.account ≡ name.now) }
         ensures number { IfOk result (λ count. count.number ≡ number) }
     {
@@ -63,57 +82,69 @@ impl Count {
     }
 
     /// Whether it is of this account.
-    pub fn is_of(&self, name: &str) -> bool
-        ensures { result ≡ bytes_eq self.now.account name.now }
+    fn is_of(&self, name: &str) -> bool
+        ensures { result ≡ is_count_of name.now self.now }
     {
         self.account.as_str() == name
     }
+}
 
-    /// The count after one more was asked for, and answered so. None where no larger number is.
-    pub fn after(self, answer: &Answer) -> Option<Count>
-        ensures account { IfSome result (λ count. count.account ≡ self.account) }
-        ensures number { IfSome result (λ count. count.number
-            ≡ (if is_change answer.now then self.number + 1 else self.number)) }
+impl Tally {
+    /// No count is kept. What is kept later takes its memory from the allocator.
+    fn none(alloc: Global) -> Tally
+        ensures { result.counts.items ≡ [] }
     {
-        if !is_change(answer) {
-            return Some(self);
+        Tally {
+            counts: Vec::new(alloc),
         }
-        let Count { account, number } = self;
-        let number = number.checked_add(1)?;
-        Some(Count { account, number })
     }
-}
 
-/// Counts the account's runs.
-pub(crate) fn count_runs<S: Alter>(
-    tx: &mut Tx<'_, S>,
-    alloc: Global,
-    name: &str,
-) -> Result<Count, StoreFault>
-    ensures account { IfOk result (λ count. count.account ≡ name.now) }
-    ensures call { Reads S.Store tx.old tx.new result
-        (λ count. CountsRuns name.now count.number) }
-{
-    let number = tx.count_runs(name)?;
-    match Count::new(alloc, name, number) {
-        Ok(count) => Ok(count),
-        Err(_) => tx.give_up(StoreFault::Memory),
+    /// The number that is kept of the account, if one is.
+    pub fn number(&self, name: &str) -> Option<u32>
+        ensures { result ≡ kept self.now name.now }
+    {
+        self.counts
+            .iter()
+            .find(|count| count.is_of(name))
+            .map(|count| count.number)
     }
-}
 
-/// Counts the account's payments.
-pub(crate) fn count_payments<S: Alter>(
-    tx: &mut Tx<'_, S>,
-    alloc: Global,
-    name: &str,
-) -> Result<Count, StoreFault>
-    ensures account { IfOk result (λ count. count.account ≡ name.now) }
-    ensures call { Reads S.Store tx.old tx.new result
-        (λ count. CountsPayments name.now count.number) }
-{
-    let number = tx.count_payments(name)?;
-    match Count::new(alloc, name, number) {
-        Ok(count) => Ok(count),
-        Err(_) => tx.give_up(StoreFault::Memory),
+    /// The place of the account's count, if one is kept.
+    fn place(&self, name: &str) -> Option<usize>
+        ensures { result ≡ position (is_count_of name.now) self.now.counts.items }
+    {
+        self.counts.iter().position(|count| count.is_of(name))
+    }
+
+    /// Keeps that the account had so many before one more was asked for, and answered so.
+    pub fn keep(&mut self, alloc: Global, name: &str, number: u32, answer: &Answer)
+        ensures { Takes self.old self.new name.now
+            (if is_change answer.now then number + 1 else number) }
+    {
+        match after(number, answer) {
+            Some(later) => self.set(alloc, name, later),
+            None => self.counts.clear(),
+        }
+    }
+
+    /// Keeps that the account has so many. Where as many accounts are kept as may be, they are
+    /// forgotten; where there is no memory for one more, or no account has the name, its count is
+    /// not kept.
+    fn set(&mut self, alloc: Global, name: &str, number: u32)
+        ensures { Takes self.old self.new name.now number }
+    {
+        if let Some(place) = self.place(name) {
+            self.counts[place].number = number;
+            return;
+        }
+        if !is_account_name(name.as_bytes()) {
+            return;
+        }
+        if self.counts.len() >= MOST_ACCOUNTS {
+            self.counts.clear();
+        }
+        if let Ok(count) = Count::new(alloc, name, number) {
+            let _ = self.counts.push(count);
+        }
     }
 }

@@ -21,7 +21,7 @@ use std::alloc::{AllocError, Global};
 use std::mem;
 
 /// The deposit desk over its tables. It keeps from request to request how many runs and payments
-/// the accounts have that it was asked for last, and forgets them after a fault.
+/// some accounts have, and forgets them after a fault.
 #[derive(Drop)]
 pub struct Desk<S: Alter> {
     alloc: Global,
@@ -41,7 +41,7 @@ impl<S: Alter> Desk<S> {
             alloc,
             store,
             stopped: false,
-            counts: Counts::none(),
+            counts: Counts::none(alloc),
         }
     }
 
@@ -68,7 +68,7 @@ impl<S: Alter> Desk<S> {
         if self.stopped {
             return Err(Refusal::Store);
         }
-        let counts = mem::replace(&mut self.counts, Counts::none());
+        let counts = mem::replace(&mut self.counts, Counts::none(self.alloc));
         let mut tx = match self.store.begin() {
             Ok(tx) => tx,
             Err(fault) => return Err(refusal_of(fault)),
@@ -122,7 +122,7 @@ impl<S: Alter> Desk<S> {
         let Some((first, later)) = requests.split_first() else {
             return Ok(Vec::new(self.alloc));
         };
-        let counts = mem::replace(&mut self.counts, Counts::none());
+        let counts = mem::replace(&mut self.counts, Counts::none(self.alloc));
         let mut tx = match self.store.begin() {
             Ok(tx) => tx,
             Err(fault) => return Err(refusal_of(fault)),

@@ -1,15 +1,16 @@
 //! Each request goes to its function.
 
-ghost use Rattle.std.specs.Prelude.{◌≡◌, ◌∷◌, false, IfOk, OnOk, Some};
+ghost use Rattle.std.specs.Prelude.{◌≡◌, ◌∷◌, false, IfOk, OnOk};
+ghost use Rattle.ftd_store.specs.Finds.{CountsRuns, CountsPayments};
 ghost use Rattle.ftd_store.specs.Frame.{Calls};
 ghost use Rattle.ftd_machine.specs.Laws.{adds_entry, is_on_run};
 ghost use Rattle.ftd_machine.specs.declared.requests.Request.TheVariants.{Post, Void, Pay};
 ghost use Rattle.ftd_entries.specs.Words.{Serves};
 ghost use Rattle.ftd_posting.specs.Repaired.{Becoming, PostsRun, VoidsRun, Repairs};
-ghost use Rattle.ftd_desk.specs.Counted.{ServesCounted};
+ghost use Rattle.ftd_desk.specs.Counted.{Knows, ServesCounted, kept};
 ghost use Rattle.ftd_desk.specs.Words.{AreAnswers, ServesAll, is_fault};
 
-use crate::counts::{Count, Counts, count_payments, count_runs, is_fault};
+use crate::counts::{Counts, Tally, is_fault};
 use ftd_entries::{enrol, open_year, pay, report, report_year, take_calendar, void_payment};
 use ftd_holidays::add_holiday;
 use ftd_machine::{Account, Answer, Request};
@@ -132,11 +133,11 @@ pub(crate) fn serve<S: Alter>(
     }
 }
 
-/// Posts a run. The account's runs are counted where their count is not kept.
+/// Posts a run.
 fn serve_post<S: Alter>(
     tx: &mut Tx<'_, S>,
     alloc: Global,
-    counts: Counts,
+    mut counts: Counts,
     name: &str,
     number: u32,
     run: PayRun,
@@ -146,46 +147,27 @@ fn serve_post<S: Alter>(
     ensures repairs { Calls S.Store tx.old tx.new result (λ served before after.
         Becoming (PostsRun name.now number run) served.answer before.now after.now) }
 {
-    let Counts { runs, payments } = counts;
-    match runs {
-        Some(count) if count.is_of(name) => {
-            post_counted(tx, alloc, count, payments, name, number, run)
-        }
-        _ => {
-            let count = count_runs(tx, alloc, name)?;
-            post_counted(tx, alloc, count, payments, name, number, run)
-        }
-    }
-}
-
-/// Posts a run of an account whose runs are counted.
-fn post_counted<S: Alter>(
-    tx: &mut Tx<'_, S>,
-    alloc: Global,
-    count: Count,
-    payments: Option<Count>,
-    name: &str,
-    number: u32,
-    run: PayRun,
-) -> Result<Served, StoreFault>
-    requires { count.account ≡ name.now }
-    ensures call { Calls S.Store tx.old tx.new result
-        (ServesCounted (record { runs = Some count; payments = payments })
-        (Post name.now number run.payday run.fit run.ss run.medicare)) }
-    ensures repairs { Calls S.Store tx.old tx.new result (λ served before after.
-        Becoming (PostsRun name.now number run) served.answer before.now after.now) }
-{
-    let answer = post(tx, alloc, name, number, run, count.number)?;
-    let runs = count.after(&answer);
-    let counts = Counts { runs, payments };
+    let count = count_runs(tx, &counts.runs, name)?;
+    let answer = post(tx, alloc, name, number, run, count)?;
+    counts.runs.keep(alloc, name, count, &answer);
     Ok(Served { answer, counts })
 }
 
-/// Takes a payment. The account's payments are counted where their count is not kept.
+/// How many runs the account has: the number that is kept of it, or else counted anew.
+fn count_runs<S: Alter>(tx: &mut Tx<'_, S>, runs: &Tally, name: &str) -> Result<u32, StoreFault>
+    ensures { Knows S.Store tx.old tx.new result (kept runs.now name.now) (CountsRuns name.now) }
+{
+    match runs.number(name) {
+        Some(number) => Ok(number),
+        None => tx.count_runs(name),
+    }
+}
+
+/// Takes a payment.
 fn serve_pay<S: Alter>(
     tx: &mut Tx<'_, S>,
     alloc: Global,
-    counts: Counts,
+    mut counts: Counts,
     name: &str,
     number: u32,
     payment: Payment,
@@ -193,37 +175,25 @@ fn serve_pay<S: Alter>(
     ensures call { Calls S.Store tx.old tx.new result (ServesCounted counts
         (Pay name.now number payment.paid payment.for_day payment.cents)) }
 {
-    let Counts { runs, payments } = counts;
-    match payments {
-        Some(count) if count.is_of(name) => {
-            pay_counted(tx, alloc, count, runs, name, number, payment)
-        }
-        _ => {
-            let count = count_payments(tx, alloc, name)?;
-            pay_counted(tx, alloc, count, runs, name, number, payment)
-        }
-    }
+    let count = count_payments(tx, &counts.payments, name)?;
+    let answer = pay(tx, alloc, name, number, payment, count)?;
+    counts.payments.keep(alloc, name, count, &answer);
+    Ok(Served { answer, counts })
 }
 
-/// Takes a payment of an account whose payments are counted.
-fn pay_counted<S: Alter>(
+/// How many payments the account has: the number that is kept of it, or else counted anew.
+fn count_payments<S: Alter>(
     tx: &mut Tx<'_, S>,
-    alloc: Global,
-    count: Count,
-    runs: Option<Count>,
+    payments: &Tally,
     name: &str,
-    number: u32,
-    payment: Payment,
-) -> Result<Served, StoreFault>
-    requires { count.account ≡ name.now }
-    ensures call { Calls S.Store tx.old tx.new result
-        (ServesCounted (record { runs = runs; payments = Some count })
-        (Pay name.now number payment.paid payment.for_day payment.cents)) }
+) -> Result<u32, StoreFault>
+    ensures { Knows S.Store tx.old tx.new result
+        (kept payments.now name.now) (CountsPayments name.now) }
 {
-    let answer = pay(tx, alloc, name, number, payment, count.number)?;
-    let payments = count.after(&answer);
-    let counts = Counts { runs, payments };
-    Ok(Served { answer, counts })
+    match payments.number(name) {
+        Some(number) => Ok(number),
+        None => tx.count_payments(name),
+    }
 }
 
 /// Answers a request that is on no run, and adds no payment.

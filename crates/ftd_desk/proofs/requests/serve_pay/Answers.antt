@@ -1,27 +1,23 @@
-use Rattle.std.proofs.Common.{sym, ap, Some, Option}
+use Rattle.std.proofs.Common.{rules}
 use Rattle.ftd_store.specs.Finds.{CountsPayments}
-use Rattle.ftd_machine.specs.declared.requests.Request.TheVariants.{Pay}
-use Rattle.ftd_desk.specs.declared.counts.Count.{Count}
-use Rattle.ftd_desk.specs.declared.counts.Counts.{Counts}
-use Rattle.ftd_desk.proofs.Counting.{counted_as, counted_then, fresh_payments}
+use Rattle.ftd_desk.specs.Counted.{kept}
+use Rattle.ftd_desk.proofs.Counting.{not_known, known_fails, pay_counts}
 use Rattle.ftd_desk.proofs.requests.serve_pay.Goals as goal
 
-pub returns-in-Some : goal.returns-in-Some
-returns-in-Some g c =
-    let name = c.args.name.now in
-    let with_count : Option Count → Counts = λ o. record { runs = c.args.counts.runs; payments = o } in
-    record {
-      call = counted_as g.S.Store c.args.tx.now c.pay_counted.new.tx c.pay_counted.result c.args.counts (with_count (Some c.in-Some.count))
-          (Pay name c.args.number c.args.payment.paid c.args.payment.for_day c.args.payment.cents) (ap with_count (sym c.in-Some.is)) c.pay_counted.ensures.call;
-    }
+pub returns-in_err-count : goal.returns-in_err-count
+returns-in_err-count g c = record {
+  call = not_known g.S.Store c.args.tx.now c.count_payments.new.tx (kept c.args.counts.payments c.args.name.now) (CountsPayments c.args.name.now) c.in_err-count.field-0.0 c.from_residual.result _ (search rules)
+      c.in_err-count.ensures;
+}
 
-pub returns-in_ok-count-in_default : goal.returns-in_ok-count-in_default
-returns-in_ok-count-in_default g c =
-    let name = c.args.name.now in
-    let count = c.in_ok-count-in_default.count in
-    record {
-      call = counted_then g.S.Store c.args.tx.now c.count_payments.new.tx c.pay_counted-in_default.new.tx count c.pay_counted-in_default.result c.args.counts
-          (record { runs = c.args.counts.runs; payments = Some count }) (Pay name c.args.number c.args.payment.paid c.args.payment.for_day c.args.payment.cents) (λ x. CountsPayments name x.number)
-          (λ t s stands told counted. fresh_payments name count c.args.counts.runs c.in_ok-count-in_default.ensures.account t s stands told counted.runs)
-          c.in_ok-count-in_default.ensures.call c.pay_counted-in_default.ensures.call;
-    }
+pub returns-in_err-answer : goal.returns-in_err-answer
+returns-in_err-answer g c = record {
+  call = known_fails g.S.Store c.args.tx.now c.count_payments.new.tx (kept c.args.counts.payments c.args.name.now) (CountsPayments c.args.name.now) c.pay.new.tx c.in_ok-count.count c.in_err-answer.field-0.0
+      c.from_residual-in_err-answer.result _ (search rules) c.in_ok-count.ensures c.in_err-answer.ensures.call.frame;
+}
+
+pub returns : goal.returns
+returns g c = record {
+  call = pay_counts g.S.Store c.args.tx.now c.count_payments.new.tx c.pay.new.tx c.in_ok-count.count c.in_ok-answer.answer c.args.counts c.keep.new.self c.args.name.now c.args.number c.args.payment
+      c.keep.ensures c.in_ok-count.ensures c.in_ok-answer.ensures.call;
+}

@@ -1,6 +1,7 @@
-use Rattle.std.proofs.Common.{◌≡◌, ◌∷◌, true, false, inr, rules, refl, subst, Ok, Err}
+use Rattle.std.proofs.Common.{◌≡◌, ◌∷◌, true, false, inr, rules, refl, sym, subst, Ok, Err}
 use Rattle.std.specs.Prelude.{is_err}
 use Rattle.ftd_machine.specs.declared.replies.Refusal.TheVariants as refusal
+use Rattle.ftd_questions.specs.Faults.{refusal_of}
 use Rattle.ftd_sql.specs.States.{CrashKeeps}
 use Rattle.ftd_sql.proofs.Controls.{crash_then}
 use Rattle.ftd_store.specs.Seen.{seen, shown}
@@ -8,7 +9,7 @@ use Rattle.ftd_store.specs.declared.store.Store.{Store}
 use Rattle.ftd_desk.specs.Desks.{Held, held}
 use Rattle.ftd_desk.specs.Words.{HandlesTogether}
 use Rattle.ftd_desk.proofs.Handling.{none_counted, at_err, at_ok}
-use Rattle.ftd_desk.proofs.Handled.{together_uncommitted, together_committed}
+use Rattle.ftd_desk.proofs.Handled.{refused, together_dropped, together_uncommitted, together_committed}
 use Rattle.ftd_desk.proofs.Together.{served_all}
 use Rattle.ftd_desk.proofs.desk.Desk.together.Goals as goal
 
@@ -48,6 +49,22 @@ returns-clause-together g c =
     (rw whole (together_committed old (new end) b m all c.in-Ok.ensures.crash c.in-Ok.ensures.begun call.frame.crash call.frame.kept
     served.answers.items served.counts (served_all g.S.Store old.counts all c.replace-counts.result c.in-Ok.tx c.serve_all.new.tx served (search rules) call) c.commit.ensures.crash
     (λ clean. at_ok c.commit.result went (c.commit.ensures.ok clean)) (λ clean. at_ok c.commit.result went (c.commit.ensures.lasts clean)) refl))
+
+pub returns-in-Err-serve_all-clause-together : goal.returns-in-Err-serve_all-clause-together
+returns-in-Err-serve_all-clause-together g c =
+    let old = held g.S.Store c.args.self.now in
+    let b = shown g.S.Store c.in-Ok.tx in
+    let m = shown g.S.Store c.serve_all.new.tx in
+    let end = c.drop-tx.new.self.0 in
+    let call = c.in-Err-serve_all.ensures.call in
+    let fault = c.in-Err-serve_all.fault in
+    let none = c.replace-counts.new.dest in
+    let new : Store g.row.S.Denot → Held = λ store. record { db = seen g.S.Store store; counts = none } in
+    let same : end ≡ c.self-in-Err-serve_all-1.given.0 = search rules in
+    subst (λ store. HandlesTogether old (new store) c.args.requests.now (Err c.refusal_of-in-Err-serve_all.result)) same
+    (subst (λ refusal. HandlesTogether old (new end) c.args.requests.now (Err refusal)) (sym c.refusal_of-in-Err-serve_all.ensures)
+    (together_dropped old (new end) b m c.args.requests.now c.in-Ok.ensures.crash c.in-Ok.ensures.begun call.frame.crash call.frame.kept (refusal_of fault) (refused fault)
+    c.drop-tx.ensures.undone c.drop-tx.ensures.crash c.drop-tx.ensures.opens (none_counted none (search rules) (search rules))))
 
 pub returns-in-Err-serve_all-clause-keeps : goal.returns-in-Err-serve_all-clause-keeps
 returns-in-Err-serve_all-clause-keeps g c =
