@@ -1,6 +1,7 @@
 #!/bin/bash
 # What the program says of files that it can't use, each beside what it has to say: a directory, a folder that is not there, a text,
-# somebody else's database, one of a later version, one cut short, one that another program holds, a disk that is full.
+# somebody else's database, one of a later version, one cut short, one with a byte that flipped, one that sqlite3 wrote to, one that
+# may not be read, one that another program holds, a disk that is full.
 # It needs sqlite3. Usage: examples/files.sh PATH-OF-FTD [PORT]
 set -u
 ftd=$(realpath "${1:?the path of ftd}")
@@ -24,6 +25,18 @@ says() {
     fi
 }
 
+# runs a command none of whose files may have more than so many kilobytes, as on a disk that is full
+in_so_many_blocks() {
+    (
+        trap '' XFSZ
+        ulimit -f "$1"
+        shift
+        exec "$@"
+    )
+}
+
+chmod 755 "$folder"
+cp "$ftd" ftd
 ask=(status ash 2024-01-05 --db)
 for words in 'calendar 2024' 'calendar 2025' 'enrol ash 2024-01-01' 'open-year ash 2024'; do
     # shellcheck disable=SC2086
@@ -36,12 +49,35 @@ seq 3000 > text.db
 says 'failed NotOurs 3' "$ftd" "${ask[@]}" text.db
 sqlite3 foreign.db 'CREATE TABLE run (number INTEGER)'
 says 'failed NotOurs 3' "$ftd" "${ask[@]}" foreign.db
-cp office.db newer.db
+# a file that sqlite3 made of the desk's, which has no sums, is opened too
+sqlite3 office.db .dump | sqlite3 newer.db
+says '2024-01-05 monthly lookback 0' "$ftd" "${ask[@]}" newer.db
 sqlite3 newer.db "UPDATE ftd_meta SET version = 3"
 says 'failed Newer 3 3' "$ftd" "${ask[@]}" newer.db
+corrupt=$'failed File\nCorrupt: the file is damaged or cut short 3'
 cp office.db cut.db
 truncate -s 8192 cut.db
-says $'failed File\nCorrupt: the file is damaged or cut short 3' "$ftd" "${ask[@]}" cut.db
+says "$corrupt" "$ftd" "${ask[@]}" cut.db
+for place in 5000 9000 20000; do
+    cp office.db flipped.db
+    byte=$(od -An -tu1 -j "$place" -N 1 office.db)
+    # shellcheck disable=SC2059
+    printf "\\$(printf %03o $((byte ^ 4)))" | dd of=flipped.db bs=1 seek="$place" conv=notrunc status=none
+    says "$corrupt" "$ftd" "${ask[@]}" flipped.db
+done
+cp office.db written.db
+says 'ash 0' sqlite3 written.db 'SELECT name FROM account'
+says '2024-01-05 monthly lookback 0' "$ftd" "${ask[@]}" written.db
+sqlite3 written.db 'UPDATE account SET start = start + 1'
+says "$corrupt" "$ftd" "${ask[@]}" written.db
+cp office.db locked.db
+chmod 000 locked.db
+as_somebody=()
+[ "$(id -u)" != 0 ] || as_somebody=(setpriv --reuid 65534 --regid 65534 --clear-groups)
+says 'failed File 3' "${as_somebody[@]}" ./ftd "${ask[@]}" locked.db
+cp office.db full.db
+says 'failed 22 Store 3' in_so_many_blocks "$(($(stat -c %s full.db) / 1024))" "$ftd" calendar 2026 --db full.db
+says 'done 0' "$ftd" calendar 2026 --db full.db
 says 'failed File 3' "$ftd" import runs.csv --db office.db
 says 'failed Output 3' bash -c "'$ftd' status ash 2024-01-05 --db office.db > /dev/full"
 

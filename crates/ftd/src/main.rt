@@ -3,25 +3,21 @@
 
 mod faults;
 mod input;
+mod progress;
 
 use crate::faults::ProgramFault;
 use crate::input::{import_input, standard_input, words};
+use crate::progress::ProgressLine;
 use ftd_desk::Desk;
 use ftd_ports::Port;
 use ftd_program::{perform, print_plain, tell};
 use ftd_serving::{Limits, serve_on};
 use ftd_store::Store;
-use ftd_words::{Job, LocalTask, PlainTask, Task, decide};
+use ftd_words::{Job, LocalTask, PlainTask, ServeTask, Task, decide};
 use sqlite::{Alter, Connection};
 use std::io;
 use std::net::TcpListener;
 use std::process::ExitCode;
-
-/// How many seconds a read or a write waits for a peer.
-const SILENCE: u32 = 10;
-
-/// For how many seconds a connection is read and written at most.
-const DURATION: u32 = 60;
 
 fn main(rt: HostRuntime) -> ExitCode {
     match run(&rt) {
@@ -40,13 +36,7 @@ fn run(rt: &HostRuntime) -> Result<u8, ProgramFault> {
     match decide(rt.alloc(), &words) {
         Ok(Task::Plain(task)) => plain(rt, &task),
         Ok(Task::Local(task)) => local(rt, &task),
-        Ok(
-            Task::Serve {
-                db,
-                port,
-                connections,
-            },
-        ) => serve(rt, &db, port, connections),
+        Ok(Task::Serve(task)) => serve(rt, &task),
         Err(fault) => {
             let mut out = Port::new(io::writer(rt));
             let mut err = Port::new(rt.stderr());
@@ -76,16 +66,20 @@ fn with_desk<S: Alter>(rt: &HostRuntime, desk: &mut Desk<S>, work: &Work<'_>) ->
     let mut out = Port::new(io::writer(rt));
     let mut err = Port::new(rt.stderr());
     match work {
-        Work::Job(task, input) => perform(rt.alloc(), task, desk, input, out, err).status,
+        Work::Job(task, input) => {
+            let mut progress = ProgressLine::new(rt);
+            perform(rt.alloc(), task, desk, input, out, err, &mut progress).status
+        }
         Work::Serve(listener, limits) => {
             serve_on(rt, listener, *limits, desk, &mut out, &mut err)
         }
     }
 }
 
-/// Does the work with the desk of the database file, which is made where it is not there.
+/// Does the work with the desk of the database file, which is made where it is not there. Each page
+/// of a file that is made carries a sum, so that a byte that changes on the disk is noticed.
 fn over_file(rt: &HostRuntime, db: &str, work: &Work<'_>) -> Result<u8, ProgramFault> {
-    let (done, conn) = match Store::open(Connection::open(rt, db)?) {
+    let (done, conn) = match Store::open(Connection::open_with_sums(rt, db)?) {
         Ok(store) => {
             let mut desk = Desk::new(rt.alloc(), store);
             let status = with_desk(rt, &mut desk, work);
@@ -108,14 +102,14 @@ fn local(rt: &HostRuntime, task: &LocalTask) -> Result<u8, ProgramFault> {
 }
 
 /// Serves so many connections of this machine, one after the other.
-fn serve(rt: &HostRuntime, db: &str, port: u16, connections: u32) -> Result<u8, ProgramFault> {
-    let Ok(listener) = TcpListener::bind(rt, ("127.0.0.1", port)) else {
+fn serve(rt: &HostRuntime, task: &ServeTask) -> Result<u8, ProgramFault> {
+    let Ok(listener) = TcpListener::bind(rt, ("127.0.0.1", task.port)) else {
         return Err(ProgramFault::Net);
     };
     let limits = Limits {
-        connections,
-        silence: SILENCE,
-        duration: DURATION,
+        connections: task.connections,
+        silence: task.silence,
+        duration: task.duration,
     };
-    over_file(rt, db, &Work::Serve(listener, limits))
+    over_file(rt, &task.db, &Work::Serve(listener, limits))
 }

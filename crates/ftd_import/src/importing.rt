@@ -5,6 +5,7 @@ ghost use Rattle.ftd_desk.specs.Desks.{IsStopped, held};
 ghost use Rattle.ftd_import.specs.Imports.{Imports, Stops, StopsOneByOne, is_of_text};
 
 use crate::lists::post_lists;
+use crate::progress::Progress;
 use crate::summary::{Stopped, Summary, cause_of};
 use ftd_csv::records;
 use ftd_desk::Desk;
@@ -22,7 +23,14 @@ use std::alloc::Global;
 /// posted and counted, and that one changed nothing, unless the store is a file and a commit
 /// failed: then a crash may find the whole list. The same text imported again goes on where it
 /// stopped.
-pub fn import<S: Alter>(alloc: Global, desk: &mut Desk<S>, text: &[u8]) -> Result<Summary, Stopped>
+///
+/// `progress` is told after each list how many records are done.
+pub fn import<S: Alter, P: Progress>(
+    alloc: Global,
+    desk: &mut Desk<S>,
+    text: &[u8],
+    progress: &mut P,
+) -> Result<Summary, Stopped>
     ensures imports { MatchResult result
         (λ summary. Imports (held S.Store desk.old) (held S.Store desk.new) text.now summary)
         (λ stopped. Stops (held S.Store desk.old) (held S.Store desk.new) text.now stopped) }
@@ -39,7 +47,9 @@ pub fn import<S: Alter>(alloc: Global, desk: &mut Desk<S>, text: &[u8]) -> Resul
             return Err(Stopped { done, cause });
         }
     };
-    match post_lists(alloc, desk, &records, &mut done) {
+    let posted = post_lists(alloc, desk, &records, &mut done, progress);
+    progress.end();
+    match posted {
         Ok(()) => Ok(done),
         Err(cause) => Err(Stopped { done, cause }),
     }

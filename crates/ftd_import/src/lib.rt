@@ -4,7 +4,9 @@
 mod importing;
 mod lists;
 mod posting;
+mod progress;
 mod summary;
 
 pub use crate::importing::import;
+pub use crate::progress::{Progress, Quiet};
 pub use crate::summary::{Finding, Note, StopCause, Stopped, Summary};

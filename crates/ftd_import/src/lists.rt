@@ -7,6 +7,7 @@ ghost use Rattle.ftd_import.specs.Outcomes.{Counts, CountsAnswers, IsSame, most_
 ghost use Rattle.ftd_import.specs.Imports.{Posts, PostsNone, StopsWithin, most_together};
 
 use crate::posting::{post_all, request_of};
+use crate::progress::Progress;
 use crate::summary::{StopCause, Summary};
 use ftd_csv::{Content, Record};
 use ftd_desk::Desk;
@@ -101,12 +102,13 @@ fn post_list<S: Alter>(
     }
 }
 
-/// Posts the records in lists, one list after the other.
-pub(crate) fn post_lists<S: Alter>(
+/// Posts the records in lists, one list after the other, and tells after each how many are done.
+pub(crate) fn post_lists<S: Alter, P: Progress>(
     alloc: Global,
     desk: &mut Desk<S>,
     records: &[Record],
     done: &mut Summary,
+    progress: &mut P,
 ) -> Result<(), StopCause>
     requires fits { tally done.old + length records.now ≤ most_counted }
     ensures { MatchResult result
@@ -116,9 +118,13 @@ pub(crate) fn post_lists<S: Alter>(
         (held S.Store desk.new) (map record_view records.now)
         (λ outcomes. Counts done.old outcomes done.new) cause) }
 {
+    let mut told = 0;
     for list in records.chunks(TOGETHER) {
         match post_list(alloc, desk, list, done) {
-            Ok(()) => {}
+            Ok(()) => {
+                told += list.len();
+                progress.tell(told, records.len());
+            }
             Err(cause) => return Err(cause),
         }
     }

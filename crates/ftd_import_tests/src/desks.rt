@@ -1,7 +1,7 @@
 //! Desks with the account ash, and imports told in lines.
 
 use ftd_desk::Desk;
-use ftd_import::{Finding, Stopped, Summary, import};
+use ftd_import::{Finding, Quiet, Stopped, Summary, import};
 use ftd_lines::ask;
 use ftd_store::Store;
 use sqlite::{Alter, Connection, MemStore};
@@ -71,7 +71,7 @@ pub(crate) fn imported<S: Alter>(
     desk: &mut Desk<S>,
     text: &[u8],
 ) -> Result<String, Fail> {
-    match import(alloc, desk, text) {
+    match import(alloc, desk, text, &mut Quiet) {
         Ok(summary) => told(alloc, &summary),
         Err(Stopped { done, cause }) => {
             let done = told(alloc, &done)?;

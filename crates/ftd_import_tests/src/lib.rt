@@ -8,6 +8,8 @@ mod headers;
 #[cfg(test)]
 mod lists;
 #[cfg(test)]
+mod progress;
+#[cfg(test)]
 mod records;
 #[cfg(test)]
 mod stopped;

@@ -5,7 +5,7 @@ ghost use Rattle.sqlite_disk.specs.Memory.{memory_is_usable};
 
 use crate::desks::has_ash;
 use ftd_desk::Desk;
-use ftd_import::{StopCause, Stopped, Summary, import};
+use ftd_import::{Quiet, StopCause, Stopped, Summary, import};
 use ftd_lines::ask;
 use ftd_store::Store;
 use sqlite::{Connection, FileStore, Files, Options};
@@ -100,7 +100,7 @@ fn stops(
     let Some(mut desk) = failing(alloc, log, db)? else {
         return Ok(None);
     };
-    let stopped = match import(alloc, &mut desk, text) {
+    let stopped = match import(alloc, &mut desk, text, &mut Quiet) {
         Ok(summary) => {
             has_all(rt, alloc, &mut desk, &summary, runs)?;
             return Ok(Some(false));
@@ -111,7 +111,7 @@ fn stops(
     assert_eq!(rt; cause, StopCause::Store);
     assert!(rt; done.posted == 0 || done.posted == 256);
     let mut opened = after_a_crash(alloc, desk)?;
-    match import(alloc, &mut opened, text) {
+    match import(alloc, &mut opened, text, &mut Quiet) {
         Ok(again) => {
             let whole = if done.posted == 0 {
                 min(runs, 256)

@@ -13,7 +13,7 @@ use crate::summaries::write_summary;
 use crate::telling::put;
 use ftd_days::{Day, Quarter};
 use ftd_desk::{Desk, DueFault};
-use ftd_import::{StopCause, Stopped, Summary, import};
+use ftd_import::{Progress, StopCause, Stopped, Summary, import};
 use ftd_machine::{Refusal, Reply, Request};
 use ftd_ports::Target;
 use ftd_reports::{LateDueText, Unwritten};
@@ -34,20 +34,22 @@ pub struct Performed<O, E> {
 /// Does the job of a task: asks its request of the desk, or imports the pay runs of the input, CSV
 /// with the header `employer,run,payday,fit,ss,medicare`. What came of it goes to `out`, and the line
 /// of a refusal or of a fault to `err`. What the desk took stands, also where `out` fails: the status
-/// is 3 then, and a prefix of the text was written.
-pub fn perform<S: Alter, O: Target, E: Target>(
+/// is 3 then, and a prefix of the text was written. `progress` is told how far an import is, and its
+/// end before anything is printed.
+pub fn perform<S: Alter, O: Target, E: Target, P: Progress>(
     alloc: Global,
     task: &LocalTask,
     desk: &mut Desk<S>,
     input: &[u8],
     out: O,
     err: E,
+    progress: &mut P,
 ) -> Performed<O, E>
     ensures { Does O.taken O.failed E.taken E.failed out err result
         (held S.Store desk.old) (held S.Store desk.new) input.now task.now.job }
 {
     match &task.job {
-        Job::Import(_) => post_runs(alloc, desk, input, out, err),
+        Job::Import(_) => post_runs(alloc, desk, input, out, err, progress),
         Job::Ask(request) => ask(desk, request, out, err),
     }
 }
@@ -121,17 +123,18 @@ fn list_due<S: Alter, O: Target, E: Target>(
 /// Posts the pay runs of a text, CSV with the header `employer,run,payday,fit,ss,medicare`. The
 /// summary goes to `out`; where the import stops, why goes to `err`. The status is 1 where a record
 /// was refused or malformed, or where the text is too long or has another header.
-fn post_runs<S: Alter, O: Target, E: Target>(
+fn post_runs<S: Alter, O: Target, E: Target, P: Progress>(
     alloc: Global,
     desk: &mut Desk<S>,
     input: &[u8],
     out: O,
     err: E,
+    progress: &mut P,
 ) -> Performed<O, E>
     ensures { PerformsImport O.taken O.failed E.taken E.failed out err result
         (held S.Store desk.old) (held S.Store desk.new) input.now }
 {
-    match import(alloc, desk, input) {
+    match import(alloc, desk, input, progress) {
         Ok(summary) => print_summary(&summary, out, err),
         Err(stopped) => print_stop(&stopped, out, err),
     }

@@ -1,6 +1,7 @@
 //! Command lines, and what the program prints of them.
 
 use ftd_desk::Desk;
+use ftd_import::Quiet;
 use ftd_ports::{Port, Target};
 use ftd_program::{Performed, perform, print_plain, tell};
 use ftd_store::Store;
@@ -31,7 +32,7 @@ pub(crate) fn done<O: Target + Drop, E: Target + Drop>(
         words.push(String::from_str(alloc, word)?)?;
     }
     match decide(alloc, &words) {
-        Ok(Task::Local(task)) => Ok(perform(alloc, &task, desk, input, out, err)),
+        Ok(Task::Local(task)) => Ok(perform(alloc, &task, desk, input, out, err, &mut Quiet)),
         Ok(Task::Plain(task)) => Ok(print_plain(alloc, &task, input, out, err)),
         Ok(Task::Serve { .. }) => Err("a socket".into()),
         Err(fault) => {

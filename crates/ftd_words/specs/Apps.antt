@@ -1,6 +1,6 @@
 -- The command line of the table.
-use Rattle.std.specs.Prelude.{List, [], ◌∷◌, Some, None, true, if◌then◌else◌, codes}
-use Rattle.clap.specs.Words.{App, Rule, new_app, new_rule, with_rule, with_subcommand}
+use Rattle.std.specs.Prelude.{List, [], ◌∷◌, Some, None, true, if◌then◌else◌, codes, pos}
+use Rattle.clap.specs.Words.{App, Rule, Text, new_app, new_rule, with_rule, with_subcommand}
 use Rattle.clap.specs.declared.builder.ArgAction.TheVariants.{Append, SetTrue}
 use Rattle.clap.specs.declared.builder.value_parser.ValueParser.TheVariants as parser
 use Rattle.ftd_words.specs.declared.table.Name.{Name}
@@ -9,6 +9,10 @@ use Rattle.ftd_words.specs.declared.table.Takes.{Takes}
 use Rattle.ftd_words.specs.declared.table.Takes.TheVariants as takes
 use Rattle.ftd_words.specs.Table.{all_names, is_option, name_text, takes_of, word_text, words_of}
 
+-- a whole number of seconds, from 1 to 3,600; so many if none is given
+abbrev pub seconds_or : Text → Rule → Rule
+seconds_or default rule = record rule { defaults = default ∷ []; parser = Some (parser.Signed (pos 1) (pos 3600)) }
+
 -- what a word takes, as `clap` says it
 abbrev pub taking : Takes → Rule → Rule
 taking takes.Text rule = record rule { required = true }
@@ -16,6 +20,8 @@ taking (takes.Number low high) rule = record rule { required = true; parser = So
 taking takes.Texts rule = record rule { action = Some Append }
 taking takes.Nothing rule = record rule { action = Some SetTrue }
 taking takes.Form rule = record rule { defaults = codes "941" ∷ [] }
+taking takes.Silence rule = seconds_or (codes "10") rule
+taking takes.Duration rule = seconds_or (codes "60") rule
 
 -- the word
 abbrev pub rule_for : Word → Rule

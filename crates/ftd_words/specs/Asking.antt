@@ -120,7 +120,7 @@ schedule_b_of rows =
 -- database
 pub data Wanted : Type 0 where
   plain : Text → ℕ → List ℕ → Wanted
-  serve : Text → ℕ → ℕ → Wanted
+  serve : Text → ℕ → ℕ → ℕ → ℕ → Wanted
   import : Text → Text → Wanted
   ask : Text → Request → Wanted
 
@@ -143,7 +143,9 @@ serve_of rows =
     then_with (text_in word.Db rows) (λ db.
     then_with (port_in word.Port rows) (λ port.
     then_with (whole_in word.Connections rows) (λ connections.
-    Ok (serve db port connections))))
+    then_with (whole_in word.Silence rows) (λ silence.
+    then_with (whole_in word.Duration rows) (λ duration.
+    Ok (serve db port connections silence duration))))))
 
 unfoldable pub import_of : List Row → Result Wanted WordFault
 import_of rows =

@@ -30,7 +30,7 @@ name_text name.AddHoliday = codes "add-holiday"
 -- its words, in their order
 abbrev pub words_of : Name → List Word
 words_of name.Plain = word.Account ∷ word.Year ∷ word.Holidays ∷ []
-words_of name.Serve = word.Db ∷ word.Port ∷ word.Connections ∷ []
+words_of name.Serve = word.Db ∷ word.Port ∷ word.Connections ∷ word.Silence ∷ word.Duration ∷ []
 words_of name.Import = word.Db ∷ word.CsvFile ∷ []
 words_of name.Enrol = word.Db ∷ word.Account ∷ word.Start ∷ word.Carried ∷ word.Form ∷ []
 words_of name.Calendar = word.Db ∷ word.Year ∷ word.Days ∷ []
@@ -51,6 +51,8 @@ abbrev pub word_text : Word → Text
 word_text word.Db = codes "db"
 word_text word.Port = codes "port"
 word_text word.Connections = codes "connections"
+word_text word.Silence = codes "silence"
+word_text word.Duration = codes "duration"
 word_text word.CsvFile = codes "CSVFILE"
 word_text word.Account = codes "ACCOUNT"
 word_text word.Start = codes "START"
@@ -77,6 +79,8 @@ abbrev pub is_option : Word → Bool
 is_option word.Db = true
 is_option word.Port = true
 is_option word.Connections = true
+is_option word.Silence = true
+is_option word.Duration = true
 is_option word.CsvFile = false
 is_option word.Account = false
 is_option word.Start = false
@@ -103,6 +107,8 @@ abbrev pub takes_of : Word → Takes
 takes_of word.Db = takes.Text
 takes_of word.Port = takes.Number (pos 1) (pos 65535)
 takes_of word.Connections = takes.Number (pos 1) (pos 1000000)
+takes_of word.Silence = takes.Silence
+takes_of word.Duration = takes.Duration
 takes_of word.CsvFile = takes.Text
 takes_of word.Account = takes.Text
 takes_of word.Start = takes.Text

@@ -3,7 +3,7 @@
 ghost use Rattle.std.specs.Prelude.{◌≡◌, IfOk, false};
 ghost use Rattle.clap.specs.Words.{app_of, rule_of, shape_of, with_rule, with_subcommand};
 ghost use Rattle.clap.specs.declared.builder.command.Command.TheViews.{out-Command};
-ghost use Rattle.ftd_words.specs.Apps.{app_for, ftd_app, program, rule_for, with_names};
+ghost use Rattle.ftd_words.specs.Apps.{app_for, ftd_app, program, rule_for, seconds_or, with_names};
 
 use crate::table::{NAMES, Name, Takes, Word};
 use clap::builder::ValueParser;
@@ -20,6 +20,15 @@ const FIRST_STEPS: &str = "\
 Give the holidays of the year and the next, enrol the account, report its lookback period,
 open the year, and post or import pay runs. `due` then lists what to deposit, and by when.
 ftd help COMMAND tells the words of a command, with an example.";
+
+/// An argument that takes a whole number of seconds from 1 to 3,600, so many if it is not there.
+fn seconds_or<'a>(arg: Arg<'a>, default: &'a str) -> Arg<'a>
+    ensures rule { rule_of result ≡ seconds_or default.now (rule_of arg.entry) }
+    ensures local { result.global ≡ arg.entry.global }
+{
+    arg.default_value(default)
+        .value_parser(ValueParser::Signed(1, 3600))
+}
 
 /// A word as an argument.
 fn arg_of<'a>(alloc: Global, word: Word) -> Arg<'a>
@@ -42,6 +51,8 @@ fn arg_of<'a>(alloc: Global, word: Word) -> Arg<'a>
         Takes::Texts => arg.action(ArgAction::Append),
         Takes::Nothing => arg.action(ArgAction::SetTrue),
         Takes::Form => arg.default_value("941"),
+        Takes::Silence => seconds_or(arg, "10"),
+        Takes::Duration => seconds_or(arg, "60"),
     }
 }
 

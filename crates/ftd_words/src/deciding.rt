@@ -14,7 +14,7 @@ use crate::fault::WordFault;
 use crate::parse::{ParseFault, parsed};
 use crate::reading::{days_at, owned_text, port_at, whole_at};
 use crate::table::{NAMES, Name, Word};
-use crate::tasks::{CliFault, Job, LocalTask, PlainTask, Task};
+use crate::tasks::{CliFault, Job, LocalTask, PlainTask, ServeTask, Task};
 use clap::error::ErrorKind;
 use clap::{ArgMatches, Error};
 use ftd_machine::{AccountName, Request};
@@ -81,11 +81,15 @@ fn serve(alloc: Global, inner: &ArgMatches<'_>) -> Result<Task, WordFault>
     let db = owned_text(alloc, inner, Word::Db)?;
     let port = port_at(inner, Word::Port)?;
     let connections = whole_at(inner, Word::Connections)?;
-    Ok(Task::Serve {
+    let silence = whole_at(inner, Word::Silence)?;
+    let duration = whole_at(inner, Word::Duration)?;
+    Ok(Task::Serve(ServeTask {
         db,
         port,
         connections,
-    })
+        silence,
+        duration,
+    }))
 }
 
 /// What `import` asks.

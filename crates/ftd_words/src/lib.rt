@@ -12,4 +12,4 @@ mod tasks;
 
 pub use crate::deciding::decide;
 pub use crate::table::Word;
-pub use crate::tasks::{CliFault, Job, LocalTask, PlainTask, Task};
+pub use crate::tasks::{CliFault, Job, LocalTask, PlainTask, ServeTask, Task};

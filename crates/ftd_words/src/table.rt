@@ -3,6 +3,11 @@
 ghost use Rattle.std.specs.Prelude.{◌≡◌};
 ghost use Rattle.ftd_words.specs.Table.{is_option, name_text, takes_of, word_text, words_of};
 
+use Word::{
+    Account, Amount, AsOf, Carried, Connections, CsvFile, Day, Days, Db, Duration, Fit, For, Form,
+    Holidays, Medicare, Paid, Payday, Payment, Port, Quarter, Run, Silence, Ss, Start, Year,
+};
+
 /// What a word takes.
 #[derive(Clone, Copy, Debug)]
 pub enum Takes {
@@ -16,6 +21,10 @@ pub enum Takes {
     Nothing,
     /// A text, 941 if it is not there.
     Form,
+    /// A whole number of seconds from 1 to 3,600, 10 if it is not there.
+    Silence,
+    /// A whole number of seconds from 1 to 3,600, 60 if it is not there.
+    Duration,
 }
 
 /// A subcommand.
@@ -45,6 +54,8 @@ pub enum Word {
     Db,
     Port,
     Connections,
+    Silence,
+    Duration,
     CsvFile,
     Account,
     Start,
@@ -97,43 +108,22 @@ impl Name {
         ensures { result.now ≡ words_of self }
     {
         match self {
-            Name::Plain => &[Word::Account, Word::Year, Word::Holidays],
-            Name::Serve => &[Word::Db, Word::Port, Word::Connections],
-            Name::Import => &[Word::Db, Word::CsvFile],
-            Name::Enrol => &[
-                Word::Db,
-                Word::Account,
-                Word::Start,
-                Word::Carried,
-                Word::Form,
-            ],
-            Name::Calendar => &[Word::Db, Word::Year, Word::Days],
-            Name::Report => &[Word::Db, Word::Account, Word::Quarter, Word::Amount],
-            Name::ReportYear => &[Word::Db, Word::Account, Word::Year, Word::Amount],
-            Name::OpenYear => &[Word::Db, Word::Account, Word::Year],
-            Name::Post => &[
-                Word::Db,
-                Word::Account,
-                Word::Run,
-                Word::Payday,
-                Word::Fit,
-                Word::Ss,
-                Word::Medicare,
-            ],
-            Name::Void => &[Word::Db, Word::Account, Word::Run],
-            Name::Pay => &[
-                Word::Db,
-                Word::Account,
-                Word::Payment,
-                Word::Paid,
-                Word::For,
-                Word::Amount,
-            ],
-            Name::VoidPay => &[Word::Db, Word::Account, Word::Payment],
-            Name::Status => &[Word::Db, Word::Account, Word::Day],
-            Name::Due => &[Word::Db, Word::Account, Word::Quarter, Word::AsOf],
-            Name::ScheduleB => &[Word::Db, Word::Account, Word::Quarter],
-            Name::AddHoliday => &[Word::Db, Word::Day],
+            Name::Plain => &[Account, Year, Holidays],
+            Name::Serve => &[Db, Port, Connections, Silence, Duration],
+            Name::Import => &[Db, CsvFile],
+            Name::Enrol => &[Db, Account, Start, Carried, Form],
+            Name::Calendar => &[Db, Year, Days],
+            Name::Report => &[Db, Account, Quarter, Amount],
+            Name::ReportYear => &[Db, Account, Year, Amount],
+            Name::OpenYear => &[Db, Account, Year],
+            Name::Post => &[Db, Account, Run, Payday, Fit, Ss, Medicare],
+            Name::Void => &[Db, Account, Run],
+            Name::Pay => &[Db, Account, Payment, Paid, For, Amount],
+            Name::VoidPay => &[Db, Account, Payment],
+            Name::Status => &[Db, Account, Day],
+            Name::Due => &[Db, Account, Quarter, AsOf],
+            Name::ScheduleB => &[Db, Account, Quarter],
+            Name::AddHoliday => &[Db, Day],
         }
     }
 
@@ -193,6 +183,8 @@ impl Word {
             Word::Db => "db",
             Word::Port => "port",
             Word::Connections => "connections",
+            Word::Silence => "silence",
+            Word::Duration => "duration",
             Word::CsvFile => "CSVFILE",
             Word::Account => "ACCOUNT",
             Word::Start => "START",
@@ -222,7 +214,13 @@ impl Word {
     {
         matches!(
             self,
-            Word::Db | Word::Port | Word::Connections | Word::Carried | Word::Form
+            Word::Db
+                | Word::Port
+                | Word::Connections
+                | Word::Silence
+                | Word::Duration
+                | Word::Carried
+                | Word::Form
         )
     }
 
@@ -234,6 +232,8 @@ impl Word {
             Word::Db => Takes::Text,
             Word::Port => Takes::Number(1, 65_535),
             Word::Connections => Takes::Number(1, 1_000_000),
+            Word::Silence => Takes::Silence,
+            Word::Duration => Takes::Duration,
             Word::CsvFile => Takes::Text,
             Word::Account => Takes::Text,
             Word::Start => Takes::Text,
@@ -263,6 +263,7 @@ impl Word {
             Word::Db => "FILE",
             Word::Form => "FORM",
             Word::Port | Word::Connections => "N",
+            Word::Silence | Word::Duration => "SECONDS",
             word => word.text(),
         }
     }
@@ -273,6 +274,8 @@ impl Word {
             Word::Db => "The desk's database, made where it is not there",
             Word::Port => "The port to listen at, 1 to 65535",
             Word::Connections => "How many connections are taken before the program ends",
+            Word::Silence => "How long a read or a write waits for the client, 1 to 3600",
+            Word::Duration => "How long one connection is served in all, 1 to 3600",
             Word::CsvFile => {
                 "CSV under the header employer,run,payday,fit,ss,medicare; - is standard input"
             }

@@ -34,16 +34,26 @@ pub struct LocalTask {
     pub job: Job,
 }
 
+/// HTTP requests are to be answered by the desk in a database.
+#[derive(Drop)]
+pub struct ServeTask {
+    /// The database file.
+    pub db: String,
+    /// The port of 127.0.0.1 to listen at.
+    pub port: u16,
+    /// How many connections are taken.
+    pub connections: u32,
+    /// How many seconds a read or a write waits for the client.
+    pub silence: u32,
+    /// For how many seconds one connection is served at most.
+    pub duration: u32,
+}
+
 /// What words ask.
 #[derive(Drop)]
 pub enum Task {
     Plain(PlainTask),
-    /// HTTP requests are answered on this port, for so many connections, by the desk in a database.
-    Serve {
-        db: String,
-        port: u16,
-        connections: u32,
-    },
+    Serve(ServeTask),
     Local(LocalTask),
 }
 

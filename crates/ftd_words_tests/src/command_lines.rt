@@ -22,7 +22,7 @@ fn decided(alloc: Global, line: &str) -> Result<Decided, Fail> {
 fn kind_of(answer: &Decided) -> &'static str {
     match answer {
         Ok(Task::Plain(_)) => "plain",
-        Ok(Task::Serve { .. }) => "serve",
+        Ok(Task::Serve(_)) => "serve",
         Ok(Task::Local(local)) => match &local.job {
             Job::Import(_) => "import",
             Job::Ask(_) => "ask",
@@ -35,7 +35,7 @@ fn kind_of(answer: &Decided) -> &'static str {
 }
 
 /// Command lines, and what they are.
-const LINES: [(&str, &str); 30] = [
+const LINES: [(&str, &str); 33] = [
     ("ftd plain elm 2024 2024-05-27 2024-06-19", "plain"),
     ("ftd plain elm 2024", "plain"),
     ("ftd serve --db f --port 8080 --connections 9", "serve"),
@@ -64,6 +64,18 @@ const LINES: [(&str, &str); 30] = [
     ("ftd enrol --db f elm 2024-05-01 --form 942", "usage"),
     ("ftd serve --db f --port 0 --connections 1", "usage"),
     ("ftd serve --db f --port 65536 --connections 1", "usage"),
+    (
+        "ftd serve --db f --port 1 --connections 1 --silence 1 --duration 3600",
+        "serve",
+    ),
+    (
+        "ftd serve --db f --port 1 --connections 1 --silence 0",
+        "usage",
+    ),
+    (
+        "ftd serve --db f --port 1 --connections 1 --duration 3601",
+        "usage",
+    ),
     ("ftd void --db f elm 4294967296", "usage"),
     ("ftd plain --db f elm 2024", "usage"),
 ];
@@ -204,6 +216,29 @@ fn a_due_list_is_asked(rt: HostRuntime) -> Result<(), Fail> {
     };
     assert_eq!(rt; Some(*quarter), Quarter::read(b"2024Q2"));
     assert_eq!(rt; *as_of, day("2024-06-30")?);
+    Ok(())
+}
+
+#[test]
+fn a_server_is_asked(rt: HostRuntime) -> Result<(), Fail> {
+    for (line, its_silence, its_duration) in [
+        ("ftd serve --db f --port 8080 --connections 9", 10, 60),
+        (
+            "ftd serve --db f --port 8080 --connections 9 --duration 90 --silence 30",
+            30,
+            90,
+        ),
+    ] {
+        let answer = decided(rt.alloc(), line)?;
+        let Ok(Task::Serve(asked)) = &answer else {
+            return Err("no server")?;
+        };
+        assert_eq!(rt; asked.db.as_str(), "f");
+        assert_eq!(rt; asked.port, 8080);
+        assert_eq!(rt; asked.connections, 9);
+        assert_eq!(rt; asked.silence, its_silence);
+        assert_eq!(rt; asked.duration, its_duration);
+    }
     Ok(())
 }
 

@@ -15,34 +15,34 @@ returns-in-Err-clause-imports g c = text_fails ⊤ (held g.S.Store c.args.desk.n
 pub returns-in-Err-clause-one_by_one : goal.returns-in-Err-clause-one_by_one
 returns-in-Err-clause-one_by_one g c = inr (text_fails ⊥ (held g.S.Store c.args.desk.now) c.args.text.now c.none-done.result c.in-Err.fault c.cause_of-cause.result c.cause_of-cause.ensures c.none-done.ensures c.in-Err.ensures)
 
-pub returns-in-Ok-post_lists-clause-imports : goal.returns-in-Ok-post_lists-clause-imports
-returns-in-Ok-post_lists-clause-imports g c =
+pub returns-in-Ok-posted-clause-imports : goal.returns-in-Ok-posted-clause-imports
+returns-in-Ok-posted-clause-imports g c =
     let before = held g.S.Store c.args.desk.now in
-    let after = held g.S.Store c.post_lists.new.desk in
+    let after = held g.S.Store c.post_lists-posted.new.desk in
     let none = c.none-done.result in
-    let done = c.post_lists.new.done in
+    let done = c.post_lists-posted.new.done in
     text_posts c.args.text.now c.in-Ok.records.items c.in-Ok.ensures before after none done c.none-done.ensures
-    (subst (λ (items : List Record). Posts before after (map record_view items) none done) c.deref.ensures.value c.in-Ok-post_lists.ensures)
+    (subst (λ (items : List Record). Posts before after (map record_view items) none done) c.deref.ensures.value c.in-Ok-posted.ensures)
 
 pub returns-clause-imports : goal.returns-clause-imports
 returns-clause-imports g c =
     let before = held g.S.Store c.args.desk.now in
-    let after = held g.S.Store c.post_lists.new.desk in
+    let after = held g.S.Store c.post_lists-posted.new.desk in
     let none = c.none-done.result in
-    let done = c.post_lists.new.done in
-    let failed = IsStopped c.post_lists.new.desk in
-    text_stops c.args.text.now c.in-Ok.records.items c.in-Ok.ensures before after none done c.none-done.ensures failed ⊤ c.in-Err-post_lists.cause (λ met. tt)
-    (subst (λ (items : List Record). StopsWithin failed before after (map record_view items) (λ outcomes. Counts none outcomes done) c.in-Err-post_lists.cause) c.deref.ensures.value c.in-Err-post_lists.ensures)
+    let done = c.post_lists-posted.new.done in
+    let failed = IsStopped c.post_lists-posted.new.desk in
+    text_stops c.args.text.now c.in-Ok.records.items c.in-Ok.ensures before after none done c.none-done.ensures failed ⊤ c.in-Err-posted.cause (λ met. tt)
+    (subst (λ (items : List Record). StopsWithin failed before after (map record_view items) (λ outcomes. Counts none outcomes done) c.in-Err-posted.cause) c.deref.ensures.value c.in-Err-posted.ensures)
 
 pub returns-clause-one_by_one : goal.returns-clause-one_by_one
 returns-clause-one_by_one g c =
     let before = held g.S.Store c.args.desk.now in
-    let after = held g.S.Store c.post_lists.new.desk in
+    let after = held g.S.Store c.post_lists-posted.new.desk in
     let none = c.none-done.result in
-    let done = c.post_lists.new.done in
-    let failed = IsStopped c.post_lists.new.desk in
-    text_one_by_one c.args.text.now c.in-Ok.records.items c.in-Ok.ensures before after none done c.none-done.ensures failed c.in-Err-post_lists.cause
-    (subst (λ (items : List Record). StopsWithin failed before after (map record_view items) (λ outcomes. Counts none outcomes done) c.in-Err-post_lists.cause) c.deref.ensures.value c.in-Err-post_lists.ensures)
+    let done = c.post_lists-posted.new.done in
+    let failed = IsStopped c.post_lists-posted.new.desk in
+    text_one_by_one c.args.text.now c.in-Ok.records.items c.in-Ok.ensures before after none done c.none-done.ensures failed c.in-Err-posted.cause
+    (subst (λ (items : List Record). StopsWithin failed before after (map record_view items) (λ outcomes. Counts none outcomes done) c.in-Err-posted.cause) c.deref.ensures.value c.in-Err-posted.ensures)
 
 pub returns-clause-untouched : goal.returns-clause-untouched
-returns-clause-untouched g c = λ of_text. absurd (not_of_text _ _ _ _ _ _ c.in-Err-post_lists.ensures of_text)
+returns-clause-untouched g c = λ of_text. absurd (not_of_text _ _ _ _ _ _ c.in-Err-posted.ensures of_text)

@@ -14,4 +14,5 @@ invariant-loop-list g l =
     × (chunks_size l.list-iterator ≡ 256)
     × ((passed : List (ℕ × Said)) × (map record_view l.records ≡ passed ++ map record_view (chunks_rest l.list-iterator))
     × Posts (held g.S.Store l.fn.desk) (held g.S.Store l.desk) passed l.fn.done l.done
-    × (tally l.done ≤ tally l.fn.done + length passed))
+    × (tally l.done ≤ tally l.fn.done + length passed)
+    × (l.told ≡ length passed))

@@ -1,0 +1,110 @@
+#!/usr/bin/env python3
+"""Imports 20,000 pay runs by the program `ftd`, with a terminal, a file and a pipe as its standard error. On the terminal a line
+tells how many records are done, once the import takes longer than a second and at most five times a second, and is cleared before
+anything else is printed; the file and the pipe get nothing, and standard output is the same. An import that is over sooner, and one
+that stops at its header, show nothing on the terminal but what the file gets."""
+
+import os
+import pty
+import re
+import subprocess
+import sys
+import tempfile
+import time
+
+FTD = os.path.join(os.path.dirname(__file__), "..", "crates", "ftd", "out", "ftd")
+if len(sys.argv) > 1:
+    FTD = sys.argv[1]
+FTD = os.path.abspath(FTD)
+
+
+def write_runs(path, count):
+    """A text of so many pay runs of the account `ash`."""
+    with open(path, "w") as out:
+        out.write("employer,run,payday,fit,ss,medicare\n")
+        for number in range(1, count + 1):
+            out.write(f"ash,{number},2024-{number % 12 + 1:02}-{number % 28 + 1:02},1.00,0.62,0.14\n")
+
+
+def new_desk(folder, name):
+    """A file with the account `ash` enrolled and 2024 open."""
+    db = os.path.join(folder, name)
+    for words in ("calendar 2024", "calendar 2025", "enrol ash 2024-01-01", "open-year ash 2024"):
+        done = subprocess.run([FTD, *words.split(), "--db", db], stdout=subprocess.PIPE)
+        assert done.stdout == b"done\n"
+    return db
+
+
+def on_terminal(words):
+    """What the program prints on standard output, and on a terminal as its standard error, with the seconds of each piece."""
+    control, terminal = pty.openpty()
+    start = time.monotonic()
+    child = subprocess.Popen(words, stdout=subprocess.PIPE, stderr=terminal)
+    os.close(terminal)
+    pieces = []
+    while True:
+        try:
+            piece = os.read(control, 65536)
+        except OSError:
+            # the program has closed the terminal
+            break
+        pieces.append((time.monotonic() - start, piece))
+    printed = child.stdout.read()
+    child.wait()
+    os.close(control)
+    return printed, pieces
+
+
+def on_pipe(words):
+    """What the program prints on standard output and on a pipe."""
+    done = subprocess.run(words, stdout=subprocess.PIPE, stderr=subprocess.PIPE)
+    return done.stdout, done.stderr
+
+
+def on_file(words, path):
+    """What the program prints on standard output and into a file."""
+    with open(path, "wb") as err:
+        done = subprocess.run(words, stdout=subprocess.PIPE, stderr=err)
+    with open(path, "rb") as err:
+        return done.stdout, err.read()
+
+
+def shown(text):
+    """The counts that a terminal's text shows, one after the other; at the end the line has to be cleared."""
+    lines = re.fullmatch(rb"((?:\r[0-9]+ of [0-9]+ records)+)\r( +)\r", text)
+    assert lines, text
+    last = lines[1].rsplit(b"\r", 1)[1]
+    assert len(lines[2]) == len(last), text
+    return [tuple(map(int, pair)) for pair in re.findall(rb"([0-9]+) of ([0-9]+)", lines[1])]
+
+
+def main():
+    with tempfile.TemporaryDirectory() as folder:
+        text = os.path.join(folder, "runs.csv")
+        count = 20_000
+        write_runs(text, count)
+        printed, pieces = on_terminal([FTD, "import", "--db", new_desk(folder, "terminal.db"), text])
+        assert printed == b"posted 20000 already 0 refused 0 malformed 0\n", printed
+        counts = shown(b"".join(piece for _, piece in pieces))
+        assert all(whole == count for _, whole in counts)
+        assert counts == sorted(set(counts))
+        first, last = pieces[0][0], pieces[-1][0]
+        assert first >= 1
+        assert len(counts) <= (last - first) * 5 + 1
+        assert on_pipe([FTD, "import", "--db", new_desk(folder, "pipe.db"), text]) == (printed, b"")
+        err = os.path.join(folder, "err")
+        assert on_file([FTD, "import", "--db", new_desk(folder, "file.db"), text], err) == (printed, b"")
+        print(f"{count} runs on a terminal: first told after {first:.2f} s, {len(counts)} times in {last - first:.2f} s, "
+              "and the line cleared; a file and a pipe got nothing")
+        write_runs(text, 10)
+        db = new_desk(folder, "short.db")
+        assert on_terminal([FTD, "import", "--db", db, text]) == (b"posted 10 already 0 refused 0 malformed 0\n", [])
+        with open(text, "w") as out:
+            out.write("employer,run\n")
+        printed, pieces = on_terminal([FTD, "import", "--db", db, text])
+        assert printed == b"posted 0 already 0 refused 0 malformed 0\n", printed
+        assert b"".join(piece for _, piece in pieces) == b"refused header\r\n", pieces
+        print("10 runs and a bad header: no progress on the terminal")
+
+
+main()
