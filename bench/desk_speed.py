@@ -4,9 +4,11 @@
 Run it at the top after `cd crates/ftd_desk_bench && rt run < stdin` has built the program. It prints microseconds for a
 request: figures reported and payments taken by an account that has 100 payments and one that has 20,000, pay runs posted
 into an account of 100, 2,000 and 20,000 runs over ten years, into these years and into one after them, a due list of a
-quarter, and 20,000 runs posted one by one and together; in memory and in a file. Python does the statements of the
-request alone, and computes nothing.
+quarter, and 20,000 runs posted one by one and together. Python does the statements of the request alone, and computes
+nothing. Each is timed in the engine's own memory, where a table is one sorted vector, so that a row costs what moves behind
+it; in a file that lies in memory (/dev/shm); and in a file on the disk, where each commit waits for it.
 """
+import contextlib
 import datetime
 import os
 import random
@@ -66,15 +68,18 @@ def clocked(before, measured, file):
     return int(done.stderr.split()[1])
 
 
-def asked(name, before, measured, folder, times):
-    """Prints how long a request takes in memory and in a file, the best of three."""
+def best_of_three(name, timed, folders, times):
+    """Prints the microseconds for each of so many requests in each place, the best of three."""
     figures = []
-    for place in (None, "file"):
-        best = min(
-            clocked(before, measured, place and os.path.join(folder, f"{time.monotonic_ns()}.db")) for _ in range(3)
-        )
+    for folder in (None, *folders):
+        best = min(timed(folder and os.path.join(folder, f"{time.monotonic_ns()}.db")) for _ in range(3))
         figures.append(best / times)
-    print(f"{name:58} {figures[0]:9.1f} {figures[1]:9.1f}", flush=True)
+    print(f"{name:50}" + "".join(f" {figure:11.1f}" for figure in figures), flush=True)
+
+
+def asked(name, before, measured, folders, times):
+    """Prints how long a request takes the desk."""
+    best_of_three(name, lambda file: clocked(before, measured, file), folders, times)
 
 
 class Statements:
@@ -160,6 +165,18 @@ class Statements:
         self.conn.execute("DELETE FROM bucket WHERE account = ? AND first_day >= ? AND first_day <= ?", ("ash", first, first + 29))
         self.conn.execute("INSERT INTO bucket VALUES (?, ?, ?, 0, ?, ?)", ("ash", first, first + 29, total, first + 45))
 
+    def due_list(self, first, last):
+        """The rows of a quarter, and for each the payments for its days."""
+        self.known()
+        self.lines()
+        rows = self.all("SELECT first_day, last_day, rule, cents, due FROM bucket WHERE account = ? AND first_day >= ?"
+                        " AND first_day <= ? ORDER BY first_day", "ash", first, last)
+        self.all("SELECT paid, for_day, cents FROM payment WHERE account = ? AND for_day >= ? AND for_day <= ?"
+                 " AND voided = 0 ORDER BY for_day, payment", "ash", first, last)
+        self.calendar(2018)
+        self.calendar(2019)
+        return rows
+
     def one_by_one(self, calls):
         for call in calls:
             self.conn.execute("BEGIN IMMEDIATE")
@@ -174,21 +191,17 @@ class Statements:
             self.conn.execute("COMMIT")
 
 
-def by_python(name, before, measured, folder, together, times):
-    """Prints how long Python takes for the same, the best of three."""
-    figures = []
-    for place in (None, "file"):
-        best = None
-        for _ in range(3):
-            desk = Statements(place and os.path.join(folder, f"{time.monotonic_ns()}.db"))
-            desk.together(before(desk))
-            calls = measured(desk)
-            start = time.perf_counter()
-            desk.together(calls) if together else desk.one_by_one(calls)
-            took = (time.perf_counter() - start) * 1e6
-            best = took if best is None else min(best, took)
-        figures.append(best / times)
-    print(f"{'  ' + name:58} {figures[0]:9.1f} {figures[1]:9.1f}", flush=True)
+def by_python(name, before, measured, folders, together, times):
+    """Prints how long Python takes for the same."""
+    def timed(file):
+        desk = Statements(file)
+        desk.together(before(desk))
+        calls = measured(desk)
+        start = time.perf_counter()
+        desk.together(calls) if together else desk.one_by_one(calls)
+        return (time.perf_counter() - start) * 1e6
+
+    best_of_three("  " + name, timed, folders, times)
 
 
 def day_number(rng):
@@ -211,38 +224,45 @@ def python_post(first, count):
     return made
 
 
+def python_due(desk):
+    first = (datetime.date(2018, 4, 1) - datetime.date(1970, 1, 1)).days
+    return [lambda: desk.due_list(first, first + 90)] * 100
+
+
 def main():
-    print(f"{'microseconds a request':58} {'memory':>9} {'file':>9}")
-    with tempfile.TemporaryDirectory() as folder:
+    print(f"{'microseconds a request':50} {'memory':>11} {'memory file':>11} {'file':>11}")
+    with contextlib.ExitStack() as stack:
+        folders = [stack.enter_context(tempfile.TemporaryDirectory(dir=place)) for place in ("/dev/shm", None)]
         start = list(setting_up())
         reports = [f"report ash {year}Q{quarter} 12500.00" for year in range(2024, 2049) for quarter in range(1, 5)]
         calls = [(year, quarter) for year in range(2024, 2049) for quarter in range(1, 5)]
-        asked("100 figures reported", start, reports, folder, 100)
+        asked("100 figures reported", start, reports, folders, 100)
         by_python("the statements by Python", lambda desk: [],
-                  lambda desk: [lambda key=key: desk.report(*key) for key in calls], folder, False, 100)
-        asked("100 figures reported together", start, list(listed(reports)), folder, 100)
+                  lambda desk: [lambda key=key: desk.report(*key) for key in calls], folders, False, 100)
+        asked("100 figures reported together", start, list(listed(reports)), folders, 100)
         for have in (100, 20_000 - 200):
             rng = random.Random(1)
             before = start + list(listed(pay(rng, number) for number in range(1, have + 1)))
             more = [pay(rng, number) for number in range(have + 1, have + 101)]
-            asked(f"100 payments beside {have}", before, more, folder, 100)
-            by_python("the statements by Python", python_pay(1, have), python_pay(have + 1, 100), folder, False, 100)
-            asked(f"100 payments beside {have}, together", before, list(listed(more)), folder, 100)
+            asked(f"100 payments beside {have}", before, more, folders, 100)
+            by_python("the statements by Python", python_pay(1, have), python_pay(have + 1, 100), folders, False, 100)
+            asked(f"100 payments beside {have}, together", before, list(listed(more)), folders, 100)
         for have in (100, 2_000, 20_000 - 200):
             rng = random.Random(1)
             before = start + list(listed(post(rng, number) for number in range(1, have + 1)))
             more = [post(rng, number) for number in range(have + 1, have + 101)]
-            asked(f"100 runs posted beside {have}", before, more, folder, 100)
-            by_python("the statements by Python", python_post(1, have), python_post(have + 1, 100), folder, False, 100)
+            asked(f"100 runs posted beside {have}", before, more, folders, 100)
+            by_python("the statements by Python", python_post(1, have), python_post(have + 1, 100), folders, False, 100)
             more = [post(rng, number, [2024]) for number in range(have + 1, have + 101)]
-            asked(f"100 runs posted into a year after {have}", before, more, folder, 100)
-            asked(f"100 due lists beside {have} runs", before, ["due ash 2018Q2 2018-06-30"] * 100, folder, 100)
+            asked(f"100 runs posted into a year after {have}", before, more, folders, 100)
+            asked(f"100 due lists beside {have} runs", before, ["due ash 2018Q2 2018-06-30"] * 100, folders, 100)
+            by_python("the statements by Python", python_post(1, have), python_due, folders, False, 100)
         rng = random.Random(1)
         runs = [post(rng, number) for number in range(1, 20_001)]
-        asked("20,000 runs one by one", start, runs, folder, 20_000)
-        by_python("the statements by Python", lambda desk: [], python_post(1, 20_000), folder, False, 20_000)
-        asked("20,000 runs in lists of a thousand", start, list(listed(runs)), folder, 20_000)
-        by_python("the statements by Python", lambda desk: [], python_post(1, 20_000), folder, True, 20_000)
+        asked("20,000 runs one by one", start, runs, folders, 20_000)
+        by_python("the statements by Python", lambda desk: [], python_post(1, 20_000), folders, False, 20_000)
+        asked("20,000 runs in lists of a thousand", start, list(listed(runs)), folders, 20_000)
+        by_python("the statements by Python", lambda desk: [], python_post(1, 20_000), folders, True, 20_000)
 
 
 if __name__ == "__main__":

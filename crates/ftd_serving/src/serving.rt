@@ -40,6 +40,8 @@ fn serve_one<S: Alter, R: Clock + AllocGlobal>(
     let silence = Duration::from_secs(u64::from(limits.silence));
     let _ = stream.set_read_timeout(Some(silence));
     let _ = stream.set_write_timeout(Some(silence));
+    // An answer goes out in pieces: none is to wait until the peer has acknowledged the one before.
+    let _ = stream.set_nodelay(true);
     let duration = Duration::from_secs(u64::from(limits.duration));
     let mut source = Port::new(Timed::new(rt, stream, duration));
     let mut target = Port::new(Timed::new(rt, stream, duration));
