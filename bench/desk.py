@@ -3,7 +3,7 @@
 
 Run it at the top after `cd crates/ftd_desk_bench && rt run < stdin` has built the program. It makes seeded lists of
 requests (several accounts on both forms, late pay runs, voids, openings, added holidays, nonsense), gives them to the
-program, which asks a desk over a file, and compares each answer and, at the end, each row of each table, which Python's
+program, which asks a desk over a file, one by one and in lists, and compares each answer and, at the end, each row of each table, which Python's
 sqlite3 reads from the file. `bench/desk.py COUNT SEED..` takes how many requests a list has, and the seeds.
 """
 import contextlib
@@ -568,13 +568,23 @@ def one(rng, posted, paid):
                        f"calendar {rng.randint(2020, 2030)}", f"enrol {name} 2022-01-01"])
 
 
+def grouped(rng, lines):
+    """The requests in groups, each asked one by one or together."""
+    place = 0
+    while place < len(lines):
+        group = lines[place : place + rng.randint(1, 80)]
+        place += len(group)
+        yield from ["together", *group, "apart"] if rng.random() < 0.6 else group
+
+
 def compare(program, file, seed, count):
     """Asks the requests of a seed, and compares answers and tables. It answers how many requests there were."""
     rng = random.Random(seed)
     lines = list(preparing(rng))
     posted, paid = {}, {}
     lines += [one(rng, posted, paid) for _ in range(count)]
-    done = subprocess.run([program, file], input="\n".join(lines), capture_output=True, text=True)
+    asked = "\n".join(grouped(rng, lines))
+    done = subprocess.run([program, file], input=asked, capture_output=True, text=True)
     if done.returncode != 0:
         raise SystemExit(f"seed {seed}: status {done.returncode}: {done.stderr}")
     answers, desk = done.stdout.split("\n"), Desk()

@@ -1,7 +1,8 @@
 #!/usr/bin/env python3
 """Imports pay runs by the program `ftd`, beside a Python script with `csv` and `sqlite3` that writes the rows of the runs alone and
-computes nothing: time and peak memory, into a new file and again. Then it kills 50 imports at random moments, imports again, and
-compares the tables with those of one import."""
+computes nothing: time and peak memory, into a new file and again. Then it imports random records, and compares the tables with those
+of the same records posted one by one. Then it kills 50 imports at random moments, imports again, and compares the tables with those
+of one import."""
 
 import csv
 import os
@@ -106,7 +107,7 @@ def tables(db):
 def kill(folder, count, chosen):
     """Imports that are killed at random moments, and then imported again."""
     text = os.path.join(folder, "killed.csv")
-    write_runs(text, ["ash", "birch"], 1500, chosen)
+    write_runs(text, ["ash", "birch"], 10_000, chosen)
     begun = new_desk(folder, ["ash", "birch"])
     whole = os.path.join(folder, "whole.db")
     shutil.copy(begun, whole)
@@ -132,6 +133,59 @@ def kill(folder, count, chosen):
     print(f"{count} imports killed, {cut} of them in the middle of the records; {right} end in the tables of one import")
 
 
+def open_office(db):
+    """A file with six accounts, two of them on Form 943, monthly and semiweekly ones, with 2023 and 2024 open."""
+    for year in ("2023", "2024", "2025"):
+        assert ftd("calendar", year, f"{year}-07-04", "--db", db) == (0, "done")
+    for number, account in enumerate(["ash", "birch", "cedar", "elm", "rye", "wheat"]):
+        farm = number >= 4
+        words = ["--form", "943"] if farm else []
+        assert ftd("enrol", account, "2021-01-01", *words, "--db", db) == (0, "done")
+        amount = "12000.00" if number % 2 else "40000.00"
+        for year in ("2021", "2022"):
+            if farm:
+                assert ftd("report-year", account, year, amount, "--db", db) == (0, "done")
+        for quarter in [] if farm else ["2021Q3", "2021Q4"] + [f"2022Q{n}" for n in range(1, 5)] + ["2023Q1", "2023Q2"]:
+            assert ftd("report", account, quarter, amount, "--db", db) == (0, "done")
+        for year in ("2023", "2024"):
+            assert ftd("open-year", account, year, "--db", db) == (0, "done")
+
+
+def any_run(chosen):
+    """A record: one of six accounts or one that is not there, small amounts and such as cross 100,000.00, numbers that come again."""
+    account = chosen.choice(["ash", "birch", "cedar", "elm", "rye", "wheat", "wheat", "nobody"] if chosen.random() < 0.1 else ["ash", "birch", "cedar", "elm", "rye", "wheat"])
+    number = chosen.randrange(1, 60) if chosen.random() < 0.2 else chosen.randrange(1, 100_000)
+    day = f"{chosen.choice(['2023', '2024', '2024', '2025'] if chosen.random() < 0.1 else ['2023', '2024'])}-{chosen.randrange(1, 13):02}-{chosen.randrange(1, 29):02}"
+    amount = chosen.choice([40, 700, 30_000, 60_000, 110_000])
+    return [account, str(number), day, f"{chosen.randrange(amount)}.{chosen.randrange(100):02}", f"{chosen.randrange(amount // 4)}.00", "0.00"]
+
+
+def compare(folder, texts, records, chosen):
+    """Imports random records into a file that has some already, and posts the same one by one into another: the tables have to be
+    equal."""
+    right = 0
+    for _ in range(texts):
+        one, other = os.path.join(folder, "one.db"), os.path.join(folder, "other.db")
+        for name in (one, other):
+            for end in ("", "-wal"):
+                if os.path.exists(name + end):
+                    os.remove(name + end)
+        open_office(one)
+        shutil.copy(one, other)
+        runs = [any_run(chosen) for _ in range(records)]
+        text = os.path.join(folder, "runs.csv")
+        for first in range(0, records, records // 2):
+            with open(text, "w", newline="") as out:
+                writer = csv.writer(out, lineterminator="\n")
+                writer.writerow(["employer", "run", "payday", "fit", "ss", "medicare"])
+                writer.writerows(runs[first : first + records // 2])
+            ftd("import", "--db", one, text)
+        for run in runs:
+            ftd("post", *run, "--db", other)
+        right += tables(one) == tables(other)
+    print(f"{texts} texts of {records} random records imported, and posted one by one: the tables are equal {right} times")
+
+
 def main():
     chosen = random.Random(20240115)
     with tempfile.TemporaryDirectory() as folder:
@@ -144,6 +198,8 @@ def main():
         measure(folder, ["ash"], 20_000, chosen)
     with tempfile.TemporaryDirectory() as folder:
         measure(folder, [f"a{number}" for number in range(100)], 2_000, chosen)
+    with tempfile.TemporaryDirectory() as folder:
+        compare(folder, 10, 400, chosen)
     with tempfile.TemporaryDirectory() as folder:
         kill(folder, 50, chosen)
 

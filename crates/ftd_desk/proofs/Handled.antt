@@ -18,10 +18,10 @@ use Rattle.ftd_rows.specs.declared.faults.StoreFault.{StoreFault}
 use Rattle.ftd_rows.specs.declared.faults.StoreFault.TheVariants as fault
 use Rattle.ftd_questions.specs.Faults.{refusal_of}
 use Rattle.ftd_entries.specs.Words.{IsKept}
-use Rattle.ftd_desk.specs.Counted.{AreCounted}
+use Rattle.ftd_desk.specs.Books.{IsKnown}
 use Rattle.ftd_desk.specs.Desks.{Held, Keeps}
 use Rattle.ftd_desk.specs.Words.{AreSteps, MayLeaveAll, HandlesTogether}
-use Rattle.ftd_desk.specs.declared.counts.Counts.{Counts}
+use Rattle.ftd_desk.specs.declared.known.Known.{Known}
 use Rattle.ftd_desk.proofs.Handling.{rests_again, clean_at, kept_at, undone_rests, before, was_open, committed_rests}
 
 -- a fault: there was no memory, or the store failed
@@ -57,13 +57,13 @@ module _ (requests : List Request) (fault : Refusal) (is_fault : IsRefusedBy fau
     lasts = λ clean change. absurd (true≢false (sym change));
   }
 
-  -- no transaction began, and the counts are forgotten
-  pub together_unbegun : (old new : Held) → CrashKeeps old.db new.db → (HasCleanDisk new.db → LeavesRows old.db new.db) → ((s : State) → AreCounted new.counts s) → HandlesTogether old new requests (Err fault)
+  -- no transaction began, and what was known is forgotten
+  pub together_unbegun : (old new : Held) → CrashKeeps old.db new.db → (HasCleanDisk new.db → LeavesRows old.db new.db) → ((s : State) → IsKnown new.known s) → HandlesTogether old new requests (Err fault)
   together_unbegun old new crash left forgotten = record {
     honest = clean_at old.db new.db (λ _. ⊥) crash;
     opens = λ clean is_open. (left clean).was_open is_open;
     answered = λ clean is_open s keeps.
-        (s, (is_fault, refl), record { rests = rests_again old.db new.db s keeps.rests ((left clean).now_is is_open) ((left clean).committed_is is_open); counted = forgotten s });
+        (s, (is_fault, refl), record { rests = rests_again old.db new.db s keeps.rests ((left clean).now_is is_open) ((left clean).committed_is is_open); known = forgotten s });
     crash = survives_weaker old.db new.db (λ _. ⊥) (MayLeaveAllOf old requests) (λ clean db none. absurd none) crash;
     lasts = λ clean change. absurd (true≢false (sym change));
   }
@@ -71,25 +71,25 @@ module _ (requests : List Request) (fault : Refusal) (is_fault : IsRefusedBy fau
 module _ (old new : Held) (b m : database.State) (requests : List Request) (entered : CrashKeeps old.db b) (begun : HasCleanDisk b → Begins old.db b) (crash : CrashKeeps b m) (kept : HasCleanDisk m → KeepsCommit b m) where
   -- there was a fault, and the transaction was dropped
   pub together_dropped : (fault : Refusal) → IsRefusedBy fault → (HasCleanDisk new.db → IsTrue new.db.is_open → EndsAs new.db m.committed) → CrashKeeps m new.db → (HasCleanDisk new.db → IsTrue new.db.is_open → IsTrue m.is_open)
-      → ((s : State) → AreCounted new.counts s) → HandlesTogether old new requests (Err fault)
+      → ((s : State) → IsKnown new.known s) → HandlesTogether old new requests (Err fault)
   together_dropped fault is_fault undone left opens forgotten = record {
     honest = λ clean. before old.db b m new.db entered begun crash kept (clean_at m new.db (λ _. ⊥) left clean);
     opens = λ clean is_open. was_open old.db b m new.db entered begun crash kept (clean_at m new.db (λ _. ⊥) left clean);
     answered = λ clean is_open s keeps.
         let clean_m = clean_at m new.db (λ _. ⊥) left clean in
-        (s, (is_fault, refl), record { rests = undone_rests old.db b m new.db entered begun crash kept clean_m (opens clean is_open) (undone clean is_open) s keeps.rests; counted = forgotten s });
+        (s, (is_fault, refl), record { rests = undone_rests old.db b m new.db entered begun crash kept clean_m (opens clean is_open) (undone clean is_open) s keeps.rests; known = forgotten s });
     crash = survives_weaker old.db new.db (λ _. ⊥) (MayLeaveAllOf old requests) (λ clean db none. absurd none) (crash_then old.db b new.db entered (crash_then b m new.db crash left));
     lasts = λ clean change. absurd (true≢false (sym change));
   }
 
-  module _ (answers : List Answer) (later : Counts)
-      (serves : HasCleanDisk m → (s : State) → IsKept b.now s → AreCounted old.counts s → (end : State) × AreSteps s requests answers end × IsKept m.now end × IsTrue m.is_open × AreCounted later end)
+  module _ (answers : List Answer) (later : Known)
+      (serves : HasCleanDisk m → (s : State) → IsKept b.now s → IsKnown old.known s → (end : State) × AreSteps s requests answers end × IsKept m.now end × IsTrue m.is_open × IsKnown later end)
       (commit : Survives m new.db (λ left. left ≡ m.now.trees)) where
     clean_m : HasCleanDisk new.db → HasCleanDisk m
     clean_m clean = clean_at m new.db (λ left. left ≡ m.now.trees) commit clean
 
-    done_at : HasCleanDisk m → (s : State) → Keeps old s → (end : State) × AreSteps s requests answers end × IsKept m.now end × IsTrue m.is_open × AreCounted later end
-    done_at clean s keeps = serves clean s (kept_at old.db b m new.db entered begun crash kept clean s keeps.rests) keeps.counted
+    done_at : HasCleanDisk m → (s : State) → Keeps old s → (end : State) × AreSteps s requests answers end × IsKept m.now end × IsTrue m.is_open × IsKnown later end
+    done_at clean s keeps = serves clean s (kept_at old.db b m new.db entered begun crash kept clean s keeps.rests) keeps.known
 
     -- what a crash may leave of the commit
     commit_leaves : Survives old.db new.db (MayLeaveAllOf old requests)
@@ -102,28 +102,28 @@ module _ (old new : Held) (b m : database.State) (requests : List Request) (ente
         ))
         (crash_then old.db b m entered crash) commit
 
-    -- the commit failed, and the counts are forgotten
-    pub together_uncommitted : (HasCleanDisk new.db → IsTrue new.db.is_open → EndsAs new.db m.committed) → ((s : State) → AreCounted new.counts s) → HandlesTogether old new requests (Err refusal.Store)
+    -- the commit failed, and what was known is forgotten
+    pub together_uncommitted : (HasCleanDisk new.db → IsTrue new.db.is_open → EndsAs new.db m.committed) → ((s : State) → IsKnown new.known s) → HandlesTogether old new requests (Err refusal.Store)
     together_uncommitted undone forgotten = record {
       honest = λ clean. before old.db b m new.db entered begun crash kept (clean_m clean);
       opens = λ clean is_open. was_open old.db b m new.db entered begun crash kept (clean_m clean);
       answered = λ clean is_open s keeps. (
         s,
         (inr refl, refl),
-        record { rests = undone_rests old.db b m new.db entered begun crash kept (clean_m clean) (done_at (clean_m clean) s keeps).3 (undone clean is_open) s keeps.rests; counted = forgotten s },
+        record { rests = undone_rests old.db b m new.db entered begun crash kept (clean_m clean) (done_at (clean_m clean) s keeps).3 (undone clean is_open) s keeps.rests; known = forgotten s },
       );
       crash = commit_leaves;
       lasts = λ clean change. absurd (true≢false (sym change));
     }
 
     -- the commit succeeded
-    pub together_committed : (HasCleanDisk new.db → Shows m new.db m.now m.now false) → (HasCleanDisk new.db → CrashLeaves new.db m.now) → new.counts ≡ later → HandlesTogether old new requests (Ok answers)
-    together_committed shown last counts = record {
+    pub together_committed : (HasCleanDisk new.db → Shows m new.db m.now m.now false) → (HasCleanDisk new.db → CrashLeaves new.db m.now) → new.known ≡ later → HandlesTogether old new requests (Ok answers)
+    together_committed shown last known = record {
       honest = λ clean. before old.db b m new.db entered begun crash kept (clean_m clean);
       opens = λ clean is_open. was_open old.db b m new.db entered begun crash kept (clean_m clean);
       answered = λ clean is_open s keeps.
           let done = done_at (clean_m clean) s keeps in
-          (done.0, done.1, record { rests = committed_rests m new.db done.0 (shown clean) done.2; counted = subst (λ c. AreCounted c done.0) (sym counts) done.4 });
+          (done.0, done.1, record { rests = committed_rests m new.db done.0 (shown clean) done.2; known = subst (λ c. IsKnown c done.0) (sym known) done.4 });
       crash = commit_leaves;
       lasts = λ clean changed. subst (λ (db : Database). CrashLeaves new.db db) (sym (shown clean).now_is) (last clean);
     }

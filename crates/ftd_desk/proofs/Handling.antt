@@ -26,30 +26,35 @@ use Rattle.ftd_store.specs.Seen.{shown}
 use Rattle.ftd_store.specs.Frame.{Calls}
 use Rattle.ftd_entries.specs.Words.{IsKept}
 use Rattle.ftd_questions.specs.Faults.{refusal_of}
-use Rattle.ftd_desk.specs.Counted.{AreRight, AreCounted, ServesCounted}
+use Rattle.ftd_desk.specs.Counted.{AreRight}
+use Rattle.ftd_desk.specs.Books.{IsKnown, ServesKnown}
 use Rattle.ftd_desk.specs.Desks.{Held, Rests, Keeps}
 use Rattle.ftd_desk.specs.Words.{MayLeave, Handles}
-use Rattle.ftd_desk.specs.declared.counts.Counts.{Counts}
+use Rattle.ftd_desk.specs.declared.known.Known.{Known}
 use Rattle.ftd_desk.specs.declared.counts.Tally.{Tally}
-use Rattle.ftd_desk.specs.declared.requests.Served.{Served}
+use Rattle.ftd_desk.specs.declared.listed.Answered.{Answered}
+use Rattle.ftd_desk.proofs.Booking.{no_books}
 
 -- what a crash may leave of a request
 abbrev pub MayLeaveOf : Held → Request → Trees → Type 0
 MayLeaveOf old request left = IsTrue old.db.is_open × ((s : State) → Keeps old s → MayLeave s request left)
 
--- what a request did within its transaction, and the counts before and after it
-pub record ServesBy (old new : database.State) (counts later : Counts) (request : Request) (answer : Answer) : Type 0 where
+-- what a request did within its transaction, and what is known before and after it
+pub record ServesBy (old new : database.State) (known later : Known) (request : Request) (answer : Answer) : Type 0 where
   pub crash : CrashKeeps old new
   pub kept : HasCleanDisk new → KeepsCommit old new
-  pub answered : HasCleanDisk new → (s : State) → IsKept old.now s → AreCounted counts s
-      → (IsFault answer × AreCounted later s) ⊎ ((next : State) × Step s request answer next × IsKept new.now next × IsTrue new.is_open × AreCounted later next)
+  pub answered : HasCleanDisk new → (s : State) → IsKept old.now s → IsKnown known s
+      → (IsFault answer × IsKnown later s) ⊎ ((next : State) × Step s request answer next × IsKept new.now next × IsTrue new.is_open × IsKnown later next)
 
--- no counts are right of each state
+-- nothing that is known is right of each state
 none_right : (count_of : List ℕ → State → ℕ) (tally : Tally) (s : State) → tally.counts.items ≡ [] → AreRight count_of tally s
 none_right count_of tally s none account = rw none tt
 
-pub none_counted : (counts : Counts) → counts.runs.counts.items ≡ [] → counts.payments.counts.items ≡ [] → (s : State) → AreCounted counts s
-none_counted counts runs payments s = record { runs = none_right runs_of counts.runs s runs; payments = none_right payments_of counts.payments s payments }
+pub none_known : (known : Known) → known.counts.runs.counts.items ≡ [] → known.counts.payments.counts.items ≡ [] → known.books.books.items ≡ [] → (s : State) → IsKnown known s
+none_known known runs payments books s = record {
+  counts = record { runs = none_right runs_of known.counts.runs s runs; payments = none_right payments_of known.counts.payments s payments };
+  books = no_books known.books s books;
+}
 
 -- the database is the same again
 pub rests_again : (old new : database.State) (s : State) → Rests old s → new.now ≡ old.now → new.committed ≡ old.committed → Rests new s
@@ -80,14 +85,14 @@ handles_still old request answer crash fault = record {
   keeps = λ same other. crash;
 }
 
--- no transaction began, and the counts are forgotten
-pub handles_unbegun : (old new : Held) (request : Request) (answer : Answer) → CrashKeeps old.db new.db → (HasCleanDisk new.db → LeavesRows old.db new.db) → ((s : State) → AreCounted new.counts s) → IsFault answer
+-- no transaction began, and what was known is forgotten
+pub handles_unbegun : (old new : Held) (request : Request) (answer : Answer) → CrashKeeps old.db new.db → (HasCleanDisk new.db → LeavesRows old.db new.db) → ((s : State) → IsKnown new.known s) → IsFault answer
     → Handles old new request answer
 handles_unbegun old new request answer crash left forgotten fault = record {
   honest = clean_at old.db new.db (λ _. ⊥) crash;
   opens = λ clean is_open. (left clean).was_open is_open;
   answered = λ clean is_open s keeps.
-      (s, inr (fault, refl), record { rests = rests_again old.db new.db s keeps.rests ((left clean).now_is is_open) ((left clean).committed_is is_open); counted = forgotten s });
+      (s, inr (fault, refl), record { rests = rests_again old.db new.db s keeps.rests ((left clean).now_is is_open) ((left clean).committed_is is_open); known = forgotten s });
   crash = survives_weaker old.db new.db (λ _. ⊥) (MayLeaveOf old request) (λ clean db none. absurd none) crash;
   lasts = λ clean change. absurd (not_fault answer fault change);
   keeps = λ same other. crash;
@@ -115,17 +120,17 @@ module _ (a b m e : database.State) (entered : CrashKeeps a b) (begun : HasClean
 pub committed_rests : (m e : database.State) (s : State) → Shows m e m.now m.now false → IsKept m.now s → Rests e s
 committed_rests m e s shows kept = record { kept = subst (λ (db : Database). IsKept db s) (sym shows.now_is) kept; committed = shows.committed_is ∙ sym shows.now_is }
 
-module _ (old new : Held) (b m : database.State) (later : Counts) (request : Request) (answer : Answer)
-    (entered : CrashKeeps old.db b) (begun : HasCleanDisk b → Begins old.db b) (serves : ServesBy b m old.counts later request answer) where
+module _ (old new : Held) (b m : database.State) (later : Known) (request : Request) (answer : Answer)
+    (entered : CrashKeeps old.db b) (begun : HasCleanDisk b → Begins old.db b) (serves : ServesBy b m old.known later request answer) where
   abbrev Done : State → Type 0
-  Done s = (IsFault answer × AreCounted later s) ⊎ ((next : State) × Step s request answer next × IsKept m.now next × IsTrue m.is_open × AreCounted later next)
+  Done s = (IsFault answer × IsKnown later s) ⊎ ((next : State) × Step s request answer next × IsKept m.now next × IsTrue m.is_open × IsKnown later next)
 
   done_at : HasCleanDisk m → (s : State) → Keeps old s → Done s
-  done_at clean s keeps = serves.answered clean s (kept_at old.db b m new.db entered begun serves.crash serves.kept clean s keeps.rests) keeps.counted
+  done_at clean s keeps = serves.answered clean s (kept_at old.db b m new.db entered begun serves.crash serves.kept clean s keeps.rests) keeps.known
 
   -- the transaction was dropped, since nothing changed
   pub handles_dropped : (HasCleanDisk new.db → IsTrue new.db.is_open → EndsAs new.db m.committed) → CrashKeeps m new.db → (HasCleanDisk new.db → IsTrue new.db.is_open → IsTrue m.is_open)
-      → ((s : State) → AreCounted later s → AreCounted new.counts s) → is_change answer ≡ false → Handles old new request answer
+      → ((s : State) → IsKnown later s → IsKnown new.known s) → is_change answer ≡ false → Handles old new request answer
   handles_dropped undone left opens counted stays = record {
     honest = λ clean. before old.db b m new.db entered begun serves.crash serves.kept (clean_at m new.db (λ _. ⊥) left clean);
     opens = λ clean is_open. was_open old.db b m new.db entered begun serves.crash serves.kept (clean_at m new.db (λ _. ⊥) left clean);
@@ -133,8 +138,8 @@ module _ (old new : Held) (b m : database.State) (later : Counts) (request : Req
         let clean_m = clean_at m new.db (λ _. ⊥) left clean in
         let again = undone_rests old.db b m new.db entered begun serves.crash serves.kept clean_m (opens clean is_open) (undone clean is_open) s keeps.rests in
         elim (done_at clean_m s keeps) [
-          | inl fault ↦ (s, inr (fault.0, refl), record { rests = again; counted = counted s fault.1 })
-          | inr x ↦ (x.0, inl x.1, record { rests = subst (λ n. Rests new.db n) (sym (leaves s request answer x.0 x.1 stays)) again; counted = counted x.0 x.4 })
+          | inl fault ↦ (s, inr (fault.0, refl), record { rests = again; known = counted s fault.1 })
+          | inr x ↦ (x.0, inl x.1, record { rests = subst (λ n. Rests new.db n) (sym (leaves s request answer x.0 x.1 stays)) again; known = counted x.0 x.4 })
         ];
     crash = survives_weaker old.db new.db (λ _. ⊥) (MayLeaveOf old request) (λ clean db none. absurd none) whole;
     lasts = λ clean change. absurd (true≢false (sym change ∙ stays));
@@ -159,8 +164,8 @@ module _ (old new : Held) (b m : database.State) (later : Counts) (request : Req
       ))
       (crash_then old.db b m entered serves.crash) commit
 
-  -- the commit failed, and the counts are forgotten
-  pub handles_uncommitted : (HasCleanDisk new.db → IsTrue new.db.is_open → EndsAs new.db m.committed) → Survives m new.db (λ left. left ≡ m.now.trees) → ((s : State) → AreCounted new.counts s)
+  -- the commit failed, and what was known is forgotten
+  pub handles_uncommitted : (HasCleanDisk new.db → IsTrue new.db.is_open → EndsAs new.db m.committed) → Survives m new.db (λ left. left ≡ m.now.trees) → ((s : State) → IsKnown new.known s)
       → is_change answer ≡ true → Handles old new request (Err refusal.Store)
   handles_uncommitted undone commit forgotten change = record {
     honest = λ clean. before old.db b m new.db entered begun serves.crash serves.kept (clean_at m new.db (λ left. left ≡ m.now.trees) commit clean);
@@ -169,7 +174,7 @@ module _ (old new : Held) (b m : database.State) (later : Counts) (request : Req
         let clean_m = clean_at m new.db (λ left. left ≡ m.now.trees) commit clean in
         elim (done_at clean_m s keeps) [
           | inl fault ↦ absurd (not_fault answer fault.0 change)
-          | inr x ↦ (s, inr (inr refl, refl), record { rests = undone_rests old.db b m new.db entered begun serves.crash serves.kept clean_m x.3 (undone clean is_open) s keeps.rests; counted = forgotten s })
+          | inr x ↦ (s, inr (inr refl, refl), record { rests = undone_rests old.db b m new.db entered begun serves.crash serves.kept clean_m x.3 (undone clean is_open) s keeps.rests; known = forgotten s })
         ];
     crash = commit_leaves commit change;
     lasts = λ clean none. absurd (true≢false (sym none));
@@ -177,16 +182,16 @@ module _ (old new : Held) (b m : database.State) (later : Counts) (request : Req
   }
 
   -- the commit succeeded
-  pub handles_committed : (HasCleanDisk new.db → Shows m new.db m.now m.now false) → (HasCleanDisk new.db → CrashLeaves new.db m.now) → Survives m new.db (λ left. left ≡ m.now.trees) → new.counts ≡ later
+  pub handles_committed : (HasCleanDisk new.db → Shows m new.db m.now m.now false) → (HasCleanDisk new.db → CrashLeaves new.db m.now) → Survives m new.db (λ left. left ≡ m.now.trees) → new.known ≡ later
       → is_change answer ≡ true → Handles old new request answer
-  handles_committed done last commit counts change = record {
+  handles_committed done last commit known change = record {
     honest = λ clean. before old.db b m new.db entered begun serves.crash serves.kept (clean_at m new.db (λ left. left ≡ m.now.trees) commit clean);
     opens = λ clean is_open. was_open old.db b m new.db entered begun serves.crash serves.kept (clean_at m new.db (λ left. left ≡ m.now.trees) commit clean);
     answered = λ clean is_open s keeps.
         let clean_m = clean_at m new.db (λ left. left ≡ m.now.trees) commit clean in
         elim (done_at clean_m s keeps) [
           | inl fault ↦ absurd (not_fault answer fault.0 change)
-          | inr x ↦ (x.0, inl x.1, record { rests = committed_rests m new.db x.0 (done clean) x.2; counted = subst (λ c. AreCounted c x.0) (sym counts) x.4 })
+          | inr x ↦ (x.0, inl x.1, record { rests = committed_rests m new.db x.0 (done clean) x.2; known = subst (λ c. IsKnown c x.0) (sym known) x.4 })
         ];
     crash = commit_leaves commit change;
     lasts = λ clean changed. subst (λ (db : Database). CrashLeaves new.db db) (sym (done clean).now_is) (last clean);
@@ -203,13 +208,13 @@ at_ok (Ok x) e p = p
 at_ok (Err x) e p = absurd (true≢false e)
 
 -- what a request did within its transaction, as it is seen from without
-pub served_ok : {S : Type 0} (g : store.Ghosts S) (request : Request) (counts taken : Counts) (old new : Tx S) (served : Served) → taken ≡ counts → Calls g old new (Ok served) (ServesCounted taken request)
-    → ServesBy (shown g old) (shown g new) counts served.counts request served.answer
-served_ok g request counts taken old new served is c = record {
+pub served_ok : {S : Type 0} (g : store.Ghosts S) (request : Request) (known taken : Known) (old new : Tx S) (served : Answered) → taken ≡ known → Calls g old new (Ok served) (ServesKnown taken request)
+    → ServesBy (shown g old) (shown g new) known served.known request served.answer
+served_ok g request known taken old new served is c = record {
   crash = c.frame.crash;
   kept = c.frame.kept;
   answered = λ clean s k counted.
-      let done = c.does clean k.tables k.stands s k.stands_for k.sound (subst (λ x. AreCounted x s) (sym is) counted) in
+      let done = c.does clean k.tables k.stands s k.stands_for k.sound (subst (λ x. IsKnown x s) (sym is) counted) in
       inr (done.0, done.1, done.2, (c.frame.stays clean).is_open, done.3);
 }
 
@@ -217,19 +222,19 @@ pub is_fault : (fault : StoreFault) → IsFault (Err (refusal_of fault))
 is_fault fault.Memory = inl refl
 is_fault fault.Failed = inr refl
 
--- there was a fault, and the counts are forgotten
-pub served_err : {S : Type 0} (g : store.Ghosts S) (request : Request) (counts later taken : Counts) (old new : Tx S) (fault : StoreFault) → taken ≡ counts → Calls {A = Served} g old new (Err fault) (ServesCounted taken request)
-    → ((s : State) → AreCounted later s) → ServesBy (shown g old) (shown g new) counts later request (Err (refusal_of fault))
-served_err g request counts later taken old new fault is c forgotten = record {
+-- there was a fault, and what was known is forgotten
+pub served_err : {S : Type 0} (g : store.Ghosts S) (request : Request) (known later taken : Known) (old new : Tx S) (fault : StoreFault) → taken ≡ known → Calls {A = Answered} g old new (Err fault) (ServesKnown taken request)
+    → ((s : State) → IsKnown later s) → ServesBy (shown g old) (shown g new) known later request (Err (refusal_of fault))
+served_err g request known later taken old new fault is c forgotten = record {
   crash = c.frame.crash;
   kept = c.frame.kept;
   answered = λ clean s k counted. inl (is_fault fault, forgotten s);
 }
 
 -- a fault in the place of an answer that changed nothing
-pub served_less : (b m : database.State) (counts later : Counts) (request : Request) (answer : Answer) → ServesBy b m counts later request answer → is_change answer ≡ false
-    → ServesBy b m counts later request (Err refusal.Store)
-served_less b m counts later request answer serves stays = record {
+pub served_less : (b m : database.State) (known later : Known) (request : Request) (answer : Answer) → ServesBy b m known later request answer → is_change answer ≡ false
+    → ServesBy b m known later request (Err refusal.Store)
+served_less b m known later request answer serves stays = record {
   crash = serves.crash;
   kept = serves.kept;
   answered = λ clean s k counted.
@@ -237,7 +242,7 @@ served_less b m counts later request answer serves stays = record {
         inr refl,
         elim (serves.answered clean s k counted) [
           | inl fault ↦ fault.1
-          | inr x ↦ subst (λ n. AreCounted later n) (leaves s request answer x.0 x.1 stays) x.4
+          | inr x ↦ subst (λ n. IsKnown later n) (leaves s request answer x.0 x.1 stays) x.4
         ],
       );
 }

@@ -1,7 +1,8 @@
 pub mod Repairing
-pub mod Tallies
+pub mod Kept
 pub mod Counting
 mod Handling
 pub mod Running
+mod Booking
 mod Together
 mod Handled

@@ -21,6 +21,7 @@ use Rattle.ftd_machine.specs.declared.requests.Request.TheVariants.{Enrol, Calen
 use Rattle.ftd_posting.specs.Repaired.{PostsRun, VoidsRun, Becoming, Repairs}
 use Rattle.ftd_desk.specs.Counted.{Knows}
 use Rattle.ftd_desk.specs.Words.{RepairsRows}
+use Rattle.ftd_desk.specs.declared.listed.Answered.{Answered}
 use Rattle.ftd_desk.specs.declared.requests.Served.{Served}
 
 -- nothing is said of a request that is on no run
@@ -104,9 +105,17 @@ module _ {S : Type 0} (g : store.Ghosts S) where
   known_repairs old mid new known IsCount count answer served Does same (inr read) c =
       read_repairs old mid new count (Ok served) IsCount Does read (answer_repairs mid new answer served Does same c)
 
+  -- what is known after the answer changes nothing of it
+  pub past_repairs : (old new : Tx S) (served : Served) (past : Answered) (request : Request) → past.answer ≡ served.answer
+      → Calls g old new (Ok served) (Told (Repairs request)) → Calls g old new (Ok past) (λ x before after. Repairs request x.answer before.now after.now)
+  past_repairs old new served past request same c = record {
+    frame = goes_on g old new served past c.frame;
+    does = λ clean t stands. subst (λ x. Repairs request x (shown g old).now (shown g new).now t) (sym same) (c.does clean t stands);
+  }
+
   -- from the beginning of the transaction to its commit
-  pub committed_repairs : (a e : database.State) (request : Request) (old new : Tx S) (served : Served) → (HasCleanDisk (shown g old) → Begins a (shown g old)) → Survives (shown g new) e (λ left. left ≡ (shown g new).now.trees)
-      → (HasCleanDisk e → Shows (shown g new) e (shown g new).now (shown g new).now false) → Calls g old new (Ok served) (Told (Repairs request)) → RepairsRows a e request served.answer
+  pub committed_repairs : (a e : database.State) (request : Request) (old new : Tx S) (served : Answered) → (HasCleanDisk (shown g old) → Begins a (shown g old)) → Survives (shown g new) e (λ left. left ≡ (shown g new).now.trees)
+      → (HasCleanDisk e → Shows (shown g new) e (shown g new).now (shown g new).now false) → Calls g old new (Ok served) (λ x before after. Repairs request x.answer before.now after.now) → RepairsRows a e request served.answer
   committed_repairs a e request old new served begun commit done c clean opened change t stands =
       let clean_m : HasCleanDisk (shown g new) = omega (arith, commit.clean) in
       let clean_b : HasCleanDisk (shown g old) = omega (arith, c.frame.crash.clean) in

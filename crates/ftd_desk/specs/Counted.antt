@@ -1,5 +1,5 @@
 -- The counts that a desk keeps from request to request.
-use Rattle.std.specs.Prelude.{◌≡◌, ℕ, Bool, List, Option, Some, Result, Ok, ◌⊎◌, bytes_eq, find, option_map, IfSome}
+use Rattle.std.specs.Prelude.{◌≡◌, ℕ, Bool, List, Option, Some, Result, Ok, ◌⊎◌, bytes_eq, find, option_map}
 use Rattle.sqlite.specs.Store as store
 use Rattle.sqlite.specs.State as database
 use Rattle.ftd_rows.specs.declared.faults.StoreFault.{StoreFault}
@@ -13,13 +13,17 @@ use Rattle.ftd_machine.specs.Laws.{runs_of, payments_of}
 use Rattle.ftd_machine.specs.declared.requests.Request.{Request}
 use Rattle.ftd_entries.specs.Standing.{StandsFor}
 use Rattle.ftd_entries.specs.Words.{IsKept}
+use Rattle.ftd_desk.specs.Kept.{EachIs}
 use Rattle.ftd_desk.specs.declared.counts.Count.{Count}
 use Rattle.ftd_desk.specs.declared.counts.Counts.{Counts}
 use Rattle.ftd_desk.specs.declared.counts.Tally.{Tally}
 use Rattle.ftd_desk.specs.declared.requests.Served.{Served}
 
+abbrev pub account_in : Count → List ℕ
+account_in count = count.account
+
 abbrev pub is_count_of : List ℕ → Count → Bool
-is_count_of account count = bytes_eq count.account account
+is_count_of account count = bytes_eq (account_in count) account
 
 abbrev pub number_of : Count → ℕ
 number_of count = count.number
@@ -28,15 +32,9 @@ number_of count = count.number
 abbrev pub kept : Tally → List ℕ → Option ℕ
 kept tally account = option_map number_of (find (is_count_of account) tally.counts.items)
 
--- a number is taken for an account: it is what is kept of the account then, if anything is; and what is kept of another
--- one then, if anything is, was kept of it before
-pub record Takes (old new : Tally) (account : List ℕ) (number : ℕ) : Type 0 where
-  pub own : IfSome (kept new account) (λ later. later ≡ number)
-  pub others : (other : List ℕ) → (account ≡ other → ⊥) → IfSome (kept new other) (λ later. kept old other ≡ Some later)
-
 -- what is kept of an account, if anything is, is how many it has
 abbrev pub AreRight : (List ℕ → State → ℕ) → Tally → State → Type 0
-AreRight count_of tally s = (account : List ℕ) → IfSome (kept tally account) (λ number. count_of account s ≡ number)
+AreRight count_of tally s = EachIs (kept tally) (λ account number. count_of account s ≡ number)
 
 -- the counts that are kept are those of the state
 pub record AreCounted (counts : Counts) (s : State) : Type 0 where

@@ -6,8 +6,8 @@ use Rattle.ftd_store.specs.declared.store.Store.{Store}
 use Rattle.ftd_store.specs.Seen.{seen}
 use Rattle.ftd_machine.specs.State.{State}
 use Rattle.ftd_entries.specs.Words.{IsKept}
-use Rattle.ftd_desk.specs.Counted.{AreCounted}
-use Rattle.ftd_desk.specs.declared.counts.Counts.{Counts}
+use Rattle.ftd_desk.specs.Books.{IsKnown}
+use Rattle.ftd_desk.specs.declared.known.Known.{Known}
 use Rattle.ftd_desk.specs.declared.desk.Desk.{Desk}
 
 -- its tables, and whether a commit has stopped it
@@ -17,20 +17,21 @@ store_of desk = desk.store
 abbrev pub IsStopped : {S : Type 0} → Desk S → Type 0
 IsStopped desk = IsTrue desk.stopped
 
--- the database, and the counts that it keeps
+-- the database, and what it keeps from request to request
 pub record Held : Type 1 where
   pub db : database.State
-  pub counts : Counts
+  pub known : Known
 
 abbrev pub held : {S : Type 0} → store.Ghosts S → Desk S → Held
-held g desk = record { db = seen g desk.store; counts = desk.counts }
+held g desk = record { db = seen g desk.store; known = desk.known }
 
 -- between requests: what is seen of the database is committed, and keeps this state
 pub record Rests (db : database.State) (s : State) : Type 0 where
   pub kept : IsKept db.now s
   pub committed : db.committed ≡ db.now
 
--- between requests the desk stands for this state: the database rests in it, and the counts are right
+-- between requests the desk stands for this state: the database rests in it, and what is kept is
+-- right
 pub record Keeps (h : Held) (s : State) : Type 0 where
   pub rests : Rests h.db s
-  pub counted : AreCounted h.counts s
+  pub known : IsKnown h.known s

@@ -20,10 +20,10 @@ use Rattle.ftd_machine.specs.declared.replies.Refusal.{Refusal}
 use Rattle.ftd_entries.specs.Standing.{StandsFor}
 use Rattle.ftd_entries.specs.Words.{IsKept}
 use Rattle.ftd_posting.specs.Repaired.{Repairs}
-use Rattle.ftd_desk.specs.Counted.{AreCounted}
+use Rattle.ftd_desk.specs.Books.{IsKnown}
 use Rattle.ftd_desk.specs.Desks.{Held, Keeps}
-use Rattle.ftd_desk.specs.declared.counts.Counts.{Counts}
-use Rattle.ftd_desk.specs.declared.requests.ServedAll.{ServedAll}
+use Rattle.ftd_desk.specs.declared.known.Known.{Known}
+use Rattle.ftd_desk.specs.declared.listed.ServedAll.{ServedAll}
 
 -- what a crash may leave of a request beside the tables from before it: those of the machine's next state
 pub record MayLeave (s : State) (request : Request) (left : Trees) : Type 0 where
@@ -101,11 +101,11 @@ pub record AreAnswers (requests : List Request) (answers : List Answer) : Type 0
   pub no_fault : list_any is_fault answers ≡ false
 
 -- within a transaction over rows that stand for a state, the requests are answered so, the rows are those of the machine's
--- state at the end, and the counts stay right
-abbrev pub ServesAll : Counts → List Request → ServedAll → database.State → database.State → Tables → Type 0
-ServesAll counts requests served before after t =
-    (s : State) → StandsFor t s → IsSound s → AreCounted counts s
-    → (end : State) × AreSteps s requests served.answers.items end × IsKept after.now end × AreCounted served.counts end
+-- state at the end, and what is known stays right
+abbrev pub ServesAll : Known → List Request → ServedAll → database.State → database.State → Tables → Type 0
+ServesAll known requests served before after t =
+    (s : State) → StandsFor t s → IsSound s → IsKnown known s
+    → (end : State) × AreSteps s requests served.answers.items end × IsKept after.now end × IsKnown served.known end
 
 -- what a crash may leave of a list of requests beside the tables from before it: those of the machine's state at the end
 pub record MayLeaveAll (s : State) (requests : List Request) (left : Trees) : Type 0 where

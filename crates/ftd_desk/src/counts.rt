@@ -3,15 +3,16 @@
 ghost use Rattle.std.specs.Prelude.{◌≡◌, ◌+◌, [], bytes_eq, if◌then◌else◌, IfOk, IfSome};
 ghost use Rattle.std.specs.List.{position};
 ghost use Rattle.ftd_machine.specs.Laws.{is_change};
-ghost use Rattle.ftd_desk.specs.Counted.{is_count_of, kept, Takes};
+ghost use Rattle.ftd_desk.specs.Counted.{is_count_of, kept};
+ghost use Rattle.ftd_desk.specs.Kept.{Takes};
 ghost use Rattle.ftd_desk.specs.Words.{is_fault};
 
 use ftd_machine::{AccountName, Answer, Refusal, Reply};
 use ftd_rules::is_account_name;
 use std::alloc::{AllocError, Global};
 
-/// Of how many accounts counts of one kind are kept at most.
-const MOST_ACCOUNTS: usize = 1_024;
+/// Of how many accounts things of one kind are kept at most.
+pub(crate) const MOST_ACCOUNTS: usize = 1_024;
 
 /// How many entries of one kind an account has, voided ones too.
 #[derive(Drop)]
@@ -118,7 +119,7 @@ impl Tally {
 
     /// Keeps that the account had so many before one more was asked for, and answered so.
     pub fn keep(&mut self, alloc: Global, name: &str, number: u32, answer: &Answer)
-        ensures { Takes self.old self.new name.now
+        ensures { Takes (kept self.old) (kept self.new) name.now
             (if is_change answer.now then number + 1 else number) }
     {
         match after(number, answer) {
@@ -131,7 +132,7 @@ impl Tally {
     /// forgotten; where there is no memory for one more, or no account has the name, its count is
     /// not kept.
     fn set(&mut self, alloc: Global, name: &str, number: u32)
-        ensures { Takes self.old self.new name.now number }
+        ensures { Takes (kept self.old) (kept self.new) name.now number }
     {
         if let Some(place) = self.place(name) {
             self.counts[place].number = number;

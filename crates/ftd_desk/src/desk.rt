@@ -11,8 +11,9 @@ ghost use Rattle.ftd_desk.specs.Words.{AreAnswers, Handles, RepairsRows, Handles
 mod telling;
 
 use crate::bounds::bounded;
-use crate::counts::{Counts, is_change};
-use crate::requests::{Served, serve, serve_all};
+use crate::counts::is_change;
+use crate::known::Known;
+use crate::listed::{Answered, serve_all, serve_alone};
 use ftd_machine::{Answer, Refusal, Request};
 use ftd_questions::refusal_of;
 use ftd_store::Store;
@@ -21,13 +22,14 @@ use std::alloc::{AllocError, Global};
 use std::mem;
 
 /// The deposit desk over its tables. It keeps from request to request how many runs and payments
-/// some accounts have, and forgets them after a fault.
+/// some accounts have, and what is known of those of which runs were posted in lists, and forgets
+/// them after a fault.
 #[derive(Drop)]
 pub struct Desk<S: Alter> {
     alloc: Global,
     store: Store<S>,
     stopped: bool,
-    counts: Counts,
+    known: Known,
 }
 
 impl<S: Alter> Desk<S> {
@@ -41,7 +43,7 @@ impl<S: Alter> Desk<S> {
             alloc,
             store,
             stopped: false,
-            counts: Counts::none(alloc),
+            known: Known::none(alloc),
         }
     }
 
@@ -68,24 +70,24 @@ impl<S: Alter> Desk<S> {
         if self.stopped {
             return Err(Refusal::Store);
         }
-        let counts = mem::replace(&mut self.counts, Counts::none(self.alloc));
+        let known = mem::replace(&mut self.known, Known::none(self.alloc));
         let mut tx = match self.store.begin() {
             Ok(tx) => tx,
             Err(fault) => return Err(refusal_of(fault)),
         };
-        let Served { answer, counts } = match serve(&mut tx, self.alloc, counts, request) {
+        let Answered { answer, known } = match serve_alone(&mut tx, self.alloc, known, request) {
             Ok(served) => served,
             Err(fault) => return Err(refusal_of(fault)),
         };
         if !is_change(&answer) {
-            self.counts = counts;
+            self.known = known;
             return bounded(answer);
         }
         if tx.commit().is_err() {
             self.stopped = true;
             return Err(Refusal::Store);
         }
-        self.counts = counts;
+        self.known = known;
         answer
     }
 
@@ -122,12 +124,12 @@ impl<S: Alter> Desk<S> {
         let Some((first, later)) = requests.split_first() else {
             return Ok(Vec::new(self.alloc));
         };
-        let counts = mem::replace(&mut self.counts, Counts::none(self.alloc));
+        let known = mem::replace(&mut self.known, Known::none(self.alloc));
         let mut tx = match self.store.begin() {
             Ok(tx) => tx,
             Err(fault) => return Err(refusal_of(fault)),
         };
-        let served = match serve_all(&mut tx, self.alloc, counts, first, later) {
+        let served = match serve_all(&mut tx, self.alloc, known, first, later) {
             Ok(served) => served,
             Err(fault) => return Err(refusal_of(fault)),
         };
@@ -135,7 +137,7 @@ impl<S: Alter> Desk<S> {
             self.stopped = true;
             return Err(Refusal::Store);
         }
-        self.counts = served.counts;
+        self.known = served.known;
         Ok(served.answers)
     }
 }

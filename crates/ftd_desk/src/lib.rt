@@ -1,9 +1,12 @@
 //! The deposit desk over its tables: each request in one transaction.
 #![tactic(auto)]
 
+mod books;
 mod bounds;
 mod counts;
 mod desk;
+mod known;
+mod listed;
 mod requests;
 
 pub use crate::desk::Desk;

@@ -1,6 +1,6 @@
 //! Each request goes to its function.
 
-ghost use Rattle.std.specs.Prelude.{◌≡◌, ◌∷◌, false, IfOk, OnOk};
+ghost use Rattle.std.specs.Prelude.{◌≡◌, false, IfSome, OnOk};
 ghost use Rattle.ftd_store.specs.Finds.{CountsRuns, CountsPayments};
 ghost use Rattle.ftd_store.specs.Frame.{Calls};
 ghost use Rattle.ftd_machine.specs.Laws.{adds_entry, is_on_run};
@@ -8,9 +8,8 @@ ghost use Rattle.ftd_machine.specs.declared.requests.Request.TheVariants.{Post, 
 ghost use Rattle.ftd_entries.specs.Words.{Serves};
 ghost use Rattle.ftd_posting.specs.Repaired.{Becoming, PostsRun, VoidsRun, Repairs};
 ghost use Rattle.ftd_desk.specs.Counted.{Knows, ServesCounted, kept};
-ghost use Rattle.ftd_desk.specs.Words.{AreAnswers, ServesAll, is_fault};
 
-use crate::counts::{Counts, Tally, is_fault};
+use crate::counts::{Counts, Tally};
 use ftd_entries::{enrol, open_year, pay, report, report_year, take_calendar, void_payment};
 use ftd_holidays::add_holiday;
 use ftd_machine::{Account, Answer, Request};
@@ -28,56 +27,41 @@ pub(crate) struct Served {
     pub counts: Counts,
 }
 
-/// The answers to some requests, and the counts after them.
-#[derive(Drop)]
-pub(crate) struct ServedAll {
-    pub answers: Vec<Answer>,
-    pub counts: Counts,
+/// A pay run that is to be posted, of an account and under a number.
+#[derive(Clone, Copy)]
+pub(crate) struct Posting<'a> {
+    pub account: &'a str,
+    pub number: u32,
+    pub run: PayRun,
 }
 
-/// Answers the requests one after the other within a transaction.
-pub(crate) fn serve_all<S: Alter>(
-    tx: &mut Tx<'_, S>,
-    alloc: Global,
-    counts: Counts,
-    first: &Request,
-    later: &[Request],
-) -> Result<ServedAll, StoreFault>
-    ensures call { Calls S.Store tx.old tx.new result
-        (ServesAll counts (first.now ∷ later.now)) }
-    ensures answers { IfOk result (λ served.
-        AreAnswers (first.now ∷ later.now) served.answers.items) }
+/// The pay run that the request posts. None of a request of another kind.
+pub(crate) fn posting_of(request: &Request) -> Option<Posting<'_>>
+    ensures { IfSome result (λ posting. let run = posting.run in request.now
+        ≡ Post posting.account.now posting.number run.payday run.fit run.ss run.medicare) }
 {
-    let Ok(mut answers) = Vec::with_capacity(alloc, later.len() + 1) else {
-        return tx.give_up(StoreFault::Memory);
+    let Request::Post {
+        account,
+        run: number,
+        payday,
+        fit,
+        ss,
+        medicare,
+    } = request
+    else {
+        return None;
     };
-    let served = serve_sure(tx, alloc, counts, first)?;
-    answers.push_reserved(served.answer);
-    let mut counts = served.counts;
-    for request in later {
-        let served = serve_sure(tx, alloc, counts, request)?;
-        answers.push_reserved(served.answer);
-        counts = served.counts;
-    }
-    Ok(ServedAll { answers, counts })
-}
-
-/// Answers the request within a transaction, and never by a fault.
-fn serve_sure<S: Alter>(
-    tx: &mut Tx<'_, S>,
-    alloc: Global,
-    counts: Counts,
-    request: &Request,
-) -> Result<Served, StoreFault>
-    ensures call { Calls S.Store tx.old tx.new result (ServesCounted counts request.now) }
-    ensures sure { IfOk result (λ served. is_fault served.answer ≡ false) }
-{
-    let served = serve(tx, alloc, counts, request)?;
-    // no step of the machine is a fault
-    if is_fault(&served.answer) {
-        return tx.give_up(StoreFault::Failed);
-    }
-    Ok(served)
+    let run = PayRun {
+        payday: *payday,
+        fit: *fit,
+        ss: *ss,
+        medicare: *medicare,
+    };
+    Some(Posting {
+        account: account.as_str(),
+        number: *number,
+        run,
+    })
 }
 
 /// Answers the request within a transaction.
@@ -91,23 +75,17 @@ pub(crate) fn serve<S: Alter>(
     ensures repairs { Calls S.Store tx.old tx.new result (λ served before after.
         Repairs request.now served.answer before.now after.now) }
 {
+    if let Some(posting) = posting_of(request) {
+        return serve_post(
+            tx,
+            alloc,
+            counts,
+            posting.account,
+            posting.number,
+            posting.run,
+        );
+    }
     match request {
-        Request::Post {
-            account,
-            run,
-            payday,
-            fit,
-            ss,
-            medicare,
-        } => {
-            let content = PayRun {
-                payday: *payday,
-                fit: *fit,
-                ss: *ss,
-                medicare: *medicare,
-            };
-            serve_post(tx, alloc, counts, account.as_str(), *run, content)
-        }
         Request::Pay {
             account,
             payment,
@@ -134,7 +112,7 @@ pub(crate) fn serve<S: Alter>(
 }
 
 /// Posts a run.
-fn serve_post<S: Alter>(
+pub(crate) fn serve_post<S: Alter>(
     tx: &mut Tx<'_, S>,
     alloc: Global,
     mut counts: Counts,
@@ -154,7 +132,11 @@ fn serve_post<S: Alter>(
 }
 
 /// How many runs the account has: the number that is kept of it, or else counted anew.
-fn count_runs<S: Alter>(tx: &mut Tx<'_, S>, runs: &Tally, name: &str) -> Result<u32, StoreFault>
+pub(crate) fn count_runs<S: Alter>(
+    tx: &mut Tx<'_, S>,
+    runs: &Tally,
+    name: &str,
+) -> Result<u32, StoreFault>
     ensures { Knows S.Store tx.old tx.new result (kept runs.now name.now) (CountsRuns name.now) }
 {
     match runs.number(name) {

@@ -8,7 +8,7 @@ use sqlite::MemStore;
 use std::alloc::Global;
 use std::test::Fail;
 
-const A_TURN_AND_ITS_VOID_REACH_THE_NEXT_YEAR: [(&str, &str); 18] = [
+pub(crate) const A_TURN_AND_ITS_VOID_REACH_THE_NEXT_YEAR: [(&str, &str); 18] = [
     ("enrol elm 2024-05-01", "done"),
     ("open elm 2024", "done"),
     (

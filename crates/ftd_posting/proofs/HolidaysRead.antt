@@ -22,34 +22,35 @@ use Rattle.ftd_machine.specs.Sound.{IsSound}
 use Rattle.ftd_entries.specs.Standing.{StandsFor}
 use Rattle.ftd_entries.proofs.YearHolidays.{holiday_known}
 use Rattle.ftd_repairs.specs.Calendars.{HasHolidays}
+use Rattle.ftd_posting.specs.Books.{AreHolidaysIn}
 
 module _ (t : Tables) (s : State) (stands : StandsFor t s) (sound : IsSound s) where
   -- a day of a year that was read is a holiday if the state keeps it as one
   pub holiday_read : (read : List ℕ) (year day : ℕ) → HasHolidays t read year → year_of day ≡ year → is_holiday (holidays s) day ≡ is_holiday read day
   holiday_read read year day has its = holiday_known t s stands sound has.given has.added year day has.is_given has.are_added its ∙ sym (has.same day its)
 
-  -- so each day from the last one of an obligation to its due date, where the years from one on were read
-  pub holidays_near : (form : Form) (lines : List YearLine) (sums : List DaySum) (read : List ℕ) (year : ℕ) (o : Obligation) → AreLines sums lines
-      → ((line : YearLine) → Has lines line → year ≤ line.year → HasHolidays t read line.year × HasHolidays t read (line.year + 1))
-      → year_start year ≤ o.first → IsObligation form lines sums (holidays s) o → EqualHolidays o.last o.due read (holidays s)
-  holidays_near form lines sums read year o are read_of begins owed day from to =
-      let is = piece_owed form lines sums (holidays s) o owed in
-      let y = line_is lines sums is.line are is.open_year in
-      let y0 = y.0 in let y1 = y.1 in
-      let f = year_facts is.line.year y0 y1 in
-      let f3 = f.3 in
-      let inside = within_period form lines sums (holidays s) o is in
-      let i0 = inside.0 in let i1 = inside.1 in let i2 = inside.2 in
-      let p1 = is.period.1 in let p2 = is.period.2 in
-      let its = year_is is.line.year o.last (omega arith) (omega arith) (omega arith) (omega arith) in
-      let near = due_near (holidays s) o.rule o.last o.due sound.few (omega arith) is.due in
-      let near1 = near.1.0 in let in_days = near.1.1 in
-      let low = year_later o.last day from (omega arith) in
-      let high = year_later day o.due to in_days in
-      let since : year ≤ is.line.year =
-      elim (lt_or_le is.line.year year) [ inr some ↦ some | inl less ↦ absurd (let mono = year_start-mono (is.line.year + 1) year (omega arith) in omega arith) ] in
-      let known = read_of is.line is.open_year since in
-      elim (lt_or_le (year_of day) (is.line.year + 1)) [
-        | inl same ↦ holiday_read read is.line.year day known.0 (omega arith)
-        | inr later ↦ holiday_read read (is.line.year + 1) day known.1 (omega arith)
-      ]
+-- so each day from the last one of an obligation to its due date, where the years from one on were read
+pub holidays_near : (s : State) → IsSound s → (form : Form) (lines : List YearLine) (sums : List DaySum) (read : List ℕ) (year : ℕ) (o : Obligation) → AreLines sums lines
+    → ((line : YearLine) → Has lines line → year ≤ line.year → AreHolidaysIn s read line.year × AreHolidaysIn s read (line.year + 1))
+    → year_start year ≤ o.first → IsObligation form lines sums (holidays s) o → EqualHolidays o.last o.due read (holidays s)
+holidays_near s sound form lines sums read year o are read_of begins owed day from to =
+    let is = piece_owed form lines sums (holidays s) o owed in
+    let y = line_is lines sums is.line are is.open_year in
+    let y0 = y.0 in let y1 = y.1 in
+    let f = year_facts is.line.year y0 y1 in
+    let f3 = f.3 in
+    let inside = within_period form lines sums (holidays s) o is in
+    let i0 = inside.0 in let i1 = inside.1 in let i2 = inside.2 in
+    let p1 = is.period.1 in let p2 = is.period.2 in
+    let its = year_is is.line.year o.last (omega arith) (omega arith) (omega arith) (omega arith) in
+    let near = due_near (holidays s) o.rule o.last o.due sound.few (omega arith) is.due in
+    let near1 = near.1.0 in let in_days = near.1.1 in
+    let low = year_later o.last day from (omega arith) in
+    let high = year_later day o.due to in_days in
+    let since : year ≤ is.line.year =
+    elim (lt_or_le is.line.year year) [ inr some ↦ some | inl less ↦ absurd (let mono = year_start-mono (is.line.year + 1) year (omega arith) in omega arith) ] in
+    let known = read_of is.line is.open_year since in
+    elim (lt_or_le (year_of day) (is.line.year + 1)) [
+      | inl same ↦ known.0 day (omega arith)
+      | inr later ↦ known.1 day (omega arith)
+    ]

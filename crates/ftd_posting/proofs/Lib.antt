@@ -8,3 +8,4 @@ pub mod RightByAll
 pub mod LinesAfter
 pub mod Reposting
 pub mod PostedRuns
+pub mod Booking

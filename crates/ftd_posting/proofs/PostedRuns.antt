@@ -78,7 +78,7 @@ module _ (name : List ℕ) (number : ℕ) (run : PayRun) (count : ℕ) where
   abbrev More : Entry (Voidable PayRun)
   More = record { name = name; key = number; content = taken run }
 
-  run_added : (t : Tables) (s : State) → StandsFor t s → ChangesRuns s name run.payday (t Runs ++ run_entry More ∷ []) (with_entry s.runs name number (taken run))
+  pub run_added : (t : Tables) (s : State) → StandsFor t s → ChangesRuns s name run.payday (t Runs ++ run_entry More ∷ []) (with_entry s.runs name number (taken run))
   run_added t s stands = record {
     rows_are = ap (λ rows. rows ++ run_entry More ∷ []) stands.runs ∙ sym (map-append run_entry s.runs (More ∷ []));
     others = λ other apart. entry_other s.runs name number (taken run) other (λ same. apart (sym same));

@@ -6,6 +6,7 @@ use Rattle.std.proofs.lemmas.Bool.{true≢false}
 use Rattle.ftd_days.specs.Calendar.{year_of, year_start}
 use Rattle.ftd_days.proofs.Months.{year_is}
 use Rattle.ftd_rules.specs.declared.DaySum.{DaySum}
+use Rattle.ftd_rules.specs.declared.Form.{Form}
 use Rattle.ftd_rules.specs.declared.Obligation.{Obligation}
 use Rattle.ftd_rules.specs.declared.YearLine.{YearLine}
 use Rattle.ftd_rules.specs.declared.run.PayRun.{PayRun}
@@ -26,6 +27,7 @@ use Rattle.ftd_sql.specs.Orders.{RunsRise}
 use Rattle.ftd_rows.specs.Cells.{day_number}
 use Rattle.ftd_rows.specs.DaySums.{ListsDaySums}
 use Rattle.ftd_rows.specs.Rows.{year_row, obligation_row}
+use Rattle.ftd_buckets.specs.declared.Patch.{Patch}
 use Rattle.ftd_buckets.specs.declared.Window.{Window}
 use Rattle.ftd_buckets.specs.Histories.{History, IsChange}
 use Rattle.ftd_buckets.specs.Windows.{IsLastNeeded}
@@ -39,21 +41,17 @@ use Rattle.ftd_machine.proofs.Adding.{same_name, own_name}
 use Rattle.ftd_entries.specs.Standing.{StandsFor, IsSettled, run_entry, is_obligation_of}
 use Rattle.ftd_entries.proofs.Lines.{lines_known}
 use Rattle.ftd_repairs.specs.declared.Difference.{Difference}
-use Rattle.ftd_repairs.specs.Repaired.{RunsAre}
+use Rattle.ftd_repairs.specs.Repaired.{RunsAre, Repairs}
 use Rattle.ftd_repairs.specs.Rescheduled.{AreAfter}
-use Rattle.ftd_repairs.specs.Calendars.{HasHolidays}
-use Rattle.ftd_repairs.specs.Reposted.{IsReposted}
+use Rattle.ftd_repairs.specs.Reposted.{Repatches, IsReposted}
 use Rattle.ftd_posting.proofs.Patching.{patched, patched_are}
 use Rattle.ftd_posting.proofs.Differing.{differ_whole}
 use Rattle.ftd_posting.proofs.RowsPlaced.{stays, placed_rows, gone_are, others_placed}
 use Rattle.ftd_posting.proofs.LiveRuns.{sums_listed}
-use Rattle.ftd_posting.proofs.HolidaysRead.{holidays_near}
+use Rattle.ftd_posting.specs.Books.{AreHolidaysIn}
+use Rattle.ftd_posting.proofs.HolidaysRead.{holiday_read, holidays_near}
 use Rattle.ftd_posting.proofs.RightByAll.{patch_by_all}
 use Rattle.ftd_posting.proofs.LinesAfter.{lines_after, lines_of_runs}
-
--- these rows of runs list the day sums of the account's live runs in the window
-abbrev AreLiveRows : List ℕ → Window → List DaySum → List RunRow → Type 0
-AreLiveRows name w sums rows = ListsDaySums RunsRise name (filter (is_live_run_between name (day_number w.from) (day_number w.to)) rows) sums
 
 -- the same state, but with these runs
 abbrev pub with_runs : State → List (Entry (Voidable PayRun)) → State
@@ -65,9 +63,8 @@ pub record ChangesRuns (s : State) (name : List ℕ) (day : ℕ) (rows : List Ru
   pub others : (other : List ℕ) → other ≢ name → filter (is_of other) runs ≡ filter (is_of other) s.runs
   pub same_days : (other : ℕ) → other ≢ day → liability (live_sums (entries_of (with_runs s runs) name)) other other ≡ liability (live_sums (entries_of s name)) other other
 
-module _ (old new : Tables) (s : State) (name : List ℕ) (day : ℕ) (rows : List RunRow) (runs : List (Entry (Voidable PayRun))) (difference : Difference)
-    (stands : StandsFor old s) (sound : IsSound s) (changes : ChangesRuns s name day rows runs)
-    (reposted : IsReposted name (form_of (entries_of s name).account) day old (with_rows Runs rows old) new difference) where
+module _ (old new : Tables) (s : State) (name : List ℕ) (day : ℕ) (rows : List RunRow) (runs : List (Entry (Voidable PayRun)))
+    (stands : StandsFor old s) (sound : IsSound s) (changes : ChangesRuns s name day rows runs) where
   abbrev Next : State
   Next = with_runs s runs
 
@@ -82,161 +79,202 @@ module _ (old new : Tables) (s : State) (name : List ℕ) (day : ℕ) (rows : Li
 
   -- ---- the history before and after
 
-  lines_listed : reposted.lines.items ≡ was.lines
-  lines_listed = lines_known name reposted.lines old s stands reposted.listed was
-
-  found_after : (others : List YearLine) × (map given others ≡ map given was.lines) × AreLines (live_sums own_after) others
+  pub found_after : (others : List YearLine) × (map given others ≡ map given was.lines) × AreLines (live_sums own_after) others
   found_after = lines_some (live_sums own_after) was.lines was.are_lines.schedules.years
 
-  abbrev lines_then : List YearLine
+  abbrev pub lines_then : List YearLine
   lines_then = found_after.0
 
-  abbrev before : History
+  abbrev pub before : History
   before = record { lines = was.lines; sums = live_sums own }
 
-  abbrev after : History
+  abbrev pub after : History
   after = record { lines = lines_then; sums = live_sums own_after }
 
-  change : IsChange day before after
+  pub change : IsChange day before after
   change = record { is_before = was.are_lines.schedules; is_after = found_after.2; same_years = sym found_after.1; same_days = λ other apart. sym (changes.same_days other apart) }
 
-  runs_are : RunsAre name (form_of own.account) (with_rows Runs rows old) day before after
+  -- the line of the same year before
+  pub line_before : (line : YearLine) → Has lines_then line → (earlier : YearLine) × Has was.lines earlier × (line.year ≡ earlier.year)
+  line_before line has =
+      let c = counterpart lines_then was.lines line found_after.1 has in
+      (c.0, c.1, ap (λ (z : ℕ × ℕ × Bool). z.0) c.2)
+
+  -- the patch is right of this change, by these holidays
+  abbrev pub IsRightBy : List ℕ → Patch → Type 0
+  IsRightBy known patch = (fed : Window) × IsPatch (form_of own.account) day before after known fed patch × IsLastNeeded (form_of own.account) day before after fed
+
+  -- these are the holidays of the years from the day's on, as far as years are open, and of the years after them
+  abbrev pub AreKnown : List ℕ → Type 0
+  AreKnown known = (line : YearLine) → Has lines_then line → year_of day ≤ line.year → AreHolidaysIn s known line.year × AreHolidaysIn s known (line.year + 1)
+
+  -- ---- where a patch that is right was put in place
+
+  module _ (lines : List YearLine) (known : List ℕ) (IsRight : Patch → Type 0) (difference : Difference) (repatches : Repatches name day lines IsRight difference (with_rows Runs rows old) new)
+      (lines_are : lines ≡ was.lines) (right : IsRightBy known repatches.patch) (read_of : AreKnown known) where
+    -- the first day of the patch is one of the day's year
+    begins : (o : Obligation) → repatches.patch.from ≤ o.first → year_start (year_of day) ≤ o.first
+    begins o l =
+        let p = right.1 in
+        let its = p.is_period in
+        let line = its.0 in
+        let y = line_is was.lines (live_sums own) line was.are_lines.schedules its.1 in
+        let y0 = y.0 in let y1 = y.1 in
+        let f = year_facts line.year y0 y1 in
+        let f3 = f.3 in
+        let from = p.from in
+        let p1 = its.2.0.1 in let p2 = its.2.0.2 in let p3 = its.2.1 in let p4 = its.2.2 in
+        let year = year_is line.year day (omega arith) (omega arith) (omega arith) (omega arith) in
+        subst (λ n. year_start n ≤ o.first) (sym year) (omega arith)
+
+    right_by_all : IsPatch (form_of own.account) day before after (holidays s) right.0 repatches.patch
+    right_by_all =
+        patch_by_all (form_of own.account) day before after known (holidays s) right.0 repatches.patch found_after.2
+        (λ o l owed. holidays_near s sound (form_of own.account) lines_then (live_sums own_after) known (year_of day) o found_after.2 read_of (begins o l) owed) right.1
+
+    -- ---- the obligations after
+
+    abbrev owed_then : List Obligation
+    owed_then = patched repatches.patch.from repatches.patch.to was.owed repatches.patch.rows
+
+    some_days : repatches.patch.from ≤ repatches.patch.to + 1
+    some_days =
+        let p = right.1 in
+        let reaches = right.2.none_after p.period (inl p.is_period) in
+        let from = p.from in let to = p.to in
+        omega arith
+
+    are_owed : AreObligations (form_of own.account) lines_then (live_sums own_after) (holidays s) owed_then
+    are_owed =
+        let p = right_by_all in
+        let k = patched_are (IsOwed (form_of own.account) before (holidays s)) (IsOwed (form_of own.account) after (holidays s)) repatches.patch.from repatches.patch.to was.owed
+        repatches.patch.rows some_days was.are_owed.by_first_day was.are_owed.all (record { rise = p.rows.by_first_day; all = p.rows.all; elsewhere = p.elsewhere }) in
+        record { by_first_day = k.0; all = k.1 }
+
+    pub are_lines : AreLinesOf own_after lines_then
+    are_lines = lines_of_runs own (filter (is_of name) runs) was.lines lines_then was.are_lines found_after.1 found_after.2
+
+    pub lines_put : repatches.put.after ≡ lines_then
+    lines_put =
+        lines_after day before after repatches.patch.years change right_by_all.years repatches.put.after
+        (subst (λ ls. AreAfter ls repatches.patch.years repatches.put.after) lines_are repatches.put.are_after)
+
+    -- ---- the rows
+
+    obligations_are : new Obligations ≡ filter (stays name repatches.patch.from repatches.patch.to) (old Obligations) ++ map (obligation_row name) repatches.patch.rows
+    obligations_are = repatches.put.puts.only Obligations
+
+    settled_own : IsSettled new Next name
+    settled_own = record {
+      lines = lines_then;
+      are_lines = are_lines;
+      owed = owed_then;
+      are_owed = are_owed;
+      line_rows = subst (λ ls. IsPermutation (filter (is_year_of name) (new Years)) (map (year_row name) ls)) lines_put repatches.put.puts.has;
+      owed_rows =
+          subst (λ (os : List ObligationRow). IsPermutation (filter (is_obligation_of name) os) (map (obligation_row name) owed_then)) (sym obligations_are)
+          (placed_rows name repatches.patch.from repatches.patch.to (old Obligations) was.owed repatches.patch.rows some_days was.owed_rows);
+    }
+
+    settled_other : (other : List ℕ) → other ≢ name → IsSettled new Next other
+    settled_other other apart =
+        let its = stands.settled other in
+        let theirs = entries_of s other in
+        let same = sym (changes.others other apart) in
+        record {
+          lines = its.lines;
+          are_lines = subst (λ rs. AreLinesOf (record theirs { runs = rs }) its.lines) same its.are_lines;
+          owed = its.owed;
+          are_owed = subst (λ rs. AreObligations (form_of theirs.account) its.lines (live_sums (record theirs { runs = rs })) (holidays s) its.owed) same its.are_owed;
+          line_rows = subst (λ (ys : List YearRow). IsPermutation ys (map (year_row other) its.lines)) (sym (repatches.put.puts.others other apart)) its.line_rows;
+          owed_rows =
+              subst (λ (os : List ObligationRow). IsPermutation os (map (obligation_row other) its.owed))
+              (sym (ap (filter (is_obligation_of other)) obligations_are ∙ others_placed name repatches.patch.from repatches.patch.to other apart (old Obligations) repatches.patch.rows)) its.owed_rows;
+        }
+
+    settled_each : (other : List ℕ) → IsSettled new Next other
+    settled_each other = by_name (bytes_eq other name) refl
+      where
+        by_name : (b : Bool) → bytes_eq other name ≡ b → IsSettled new Next other
+        by_name true is = subst (IsSettled new Next) (sym (same_name other name is)) settled_own
+        by_name false is = settled_other other (λ same. true≢false (sym (own_name name) ∙ (ap (λ n. bytes_eq n name) (sym same) ∙ is)))
+
+    -- the tables stand for the state after the change
+    pub placed_stands : StandsFor new Next
+    placed_stands = record {
+      accounts = repatches.put.puts.only Accounts ∙ stands.accounts;
+      forms = repatches.put.puts.only Forms ∙ stands.forms;
+      reported = repatches.put.puts.only ReportedQuarters ∙ stands.reported;
+      reported_years = repatches.put.puts.only ReportedYears ∙ stands.reported_years;
+      calendars = repatches.put.puts.only CalendarYears ∙ stands.calendars;
+      calendar_days = repatches.put.puts.only Holidays ∙ stands.calendar_days;
+      added_days = repatches.put.puts.only AddedHolidays ∙ stands.added_days;
+      runs = repatches.put.puts.only Runs ∙ changes.rows_are;
+      payments = repatches.put.puts.only Payments ∙ stands.payments;
+      settled = settled_each;
+    }
+
+    -- and what is answered is how the obligations differ before and after
+    pub placed_told : IsPosted (holidays s) own own_after day (Ok (Posted difference.from difference.to difference.removed difference.added))
+    placed_told =
+        let compared = repatches.compared in
+        let p = right_by_all in
+        record {
+          rows = was.owed;
+          owed = (was.lines, was.are_lines, was.are_owed);
+          rows_after = owed_then;
+          owed_after = (lines_then, are_lines, are_owed);
+          from = difference.from;
+          to = difference.to;
+          removed = difference.removed;
+          added = difference.added;
+          differ =
+              differ_whole repatches.patch.from repatches.patch.to was.owed repatches.patch.rows compared.gone day difference.from difference.to difference.removed difference.added
+              (gone_are name repatches.patch.from repatches.patch.to (old Obligations) was.owed compared.gone was.owed_rows compared.are_gone)
+              (λ o has. (let k = (p.rows.all o).0 has in let high = k.2 in (k.1, omega arith)))
+              (compared.differ p.rows.by_first_day);
+          told = refl;
+        }
+
+-- ---- a change whose repair read the tables
+
+-- these rows of runs list the day sums of the account's live runs in the window
+abbrev AreLiveRows : List ℕ → Window → List DaySum → List RunRow → Type 0
+AreLiveRows name w sums rows = ListsDaySums RunsRise name (filter (is_live_run_between name (day_number w.from) (day_number w.to)) rows) sums
+
+module _ (old new : Tables) (s : State) (name : List ℕ) (day : ℕ) (rows : List RunRow) (runs : List (Entry (Voidable PayRun))) (difference : Difference)
+    (stands : StandsFor old s) (sound : IsSound s) (changes : ChangesRuns s name day rows runs)
+    (reposted : IsReposted name (form_of (entries_of s name).account) day old (with_rows Runs rows old) new difference) where
+  abbrev form : Form
+  form = form_of (entries_of s name).account
+
+  abbrev Right : Patch → Type 0
+  Right patch = Repairs name form day reposted.lines.items reposted.holidays patch (with_rows Runs rows old)
+
+  lines_listed : reposted.lines.items ≡ (stands.settled name).lines
+  lines_listed = lines_known name reposted.lines old s stands reposted.listed (stands.settled name)
+
+  runs_are : RunsAre name form (with_rows Runs rows old) day (before old new s name day rows runs stands sound changes) (after old new s name day rows runs stands sound changes)
   runs_are w needed sums live a b l m =
       let listed = subst (λ (rs : List RunRow). AreLiveRows name w sums rs) changes.rows_are live in
       sums_listed name w.from w.to runs sums listed a b l m
 
-  -- ---- the patch is right by all holidays
+  right_now : IsRightBy old new s name day rows runs stands sound changes reposted.holidays reposted.repatches.patch
+  right_now =
+      reposted.repatches.right (before old new s name day rows runs stands sound changes) (after old new s name day rows runs stands sound changes) (change old new s name day rows runs stands sound changes)
+      ([], sym lines_listed) runs_are
 
-  abbrev right : (fed : Window) × IsPatch (form_of own.account) day before after reposted.holidays fed reposted.repatches.patch × IsLastNeeded (form_of own.account) day before after fed
-  right = reposted.repatches.right before after change ([], sym lines_listed) runs_are
-
-  -- the first day of the patch is one of the day's year
-  begins : (o : Obligation) → reposted.repatches.patch.from ≤ o.first → year_start (year_of day) ≤ o.first
-  begins o l =
-      let p = right.1 in
-      let its = p.is_period in
-      let line = its.0 in
-      let y = line_is was.lines (live_sums own) line was.are_lines.schedules its.1 in
-      let y0 = y.0 in let y1 = y.1 in
-      let f = year_facts line.year y0 y1 in
-      let f3 = f.3 in
-      let from = p.from in
-      let p1 = its.2.0.1 in let p2 = its.2.0.2 in let p3 = its.2.1 in let p4 = its.2.2 in
-      let year = year_is line.year day (omega arith) (omega arith) (omega arith) (omega arith) in
-      subst (λ n. year_start n ≤ o.first) (sym year) (omega arith)
-
-  read_of : (line : YearLine) → Has lines_then line → year_of day ≤ line.year → HasHolidays old reposted.holidays line.year × HasHolidays old reposted.holidays (line.year + 1)
-  read_of line has from =
-      let c = counterpart lines_then was.lines line found_after.1 has in
-      let year : line.year ≡ c.0.year = ap (λ (z : ℕ × ℕ × Bool). z.0) c.2 in
+  known_now : AreKnown old new s name day rows runs stands sound changes reposted.holidays
+  known_now line has from =
+      let c = line_before old new s name day rows runs stands sound changes line has in
       let listed : Has reposted.lines.items c.0 = subst (λ ls. Has ls c.0) (sym lines_listed) c.1 in
-      subst (λ n. HasHolidays old reposted.holidays n × HasHolidays old reposted.holidays (n + 1)) (sym year) (reposted.read c.0 listed (subst (λ n. year_of day ≤ n) year from))
+      let read = reposted.read c.0 listed (subst (λ n. year_of day ≤ n) c.2 from) in
+      let same = sym c.2 in
+      subst (λ n. AreHolidaysIn s reposted.holidays n × AreHolidaysIn s reposted.holidays (n + 1)) same
+      ((λ d is. holiday_read old s stands sound reposted.holidays c.0.year d read.0 is), (λ d is. holiday_read old s stands sound reposted.holidays (c.0.year + 1) d read.1 is))
 
-  right_by_all : IsPatch (form_of own.account) day before after (holidays s) right.0 reposted.repatches.patch
-  right_by_all =
-      patch_by_all (form_of own.account) day before after reposted.holidays (holidays s) right.0 reposted.repatches.patch found_after.2
-      (λ o l owed. holidays_near old s stands sound (form_of own.account) lines_then (live_sums own_after) reposted.holidays (year_of day) o found_after.2 read_of (begins o l) owed) right.1
+  pub reposted_stands : StandsFor new (with_runs s runs)
+  reposted_stands = placed_stands old new s name day rows runs stands sound changes reposted.lines.items reposted.holidays Right difference reposted.repatches lines_listed right_now known_now
 
-  -- ---- the obligations after
-
-  abbrev owed_then : List Obligation
-  owed_then = patched reposted.repatches.patch.from reposted.repatches.patch.to was.owed reposted.repatches.patch.rows
-
-  some_days : reposted.repatches.patch.from ≤ reposted.repatches.patch.to + 1
-  some_days =
-      let p = right.1 in
-      let reaches = right.2.none_after p.period (inl p.is_period) in
-      let from = p.from in let to = p.to in
-      omega arith
-
-  are_owed : AreObligations (form_of own.account) lines_then (live_sums own_after) (holidays s) owed_then
-  are_owed =
-      let p = right_by_all in
-      let k = patched_are (IsOwed (form_of own.account) before (holidays s)) (IsOwed (form_of own.account) after (holidays s)) reposted.repatches.patch.from reposted.repatches.patch.to was.owed
-      reposted.repatches.patch.rows some_days was.are_owed.by_first_day was.are_owed.all (record { rise = p.rows.by_first_day; all = p.rows.all; elsewhere = p.elsewhere }) in
-      record { by_first_day = k.0; all = k.1 }
-
-  are_lines : AreLinesOf own_after lines_then
-  are_lines = lines_of_runs own (filter (is_of name) runs) was.lines lines_then was.are_lines found_after.1 found_after.2
-
-  lines_put : reposted.repatches.put.after ≡ lines_then
-  lines_put =
-      lines_after day before after reposted.repatches.patch.years change right_by_all.years reposted.repatches.put.after
-      (subst (λ ls. AreAfter ls reposted.repatches.patch.years reposted.repatches.put.after) lines_listed reposted.repatches.put.are_after)
-
-  -- ---- the rows
-
-  obligations_are : new Obligations ≡ filter (stays name reposted.repatches.patch.from reposted.repatches.patch.to) (old Obligations) ++ map (obligation_row name) reposted.repatches.patch.rows
-  obligations_are = reposted.repatches.put.puts.only Obligations
-
-  settled_own : IsSettled new Next name
-  settled_own = record {
-    lines = lines_then;
-    are_lines = are_lines;
-    owed = owed_then;
-    are_owed = are_owed;
-    line_rows = subst (λ ls. IsPermutation (filter (is_year_of name) (new Years)) (map (year_row name) ls)) lines_put reposted.repatches.put.puts.has;
-    owed_rows =
-        subst (λ (os : List ObligationRow). IsPermutation (filter (is_obligation_of name) os) (map (obligation_row name) owed_then)) (sym obligations_are)
-        (placed_rows name reposted.repatches.patch.from reposted.repatches.patch.to (old Obligations) was.owed reposted.repatches.patch.rows some_days was.owed_rows);
-  }
-
-  settled_other : (other : List ℕ) → other ≢ name → IsSettled new Next other
-  settled_other other apart =
-      let its = stands.settled other in
-      let theirs = entries_of s other in
-      let same = sym (changes.others other apart) in
-      record {
-        lines = its.lines;
-        are_lines = subst (λ rs. AreLinesOf (record theirs { runs = rs }) its.lines) same its.are_lines;
-        owed = its.owed;
-        are_owed = subst (λ rs. AreObligations (form_of theirs.account) its.lines (live_sums (record theirs { runs = rs })) (holidays s) its.owed) same its.are_owed;
-        line_rows = subst (λ (ys : List YearRow). IsPermutation ys (map (year_row other) its.lines)) (sym (reposted.repatches.put.puts.others other apart)) its.line_rows;
-        owed_rows =
-            subst (λ (os : List ObligationRow). IsPermutation os (map (obligation_row other) its.owed))
-            (sym (ap (filter (is_obligation_of other)) obligations_are ∙ others_placed name reposted.repatches.patch.from reposted.repatches.patch.to other apart (old Obligations) reposted.repatches.patch.rows)) its.owed_rows;
-      }
-
-  settled_each : (other : List ℕ) → IsSettled new Next other
-  settled_each other = by_name (bytes_eq other name) refl
-    where
-      by_name : (b : Bool) → bytes_eq other name ≡ b → IsSettled new Next other
-      by_name true is = subst (IsSettled new Next) (sym (same_name other name is)) settled_own
-      by_name false is = settled_other other (λ same. true≢false (sym (own_name name) ∙ (ap (λ n. bytes_eq n name) (sym same) ∙ is)))
-
-  -- the tables stand for the state after the change
-  pub reposted_stands : StandsFor new Next
-  reposted_stands = record {
-    accounts = reposted.repatches.put.puts.only Accounts ∙ stands.accounts;
-    forms = reposted.repatches.put.puts.only Forms ∙ stands.forms;
-    reported = reposted.repatches.put.puts.only ReportedQuarters ∙ stands.reported;
-    reported_years = reposted.repatches.put.puts.only ReportedYears ∙ stands.reported_years;
-    calendars = reposted.repatches.put.puts.only CalendarYears ∙ stands.calendars;
-    calendar_days = reposted.repatches.put.puts.only Holidays ∙ stands.calendar_days;
-    added_days = reposted.repatches.put.puts.only AddedHolidays ∙ stands.added_days;
-    runs = reposted.repatches.put.puts.only Runs ∙ changes.rows_are;
-    payments = reposted.repatches.put.puts.only Payments ∙ stands.payments;
-    settled = settled_each;
-  }
-
-  -- and what is answered is how the obligations differ before and after
-  pub reposted_told : IsPosted (holidays s) own own_after day (Ok (Posted difference.from difference.to difference.removed difference.added))
-  reposted_told =
-      let compared = reposted.repatches.compared in
-      let p = right_by_all in
-      record {
-        rows = was.owed;
-        owed = (was.lines, was.are_lines, was.are_owed);
-        rows_after = owed_then;
-        owed_after = (lines_then, are_lines, are_owed);
-        from = difference.from;
-        to = difference.to;
-        removed = difference.removed;
-        added = difference.added;
-        differ =
-            differ_whole reposted.repatches.patch.from reposted.repatches.patch.to was.owed reposted.repatches.patch.rows compared.gone day difference.from difference.to difference.removed difference.added
-            (gone_are name reposted.repatches.patch.from reposted.repatches.patch.to (old Obligations) was.owed compared.gone was.owed_rows compared.are_gone)
-            (λ o has. (let k = (p.rows.all o).0 has in let high = k.2 in (k.1, omega arith)))
-            (compared.differ p.rows.by_first_day);
-        told = refl;
-      }
+  pub reposted_told : IsPosted (holidays s) (entries_of s name) (entries_of (with_runs s runs) name) day (Ok (Posted difference.from difference.to difference.removed difference.added))
+  reposted_told = placed_told old new s name day rows runs stands sound changes reposted.lines.items reposted.holidays Right difference reposted.repatches lines_listed right_now known_now

@@ -2,7 +2,9 @@
 //! is the machine's step.
 #![tactic(auto)]
 
+mod books;
 mod known_runs;
 mod posting;
 
+pub use crate::books::Book;
 pub use crate::posting::{post, void};

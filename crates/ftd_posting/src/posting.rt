@@ -75,7 +75,7 @@ pub fn void<S: Alter>(
 }
 
 /// The reply that tells the difference.
-fn told(difference: Difference) -> Reply
+pub(crate) fn told(difference: Difference) -> Reply
     ensures { result ≡ Posted difference.from difference.to difference.removed difference.added }
 {
     Reply::Posted {

@@ -39,3 +39,10 @@ pairs_more R [] [] x y h r = (r, tt)
 pairs_more R [] (b ∷ ys) x y h r = absurd h
 pairs_more R (a ∷ xs) [] x y h r = absurd h
 pairs_more R (a ∷ xs) (b ∷ ys) x y h r = (h.0, pairs_more R xs ys x y h.1 r)
+
+-- pairs have as many items on either side
+pub pairs_length : {X Y : Type 0} (R : X → Y → Type 0) (xs : List X) (ys : List Y) → Pairs R xs ys → length xs ≡ length ys
+pairs_length R [] [] h = refl
+pairs_length R [] (b ∷ ys) h = absurd h
+pairs_length R (a ∷ xs) [] h = absurd h
+pairs_length R (a ∷ xs) (b ∷ ys) h = let rest = pairs_length R xs ys h.1 in omega arith

@@ -5,6 +5,8 @@ use Rattle.std.specs.List.Sorted.{IsPermutation}
 use Rattle.sqlite.specs.Store as store
 use Rattle.ftd_days.specs.Holidays.{holidays_of}
 use Rattle.ftd_rules.specs.declared.Form.{Form}
+use Rattle.ftd_rules.specs.declared.YearLine.{YearLine}
+use Rattle.ftd_buckets.specs.declared.Patch.{Patch}
 use Rattle.ftd_schema.specs.declared.TableName.TheVariants.{Years}
 use Rattle.ftd_schema.specs.Rows.{YearRow}
 use Rattle.ftd_schema.specs.Standing.{Tables}
@@ -17,7 +19,8 @@ use Rattle.ftd_repairs.specs.declared.Difference.{Difference}
 use Rattle.ftd_repairs.specs.declared.reading.KnownYears.{KnownYears}
 use Rattle.ftd_repairs.specs.Calendars.{KnowsYears}
 use Rattle.ftd_repairs.specs.Rescheduled.{HasLines}
-use Rattle.ftd_repairs.specs.Reposted.{Repatches, RepairsRows, IsReposted}
+use Rattle.ftd_repairs.specs.Repaired.{Repairs}
+use Rattle.ftd_repairs.specs.Reposted.{Places, Repatches, RepairsRows, IsReposted}
 use Rattle.ftd_repairs.proofs.Differing.{are_listed}
 use Rattle.ftd_store.proofs.Turning.{reads_turn, turns_then}
 
@@ -28,6 +31,11 @@ has_lines account day known t u told same =
       subst (λ (years : List YearRow). IsPermutation (filter (is_year_of account) years) rows) (sym same) (are_listed YearsRise (year_row account) _ known.lines.items told.listed.listed),
       told.listed.whole,
     )
+
+-- a patch that is right was put in place, by which these are the lines now
+pub repatched : (account : List ℕ) (day : ℕ) (lines after : List YearLine) (IsRight : Patch → Type 0) (patch : Patch) (d : Difference) (t u : Tables)
+    → IsRight patch → Places account day lines patch after d t u → (done : Repatches account day lines IsRight d t u) × (after ≡ done.put.after)
+repatched account day lines after IsRight patch d t u right places = (record { patch = patch; right = right; compared = places.compared; put = places.put.0 }, places.put.1)
 
 module _ {S A : Type 0} (g : store.Ghosts S) (account : List ℕ) (form : Form) (day : ℕ) (change : Tables → Tables) where
   pub reposts : (old read mid new : Tx S) (known : KnownYears) (x : A) (d : Difference) → ((t : Tables) → change t Years ≡ t Years)
@@ -45,7 +53,7 @@ module _ {S A : Type 0} (g : store.Ghosts S) (account : List ℕ) (form : Form) 
         listed = told.0.listed;
         holidays = holidays_of known.holidays;
         read = told.0.read;
-        repatches = subst (λ (z : Tables). Repatches account form day known.lines.items (holidays_of known.holidays) d z v) told.1
+        repatches = subst (λ (z : Tables). Repatches account day known.lines.items (λ p. Repairs account form day known.lines.items (holidays_of known.holidays) p z) d z v) told.1
             (repairs (has_lines account day known t u told.0 (ap (λ (z : Tables). z Years) told.1 ∙ keeps t)));
       })
       begun r

@@ -1,5 +1,6 @@
 -- What a repair reads of the tables, and what it answers.
-use Rattle.std.specs.Prelude.{ℕ, List, filter}
+use Rattle.std.specs.Prelude.{◌≡◌, ◌≤◌, ℕ, List, filter}
+use Rattle.ftd_rules.specs.Liability.{liability}
 use Rattle.ftd_rules.specs.declared.DaySum.{DaySum}
 use Rattle.ftd_rules.specs.declared.Form.{Form}
 use Rattle.ftd_rules.specs.declared.YearLine.{YearLine}
@@ -21,6 +22,11 @@ AreLiveIn account t w sums =
     ListsDaySums RunsRise account
     (filter (is_live_run_between account (day_number w.from) (day_number w.to)) (t Runs)) sums
 
+-- on the days of the window these have the liability of all the sums
+abbrev pub AreWithin : Window → List DaySum → List DaySum → Type 0
+AreWithin w all sums =
+    (a b : ℕ) → w.from ≤ a → b ≤ w.to → liability all a b ≡ liability sums a b
+
 -- on the days of each window that is needed, the account's live runs are those of the history
 -- after the change
 abbrev pub RunsAre : List ℕ → Form → Tables → ℕ → History → History → Type 0
@@ -28,11 +34,26 @@ RunsAre account form t day before after =
     (w : Window) → IsNeeded form day before after w
     → (sums : List DaySum) → AreLiveIn account t w sums → AreSumsOf after w sums
 
--- the patch is right for every change of the day's runs after which the live runs are those of the
--- tables in the windows that are needed, and before which the years ended with these lines
-abbrev pub Repairs : List ℕ → Form → ℕ → List YearLine → List ℕ → Patch → Tables → Type 0
-Repairs account form day lines holidays patch t =
+-- the patch is right for every change of the day's runs after which the live runs are told so, and
+-- before which the years ended with these lines
+abbrev pub IsRightWhere : (History → History → Type 0) → Form → ℕ → List YearLine → List ℕ → Patch
+    → Type 0
+IsRightWhere AreTold form day lines holidays patch =
     (before after : History) → IsChange day before after → AreLast before lines
-    → RunsAre account form t day before after
+    → AreTold before after
     → (last : Window) × IsPatch form day before after holidays last patch
     × IsLastNeeded form day before after last
+
+-- so where the live runs are those of the tables in the windows that are needed
+abbrev pub Repairs : List ℕ → Form → ℕ → List YearLine → List ℕ → Patch → Tables → Type 0
+Repairs account form day lines holidays patch t =
+    IsRightWhere (RunsAre account form t day) form day lines holidays patch
+
+-- these are the day sums after the change, on the days of each window that is needed
+abbrev pub SumsAre : Form → ℕ → List DaySum → History → History → Type 0
+SumsAre form day sums before after =
+    (w : Window) → IsNeeded form day before after w → AreSumsOf after w sums
+
+-- so where these are the day sums there
+abbrev pub RepairsBy : Form → ℕ → List DaySum → List YearLine → List ℕ → Patch → Type 0
+RepairsBy form day sums = IsRightWhere (SumsAre form day sums) form day

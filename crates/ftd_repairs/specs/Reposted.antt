@@ -1,32 +1,46 @@
 -- A change of an account's runs of one day, and the repair of its rows.
-use Rattle.std.specs.Prelude.{ℕ, List}
+use Rattle.std.specs.Prelude.{◌≡◌, ℕ, ◌+◌, List}
 use Rattle.std.specs.Global.{Vec}
 use Rattle.ftd_days.specs.Holidays.{holidays_of}
+use Rattle.ftd_rules.specs.Liability.{liability, share}
+use Rattle.ftd_rules.specs.declared.DaySum.{DaySum}
 use Rattle.ftd_rules.specs.declared.Form.{Form}
+use Rattle.ftd_rules.specs.declared.run.PayRun.{PayRun}
 use Rattle.ftd_rules.specs.declared.YearLine.{YearLine}
 use Rattle.ftd_buckets.specs.declared.Patch.{Patch}
 use Rattle.ftd_schema.specs.Standing.{Tables}
 use Rattle.ftd_store.specs.Finds.{ListsYears}
+use Rattle.ftd_machine.specs.History.{liability_of}
 use Rattle.ftd_repairs.specs.declared.Difference.{Difference}
 use Rattle.ftd_repairs.specs.declared.reading.KnownYears.{KnownYears}
-use Rattle.ftd_repairs.specs.Repaired.{Repairs}
+use Rattle.ftd_repairs.specs.Repaired.{Repairs, RepairsBy}
 use Rattle.ftd_repairs.specs.Calendars.{HasHolidaysFrom}
 use Rattle.ftd_repairs.specs.Replaced.{ComparesRows}
-use Rattle.ftd_repairs.specs.Rescheduled.{HasLines, PutsPatch}
+use Rattle.ftd_repairs.specs.Rescheduled.{HasLines, PutsPatch, PutsInto}
+
+-- the patch was put in place, by which these are the account's lines now, and it is told how the
+-- obligations differ
+pub record Places (account : List ℕ) (day : ℕ) (lines : List YearLine) (patch : Patch)
+    (lines_after : List YearLine) (difference : Difference) (old new : Tables) : Type 0 where
+  pub compared : ComparesRows account day patch.from patch.to patch.rows difference old
+  pub put : PutsInto account lines patch lines_after old new
 
 -- a patch was put in place that is right, and it is told how the obligations differ
-pub record Repatches (account : List ℕ) (form : Form) (day : ℕ) (lines : List YearLine)
-    (holidays : List ℕ) (difference : Difference) (old new : Tables) : Type 0 where
+pub record Repatches (account : List ℕ) (day : ℕ) (lines : List YearLine)
+    (IsRight : Patch → Type 0) (difference : Difference) (old new : Tables) : Type 0 where
   pub patch : Patch
-  pub right : Repairs account form day lines holidays patch old
+  pub right : IsRight patch
   pub compared : ComparesRows account day patch.from patch.to patch.rows difference old
   pub put : PutsPatch account lines patch old new
 
 -- so by what was read before the change, where the lines are the account's still
 abbrev pub RepairsRows : List ℕ → Form → ℕ → KnownYears → Difference → Tables → Tables → Type 0
 RepairsRows account form day known difference old new =
-    HasLines account known.lines.items old
-    → Repatches account form day known.lines.items (holidays_of known.holidays) difference old new
+    let lines : List YearLine = known.lines.items in
+    HasLines account lines old
+    → Repatches account day lines
+    (λ patch. Repairs account form day lines (holidays_of known.holidays) patch old)
+    difference old new
 
 -- the account's rows were repaired after its runs of the day had changed: by its lines and the
 -- holidays as they stood before
@@ -36,4 +50,19 @@ pub record IsReposted (account : List ℕ) (form : Form) (day : ℕ) (old change
   pub listed : ListsYears account lines old
   pub holidays : List ℕ
   pub read : HasHolidaysFrom day lines.items holidays old
-  pub repatches : Repatches account form day lines.items holidays difference changed new
+  pub repatches : Repatches account day lines.items
+      (λ patch. Repairs account form day lines.items holidays patch changed) difference changed new
+
+-- the account's rows were repaired by these lines, holidays and day sums, and those are its lines
+-- now
+pub record IsRepostedBy (account : List ℕ) (form : Form) (day : ℕ) (lines : List YearLine)
+    (holidays : List ℕ) (sums : List DaySum) (lines_after : List YearLine)
+    (difference : Difference) (changed new : Tables) : Type 0 where
+  pub repatches : Repatches account day lines (RepairsBy form day sums lines holidays)
+      difference changed new
+  pub lines_are : lines_after ≡ repatches.put.after
+
+-- the run is among those of which these are the day sums, and was not among those before
+abbrev pub AddsRun : PayRun → List DaySum → List DaySum → Type 0
+AddsRun run old new =
+    (from to : ℕ) → liability new from to ≡ liability old from to + share from to (liability_of run)

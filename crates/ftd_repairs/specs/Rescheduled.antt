@@ -63,3 +63,8 @@ pub record PutsPatch (account : List ℕ) (lines : List YearLine) (patch : Patch
   pub are_after : AreAfter lines patch.years after
   pub puts : PutsLines account after
       (with_obligations account patch.from patch.to patch.rows old) new
+
+-- so, and these are the account's lines now
+abbrev pub PutsInto : List ℕ → List YearLine → Patch → List YearLine → Tables → Tables → Type 0
+PutsInto account lines patch lines_after old new =
+    (put : PutsPatch account lines patch old new) × (lines_after ≡ put.after)

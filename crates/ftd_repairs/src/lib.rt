@@ -7,14 +7,17 @@
 use ftd_days::Day;
 
 mod comparing;
+mod ledgers;
 mod patching;
 mod posting;
 mod reading;
 mod repairing;
+mod summing;
 mod windows;
 
+pub use crate::ledgers::{Ledger, add_by_ledger};
 pub use crate::posting::{add_repaired, void_repaired};
-pub use crate::reading::add_both;
+pub use crate::reading::{KnownYears, add_both, known_years};
 
 /// How an account's obligations differ before and after a change of its runs.
 #[derive(Clone, Copy, Debug, PartialEq, Eq)]

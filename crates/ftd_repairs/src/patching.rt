@@ -2,9 +2,10 @@
 
 ghost use Rattle.std.specs.Prelude.{◌≡◌, ◌++◌, ◌↔◌, List, IsTrue, IfSome, MatchOption, All};
 ghost use Rattle.ftd_rules.specs.declared.YearLine.{YearLine};
+ghost use Rattle.ftd_buckets.specs.Histories.{MayBegin};
 ghost use Rattle.ftd_rows.specs.Amounts.{IsStorable};
-ghost use Rattle.ftd_repairs.specs.Rescheduled.{IsRescheduled, IsUnnamed, HasLines, PutsPatch};
-ghost use Rattle.ftd_repairs.specs.Reposted.{RepairsRows};
+ghost use Rattle.ftd_repairs.specs.Rescheduled.{IsRescheduled, IsUnnamed, HasLines, PutsInto};
+ghost use Rattle.ftd_repairs.specs.Reposted.{Places, RepairsRows};
 ghost use Rattle.ftd_store.specs.Frame.{Turns};
 
 use crate::Difference;
@@ -42,16 +43,22 @@ fn hold_amounts(rows: &[Obligation]) -> bool
     rows.iter().all(|row| is_storable(row.cents))
 }
 
-/// The lines from the day's year on. None where that year is not open.
-fn lines_from(lines: &[YearLine], day: Day) -> Option<&[YearLine]>
-    ensures { IfSome result (λ rest. (earlier : List YearLine)
+/// The lines from the day's year on, with which a repair may begin. None where that year is not
+/// open, and where the lines are none of years without a gap that turn within their years.
+pub(crate) fn lines_from(lines: &[YearLine], day: Day) -> Option<&[YearLine]>
+    ensures rest { IfSome result (λ rest. (earlier : List YearLine)
         × (lines.now ≡ earlier ++ rest.now)) }
+    ensures may_begin { IfSome result (λ rest. MayBegin day rest.now) }
 {
     let year = day.year();
     for (i, line) in lines.iter().enumerate() {
         if line.year == year {
             let (_, rest) = lines.split_at(i);
-            return Some(rest);
+            return if may_begin(rest, day) {
+                Some(rest)
+            } else {
+                None
+            };
         }
     }
     None
@@ -77,26 +84,50 @@ fn rescheduled(line: &YearLine, changed: &[YearLine]) -> Option<YearLine>
 }
 
 /// Puts the patch in the place of the account's obligations that begin on its days, and its
-/// openings and turns into the account's lines.
+/// openings and turns into the account's lines, here and in the table.
 fn put_patch<S: Alter>(
     tx: &mut Tx<'_, S>,
     account: &str,
-    lines: &[YearLine],
+    lines: &mut [YearLine],
     patch: &Patch,
 ) -> Result<(), StoreFault>
     requires amounts { All (λ row. IsStorable row.cents) patch.now.rows }
-    requires lookbacks { All (λ line. IsStorable line.lookback) lines.now }
+    requires lookbacks { All (λ line. IsStorable line.lookback) lines.old }
     ensures call { Turns S.Store tx.old tx.new result (λ done old new.
-        HasLines account.now lines.now old
-        → PutsPatch account.now lines.now patch.now old new) }
+        HasLines account.now lines.old old
+        → PutsInto account.now lines.old patch.now lines.new old new) }
 {
     tx.replace_obligations(account, patch.from, patch.to, patch.rows.as_slice())?;
-    for line in lines {
-        if let Some(after) = rescheduled(line, patch.years.as_slice()) {
-            tx.put_year(account, after)?;
+    for i in 0..lines.len() {
+        if let Some(after) = rescheduled(&lines[i], patch.years.as_slice()) {
+            lines[i] = after;
+            tx.put_year(account, lines[i])?;
         }
     }
     Ok(())
+}
+
+/// Puts the patch in the place of the account's rows, and answers how the obligations that come
+/// differ from those that go. The lines become what they are then. `Failed` also where an amount is
+/// 2^63 cents or more.
+pub(crate) fn place_patch<S: Alter>(
+    tx: &mut Tx<'_, S>,
+    alloc: Global,
+    account: &str,
+    day: Day,
+    lines: &mut [YearLine],
+    patch: &Patch,
+) -> Result<Difference, StoreFault>
+    ensures call { Turns S.Store tx.old tx.new result (λ difference old new.
+        HasLines account.now lines.old old
+        → Places account.now day lines.old patch.now lines.new difference old new) }
+{
+    if !hold_lookbacks(lines) || !hold_amounts(patch.rows.as_slice()) {
+        return tx.give_up(StoreFault::Failed);
+    }
+    let difference = compare_rows(tx, alloc, account, day, patch)?;
+    put_patch(tx, account, lines, patch)?;
+    Ok(difference)
 }
 
 /// Repairs the account's rows after a change of its runs of the day, by what was read of it before.
@@ -107,22 +138,18 @@ pub(crate) fn repair_rows<S: Alter>(
     account: &str,
     form: Form,
     day: Day,
-    known: &KnownYears,
+    known: KnownYears,
 ) -> Result<Difference, StoreFault>
-    ensures call { Turns S.Store tx.old tx.new result
-        (RepairsRows account.now form day known.now) }
+    ensures call { Turns S.Store tx.old tx.new result (RepairsRows account.now form day known) }
 {
-    let Some(rest) = lines_from(&known.lines, day) else {
+    let KnownYears {
+        mut lines,
+        holidays,
+    } = known;
+    let Some(rest) = lines_from(&lines, day) else {
         return tx.give_up(StoreFault::Failed);
     };
-    if !may_begin(rest, day) || !hold_lookbacks(&known.lines) {
-        return tx.give_up(StoreFault::Failed);
-    }
-    let patch = repaired(tx, alloc, account, form, rest, &known.holidays, day)?;
-    if !hold_amounts(patch.rows.as_slice()) {
-        return tx.give_up(StoreFault::Failed);
-    }
-    let difference = compare_rows(tx, alloc, account, day, &patch)?;
-    put_patch(tx, account, &known.lines, &patch)?;
+    let patch = repaired(tx, alloc, account, form, rest, &holidays, day)?;
+    let difference = place_patch(tx, alloc, account, day, &mut lines, &patch)?;
     Ok(difference)
 }

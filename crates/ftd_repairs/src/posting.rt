@@ -16,7 +16,7 @@ use sqlite::Alter;
 use std::alloc::Global;
 
 /// Whether cells hold the amounts of the run.
-fn holds_run(run: &PayRun) -> bool
+pub(crate) fn holds_run(run: &PayRun) -> bool
     ensures { IsTrue result → HasStorableAmounts run.now }
 {
     is_storable(run.fit) && is_storable(run.ss) && is_storable(run.medicare)
@@ -45,7 +45,7 @@ pub fn add_repaired<S: Alter>(
     let day = run.payday;
     let known = known_years(tx, alloc, account, day)?;
     tx.add_run(account, number, run)?;
-    let difference = repair_rows(tx, alloc, account, form, day, &known)?;
+    let difference = repair_rows(tx, alloc, account, form, day, known)?;
     Ok(difference)
 }
 
@@ -67,6 +67,6 @@ pub fn void_repaired<S: Alter>(
 {
     let known = known_years(tx, alloc, account, payday)?;
     tx.void_run(account, number)?;
-    let difference = repair_rows(tx, alloc, account, form, payday, &known)?;
+    let difference = repair_rows(tx, alloc, account, form, payday, known)?;
     Ok(difference)
 }

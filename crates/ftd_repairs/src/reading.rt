@@ -17,7 +17,7 @@ use std::alloc::Global;
 
 /// What is read of an account before its runs change.
 #[derive(Drop)]
-pub(crate) struct KnownYears {
+pub struct KnownYears {
     /// The lines of its open years, by year.
     pub lines: Vec<YearLine>,
     /// The holidays of these years from the payday's on, and of the years after them.
@@ -86,7 +86,7 @@ fn year_after(lines: &[YearLine]) -> u32
 
 /// The account's open years, and the holidays of those from the day's on and of the year after.
 /// `Failed` also where the calendar of one of these years is not given.
-pub(crate) fn known_years<S: Alter>(
+pub fn known_years<S: Alter>(
     tx: &mut Tx<'_, S>,
     alloc: Global,
     account: &str,

@@ -1,25 +1,25 @@
-//! The day sums of one window.
+//! The day sums of one window, read from the tables or taken from those that are known.
 
 ghost use Rattle.std.specs.Prelude.{◌≡◌, ◌+◌, ◌<◌, IfOk, IfSome};
 ghost use Rattle.std.specs.List.{sum_by};
 ghost use Rattle.ftd_rules.specs.Liability.{cents_of, SumsRise};
 ghost use Rattle.ftd_store.specs.Frame.{Reads};
-ghost use Rattle.ftd_repairs.specs.Repaired.{AreLiveIn};
+ghost use Rattle.ftd_repairs.specs.Repaired.{AreLiveIn, AreWithin};
 
 use ftd_buckets::Window;
 use ftd_rules::DaySum;
 use ftd_store::{StoreFault, Tx};
 use sqlite::Alter;
-use std::alloc::Global;
+use std::alloc::{AllocError, Global};
 
 /// All amounts of an account together are less than so many cents.
 const AMOUNTS_END: u64 = 6_000_000_000_000_000;
 
-/// The day sums that were read of a window.
+/// The day sums of a window.
 #[derive(Drop)]
 pub(crate) struct WindowSums {
     pub sums: Vec<DaySum>,
-    /// The amount of these sums and of all that were read before, in cents.
+    /// The amount of these sums and of those of all windows before, in cents.
     pub total: u64,
 }
 
@@ -39,6 +39,22 @@ fn total_with(before: u64, sums: &[DaySum]) -> Option<u64>
     Some(total)
 }
 
+/// The sums as those of the window. None where they do not rise within it, and where the amounts
+/// with those before reach 60,000,000,000,000.00.
+fn tested(window: Window, sums: Vec<DaySum>, before: u64) -> Option<WindowSums>
+    requires { before < 6_000_000_000_000_000 }
+    ensures same { IfSome result (λ read. read.sums.items ≡ sums.items) }
+    ensures rise { IfSome result (λ read. SumsRise window.from window.to read.sums.items) }
+    ensures total { IfSome result (λ read. read.total ≡ before + sum_by cents_of read.sums.items) }
+    ensures small { IfSome result (λ read. read.total < 6_000_000_000_000_000) }
+{
+    if !window.has_rising(&sums) {
+        return None;
+    }
+    let total = total_with(before, &sums)?;
+    Some(WindowSums { sums, total })
+}
+
 /// The account's day sums of the window, which rise within it. `Failed` also where the days do not
 /// rise, and where the amounts with those before reach 60,000,000,000,000.00.
 pub(crate) fn window_sums<S: Alter>(
@@ -56,11 +72,39 @@ pub(crate) fn window_sums<S: Alter>(
     ensures small { IfOk result (λ read. read.total < 6_000_000_000_000_000) }
 {
     let sums = tx.day_sums(alloc, account, window.from, window.to)?;
-    if !window.has_rising(&sums) {
-        return tx.give_up(StoreFault::Failed);
-    }
-    match total_with(before, &sums) {
-        Some(total) => Ok(WindowSums { sums, total }),
+    match tested(window, sums, before) {
+        Some(read) => Ok(read),
         None => tx.give_up(StoreFault::Failed),
     }
+}
+
+/// The sums of the days of the window.
+fn sums_in(alloc: Global, sums: &[DaySum], window: &Window) -> Result<Vec<DaySum>, AllocError>
+    ensures { IfOk result (λ within. AreWithin window.now sums.now within.items) }
+{
+    let mut within = Vec::new(alloc);
+    for sum in sums {
+        if window.from <= sum.day && sum.day <= window.to {
+            within.push(*sum)?;
+        }
+    }
+    Ok(within)
+}
+
+/// Of the known day sums those of the window, which rise within it. `Failed` where the days do not
+/// rise, and where the amounts with those before reach 60,000,000,000,000.00.
+pub(crate) fn known_sums(
+    alloc: Global,
+    sums: &[DaySum],
+    window: Window,
+    before: u64,
+) -> Result<WindowSums, StoreFault>
+    requires { before < 6_000_000_000_000_000 }
+    ensures within { IfOk result (λ known. AreWithin window sums.now known.sums.items) }
+    ensures rise { IfOk result (λ known. SumsRise window.from window.to known.sums.items) }
+    ensures total { IfOk result (λ known. known.total ≡ before + sum_by cents_of known.sums.items) }
+    ensures small { IfOk result (λ known. known.total < 6_000_000_000_000_000) }
+{
+    let within = sums_in(alloc, sums, &window)?;
+    tested(window, within, before).ok_or(StoreFault::Failed)
 }

@@ -11,8 +11,8 @@ use ftd_days::Cents;
 use ftd_rules::{DaySum, PayRun};
 use std::alloc::Global;
 
-// two amounts together
-fn added(one: Cents, other: Cents) -> Result<Cents, StoreFault>
+/// Two amounts together. `Failed` where they are more than a `u64` of cents.
+pub fn added(one: Cents, other: Cents) -> Result<Cents, StoreFault>
     ensures value { IfOk result (λ cents. cents.0 ≡ one.0 + other.0) }
 {
     match one.0.checked_add(other.0) {
@@ -21,8 +21,8 @@ fn added(one: Cents, other: Cents) -> Result<Cents, StoreFault>
     }
 }
 
-// the liability that a run makes
-fn sum_of(run: PayRun) -> Result<DaySum, StoreFault>
+/// The liability that a run makes, on its payday. `Failed` where it is more than a `u64` of cents.
+pub fn sum_of(run: PayRun) -> Result<DaySum, StoreFault>
     ensures value { IfOk result (λ sum. sum ≡ run_sum run) }
 {
     let withheld = added(run.fit, run.ss)?;

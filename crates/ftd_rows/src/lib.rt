@@ -19,7 +19,7 @@ pub use crate::accounts::Account;
 pub use crate::cells::{
     StoredCents, StoredDay, StoredFlag, StoredForm, StoredRule, StoredSchedule,
 };
-pub use crate::day_sums::sums_of;
+pub use crate::day_sums::{added, sum_of, sums_of};
 pub use crate::faults::StoreFault;
 pub use crate::obligations::AccountObligation;
 pub use crate::reader::{FromRow, all, only};

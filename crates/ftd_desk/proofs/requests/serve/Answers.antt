@@ -1,20 +1,26 @@
-use Rattle.std.proofs.Common.{rules, ◌∙◌, refl, sym, ap}
+use Rattle.std.proofs.Common.{◌∙◌, refl, sym, ap, subst}
+use Rattle.ftd_store.specs.Frame.{Calls}
 use Rattle.ftd_machine.specs.declared.requests.Request.TheVariants.{Void}
+use Rattle.ftd_desk.specs.Counted.{ServesCounted}
 use Rattle.ftd_posting.specs.Repaired.{Becoming, VoidsRun}
 use Rattle.ftd_desk.proofs.Counting.{entry_counted, void_counted}
 use Rattle.ftd_desk.proofs.Repairing.{entry_repairs, call_repairs, pays_no_run, post_repairs, void_repairs, answer_repairs}
 use Rattle.ftd_desk.proofs.requests.serve.Goals as goal
 
-pub returns-in_ok-answer-in_default : goal.returns-in_ok-answer-in_default
-returns-in_ok-answer-in_default g c =
-    let answer = c.in_ok-answer-in_default in
+pub returns-in_ok-answer-in_default-request : goal.returns-in_ok-answer-in_default-request
+returns-in_ok-answer-in_default-request g c =
+    let answer = c.in_ok-answer-in_default-request in
     record {
       call = entry_counted g.S.Store c.args.tx.now c.serve_entry.new.tx answer.answer c.args.counts c.args.request.now answer.ensures.adds_none answer.ensures.call;
       repairs = entry_repairs g.S.Store c.args.tx.now c.serve_entry.new.tx answer.answer _ c.args.request.now answer.ensures.on_none answer.ensures.call;
     }
 
-pub returns-in-Post-clause-repairs : goal.returns-in-Post-clause-repairs
-returns-in-Post-clause-repairs g c = post_repairs g.S.Store c.args.tx.now c.serve_post.new.tx c.serve_post.result c.args.request.now _ _ _ (search rules) c.serve_post.ensures.repairs
+pub returns-in-Some-clause-call : goal.returns-in-Some-clause-call
+returns-in-Some-clause-call g c =
+    subst (λ request. Calls g.S.Store c.args.tx.now c.serve_post.new.tx c.serve_post.result (ServesCounted c.args.counts request)) (sym c.in-Some.ensures) c.serve_post.ensures.call
+
+pub returns-in-Some-clause-repairs : goal.returns-in-Some-clause-repairs
+returns-in-Some-clause-repairs g c = post_repairs g.S.Store c.args.tx.now c.serve_post.new.tx c.serve_post.result c.args.request.now _ _ _ c.in-Some.ensures c.serve_post.ensures.repairs
 
 pub returns-in-Pay-clause-repairs : goal.returns-in-Pay-clause-repairs
 returns-in-Pay-clause-repairs g c =

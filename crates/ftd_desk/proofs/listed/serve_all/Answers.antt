@@ -6,9 +6,9 @@ use Rattle.ftd_store.specs.Frame.{Calls}
 use Rattle.ftd_store.proofs.Going.{fails_after}
 use Rattle.ftd_machine.specs.Checks.{Answer}
 use Rattle.ftd_desk.specs.Words.{AreAnswers, ServesAll}
-use Rattle.ftd_desk.specs.declared.requests.ServedAll.{ServedAll}
+use Rattle.ftd_desk.specs.declared.listed.ServedAll.{ServedAll}
 use Rattle.ftd_desk.proofs.Together.{answers_first, answers_more, serves_first, serves_more}
-use Rattle.ftd_desk.proofs.requests.serve_all.Goals as goal
+use Rattle.ftd_desk.proofs.listed.serve_all.Goals as goal
 
 pub loop-request-init : goal.loop-request-init
 loop-request-init g c =
@@ -17,7 +17,7 @@ loop-request-init g c =
     record {
       count = c.push_reserved.ensures.len ∙ ap (λ n. n + 1) c.in-Ok.ensures.len;
       room = rw c.push_reserved.ensures.capacity c.in-Ok.ensures.capacity;
-      serves = serves_first g.S.Store c.args.counts c.args.tx.now c.serve_sure.new.tx c.args.first.now served (record { answers = c.push_reserved.new.self; counts = served.counts }) items refl c.in_ok-served.ensures.call;
+      serves = serves_first g.S.Store c.args.known c.args.tx.now c.serve_sure.new.tx c.args.first.now served (record { answers = c.push_reserved.new.self; known = served.known }) items refl c.in_ok-served.ensures.call;
       answers = subst (λ (all : List Answer). AreAnswers (c.args.first.now ∷ []) all) (sym items) (answers_first c.args.first.now served.answer c.in_ok-served.ensures.sure);
     }
 
@@ -32,8 +32,8 @@ loop-request-preserved g c =
       count = c.push_reserved-in-loop-request.ensures.len ∙ ap (λ n. n + 1) c.loop-request.invariant.count;
       room = rw c.push_reserved-in-loop-request.ensures.capacity c.loop-request.invariant.room;
       serves = rw more
-          (serves_more g.S.Store c.args.counts c.args.tx.now c.loop-request.tx c.serve_sure-in-loop-request.new.tx (c.args.first.now ∷ take i xs) (record { answers = c.loop-request.answers; counts = c.loop-request.counts }) x served
-          (record { answers = c.push_reserved-in-loop-request.new.self; counts = served.counts }) c.push_reserved-in-loop-request.ensures.items refl c.loop-request.invariant.serves c.in_ok-served-2.ensures.call);
+          (serves_more g.S.Store c.args.known c.args.tx.now c.loop-request.tx c.serve_sure-in-loop-request.new.tx (c.args.first.now ∷ take i xs) (record { answers = c.loop-request.answers; known = c.loop-request.known }) x served
+          (record { answers = c.push_reserved-in-loop-request.new.self; known = served.known }) c.push_reserved-in-loop-request.ensures.items refl c.loop-request.invariant.serves c.in_ok-served-2.ensures.call);
       answers = rw (more, c.push_reserved-in-loop-request.ensures.items)
           (answers_more (c.args.first.now ∷ take i xs) c.loop-request.answers.items x served.answer c.loop-request.invariant.answers c.in_ok-served-2.ensures.sure);
     }
@@ -51,7 +51,7 @@ pub returns-clause-call : goal.returns-clause-call
 returns-clause-call g c =
     let xs : List Request = c.args.later.now in
     let i = c.loop-request.request-index in
-    subst (λ ys. Calls {A = ServedAll} g.S.Store c.args.tx.now c.loop-request.tx (Ok (record { answers = c.loop-request.answers; counts = c.loop-request.counts })) (ServesAll c.args.counts (c.args.first.now ∷ ys)))
+    subst (λ ys. Calls {A = ServedAll} g.S.Store c.args.tx.now c.loop-request.tx (Ok (record { answers = c.loop-request.answers; known = c.loop-request.known })) (ServesAll c.args.known (c.args.first.now ∷ ys)))
     (at_end xs i c.loop-request-test.false c.loop-request.auto.request-index-end) c.loop-request.invariant.serves
 
 pub returns-clause-answers : goal.returns-clause-answers

@@ -1,0 +1,57 @@
+-- What is known of accounts from request to request.
+use Rattle.std.specs.Prelude.{◌≡◌, ◌≤◌, ℕ, Bool, List, Option, Some, bytes_eq, find, option_map}
+use Rattle.std.specs.Prelude.{get_or}
+use Rattle.std.specs.List.{position}
+use Rattle.sqlite.specs.State as database
+use Rattle.ftd_schema.specs.Standing.{Tables}
+use Rattle.ftd_machine.specs.State.{State}
+use Rattle.ftd_machine.specs.Step.{Step}
+use Rattle.ftd_machine.specs.Sound.{IsSound}
+use Rattle.ftd_machine.specs.declared.requests.Request.{Request}
+use Rattle.ftd_entries.specs.Standing.{StandsFor}
+use Rattle.ftd_entries.specs.Words.{IsKept}
+use Rattle.ftd_posting.specs.Books.{IsBook, first_year}
+use Rattle.ftd_posting.specs.declared.books.Book.{Book}
+use Rattle.ftd_desk.specs.Counted.{AreCounted}
+use Rattle.ftd_desk.specs.Kept.{EachIs}
+use Rattle.ftd_desk.specs.declared.books.AccountBook.{AccountBook}
+use Rattle.ftd_desk.specs.declared.books.Books.{Books}
+use Rattle.ftd_desk.specs.declared.listed.Answered.{Answered}
+use Rattle.ftd_desk.specs.declared.known.Known.{Known}
+
+abbrev pub account_in : AccountBook → List ℕ
+account_in kept = kept.account
+
+abbrev pub is_book_of : List ℕ → AccountBook → Bool
+is_book_of account kept = bytes_eq (account_in kept) account
+
+abbrev pub book_in : AccountBook → Book
+book_in kept = kept.book
+
+-- the book that is kept of an account, if one is
+abbrev pub book_of : Books → List ℕ → Option Book
+book_of books account = option_map book_in (find (is_book_of account) books.books.items)
+
+-- the account's book stands at this place, and is for runs of the year
+pub record IsReady (books : Books) (account : List ℕ) (year place : ℕ) : Type 0 where
+  pub stands : position (is_book_of account) books.books.items ≡ Some place
+  pub since : (kept : AccountBook) → kept ≡ get_or books.books.items place kept
+      → first_year kept.book ≤ year
+
+-- what is kept of an account, if anything is, is a book that is right of it
+abbrev pub AreBooks : Books → State → Type 0
+AreBooks books s = EachIs (book_of books) (IsBook s)
+
+-- the counts and the books that are kept are those of the state
+pub record IsKnown (known : Known) (s : State) : Type 0 where
+  pub counts : AreCounted known.counts s
+  pub books : AreBooks known.books s
+
+-- within a transaction over rows that stand for a state, the request is answered as the machine
+-- answers it, the rows are those of its next state, and the counts and the books stay right
+abbrev pub ServesKnown : Known → Request → Answered → database.State → database.State → Tables
+    → Type 0
+ServesKnown known request served before after t =
+    (s : State) → StandsFor t s → IsSound s → IsKnown known s
+    → (next : State) × Step s request served.answer next × IsKept after.now next
+    × IsKnown served.known next

@@ -1,0 +1,29 @@
+//! What a desk keeps from request to request.
+
+ghost use Rattle.std.specs.Prelude.{◌≡◌, []};
+
+use crate::books::Books;
+use crate::counts::Counts;
+use std::alloc::Global;
+
+/// What a desk keeps from request to request: how many runs and payments some accounts have, and
+/// what is known of those of which runs were posted last.
+#[derive(Drop)]
+pub(crate) struct Known {
+    pub counts: Counts,
+    pub books: Books,
+}
+
+impl Known {
+    /// Nothing is known. What is known later takes its memory from the allocator.
+    pub fn none(alloc: Global) -> Known
+        ensures runs { result.counts.runs.counts.items ≡ [] }
+        ensures payments { result.counts.payments.counts.items ≡ [] }
+        ensures books { result.books.books.items ≡ [] }
+    {
+        Known {
+            counts: Counts::none(alloc),
+            books: Books::none(alloc),
+        }
+    }
+}

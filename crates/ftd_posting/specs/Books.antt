@@ -1,0 +1,51 @@
+-- What is known of an account while several of its runs are posted.
+use Rattle.std.specs.Prelude.{◌≡◌, ℕ, ◌+◌, ◌≤◌, List, Some}
+use Rattle.sqlite.specs.State as database
+use Rattle.ftd_days.specs.Business.{is_holiday}
+use Rattle.ftd_days.specs.Calendar.{year_of, year_start, last_day}
+use Rattle.ftd_days.specs.Holidays.{holidays_of}
+use Rattle.ftd_rules.specs.Liability.{liability}
+use Rattle.ftd_rules.specs.Lists.{Has}
+use Rattle.ftd_rules.specs.declared.YearLine.{YearLine}
+use Rattle.ftd_rules.specs.declared.run.PayRun.{PayRun}
+use Rattle.ftd_schema.specs.Standing.{Tables}
+use Rattle.ftd_machine.specs.State.{State, entries_of, holidays}
+use Rattle.ftd_machine.specs.History.{AreLinesOf, live_sums}
+use Rattle.ftd_machine.specs.Checks.{Answer}
+use Rattle.ftd_machine.specs.Step.{Step}
+use Rattle.ftd_machine.specs.Sound.{IsSound}
+use Rattle.ftd_machine.specs.declared.requests.Request.TheVariants.{Post}
+use Rattle.ftd_entries.specs.Standing.{StandsFor}
+use Rattle.ftd_entries.specs.Words.{IsKept}
+use Rattle.ftd_posting.specs.declared.books.Book.{Book}
+
+-- the first year of which the book knows the holidays and the runs
+abbrev pub first_year : Book → ℕ
+first_year book = book.from
+
+-- of the days of the year exactly those are holidays that the state keeps as such
+abbrev pub AreHolidaysIn : State → List ℕ → ℕ → Type 0
+AreHolidaysIn s known year =
+    (day : ℕ) → year_of day ≡ year → is_holiday (holidays s) day ≡ is_holiday known day
+
+-- the book is right of the account that the state keeps under the name: what it was enrolled as, its
+-- open years, the holidays of those from the first year on and of the years after them, and the
+-- liability of its live runs from that year on
+pub record IsBook (s : State) (name : List ℕ) (book : Book) : Type 0 where
+  pub account : (entries_of s name).account ≡ Some book.account
+  pub lines : AreLinesOf (entries_of s name) book.ledger.years.lines.items
+  pub holidays : (line : YearLine) → Has book.ledger.years.lines.items line → book.from ≤ line.year
+      → AreHolidaysIn s (holidays_of book.ledger.years.holidays) line.year
+      × AreHolidaysIn s (holidays_of book.ledger.years.holidays) (line.year + 1)
+  pub sums : (from to : ℕ) → year_start book.from ≤ from → to ≤ last_day
+      → liability (live_sums (entries_of s name)) from to ≡ liability book.ledger.sums.items from to
+
+-- within a transaction over rows that stand for a state, of which the book is right, the run is
+-- answered as the machine answers it, the rows are those of its next state, and the book is right of
+-- that
+abbrev pub PostsBy : List ℕ → ℕ → PayRun → Book → Book → Answer → database.State → database.State
+    → Tables → Type 0
+PostsBy name number run old new answer before after t =
+    (s : State) → StandsFor t s → IsSound s → IsBook s name old
+    → (next : State) × Step s (Post name number run.payday run.fit run.ss run.medicare) answer next
+    × IsKept after.now next × IsBook next name new

@@ -1,0 +1,118 @@
+//! Several runs of an account are posted, one after the other, and what is known of it is read once.
+
+ghost use Rattle.std.specs.Prelude.{◌≡◌, ◌≤◌, IfOk, IfSome, OnOk};
+ghost use Rattle.ftd_days.specs.Calendar.{year_of, year_start, last_day};
+ghost use Rattle.ftd_machine.specs.State.{State};
+ghost use Rattle.ftd_machine.specs.Sound.{IsSound};
+ghost use Rattle.ftd_store.specs.Finds.{CountsRuns};
+ghost use Rattle.ftd_store.specs.Frame.{Calls, Reads};
+ghost use Rattle.ftd_entries.specs.Standing.{StandsFor};
+ghost use Rattle.ftd_posting.specs.Books.{IsBook, PostsBy, first_year};
+
+use crate::posting::told;
+use ftd_buckets::Window;
+use ftd_days::Day;
+use ftd_entries::{has_year, is_open, known};
+use ftd_machine::{Account, Answer, post_check};
+use ftd_repairs::{Ledger, add_by_ledger, known_years};
+use ftd_rules::PayRun;
+use ftd_store::{StoreFault, Tx};
+use sqlite::Alter;
+use std::alloc::Global;
+
+/// 2199-12-31, the last day there is, as a number of days since 1970-01-01.
+const LAST_DAY: i32 = 84_005;
+
+/// The days from the first of the year to the last that there is. None before 1900 and after 2199.
+fn days_from(year: u32) -> Option<Window>
+    ensures first { IfSome result (λ days. days.from ≡ year_start year) }
+    ensures of_year { IfSome result (λ days. year_of days.from ≡ year) }
+    ensures last { IfSome result (λ days. days.to ≡ last_day) }
+{
+    if year < 1900 || year > 2199 {
+        return None;
+    }
+    let from = Day::first_of_month((year - 1900) * 12);
+    let to = Day::from_number(LAST_DAY)?;
+    Some(Window { from, to })
+}
+
+/// What is known of an account while several of its runs are posted.
+#[derive(Drop)]
+pub struct Book {
+    account: Account,
+    from: u32,
+    ledger: Ledger,
+}
+
+impl Book {
+    /// What is known of the account, for runs with paydays from this year on. None where it is not
+    /// enrolled, and where the year is not open. `Failed` also where the calendar of an open year
+    /// from then on or of the year after is not given.
+    pub fn read<S: Alter>(
+        tx: &mut Tx<'_, S>,
+        alloc: Global,
+        name: &str,
+        year: u32,
+    ) -> Result<Option<Book>, StoreFault>
+        ensures call { Reads S.Store tx.old tx.new result (λ found t. (s : State) → StandsFor t s
+            → IsSound s → IfSome found (IsBook s name.now)) }
+        ensures year { IfOk result (λ found. IfSome found (λ book. first_year book ≡ year)) }
+    {
+        let Some(account) = known(tx, name)? else {
+            return Ok(None);
+        };
+        let there = is_open(tx, alloc, name, year)?;
+        if !there {
+            return Ok(None);
+        }
+        let Some(days) = days_from(year) else {
+            return tx.give_up(StoreFault::Failed);
+        };
+        let years = known_years(tx, alloc, name, days.from)?;
+        let sums = tx.day_sums(alloc, name, days.from, days.to)?;
+        let ledger = Ledger { years, sums };
+        Ok(Some(Book {
+            account,
+            from: year,
+            ledger,
+        }))
+    }
+
+    /// The first year of the paydays that it is for.
+    pub fn first_year(&self) -> u32
+        ensures { result ≡ first_year self.now }
+    {
+        self.from
+    }
+
+    /// Posts a pay run of the account, under its number. The account has so many runs, voided ones
+    /// too. It is answered how the obligations that come differ from those that go, or why the run
+    /// is refused; a refused run changes nothing.
+    pub fn post<S: Alter>(
+        &mut self,
+        tx: &mut Tx<'_, S>,
+        alloc: Global,
+        name: &str,
+        number: u32,
+        run: PayRun,
+        count: u32,
+    ) -> Result<Answer, StoreFault>
+        requires since { first_year self.old ≤ year_of run.payday }
+        ensures call { Calls S.Store tx.old tx.new result (λ answer before after t.
+            CountsRuns name.now count t
+            → PostsBy name.now number run self.old self.new answer before after t) }
+        ensures year { OnOk result (first_year self.new ≡ first_year self.old) }
+    {
+        let kept = tx.run(name, number)?;
+        let is_open = has_year(&self.ledger.years.lines, run.payday.year());
+        let account = Some(self.account);
+        let checked = post_check(name, number, &run, account, kept, is_open, count);
+        if let Some(answer) = checked {
+            return Ok(answer);
+        }
+        let form = self.account.form;
+        let difference = add_by_ledger(tx, alloc, name, form, number, run, &mut self.ledger)?;
+        Ok(Ok(told(difference)))
+    }
+}
