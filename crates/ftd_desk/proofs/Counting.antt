@@ -26,11 +26,11 @@ use Rattle.ftd_entries.specs.Standing.{StandsFor}
 use Rattle.ftd_entries.specs.Words.{Serves}
 use Rattle.ftd_entries.proofs.Kept.{counted_runs, counted_payments}
 use Rattle.ftd_entries.proofs.Serving.{ServesWhere}
-use Rattle.ftd_desk.specs.Counted.{kept, AreRight, AreCounted, Knows, ServesCounted}
-use Rattle.ftd_desk.specs.Kept.{Takes}
-use Rattle.ftd_desk.proofs.Kept.{kept_is, right_still, right_after}
+use Rattle.ftd_desk.specs.Counted.{AreRight, AreCounted, Knows, ServesCounted}
+use Rattle.ftd_desk.specs.Kept.{Takes, kept_of}
+use Rattle.ftd_desk.proofs.Keeping.{kept_is, right_still, right_after}
 use Rattle.ftd_desk.specs.declared.counts.Counts.{Counts}
-use Rattle.ftd_desk.specs.declared.counts.Tally.{Tally}
+use Rattle.ftd_desk.specs.declared.kept.Kept.{Kept}
 use Rattle.ftd_desk.specs.declared.requests.Served.{Served}
 
 -- what holds anyway
@@ -50,8 +50,8 @@ module _ (count_of : List ℕ → State → ℕ) where
   HasSo s account number = count_of account s ≡ number
 
   -- where no account has more, what is kept stays right
-  counts_still : (tally : Tally) (s t : State) → ((account : List ℕ) → count_of account t ≡ count_of account s) → AreRight count_of tally s → AreRight count_of tally t
-  counts_still tally s t same = right_still (kept tally) (HasSo s) (HasSo t) (λ account number is. same account ∙ is)
+  counts_still : (numbers : Kept ℕ) (s t : State) → ((account : List ℕ) → count_of account t ≡ count_of account s) → AreRight count_of numbers s → AreRight count_of numbers t
+  counts_still numbers s t same = right_still (kept_of numbers) (HasSo s) (HasSo t) (λ account number is. same account ∙ is)
 
   -- what one more makes of the account's number
   one_more : (account : List ℕ) (number : ℕ) (change : Bool) (s next : State) → count_of account s ≡ number → (change ≡ true → count_of account next ≡ count_of account s + 1) → (change ≡ false → next ≡ s)
@@ -60,13 +60,13 @@ module _ (count_of : List ℕ → State → ℕ) where
   one_more account number false s next is more same = ap (count_of account) (same refl) ∙ is
 
   -- where the account's number is taken, and the others have no more, what is kept is right
-  counts_after : (old new : Tally) (account : List ℕ) (number : ℕ) (s next : State) → Takes (kept old) (kept new) account number → count_of account next ≡ number
+  counts_after : (old new : Kept ℕ) (account : List ℕ) (number : ℕ) (s next : State) → Takes (kept_of old) (kept_of new) account number → count_of account next ≡ number
       → ((other : List ℕ) → (account ≡ other → ⊥) → count_of other next ≡ count_of other s) → AreRight count_of old s → AreRight count_of new next
-  counts_after old new account number s next takes is stay = right_after (kept old) (kept new) account number (HasSo s) (HasSo next) takes is (λ other apart n was. stay other apart ∙ was)
+  counts_after old new account number s next takes is stay = right_after (kept_of old) (kept_of new) account number (HasSo s) (HasSo next) takes is (λ other apart n was. stay other apart ∙ was)
 
 -- a run is posted
-pub posted_counted : (counts : Counts) (runs : Tally) (name : List ℕ) (number : ℕ) (run : PayRun) (count : ℕ) (s : State) (answer : Answer) (next : State)
-    → Step s (Post name number run.payday run.fit run.ss run.medicare) answer next → runs_of name s ≡ count → Takes (kept counts.runs) (kept runs) name (if is_change answer then count + 1 else count)
+pub posted_counted : (counts : Counts) (runs : Kept ℕ) (name : List ℕ) (number : ℕ) (run : PayRun) (count : ℕ) (s : State) (answer : Answer) (next : State)
+    → Step s (Post name number run.payday run.fit run.ss run.medicare) answer next → runs_of name s ≡ count → Takes (kept_of counts.runs) (kept_of runs) name (if is_change answer then count + 1 else count)
     → AreCounted counts s → AreCounted (record { runs = runs; payments = counts.payments }) next
 posted_counted counts runs name number run count s answer next step is takes counted =
     let request = Post name number run.payday run.fit run.ss run.medicare in
@@ -78,8 +78,8 @@ posted_counted counts runs name number run count s answer next step is takes cou
     }
 
 -- a payment is taken
-pub paid_counted : (counts : Counts) (payments : Tally) (name : List ℕ) (number : ℕ) (payment : Payment) (count : ℕ) (s : State) (answer : Answer) (next : State)
-    → Step s (Pay name number payment.paid payment.for_day payment.cents) answer next → payments_of name s ≡ count → Takes (kept counts.payments) (kept payments) name (if is_change answer then count + 1 else count)
+pub paid_counted : (counts : Counts) (payments : Kept ℕ) (name : List ℕ) (number : ℕ) (payment : Payment) (count : ℕ) (s : State) (answer : Answer) (next : State)
+    → Step s (Pay name number payment.paid payment.for_day payment.cents) answer next → payments_of name s ≡ count → Takes (kept_of counts.payments) (kept_of payments) name (if is_change answer then count + 1 else count)
     → AreCounted counts s → AreCounted (record { runs = counts.runs; payments = payments }) next
 paid_counted counts payments name number payment count s answer next step is takes counted =
     let request = Pay name number payment.paid payment.for_day payment.cents in
@@ -91,13 +91,13 @@ paid_counted counts payments name number payment count s answer next step is tak
     }
 
 -- a number that is kept or was counted is how many the tables have
-pub runs_counted : (counts : Counts) (name : List ℕ) (count : ℕ) (t : Tables) (s : State) → StandsFor t s → AreCounted counts s → (kept counts.runs name ≡ Some count) ⊎ CountsRuns name count t → CountsRuns name count t
-runs_counted counts name count t s stands counted (inl is) = sym (kept_is (kept counts.runs) (λ account number. runs_of account s ≡ number) name count counted.runs is) ∙ counted_runs name t s stands _ refl
+pub runs_counted : (counts : Counts) (name : List ℕ) (count : ℕ) (t : Tables) (s : State) → StandsFor t s → AreCounted counts s → (kept_of counts.runs name ≡ Some count) ⊎ CountsRuns name count t → CountsRuns name count t
+runs_counted counts name count t s stands counted (inl is) = sym (kept_is (kept_of counts.runs) (λ account number. runs_of account s ≡ number) name count counted.runs is) ∙ counted_runs name t s stands _ refl
 runs_counted counts name count t s stands counted (inr is) = is
 
-payments_counted : (counts : Counts) (name : List ℕ) (count : ℕ) (t : Tables) (s : State) → StandsFor t s → AreCounted counts s → (kept counts.payments name ≡ Some count) ⊎ CountsPayments name count t
+payments_counted : (counts : Counts) (name : List ℕ) (count : ℕ) (t : Tables) (s : State) → StandsFor t s → AreCounted counts s → (kept_of counts.payments name ≡ Some count) ⊎ CountsPayments name count t
     → CountsPayments name count t
-payments_counted counts name count t s stands counted (inl is) = sym (kept_is (kept counts.payments) (λ account number. payments_of account s ≡ number) name count counted.payments is) ∙ counted_payments name t s stands _ refl
+payments_counted counts name count t s stands counted (inl is) = sym (kept_is (kept_of counts.payments) (λ account number. payments_of account s ≡ number) name count counted.payments is) ∙ counted_payments name t s stands _ refl
 payments_counted counts name count t s stands counted (inr is) = is
 
 -- ---- requests
@@ -176,13 +176,13 @@ module _ {S : Type 0} (g : store.Ghosts S) where
     }
 
   -- a run is posted
-  pub post_counts : (old mid new : Tx S) (count : ℕ) (answer : Answer) (counts : Counts) (runs : Tally) (name : List ℕ) (number : ℕ) (run : PayRun)
-      → Takes (kept counts.runs) (kept runs) name (if is_change answer then count + 1 else count) → Knows g old mid (Ok count) (kept counts.runs name) (CountsRuns name)
+  pub post_counts : (old mid new : Tx S) (count : ℕ) (answer : Answer) (counts : Counts) (runs : Kept ℕ) (name : List ℕ) (number : ℕ) (run : PayRun)
+      → Takes (kept_of counts.runs) (kept_of runs) name (if is_change answer then count + 1 else count) → Knows g old mid (Ok count) (kept_of counts.runs name) (CountsRuns name)
       → Calls g mid new (Ok answer) (ServesWhere (CountsRuns name count) (Post name number run.payday run.fit run.ss run.medicare))
       → Calls g old new (Ok (record { answer = answer; counts = record { runs = runs; payments = counts.payments } })) (ServesCounted counts (Post name number run.payday run.fit run.ss run.medicare))
   post_counts old mid new count answer counts runs name number run takes knows c =
       let request = Post name number run.payday run.fit run.ss run.medicare in
-      known_then old mid (kept counts.runs name) (CountsRuns name) new count answer (record { answer = answer; counts = record { runs = runs; payments = counts.payments } })
+      known_then old mid (kept_of counts.runs name) (CountsRuns name) new count answer (record { answer = answer; counts = record { runs = runs; payments = counts.payments } })
       (λ told after. ServesWhere (CountsRuns name count) request told after after) (λ served after. ServesCounted counts request served after after)
       (λ after t is told s stands sound counted.
       (let counted_as = runs_counted counts name count t s stands counted is in
@@ -191,13 +191,13 @@ module _ {S : Type 0} (g : store.Ghosts S) where
       knows c
 
   -- a payment is taken
-  pub pay_counts : (old mid new : Tx S) (count : ℕ) (answer : Answer) (counts : Counts) (payments : Tally) (name : List ℕ) (number : ℕ) (payment : Payment)
-      → Takes (kept counts.payments) (kept payments) name (if is_change answer then count + 1 else count) → Knows g old mid (Ok count) (kept counts.payments name) (CountsPayments name)
+  pub pay_counts : (old mid new : Tx S) (count : ℕ) (answer : Answer) (counts : Counts) (payments : Kept ℕ) (name : List ℕ) (number : ℕ) (payment : Payment)
+      → Takes (kept_of counts.payments) (kept_of payments) name (if is_change answer then count + 1 else count) → Knows g old mid (Ok count) (kept_of counts.payments name) (CountsPayments name)
       → Calls g mid new (Ok answer) (ServesWhere (CountsPayments name count) (Pay name number payment.paid payment.for_day payment.cents))
       → Calls g old new (Ok (record { answer = answer; counts = record { runs = counts.runs; payments = payments } })) (ServesCounted counts (Pay name number payment.paid payment.for_day payment.cents))
   pay_counts old mid new count answer counts payments name number payment takes knows c =
       let request = Pay name number payment.paid payment.for_day payment.cents in
-      known_then old mid (kept counts.payments name) (CountsPayments name) new count answer (record { answer = answer; counts = record { runs = counts.runs; payments = payments } })
+      known_then old mid (kept_of counts.payments name) (CountsPayments name) new count answer (record { answer = answer; counts = record { runs = counts.runs; payments = payments } })
       (λ told after. ServesWhere (CountsPayments name count) request told after after) (λ served after. ServesCounted counts request served after after)
       (λ after t is told s stands sound counted.
       (let counted_as = payments_counted counts name count t s stands counted is in

@@ -30,8 +30,8 @@ use Rattle.ftd_desk.specs.Counted.{AreRight}
 use Rattle.ftd_desk.specs.Books.{IsKnown, ServesKnown}
 use Rattle.ftd_desk.specs.Desks.{Held, Rests, Keeps}
 use Rattle.ftd_desk.specs.Words.{MayLeave, Handles}
+use Rattle.ftd_desk.specs.declared.kept.Kept.{Kept}
 use Rattle.ftd_desk.specs.declared.known.Known.{Known}
-use Rattle.ftd_desk.specs.declared.counts.Tally.{Tally}
 use Rattle.ftd_desk.specs.declared.listed.Answered.{Answered}
 use Rattle.ftd_desk.proofs.Booking.{no_books}
 
@@ -47,10 +47,10 @@ pub record ServesBy (old new : database.State) (known later : Known) (request : 
       → (IsFault answer × IsKnown later s) ⊎ ((next : State) × Step s request answer next × IsKept new.now next × IsTrue new.is_open × IsKnown later next)
 
 -- nothing that is known is right of each state
-none_right : (count_of : List ℕ → State → ℕ) (tally : Tally) (s : State) → tally.counts.items ≡ [] → AreRight count_of tally s
-none_right count_of tally s none account = rw none tt
+none_right : (count_of : List ℕ → State → ℕ) (numbers : Kept ℕ) (s : State) → numbers.entries.items ≡ [] → AreRight count_of numbers s
+none_right count_of numbers s none account = rw none tt
 
-pub none_known : (known : Known) → known.counts.runs.counts.items ≡ [] → known.counts.payments.counts.items ≡ [] → known.books.books.items ≡ [] → (s : State) → IsKnown known s
+pub none_known : (known : Known) → known.counts.runs.entries.items ≡ [] → known.counts.payments.entries.items ≡ [] → known.books.entries.items ≡ [] → (s : State) → IsKnown known s
 none_known known runs payments books s = record {
   counts = record { runs = none_right runs_of known.counts.runs s runs; payments = none_right payments_of known.counts.payments s payments };
   books = no_books known.books s books;

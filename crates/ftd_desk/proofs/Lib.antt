@@ -1,5 +1,5 @@
 pub mod Repairing
-pub mod Kept
+pub mod Keeping
 pub mod Counting
 mod Handling
 pub mod Running

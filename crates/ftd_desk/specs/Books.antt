@@ -1,5 +1,5 @@
 -- What is known of accounts from request to request.
-use Rattle.std.specs.Prelude.{◌≡◌, ◌≤◌, ℕ, Bool, List, Option, Some, bytes_eq, find, option_map}
+use Rattle.std.specs.Prelude.{◌≡◌, ◌≤◌, ℕ, List, Some}
 use Rattle.std.specs.Prelude.{get_or}
 use Rattle.std.specs.List.{position}
 use Rattle.sqlite.specs.State as database
@@ -13,34 +13,21 @@ use Rattle.ftd_entries.specs.Words.{IsKept}
 use Rattle.ftd_posting.specs.Books.{IsBook, first_year}
 use Rattle.ftd_posting.specs.declared.books.Book.{Book}
 use Rattle.ftd_desk.specs.Counted.{AreCounted}
-use Rattle.ftd_desk.specs.Kept.{EachIs}
-use Rattle.ftd_desk.specs.declared.books.AccountBook.{AccountBook}
-use Rattle.ftd_desk.specs.declared.books.Books.{Books}
+use Rattle.ftd_desk.specs.Kept.{EachIs, is_of, kept_of}
+use Rattle.ftd_desk.specs.declared.kept.Kept.{Kept}
+use Rattle.ftd_desk.specs.declared.kept.OfAccount.{OfAccount}
 use Rattle.ftd_desk.specs.declared.listed.Answered.{Answered}
 use Rattle.ftd_desk.specs.declared.known.Known.{Known}
 
-abbrev pub account_in : AccountBook → List ℕ
-account_in kept = kept.account
-
-abbrev pub is_book_of : List ℕ → AccountBook → Bool
-is_book_of account kept = bytes_eq (account_in kept) account
-
-abbrev pub book_in : AccountBook → Book
-book_in kept = kept.book
-
--- the book that is kept of an account, if one is
-abbrev pub book_of : Books → List ℕ → Option Book
-book_of books account = option_map book_in (find (is_book_of account) books.books.items)
-
 -- the account's book stands at this place, and is for runs of the year
-pub record IsReady (books : Books) (account : List ℕ) (year place : ℕ) : Type 0 where
-  pub stands : position (is_book_of account) books.books.items ≡ Some place
-  pub since : (kept : AccountBook) → kept ≡ get_or books.books.items place kept
-      → first_year kept.book ≤ year
+pub record IsReady (books : Kept Book) (account : List ℕ) (year place : ℕ) : Type 0 where
+  pub stands : position (is_of account) books.entries.items ≡ Some place
+  pub since : (kept : OfAccount Book) → kept ≡ get_or books.entries.items place kept
+      → first_year kept.content ≤ year
 
 -- what is kept of an account, if anything is, is a book that is right of it
-abbrev pub AreBooks : Books → State → Type 0
-AreBooks books s = EachIs (book_of books) (IsBook s)
+abbrev pub AreBooks : Kept Book → State → Type 0
+AreBooks books s = EachIs (kept_of books) (IsBook s)
 
 -- the counts and the books that are kept are those of the state
 pub record IsKnown (known : Known) (s : State) : Type 0 where

@@ -1,5 +1,5 @@
 -- The counts that a desk keeps from request to request.
-use Rattle.std.specs.Prelude.{◌≡◌, ℕ, Bool, List, Option, Some, Result, Ok, ◌⊎◌, bytes_eq, find, option_map}
+use Rattle.std.specs.Prelude.{◌≡◌, ℕ, List, Option, Some, Result, Ok, ◌⊎◌}
 use Rattle.sqlite.specs.Store as store
 use Rattle.sqlite.specs.State as database
 use Rattle.ftd_rows.specs.declared.faults.StoreFault.{StoreFault}
@@ -13,28 +13,15 @@ use Rattle.ftd_machine.specs.Laws.{runs_of, payments_of}
 use Rattle.ftd_machine.specs.declared.requests.Request.{Request}
 use Rattle.ftd_entries.specs.Standing.{StandsFor}
 use Rattle.ftd_entries.specs.Words.{IsKept}
-use Rattle.ftd_desk.specs.Kept.{EachIs}
-use Rattle.ftd_desk.specs.declared.counts.Count.{Count}
+use Rattle.ftd_desk.specs.Kept.{EachIs, kept_of}
 use Rattle.ftd_desk.specs.declared.counts.Counts.{Counts}
-use Rattle.ftd_desk.specs.declared.counts.Tally.{Tally}
+use Rattle.ftd_desk.specs.declared.kept.Kept.{Kept}
 use Rattle.ftd_desk.specs.declared.requests.Served.{Served}
 
-abbrev pub account_in : Count → List ℕ
-account_in count = count.account
-
-abbrev pub is_count_of : List ℕ → Count → Bool
-is_count_of account count = bytes_eq (account_in count) account
-
-abbrev pub number_of : Count → ℕ
-number_of count = count.number
-
--- the number that is kept of an account, if one is
-abbrev pub kept : Tally → List ℕ → Option ℕ
-kept tally account = option_map number_of (find (is_count_of account) tally.counts.items)
-
 -- what is kept of an account, if anything is, is how many it has
-abbrev pub AreRight : (List ℕ → State → ℕ) → Tally → State → Type 0
-AreRight count_of tally s = EachIs (kept tally) (λ account number. count_of account s ≡ number)
+abbrev pub AreRight : (List ℕ → State → ℕ) → Kept ℕ → State → Type 0
+AreRight count_of numbers s =
+    EachIs (kept_of numbers) (λ account number. count_of account s ≡ number)
 
 -- the counts that are kept are those of the state
 pub record AreCounted (counts : Counts) (s : State) : Type 0 where

@@ -1,5 +1,20 @@
 -- What is kept of accounts, of each one thing at most.
-use Rattle.std.specs.Prelude.{◌≡◌, ℕ, List, Option, None, Some, IfSome}
+use Rattle.std.specs.Prelude.{◌≡◌, ℕ, Bool, List, Option, None, Some, IfSome}
+use Rattle.std.specs.Prelude.{bytes_eq, find, option_map}
+use Rattle.ftd_desk.specs.declared.kept.Kept.{Kept}
+use Rattle.ftd_desk.specs.declared.kept.OfAccount.{OfAccount}
+
+-- whether a thing is kept of this account
+abbrev pub is_of : {X : Type 0} → List ℕ → OfAccount X → Bool
+is_of account entry = bytes_eq entry.account account
+
+-- the thing, without the name of its account
+abbrev pub content_of : {X : Type 0} → OfAccount X → X
+content_of entry = entry.content
+
+-- what is kept of an account, if anything is
+abbrev pub kept_of : {X : Type 0} → Kept X → List ℕ → Option X
+kept_of kept account = option_map content_of (find (is_of account) kept.entries.items)
 
 -- a thing is taken for an account: it is what is kept of the account then, if anything is; and what
 -- is kept of another one then, if anything is, was kept of it before

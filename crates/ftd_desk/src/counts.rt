@@ -1,37 +1,19 @@
 //! The counts that a desk keeps from request to request.
 
-ghost use Rattle.std.specs.Prelude.{◌≡◌, ◌+◌, [], bytes_eq, if◌then◌else◌, IfOk, IfSome};
-ghost use Rattle.std.specs.List.{position};
+ghost use Rattle.std.specs.Prelude.{◌≡◌, ◌+◌, [], if◌then◌else◌, IfSome};
 ghost use Rattle.ftd_machine.specs.Laws.{is_change};
-ghost use Rattle.ftd_desk.specs.Counted.{is_count_of, kept};
-ghost use Rattle.ftd_desk.specs.Kept.{Takes};
+ghost use Rattle.ftd_desk.specs.Kept.{Takes, kept_of};
 ghost use Rattle.ftd_desk.specs.Words.{is_fault};
 
-use ftd_machine::{AccountName, Answer, Refusal, Reply};
-use ftd_rules::is_account_name;
-use std::alloc::{AllocError, Global};
+use crate::kept::Kept;
+use ftd_machine::{Answer, Refusal, Reply};
+use std::alloc::Global;
 
-/// Of how many accounts things of one kind are kept at most.
-pub(crate) const MOST_ACCOUNTS: usize = 1_024;
-
-/// How many entries of one kind an account has, voided ones too.
-#[derive(Drop)]
-pub(crate) struct Count {
-    pub account: AccountName,
-    pub number: u32,
-}
-
-/// How many entries of one kind the accounts have that were asked for last.
-#[derive(Drop)]
-pub(crate) struct Tally {
-    pub counts: Vec<Count>,
-}
-
-/// How many runs and how many payments the accounts have that were asked for last.
+/// How many runs and how many payments the accounts have that were asked for last, voided ones too.
 #[derive(Drop)]
 pub(crate) struct Counts {
-    pub runs: Tally,
-    pub payments: Tally,
+    pub runs: Kept<u32>,
+    pub payments: Kept<u32>,
 }
 
 /// Whether the answer says that something is kept that was not before.
@@ -62,90 +44,35 @@ fn after(number: u32, answer: &Answer) -> Option<u32>
 impl Counts {
     /// Nothing was counted yet. What is counted later takes its memory from the allocator.
     pub fn none(alloc: Global) -> Counts
-        ensures runs { result.runs.counts.items ≡ [] }
-        ensures payments { result.payments.counts.items ≡ [] }
+        ensures runs { result.runs.entries.items ≡ [] }
+        ensures payments { result.payments.entries.items ≡ [] }
     {
         Counts {
-            runs: Tally::none(alloc),
-            payments: Tally::none(alloc),
+            runs: Kept::none(alloc),
+            payments: Kept::none(alloc),
         }
     }
 }
 
-impl Count {
-    /// So many of this account.
-    fn new(alloc: Global, name: &str, number: u32) -> Result<Count, AllocError>
-        ensures account { IfOk result (λ count. count.account ≡ name.now) }
-        ensures number { IfOk result (λ count. count.number ≡ number) }
-    {
-        let account = AccountName::from_string(String::from_str(alloc, name)?);
-        Ok(Count { account, number })
-    }
-
-    /// Whether it is of this account.
-    fn is_of(&self, name: &str) -> bool
-        ensures { result ≡ is_count_of name.now self.now }
-    {
-        self.account.as_str() == name
-    }
-}
-
-impl Tally {
-    /// No count is kept. What is kept later takes its memory from the allocator.
-    fn none(alloc: Global) -> Tally
-        ensures { result.counts.items ≡ [] }
-    {
-        Tally {
-            counts: Vec::new(alloc),
-        }
-    }
-
+impl Kept<u32> {
     /// The number that is kept of the account, if one is.
     pub fn number(&self, name: &str) -> Option<u32>
-        ensures { result ≡ kept self.now name.now }
+        ensures { result ≡ kept_of self.now name.now }
     {
-        self.counts
+        self.entries
             .iter()
             .find(|count| count.is_of(name))
-            .map(|count| count.number)
-    }
-
-    /// The place of the account's count, if one is kept.
-    fn place(&self, name: &str) -> Option<usize>
-        ensures { result ≡ position (is_count_of name.now) self.now.counts.items }
-    {
-        self.counts.iter().position(|count| count.is_of(name))
+            .map(|count| count.content)
     }
 
     /// Keeps that the account had so many before one more was asked for, and answered so.
     pub fn keep(&mut self, alloc: Global, name: &str, number: u32, answer: &Answer)
-        ensures { Takes (kept self.old) (kept self.new) name.now
+        ensures { Takes (kept_of self.old) (kept_of self.new) name.now
             (if is_change answer.now then number + 1 else number) }
     {
         match after(number, answer) {
             Some(later) => self.set(alloc, name, later),
-            None => self.counts.clear(),
-        }
-    }
-
-    /// Keeps that the account has so many. Where as many accounts are kept as may be, they are
-    /// forgotten; where there is no memory for one more, or no account has the name, its count is
-    /// not kept.
-    fn set(&mut self, alloc: Global, name: &str, number: u32)
-        ensures { Takes (kept self.old) (kept self.new) name.now number }
-    {
-        if let Some(place) = self.place(name) {
-            self.counts[place].number = number;
-            return;
-        }
-        if !is_account_name(name.as_bytes()) {
-            return;
-        }
-        if self.counts.len() >= MOST_ACCOUNTS {
-            self.counts.clear();
-        }
-        if let Ok(count) = Count::new(alloc, name, number) {
-            let _ = self.counts.push(count);
+            None => self.entries.clear(),
         }
     }
 }

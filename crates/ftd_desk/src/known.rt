@@ -2,8 +2,9 @@
 
 ghost use Rattle.std.specs.Prelude.{◌≡◌, []};
 
-use crate::books::Books;
 use crate::counts::Counts;
+use crate::kept::Kept;
+use ftd_posting::Book;
 use std::alloc::Global;
 
 /// What a desk keeps from request to request: how many runs and payments some accounts have, and
@@ -11,19 +12,19 @@ use std::alloc::Global;
 #[derive(Drop)]
 pub(crate) struct Known {
     pub counts: Counts,
-    pub books: Books,
+    pub books: Kept<Book>,
 }
 
 impl Known {
     /// Nothing is known. What is known later takes its memory from the allocator.
     pub fn none(alloc: Global) -> Known
-        ensures runs { result.counts.runs.counts.items ≡ [] }
-        ensures payments { result.counts.payments.counts.items ≡ [] }
-        ensures books { result.books.books.items ≡ [] }
+        ensures runs { result.counts.runs.entries.items ≡ [] }
+        ensures payments { result.counts.payments.entries.items ≡ [] }
+        ensures books { result.books.entries.items ≡ [] }
     {
         Known {
             counts: Counts::none(alloc),
-            books: Books::none(alloc),
+            books: Kept::none(alloc),
         }
     }
 }

@@ -5,6 +5,7 @@ mod books;
 mod bounds;
 mod counts;
 mod desk;
+mod kept;
 mod known;
 mod listed;
 mod requests;

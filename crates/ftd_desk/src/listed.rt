@@ -7,12 +7,12 @@ ghost use Rattle.ftd_store.specs.Frame.{Calls};
 ghost use Rattle.ftd_machine.specs.Laws.{is_change};
 ghost use Rattle.ftd_machine.specs.declared.requests.Request.TheVariants.{Post};
 ghost use Rattle.ftd_posting.specs.Repaired.{Repairs};
-ghost use Rattle.ftd_desk.specs.Books.{IsReady, ServesKnown, book_of};
-ghost use Rattle.ftd_desk.specs.Kept.{TakesFound};
+ghost use Rattle.ftd_desk.specs.Books.{IsReady, ServesKnown};
+ghost use Rattle.ftd_desk.specs.Kept.{TakesFound, kept_of};
 ghost use Rattle.ftd_desk.specs.Words.{AreAnswers, ServesAll, is_fault};
 
-use crate::books::Books;
 use crate::counts::is_fault;
+use crate::kept::Kept;
 use crate::known::Known;
 use crate::requests::{Served, count_runs, posting_of, serve, serve_post};
 use ftd_machine::{Answer, Request};
@@ -179,7 +179,7 @@ fn post_at<S: Alter>(
         (Post name.now number run.payday run.fit run.ss run.medicare)) }
 {
     let count = count_runs(tx, &known.counts.runs, name)?;
-    let book = &mut known.books.books[place].book;
+    let book = &mut known.books.entries[place].content;
     let answer = book.post(tx, alloc, name, number, run, count)?;
     known.counts.runs.keep(alloc, name, count, &answer);
     Ok(Answered { answer, known })
@@ -188,7 +188,7 @@ fn post_at<S: Alter>(
 /// What is known with the book that was read of the account, if one was.
 fn learned(alloc: Global, mut known: Known, name: &str, found: Option<Book>) -> Known
     ensures counts { result.counts ≡ known.counts }
-    ensures books { TakesFound (book_of known.books) (book_of result.books)
+    ensures books { TakesFound (kept_of known.books) (kept_of result.books)
         name.now found }
 {
     if let Some(book) = found {
@@ -198,11 +198,11 @@ fn learned(alloc: Global, mut known: Known, name: &str, found: Option<Book>) -> 
 }
 
 /// What is known after a request that was answered by no book.
-fn past(served: Served, mut books: Books) -> Answered
+fn past(served: Served, mut books: Kept<Book>) -> Answered
     ensures answer { result.answer ≡ served.answer }
     ensures counts { result.known.counts ≡ served.counts }
-    ensures books { result.known.books.books.items
-        ≡ (if is_change served.answer then [] else books.books.items) }
+    ensures books { result.known.books.entries.items
+        ≡ (if is_change served.answer then [] else books.entries.items) }
 {
     books.pass(&served.answer);
     Answered {

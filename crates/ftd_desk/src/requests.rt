@@ -7,9 +7,11 @@ ghost use Rattle.ftd_machine.specs.Laws.{adds_entry, is_on_run};
 ghost use Rattle.ftd_machine.specs.declared.requests.Request.TheVariants.{Post, Void, Pay};
 ghost use Rattle.ftd_entries.specs.Words.{Serves};
 ghost use Rattle.ftd_posting.specs.Repaired.{Becoming, PostsRun, VoidsRun, Repairs};
-ghost use Rattle.ftd_desk.specs.Counted.{Knows, ServesCounted, kept};
+ghost use Rattle.ftd_desk.specs.Counted.{Knows, ServesCounted};
+ghost use Rattle.ftd_desk.specs.Kept.{kept_of};
 
-use crate::counts::{Counts, Tally};
+use crate::counts::Counts;
+use crate::kept::Kept;
 use ftd_entries::{enrol, open_year, pay, report, report_year, take_calendar, void_payment};
 use ftd_holidays::add_holiday;
 use ftd_machine::{Account, Answer, Request};
@@ -134,10 +136,11 @@ pub(crate) fn serve_post<S: Alter>(
 /// How many runs the account has: the number that is kept of it, or else counted anew.
 pub(crate) fn count_runs<S: Alter>(
     tx: &mut Tx<'_, S>,
-    runs: &Tally,
+    runs: &Kept<u32>,
     name: &str,
 ) -> Result<u32, StoreFault>
-    ensures { Knows S.Store tx.old tx.new result (kept runs.now name.now) (CountsRuns name.now) }
+    ensures { Knows S.Store tx.old tx.new result
+        (kept_of runs.now name.now) (CountsRuns name.now) }
 {
     match runs.number(name) {
         Some(number) => Ok(number),
@@ -166,11 +169,11 @@ fn serve_pay<S: Alter>(
 /// How many payments the account has: the number that is kept of it, or else counted anew.
 fn count_payments<S: Alter>(
     tx: &mut Tx<'_, S>,
-    payments: &Tally,
+    payments: &Kept<u32>,
     name: &str,
 ) -> Result<u32, StoreFault>
     ensures { Knows S.Store tx.old tx.new result
-        (kept payments.now name.now) (CountsPayments name.now) }
+        (kept_of payments.now name.now) (CountsPayments name.now) }
 {
     match payments.number(name) {
         Some(number) => Ok(number),

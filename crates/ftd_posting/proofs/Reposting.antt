@@ -3,6 +3,7 @@ use Rattle.std.proofs.Common.{◌≡◌, ◌≢◌, ◌∙◌, refl, sym, ap, su
 use Rattle.std.specs.Prelude.{filter, bytes_eq}
 use Rattle.std.specs.List.Sorted.{IsPermutation}
 use Rattle.std.proofs.lemmas.Bool.{true≢false}
+use Rattle.std.proofs.lemmas.List.Sorted.{IsPermutation-trans}
 use Rattle.ftd_days.specs.Calendar.{year_of, year_start}
 use Rattle.ftd_days.proofs.Months.{year_is}
 use Rattle.ftd_rules.specs.declared.DaySum.{DaySum}
@@ -38,6 +39,7 @@ use Rattle.ftd_machine.specs.Posting.{IsPosted}
 use Rattle.ftd_machine.specs.Sound.{IsSound}
 use Rattle.ftd_machine.specs.declared.replies.Reply.TheVariants.{Posted}
 use Rattle.ftd_machine.proofs.Adding.{same_name, own_name}
+use Rattle.ftd_entries.proofs.Sifted.{sifted}
 use Rattle.ftd_entries.specs.Standing.{StandsFor, IsSettled, run_entry, is_obligation_of}
 use Rattle.ftd_entries.proofs.Lines.{lines_known}
 use Rattle.ftd_repairs.specs.declared.Difference.{Difference}
@@ -161,8 +163,15 @@ module _ (old new : Tables) (s : State) (name : List ℕ) (day : ℕ) (rows : Li
 
     -- ---- the rows
 
-    obligations_are : new Obligations ≡ filter (stays name repatches.patch.from repatches.patch.to) (old Obligations) ++ map (obligation_row name) repatches.patch.rows
-    obligations_are = repatches.put.puts.only Obligations
+    abbrev rows_then : List ObligationRow
+    rows_then = filter (stays name repatches.patch.from repatches.patch.to) (old Obligations) ++ map (obligation_row name) repatches.patch.rows
+
+    obligations_are : IsPermutation (new Obligations) rows_then
+    obligations_are = subst (λ (os : List ObligationRow). IsPermutation os rows_then) (sym (repatches.put.puts.only Obligations)) repatches.put.rows.are
+
+    -- so those of an account
+    some_are : (test : ObligationRow → Bool) (os : List ObligationRow) → IsPermutation (filter test rows_then) os → IsPermutation (filter test (new Obligations)) os
+    some_are test os are = IsPermutation-trans (filter test (new Obligations)) (filter test rows_then) os (sifted test (new Obligations) rows_then obligations_are) are
 
     settled_own : IsSettled new Next name
     settled_own = record {
@@ -172,7 +181,7 @@ module _ (old new : Tables) (s : State) (name : List ℕ) (day : ℕ) (rows : Li
       are_owed = are_owed;
       line_rows = subst (λ ls. IsPermutation (filter (is_year_of name) (new Years)) (map (year_row name) ls)) lines_put repatches.put.puts.has;
       owed_rows =
-          subst (λ (os : List ObligationRow). IsPermutation (filter (is_obligation_of name) os) (map (obligation_row name) owed_then)) (sym obligations_are)
+          some_are (is_obligation_of name) (map (obligation_row name) owed_then)
           (placed_rows name repatches.patch.from repatches.patch.to (old Obligations) was.owed repatches.patch.rows some_days was.owed_rows);
     }
 
@@ -186,10 +195,12 @@ module _ (old new : Tables) (s : State) (name : List ℕ) (day : ℕ) (rows : Li
           are_lines = subst (λ rs. AreLinesOf (record theirs { runs = rs }) its.lines) same its.are_lines;
           owed = its.owed;
           are_owed = subst (λ rs. AreObligations (form_of theirs.account) its.lines (live_sums (record theirs { runs = rs })) (holidays s) its.owed) same its.are_owed;
-          line_rows = subst (λ (ys : List YearRow). IsPermutation ys (map (year_row other) its.lines)) (sym (repatches.put.puts.others other apart)) its.line_rows;
+          line_rows = subst (λ (ys : List YearRow). IsPermutation ys (map (year_row other) its.lines))
+              (sym (repatches.put.puts.others other apart ∙ ap (filter (is_year_of other)) (repatches.put.rows.only Years))) its.line_rows;
           owed_rows =
-              subst (λ (os : List ObligationRow). IsPermutation os (map (obligation_row other) its.owed))
-              (sym (ap (filter (is_obligation_of other)) obligations_are ∙ others_placed name repatches.patch.from repatches.patch.to other apart (old Obligations) repatches.patch.rows)) its.owed_rows;
+              some_are (is_obligation_of other) (map (obligation_row other) its.owed)
+              (subst (λ (os : List ObligationRow). IsPermutation os (map (obligation_row other) its.owed))
+              (sym (others_placed name repatches.patch.from repatches.patch.to other apart (old Obligations) repatches.patch.rows)) its.owed_rows);
         }
 
     settled_each : (other : List ℕ) → IsSettled new Next other
@@ -202,15 +213,15 @@ module _ (old new : Tables) (s : State) (name : List ℕ) (day : ℕ) (rows : Li
     -- the tables stand for the state after the change
     pub placed_stands : StandsFor new Next
     placed_stands = record {
-      accounts = repatches.put.puts.only Accounts ∙ stands.accounts;
-      forms = repatches.put.puts.only Forms ∙ stands.forms;
-      reported = repatches.put.puts.only ReportedQuarters ∙ stands.reported;
-      reported_years = repatches.put.puts.only ReportedYears ∙ stands.reported_years;
-      calendars = repatches.put.puts.only CalendarYears ∙ stands.calendars;
-      calendar_days = repatches.put.puts.only Holidays ∙ stands.calendar_days;
-      added_days = repatches.put.puts.only AddedHolidays ∙ stands.added_days;
-      runs = repatches.put.puts.only Runs ∙ changes.rows_are;
-      payments = repatches.put.puts.only Payments ∙ stands.payments;
+      accounts = repatches.put.puts.only Accounts ∙ (repatches.put.rows.only Accounts ∙ stands.accounts);
+      forms = repatches.put.puts.only Forms ∙ (repatches.put.rows.only Forms ∙ stands.forms);
+      reported = repatches.put.puts.only ReportedQuarters ∙ (repatches.put.rows.only ReportedQuarters ∙ stands.reported);
+      reported_years = repatches.put.puts.only ReportedYears ∙ (repatches.put.rows.only ReportedYears ∙ stands.reported_years);
+      calendars = repatches.put.puts.only CalendarYears ∙ (repatches.put.rows.only CalendarYears ∙ stands.calendars);
+      calendar_days = repatches.put.puts.only Holidays ∙ (repatches.put.rows.only Holidays ∙ stands.calendar_days);
+      added_days = repatches.put.puts.only AddedHolidays ∙ (repatches.put.rows.only AddedHolidays ∙ stands.added_days);
+      runs = repatches.put.puts.only Runs ∙ (repatches.put.rows.only Runs ∙ changes.rows_are);
+      payments = repatches.put.puts.only Payments ∙ (repatches.put.rows.only Payments ∙ stands.payments);
       settled = settled_each;
     }
 
@@ -230,7 +241,7 @@ module _ (old new : Tables) (s : State) (name : List ℕ) (day : ℕ) (rows : Li
           added = difference.added;
           differ =
               differ_whole repatches.patch.from repatches.patch.to was.owed repatches.patch.rows compared.gone day difference.from difference.to difference.removed difference.added
-              (gone_are name repatches.patch.from repatches.patch.to (old Obligations) was.owed compared.gone was.owed_rows compared.are_gone)
+              (gone_are name repatches.patch.from repatches.patch.to (old Obligations) was.owed compared.gone was.owed_rows compared.are_gone.are)
               (λ o has. (let k = (p.rows.all o).0 has in let high = k.2 in (k.1, omega arith)))
               (compared.differ p.rows.by_first_day);
           told = refl;

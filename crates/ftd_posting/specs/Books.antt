@@ -1,5 +1,5 @@
 -- What is known of an account while several of its runs are posted.
-use Rattle.std.specs.Prelude.{◌≡◌, ℕ, ◌+◌, ◌≤◌, List, Some}
+use Rattle.std.specs.Prelude.{◌≡◌, ◌⊎◌, false, ℕ, ◌+◌, ◌≤◌, List, Some, None}
 use Rattle.sqlite.specs.State as database
 use Rattle.ftd_days.specs.Business.{is_holiday}
 use Rattle.ftd_days.specs.Calendar.{year_of, year_start, last_day}
@@ -9,7 +9,7 @@ use Rattle.ftd_rules.specs.Lists.{Has}
 use Rattle.ftd_rules.specs.declared.YearLine.{YearLine}
 use Rattle.ftd_rules.specs.declared.run.PayRun.{PayRun}
 use Rattle.ftd_schema.specs.Standing.{Tables}
-use Rattle.ftd_machine.specs.State.{State, entries_of, holidays}
+use Rattle.ftd_machine.specs.State.{State, entries_of, holidays, is_open}
 use Rattle.ftd_machine.specs.History.{AreLinesOf, live_sums}
 use Rattle.ftd_machine.specs.Checks.{Answer}
 use Rattle.ftd_machine.specs.Step.{Step}
@@ -39,6 +39,12 @@ pub record IsBook (s : State) (name : List ℕ) (book : Book) : Type 0 where
       × AreHolidaysIn s (holidays_of book.ledger.years.holidays) (line.year + 1)
   pub sums : (from to : ℕ) → year_start book.from ≤ from → to ≤ last_day
       → liability (live_sums (entries_of s name)) from to ≡ liability book.ledger.sums.items from to
+
+-- the state keeps no account under the name, or its year is not open: there is no book of it for
+-- runs of the year
+abbrev pub HasNoYear : State → List ℕ → ℕ → Type 0
+HasNoYear s name year =
+    ((entries_of s name).account ≡ None) ⊎ (is_open (entries_of s name) year ≡ false)
 
 -- within a transaction over rows that stand for a state, of which the book is right, the run is
 -- answered as the machine answers it, the rows are those of its next state, and the book is right of

@@ -1,13 +1,13 @@
 //! Several runs of an account are posted, one after the other, and what is known of it is read once.
 
-ghost use Rattle.std.specs.Prelude.{◌≡◌, ◌≤◌, IfOk, IfSome, OnOk};
+ghost use Rattle.std.specs.Prelude.{◌≡◌, ◌≤◌, IfOk, IfSome, MatchOption, OnOk};
 ghost use Rattle.ftd_days.specs.Calendar.{year_of, year_start, last_day};
 ghost use Rattle.ftd_machine.specs.State.{State};
 ghost use Rattle.ftd_machine.specs.Sound.{IsSound};
 ghost use Rattle.ftd_store.specs.Finds.{CountsRuns};
 ghost use Rattle.ftd_store.specs.Frame.{Calls, Reads};
 ghost use Rattle.ftd_entries.specs.Standing.{StandsFor};
-ghost use Rattle.ftd_posting.specs.Books.{IsBook, PostsBy, first_year};
+ghost use Rattle.ftd_posting.specs.Books.{HasNoYear, IsBook, PostsBy, first_year};
 
 use crate::posting::told;
 use ftd_buckets::Window;
@@ -56,7 +56,7 @@ impl Book {
         year: u32,
     ) -> Result<Option<Book>, StoreFault>
         ensures call { Reads S.Store tx.old tx.new result (λ found t. (s : State) → StandsFor t s
-            → IsSound s → IfSome found (IsBook s name.now)) }
+            → IsSound s → MatchOption found (HasNoYear s name.now year) (IsBook s name.now)) }
         ensures year { IfOk result (λ found. IfSome found (λ book. first_year book ≡ year)) }
     {
         let Some(account) = known(tx, name)? else {

@@ -5,4 +5,5 @@ pub mod Adding
 pub mod Fed
 pub mod YearRows
 pub mod Putting
+pub mod RowsPut
 pub mod Reposting

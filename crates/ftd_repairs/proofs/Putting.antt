@@ -14,8 +14,8 @@ use Rattle.ftd_schema.specs.Standing.{Tables, with_rows}
 use Rattle.ftd_schema.proofs.OneOfAll.{set_twice, set_own}
 use Rattle.ftd_sql.specs.Tests.{is_year_of}
 use Rattle.ftd_rows.specs.Rows.{year_row}
-use Rattle.ftd_store.specs.Changes.{with_year, with_obligations}
-use Rattle.ftd_repairs.specs.Rescheduled.{IsAfter, IsRescheduled, IsUnnamed, AreAfter, HasLines, PutsLines, PutsPatch, PutsInto}
+use Rattle.ftd_store.specs.Changes.{with_year}
+use Rattle.ftd_repairs.specs.Rescheduled.{IsAfter, IsRescheduled, IsUnnamed, AreAfter, HasLines, PutsLines, PutsRows, PutsPatch, PutsInto}
 use Rattle.ftd_repairs.proofs.Items.{taken, pairs_more, pairs_length}
 use Rattle.ftd_repairs.proofs.YearRows.{put, put_has, put_others}
 
@@ -44,21 +44,25 @@ years_put first (x ∷ xs) b line ys same years = (years.0, years_put (first + 1
 
 -- the patch is put as far as the first lines: they are so now, those after them as they were
 pub record PutSoFar (account : List ℕ) (lines : List YearLine) (patch : Patch) (i : ℕ) (now : List YearLine) (old new : Tables) : Type 0 where
+  pub placed : Tables
+  pub rows : PutsRows account patch old placed
   pub front : List YearLine
   pub are_after : AreAfter (take i lines) patch.years front
   pub now_is : now ≡ front ++ drop i lines
   pub first : ℕ
   pub years : YearsFrom first now
-  pub puts : PutsLines account now (with_obligations account patch.from patch.to patch.rows old) new
+  pub puts : PutsLines account now placed new
 
-pub put_none : (account : List ℕ) (lines : List YearLine) (patch : Patch) (t : Tables) → HasLines account lines t → PutSoFar account lines patch 0 lines t (with_obligations account patch.from patch.to patch.rows t)
-put_none account lines patch t had = record {
+pub put_none : (account : List ℕ) (lines : List YearLine) (patch : Patch) (t u : Tables) → PutsRows account patch t u → HasLines account lines t → PutSoFar account lines patch 0 lines t u
+put_none account lines patch t u rows had = record {
+  placed = u;
+  rows = rows;
   front = [];
   are_after = tt;
   now_is = refl;
   first = had.1.0;
   years = had.1.2;
-  puts = puts_none account lines (with_obligations account patch.from patch.to patch.rows t) had.0;
+  puts = puts_none account lines u (subst (λ (years : List YearRow). IsPermutation (filter (is_year_of account) years) (map (year_row account) lines)) (sym (rows.only Years)) had.0);
 }
 
 -- the lines that are put are as many as were gone through
@@ -79,13 +83,15 @@ put_more account lines patch i now x after t u some here scheduled h =
     let rest : List YearLine = drop (i + 1) lines in
     let cut : now ≡ h.front ++ x ∷ rest = h.now_is ∙ ap (λ (ls : List YearLine). h.front ++ ls) (drop_item lines i x is some) in
     let same : x.year ≡ after.year = sym (ap (λ (l : YearLine). l.year) scheduled.3) in
-    let base : Tables = with_obligations account patch.from patch.to patch.rows t in
+    let base : Tables = h.placed in
     let years : YearsFrom h.first (h.front ++ x ∷ rest) = subst (YearsFrom h.first) cut h.years in
     let puts : PutsLines account (h.front ++ x ∷ rest) base u = subst (λ (ls : List YearLine). PutsLines account ls base u) cut h.puts in
     let count : length h.front ≡ i = put_count account lines patch i now t u some h in
     let written : set now i after ≡ h.front ++ after ∷ rest =
     ap (λ (ls : List YearLine). set ls i after) cut ∙ (ap (λ (n : ℕ). set (h.front ++ x ∷ rest) n after) (sym count) ∙ set-append_seam h.front x rest after) in
     record {
+      placed = h.placed;
+      rows = h.rows;
       front = h.front ++ after ∷ [];
       are_after = subst (λ (ls : List YearLine). AreAfter ls patch.years (h.front ++ after ∷ [])) (sym (taken lines i x some is)) (pairs_more (IsAfter patch.years) (take i lines) h.front x after h.are_after (inl scheduled));
       now_is = written ∙ sym (append_assoc h.front (after ∷ []) rest);
@@ -101,6 +107,8 @@ put_same account lines patch i now x t u some here unnamed h =
     let is = put_next account lines patch i now x t u some here h in
     let rest : List YearLine = drop (i + 1) lines in
     record {
+      placed = h.placed;
+      rows = h.rows;
       front = h.front ++ x ∷ [];
       are_after = subst (λ (ls : List YearLine). AreAfter ls patch.years (h.front ++ x ∷ [])) (sym (taken lines i x some is)) (pairs_more (IsAfter patch.years) (take i lines) h.front x x h.are_after (inr (refl, unnamed)));
       now_is = h.now_is ∙ (ap (λ (ls : List YearLine). h.front ++ ls) (drop_item lines i x is some) ∙ sym (append_assoc h.front (x ∷ []) rest));
@@ -112,11 +120,12 @@ put_same account lines patch i now x t u some here unnamed h =
 -- all lines are through
 pub put_all : (account : List ℕ) (lines : List YearLine) (patch : Patch) (i : ℕ) (now : List YearLine) (t u : Tables) → take i lines ≡ lines → drop i lines ≡ [] → PutSoFar account lines patch i now t u → PutsInto account lines patch now t u
 put_all account lines patch i now t u front back h =
-    let base : Tables = with_obligations account patch.from patch.to patch.rows t in
     let all : now ≡ h.front = h.now_is ∙ (ap (λ (ls : List YearLine). h.front ++ ls) back ∙ append-nil h.front) in
     let put : PutsPatch account lines patch t u = record {
       after = h.front;
       are_after = subst (λ (ls : List YearLine). AreAfter ls patch.years h.front) front h.are_after;
-      puts = subst (λ (ls : List YearLine). PutsLines account ls base u) all h.puts;
+      placed = h.placed;
+      rows = h.rows;
+      puts = subst (λ (ls : List YearLine). PutsLines account ls h.placed u) all h.puts;
     } in
     (put, all)

@@ -11,14 +11,19 @@ use Rattle.ftd_rows.specs.Rows.{obligation_row}
 use Rattle.ftd_machine.specs.Posting.{Differ}
 use Rattle.ftd_repairs.specs.declared.Difference.{Difference}
 
+-- these are the account's obligations that begin on the days from one to another, by first day
+pub record AreBetween (account : List ℕ) (from to : ℕ) (rows : List Obligation) (t : Tables)
+    : Type 0 where
+  pub by_first_day : ByFirstDay rows
+  pub are : IsPermutation
+      (filter (is_obligation_between account (day_number from) (day_number to)) (t Obligations))
+      (map (obligation_row account) rows)
+
 -- the account's obligations that begin on the days from one to another were these, and it is told
 -- how those that stand there from now on differ from them
 pub record ComparesRows (account : List ℕ) (day from to : ℕ) (rows : List Obligation)
     (difference : Difference) (old : Tables) : Type 0 where
   pub gone : List Obligation
-  pub by_first_day : ByFirstDay gone
-  pub are_gone : IsPermutation
-      (filter (is_obligation_between account (day_number from) (day_number to)) (old Obligations))
-      (map (obligation_row account) gone)
+  pub are_gone : AreBetween account from to gone old
   pub differ : ByFirstDay rows
       → Differ gone rows day difference.from difference.to difference.removed difference.added

@@ -6,7 +6,7 @@ use Rattle.ftd_rules.specs.Lists.{Has}
 use Rattle.ftd_rules.specs.Years.{AreOpenYears}
 use Rattle.ftd_buckets.specs.declared.Patch.{Patch}
 use Rattle.ftd_schema.specs.declared.TableName.{TableName}
-use Rattle.ftd_schema.specs.declared.TableName.TheVariants.{Years}
+use Rattle.ftd_schema.specs.declared.TableName.TheVariants.{Years, Obligations}
 use Rattle.ftd_schema.specs.Standing.{Tables, with_rows}
 use Rattle.ftd_sql.specs.Tests.{is_year_of}
 use Rattle.ftd_rows.specs.Lists.{Pairs}
@@ -55,14 +55,21 @@ pub record PutsLines (account : List ℕ) (lines : List YearLine) (old new : Tab
       → filter (is_year_of other) (new Years) ≡ filter (is_year_of other) (old Years)
   pub only : (n : TableName) → new n ≡ with_rows Years (new Years) old n
 
--- the account's obligations that begin on the days of the patch are its rows now, the years that it
--- names have its openings and turns, and no other row differs
+-- the account's obligations that begin on the days of the patch are its rows now, in whatever order
+-- the table has them, and no other row differs
+pub record PutsRows (account : List ℕ) (patch : Patch) (old new : Tables) : Type 0 where
+  pub are : IsPermutation (new Obligations)
+      (with_obligations account patch.from patch.to patch.rows old Obligations)
+  pub only : (n : TableName) → new n ≡ with_rows Obligations (new Obligations) old n
+
+-- so, and the years that the patch names have its openings and turns
 pub record PutsPatch (account : List ℕ) (lines : List YearLine) (patch : Patch)
     (old new : Tables) : Type 0 where
   pub after : List YearLine
   pub are_after : AreAfter lines patch.years after
-  pub puts : PutsLines account after
-      (with_obligations account patch.from patch.to patch.rows old) new
+  pub placed : Tables
+  pub rows : PutsRows account patch old placed
+  pub puts : PutsLines account after placed new
 
 -- so, and these are the account's lines now
 abbrev pub PutsInto : List ℕ → List YearLine → Patch → List YearLine → Tables → Tables → Type 0

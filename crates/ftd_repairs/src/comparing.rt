@@ -5,7 +5,7 @@ ghost use Rattle.ftd_rules.specs.Lists.{Has};
 ghost use Rattle.ftd_rules.specs.Obligations.{ByFirstDay};
 ghost use Rattle.ftd_store.specs.Frame.{Reads};
 ghost use Rattle.ftd_machine.specs.Posting.{AreOnlyIn, Spans, Differ};
-ghost use Rattle.ftd_repairs.specs.Replaced.{ComparesRows};
+ghost use Rattle.ftd_repairs.specs.Replaced.{AreBetween};
 
 use crate::Difference;
 use ftd_buckets::Patch;
@@ -89,7 +89,7 @@ fn count(rows: &[Obligation]) -> Result<u32, StoreFault>
 }
 
 /// How the rows differ before and after a change of the runs of the day.
-fn difference(
+pub(crate) fn difference(
     alloc: Global,
     day: Day,
     before: &[Obligation],
@@ -123,23 +123,19 @@ fn rise(rows: &[Obligation]) -> bool
     }
 }
 
-/// How the rows of the patch differ from the account's obligations that they are to replace.
-pub(crate) fn compare_rows<S: Alter>(
+/// The account's obligations that the rows of the patch are to replace, by first day.
+pub(crate) fn gone_rows<S: Alter>(
     tx: &mut Tx<'_, S>,
     alloc: Global,
     account: &str,
-    day: Day,
     patch: &Patch,
-) -> Result<Difference, StoreFault>
-    ensures call { Reads S.Store tx.old tx.new result
-        (ComparesRows account.now day patch.now.from patch.now.to patch.now.rows) }
+) -> Result<Vec<Obligation>, StoreFault>
+    ensures call { Reads S.Store tx.old tx.new result (λ gone.
+        AreBetween account.now patch.now.from patch.now.to gone.items) }
 {
     let gone = tx.obligations(alloc, account, patch.from, patch.to)?;
     if !rise(&gone) {
         return tx.give_up(StoreFault::Failed);
     }
-    match difference(alloc, day, &gone, patch.rows.as_slice()) {
-        Ok(difference) => Ok(difference),
-        Err(fault) => tx.give_up(fault),
-    }
+    Ok(gone)
 }

@@ -1,15 +1,17 @@
 //! A patch is put in the place of an account's rows.
 
-ghost use Rattle.std.specs.Prelude.{◌≡◌, ◌++◌, ◌↔◌, List, IsTrue, IfSome, MatchOption, All};
+ghost use Rattle.std.specs.Prelude.{◌≡◌, ◌++◌, ◌∷◌, ◌↔◌, [], List, IsTrue, IfSome, MatchOption, All};
+ghost use Rattle.ftd_rules.specs.declared.Obligation.{Obligation};
 ghost use Rattle.ftd_rules.specs.declared.YearLine.{YearLine};
 ghost use Rattle.ftd_buckets.specs.Histories.{MayBegin};
 ghost use Rattle.ftd_rows.specs.Amounts.{IsStorable};
-ghost use Rattle.ftd_repairs.specs.Rescheduled.{IsRescheduled, IsUnnamed, HasLines, PutsInto};
+ghost use Rattle.ftd_repairs.specs.Rescheduled.{IsRescheduled, IsUnnamed, HasLines, PutsInto, PutsRows};
+ghost use Rattle.ftd_repairs.specs.Replaced.{AreBetween};
 ghost use Rattle.ftd_repairs.specs.Reposted.{Places, RepairsRows};
 ghost use Rattle.ftd_store.specs.Frame.{Turns};
 
 use crate::Difference;
-use crate::comparing::compare_rows;
+use crate::comparing::{difference, gone_rows};
 use crate::reading::KnownYears;
 use crate::repairing::repaired;
 use ftd_buckets::{Patch, may_begin};
@@ -83,21 +85,57 @@ fn rescheduled(line: &YearLine, changed: &[YearLine]) -> Option<YearLine>
     None
 }
 
-/// Puts the patch in the place of the account's obligations that begin on its days, and its
-/// openings and turns into the account's lines, here and in the table.
+/// The row that comes, where one alone goes and one alone comes that begins on the same day.
+fn changed_row(gone: &[Obligation], rows: &[Obligation]) -> Option<Obligation>
+    ensures { IfSome result (λ row. (was : Obligation) × (gone.now ≡ was ∷ [])
+        × (rows.now ≡ row ∷ []) × (was.first ≡ row.first)) }
+{
+    if let ([was], [row]) = (gone, rows) {
+        if was.first == row.first {
+            return Some(*row);
+        }
+    }
+    None
+}
+
+/// Puts the rows of the patch in the place of those that go, which are the account's obligations
+/// that begin on its days. Most often one row alone gets another amount: that is one statement.
+fn put_rows<S: Alter>(
+    tx: &mut Tx<'_, S>,
+    account: &str,
+    gone: &[Obligation],
+    patch: &Patch,
+) -> Result<(), StoreFault>
+    requires amounts { All (λ row. IsStorable row.cents) patch.now.rows }
+    ensures call { Turns S.Store tx.old tx.new result (λ done old new.
+        AreBetween account.now patch.now.from patch.now.to gone.now old
+        → PutsRows account.now patch.now old new) }
+{
+    if let Some(row) = changed_row(gone, patch.rows.as_slice()) {
+        tx.set_obligation(account, row)?;
+        return Ok(());
+    }
+    tx.replace_obligations(account, patch.from, patch.to, patch.rows.as_slice())?;
+    Ok(())
+}
+
+/// Puts the patch in the place of the account's obligations that begin on its days, which are
+/// given, and its openings and turns into the account's lines, here and in the table.
 fn put_patch<S: Alter>(
     tx: &mut Tx<'_, S>,
     account: &str,
     lines: &mut [YearLine],
+    gone: &[Obligation],
     patch: &Patch,
 ) -> Result<(), StoreFault>
     requires amounts { All (λ row. IsStorable row.cents) patch.now.rows }
     requires lookbacks { All (λ line. IsStorable line.lookback) lines.old }
     ensures call { Turns S.Store tx.old tx.new result (λ done old new.
-        HasLines account.now lines.old old
+        AreBetween account.now patch.now.from patch.now.to gone.now old
+        → HasLines account.now lines.old old
         → PutsInto account.now lines.old patch.now lines.new old new) }
 {
-    tx.replace_obligations(account, patch.from, patch.to, patch.rows.as_slice())?;
+    put_rows(tx, account, gone, patch)?;
     for i in 0..lines.len() {
         if let Some(after) = rescheduled(&lines[i], patch.years.as_slice()) {
             lines[i] = after;
@@ -125,8 +163,12 @@ pub(crate) fn place_patch<S: Alter>(
     if !hold_lookbacks(lines) || !hold_amounts(patch.rows.as_slice()) {
         return tx.give_up(StoreFault::Failed);
     }
-    let difference = compare_rows(tx, alloc, account, day, patch)?;
-    put_patch(tx, account, lines, patch)?;
+    let gone = gone_rows(tx, alloc, account, patch)?;
+    let difference = match difference(alloc, day, &gone, patch.rows.as_slice()) {
+        Ok(difference) => difference,
+        Err(fault) => return tx.give_up(fault),
+    };
+    put_patch(tx, account, lines, &gone, patch)?;
     Ok(difference)
 }
 

@@ -1,6 +1,6 @@
 //! The liability of an account day by day.
 
-ghost use Rattle.std.specs.Prelude.{◌≡◌, ◌<◌, ◌≤◌, ◌+◌, ℕ, IfOk, OnOk};
+ghost use Rattle.std.specs.Prelude.{◌≡◌, ◌<◌, ◌≤◌, ◌+◌, ◌^◌, ℕ, IfOk, OnOk, MatchResult};
 ghost use Rattle.std.specs.List.{All, sum_by};
 ghost use Rattle.std.specs.List.Sorted.{IsNonDecreasingBy};
 ghost use Rattle.ftd_rules.specs.Liability.{share, liability};
@@ -13,7 +13,8 @@ use std::alloc::Global;
 
 /// Two amounts together. `Failed` where they are more than a `u64` of cents.
 pub fn added(one: Cents, other: Cents) -> Result<Cents, StoreFault>
-    ensures value { IfOk result (λ cents. cents.0 ≡ one.0 + other.0) }
+    ensures { MatchResult result (λ cents. cents.0 ≡ one.0 + other.0)
+        (λ fault. (fault ≡ StoreFault.Failed) × (2 ^ 64 ≤ one.0 + other.0)) }
 {
     match one.0.checked_add(other.0) {
         Some(cents) => Ok(Cents(cents)),
@@ -23,7 +24,8 @@ pub fn added(one: Cents, other: Cents) -> Result<Cents, StoreFault>
 
 /// The liability that a run makes, on its payday. `Failed` where it is more than a `u64` of cents.
 pub fn sum_of(run: PayRun) -> Result<DaySum, StoreFault>
-    ensures value { IfOk result (λ sum. sum ≡ run_sum run) }
+    ensures { MatchResult result (λ sum. sum ≡ run_sum run)
+        (λ fault. (fault ≡ StoreFault.Failed) × (2 ^ 64 ≤ (run_sum run).cents.0)) }
 {
     let withheld = added(run.fit, run.ss)?;
     let cents = added(withheld, run.medicare)?;

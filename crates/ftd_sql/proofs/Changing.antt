@@ -5,7 +5,7 @@ use Rattle.sqlite.specs.Term.{lit, col}
 use Rattle.sqlite_tied.specs.Compute.{everything}
 use Rattle.ftd_tables.proofs.Phrase.{Given, Whole}
 use Rattle.ftd_schema.specs.declared.TableName.TheVariants.{Metas, Years, Runs, Payments, Obligations}
-use Rattle.ftd_sql.specs.declared.texts.TheConstants.{SET_VERSION, SET_YEAR, VOID_RUN, VOID_PAYMENT, SET_DUE, REMOVE_OBLIGATIONS}
+use Rattle.ftd_sql.specs.declared.texts.TheConstants.{SET_VERSION, SET_YEAR, VOID_RUN, VOID_PAYMENT, SET_OBLIGATION, SET_DUE, REMOVE_OBLIGATIONS}
 use Rattle.ftd_sql.proofs.Shapes.{test_on, Value, Is, IsAtLeast, IsAtMost}
 use Rattle.ftd_sql.proofs.Writing.{Changes, Removes}
 
@@ -40,6 +40,14 @@ pub voids_payment : Changes Payments VOID_PAYMENT.now
     (col 1 0 ∷ col 1 0 ∷ col 1 1 ∷ col 1 2 ∷ col 1 3 ∷ col 1 4 ∷ col 1 5 ∷ lit (Int (pos 1)) ∷ [])
 unfolding everything
 voids_payment = record { acts = refl; reads = record { read = _; is = refl; said = refl; untimed = refl; whole = refl }; is = λ tree. refl; known = λ tree. (refl, refl); accepted = λ tree. (refl, refl) }
+
+pub sets_obligation : Changes Obligations SET_OBLIGATION.now
+    (test_on (codes "account") 1 Is (Value 1))
+    (test_on (codes "first_day") 2 Is (Value 2) ∷ [])
+    ((Given 3, codes "last_day") ∷ (Given 4, codes "rule") ∷ (Given 5, codes "cents") ∷ (Given 6, codes "due") ∷ [])
+    (col 1 0 ∷ col 1 0 ∷ col 1 1 ∷ col 1 2 ∷ col 0 2 ∷ col 0 3 ∷ col 0 4 ∷ col 0 5 ∷ [])
+unfolding everything
+sets_obligation = record { acts = refl; reads = record { read = _; is = refl; said = refl; untimed = refl; whole = refl }; is = λ tree. refl; known = λ tree. (refl, refl); accepted = λ tree. (refl, refl) }
 
 pub sets_due : Changes Obligations SET_DUE.now
     (test_on (codes "account") 1 Is (Value 1))

@@ -16,18 +16,18 @@ use Rattle.ftd_schema.specs.declared.TableName.TheVariants.{Metas, Accounts, Rep
 use Rattle.ftd_tables.specs.Places.{Holds}
 use Rattle.ftd_schema.specs.Names.{name_of}
 use Rattle.ftd_schema.specs.Layout.{table_of}
-use Rattle.ftd_schema.specs.Rows.{RowOf, cells_of, MetaRow, AccountRow, YearRow}
+use Rattle.ftd_schema.specs.Rows.{RowOf, cells_of, MetaRow, AccountRow, YearRow, ObligationRow}
 use Rattle.ftd_schema.specs.Standing.{Tables, with_rows, Stands, Becomes}
-use Rattle.ftd_sql.specs.declared.texts.TheConstants.{LIST_METAS, READ_ACCOUNT, LIST_ACCOUNTS, READ_FORM, READ_REPORTED, READ_REPORTED_YEAR, READ_CALENDAR_YEAR, READ_RUN, READ_PAYMENT, LIST_HOLIDAYS, LIST_ADDED_HOLIDAYS, LIST_YEARS, LIST_RUNS, LIST_PAYMENTS, LIST_OBLIGATIONS, LIST_DUE_OVER, COUNT_RUNS, COUNT_PAYMENTS, SET_VERSION, SET_YEAR, VOID_RUN, VOID_PAYMENT, SET_DUE, REMOVE_OBLIGATIONS}
+use Rattle.ftd_sql.specs.declared.texts.TheConstants.{LIST_METAS, READ_ACCOUNT, LIST_ACCOUNTS, READ_FORM, READ_REPORTED, READ_REPORTED_YEAR, READ_CALENDAR_YEAR, READ_RUN, READ_PAYMENT, LIST_HOLIDAYS, LIST_ADDED_HOLIDAYS, LIST_YEARS, LIST_RUNS, LIST_PAYMENTS, LIST_OBLIGATIONS, LIST_DUE_OVER, COUNT_RUNS, COUNT_PAYMENTS, SET_VERSION, SET_YEAR, VOID_RUN, VOID_PAYMENT, SET_OBLIGATION, SET_DUE, REMOVE_OBLIGATIONS}
 use Rattle.ftd_sql.specs.Given.{name_given, number_given, key_given, pair_given}
 use Rattle.ftd_sql.specs.Answers.{meta_shown, account_shown, name_shown, form_shown, reported_shown, reported_year_shown, calendar_year_shown, holiday_shown, year_shown, run_shown, live_run_shown, payment_shown, live_payment_shown, obligation_shown, account_obligation_shown}
-use Rattle.ftd_sql.specs.Tests.{is_tag, is_account, is_form_of, is_reported, is_reported_year, is_calendar_year, is_holiday_of, is_year, is_year_of, is_run, is_run_of, is_live_run_between, is_payment, is_payment_of, is_live_payment_between, is_obligation_between, is_obligation, is_due_over, voided_run, voided_payment, with_figures, with_due, with_version}
+use Rattle.ftd_sql.specs.Tests.{is_tag, is_account, is_form_of, is_reported, is_reported_year, is_calendar_year, is_holiday_of, is_year, is_year_of, is_run, is_run_of, is_live_run_between, is_payment, is_payment_of, is_live_payment_between, is_obligation_between, is_obligation, is_due_over, voided_run, voided_payment, with_figures, with_terms, with_due, with_version}
 use Rattle.ftd_sql.specs.Orders.{HolidaysRise, YearsRise, RunsRise, PaymentsRise, ObligationsRise, AccountsRise}
 use Rattle.ftd_tables.proofs.Passing.{whole_is, below_is, at_least_is, at_most_is, one_rises, two_rise, text_then_number}
 use Rattle.ftd_sql.proofs.Reading.{shows, lists, counts}
 use Rattle.ftd_sql.proofs.Writing.{changes, changes_nothing, removes}
 use Rattle.ftd_sql.proofs.Asking.{lists_metas, reads_account, lists_accounts, reads_form, reads_reported, reads_reported_year, reads_calendar_year, reads_run, reads_payment, lists_holidays, lists_added_holidays, lists_years, lists_runs, lists_payments, lists_obligations, lists_due_over, counts_runs, counts_payments}
-use Rattle.ftd_sql.proofs.Changing.{sets_version, sets_year, voids_run, voids_payment, sets_due, removes_obligations}
+use Rattle.ftd_sql.proofs.Changing.{sets_version, sets_year, voids_run, voids_payment, sets_obligation, sets_due, removes_obligations}
 
 -- the text with these values shows the rows that pass the test
 abbrev pub ShowsTested : (n : TableName) → List ℕ → Row → (RowOf n → Bool) → (RowOf n → Row) → Type 1
@@ -183,6 +183,13 @@ unfolding everything
 payment_voided account number old new t stands = (
   changes Payments VOID_PAYMENT.now _ _ _ _ voids_payment (key_given account number) (is_payment account number) voided_payment (λ p. two_pass _ _ _ _ (text_is p.1.account account) (whole_is p.1.number number)) (λ tree p. rw (cast_int, cast_int, cast_int, cast_int, cast_int, cast_int) refl) (λ p. refl) old new t stands,
   changes_nothing Payments VOID_PAYMENT.now _ _ _ _ voids_payment (key_given account number) (is_payment account number) voided_payment (λ p. two_pass _ _ _ _ (text_is p.1.account account) (whole_is p.1.number number)) (λ tree p. rw (cast_int, cast_int, cast_int, cast_int, cast_int, cast_int) refl) (λ p. refl) old new t stands,
+)
+
+pub obligation_set : (o : ObligationRow) → ChangesOne Obligations SET_OBLIGATION.now (cells_of Obligations o) (is_obligation o.account o.first) (with_terms o)
+unfolding everything
+obligation_set o old new t stands = (
+  changes Obligations SET_OBLIGATION.now _ _ _ _ sets_obligation (cells_of Obligations o) (is_obligation o.account o.first) (with_terms o) (λ p. two_pass _ _ _ _ (text_is p.1.account o.account) (whole_is p.1.first o.first)) (λ tree p. rw (cast_int, cast_int, cast_int, cast_int, cast_int, cast_int) refl) (λ p. refl) old new t stands,
+  changes_nothing Obligations SET_OBLIGATION.now _ _ _ _ sets_obligation (cells_of Obligations o) (is_obligation o.account o.first) (with_terms o) (λ p. two_pass _ _ _ _ (text_is p.1.account o.account) (whole_is p.1.first o.first)) (λ tree p. rw (cast_int, cast_int, cast_int, cast_int, cast_int, cast_int) refl) (λ p. refl) old new t stands,
 )
 
 pub due_set : (account : List ℕ) (first due : ℤ) → ChangesOne Obligations SET_DUE.now (pair_given account first due) (is_obligation account first) (with_due due)

@@ -81,6 +81,10 @@ voided_payment p = record p { voided = pos 1 }
 abbrev pub with_figures : ℤ → ℤ → Option ℤ → YearRow → YearRow
 with_figures lookback opening turn y = record y { lookback = lookback; opening = opening; turn = turn }
 
+-- an obligation with the terms of another one, of its own account and first day
+abbrev pub with_terms : ObligationRow → ObligationRow → ObligationRow
+with_terms other o = record o { last = other.last; rule = other.rule; cents = other.cents; due = other.due }
+
 -- an obligation with this due date
 abbrev pub with_due : ℤ → ObligationRow → ObligationRow
 with_due due o = record o { due = due }

@@ -112,6 +112,9 @@ pub const REMOVE_OBLIGATIONS: &str =
 /// The obligations of all accounts that begin before a day and are due on it or later, by account and first day.
 pub const LIST_DUE_OVER: &str =
     "SELECT account, first_day, last_day, rule, cents, due FROM bucket WHERE first_day < ?1 AND due >= ?1 ORDER BY account, first_day";
+/// Gives the obligation of an account and a first day its other cells anew, given as its row is.
+pub const SET_OBLIGATION: &str =
+    "UPDATE bucket SET last_day = ?3, rule = ?4, cents = ?5, due = ?6 WHERE account = ?1 AND first_day = ?2";
 /// Gives the obligation of an account (?1) and a first day (?2) another due date (?3).
 pub const SET_DUE: &str = "UPDATE bucket SET due = ?3 WHERE account = ?1 AND first_day = ?2";
 

@@ -5,7 +5,7 @@ use Rattle.ftd_schema.specs.declared.TableName.{TableName}
 use Rattle.ftd_schema.specs.declared.TableName.TheVariants.{Accounts, ReportedQuarters, CalendarYears, Holidays, Years, Runs, Payments, Obligations, Forms, ReportedYears, AddedHolidays}
 use Rattle.ftd_schema.specs.Rows.{RowOf, YearRow}
 use Rattle.ftd_schema.specs.Standing.{Tables, with_rows}
-use Rattle.ftd_sql.specs.Tests.{is_run, voided_run, is_payment, voided_payment, is_obligation_between, is_obligation, with_due, is_year}
+use Rattle.ftd_sql.specs.Tests.{is_run, voided_run, is_payment, voided_payment, is_obligation_between, is_obligation, with_terms, with_due, is_year}
 use Rattle.ftd_days.specs.Calendar.{year_of}
 use Rattle.ftd_days.specs.declared.cents.Cents.{Cents}
 use Rattle.ftd_rules.specs.declared.Form.{Form}
@@ -85,6 +85,12 @@ without_obligations account from to t = with_rows Obligations (filter (λ o. not
 abbrev pub with_obligations : List ℕ → ℕ → ℕ → List Obligation → Tables → Tables
 with_obligations account from to given t =
     with_rows Obligations (filter (λ o. not (is_obligation_between account (day_number from) (day_number to) o)) (t Obligations) ++ map (obligation_row account) given) t
+
+-- the account's obligation of this one's first day has the terms of this one
+abbrev pub with_obligation : List ℕ → Obligation → Tables → Tables
+with_obligation account o t =
+    let row = obligation_row account o in
+    with_rows Obligations (map (changed (is_obligation account row.first) (with_terms row)) (t Obligations)) t
 
 -- the account's obligation of the first day is due then
 abbrev pub with_due_date : List ℕ → ℕ → ℕ → Tables → Tables

@@ -6,7 +6,7 @@ ghost use Rattle.ftd_sql.specs.Tests.{is_obligation};
 ghost use Rattle.ftd_rows.specs.Amounts.{IsStorable};
 ghost use Rattle.ftd_rows.specs.Cells.{day_number};
 ghost use Rattle.ftd_rows.specs.Rows.{obligation_row};
-ghost use Rattle.ftd_store.specs.Changes.{adding, without_obligations, with_obligations, with_due_date};
+ghost use Rattle.ftd_store.specs.Changes.{adding, without_obligations, with_obligations, with_obligation, with_due_date};
 ghost use Rattle.ftd_store.specs.Finds.{ListsObligations, ListsDueOver};
 ghost use Rattle.ftd_store.specs.Frame.{Reads, Writes, WritesOne};
 
@@ -83,6 +83,31 @@ impl<'store, S: Alter> Tx<'store, S> {
             self.add_obligation(account, *obligation)?;
         }
         Ok(())
+    }
+
+    /// Gives the account's obligation of the given one's first day the last day, the rule, the
+    /// amount and the due date of that. `Failed` where there is none.
+    pub fn set_obligation(
+        &mut self,
+        account: &str,
+        obligation: Obligation,
+    ) -> Result<(), StoreFault>
+        requires { IsStorable obligation.cents }
+        ensures call { WritesOne S.Store self.old self.new result
+            (λ t. filter (is_obligation account.now (day_number obligation.first)) (t Obligations))
+            (with_obligation account.now obligation) }
+    {
+        let first = StoredDay(obligation.first);
+        let last = StoredDay(obligation.last);
+        let rule = StoredRule(obligation.rule);
+        let cents = StoredCents {
+            cents: obligation.cents,
+        };
+        let due = StoredDay(obligation.due);
+        self.change_one(
+            texts::SET_OBLIGATION,
+            params![account, first, last, rule, cents, due],
+        )
     }
 
     /// The obligations of all accounts that begin before the day and are due on it or later, by

@@ -1,7 +1,7 @@
-use Rattle.std.proofs.Common.{None, Some, Ok, sym}
+use Rattle.std.proofs.Common.{◌∙◌, None, Some, Ok, inr, sym}
 use Rattle.ftd_store.specs.Frame.{Reads}
 use Rattle.ftd_store.specs.Finds.{ListsLiability}
-use Rattle.ftd_store.proofs.Telling.{reads_on, then_reads}
+use Rattle.ftd_store.proofs.Telling.{then_reads}
 use Rattle.ftd_entries.specs.Known.{KnowsAccount, KnowsYear}
 use Rattle.ftd_repairs.specs.Calendars.{KnowsYears}
 use Rattle.ftd_posting.proofs.Booking.{book_known}
@@ -9,7 +9,7 @@ use Rattle.ftd_posting.proofs.books.Book.read.Goals as goal
 
 pub returns-then-not-there-clause-call : goal.returns-then-not-there-clause-call
 returns-then-not-there-clause-call g c =
-    then_reads g.S.Store c.args.tx.now c.known.new.tx c.is_open.new.tx c.in_ok-account.field-0 c.in_ok-there.there None (KnowsAccount c.args.name.now) (KnowsYear c.args.name.now c.args.year) _ (λ t one two s stands sound. tt)
+    then_reads g.S.Store c.args.tx.now c.known.new.tx c.is_open.new.tx c.in_ok-account.field-0 c.in_ok-there.there None (KnowsAccount c.args.name.now) (KnowsYear c.args.name.now c.args.year) _ (λ t one two s stands sound. inr (two s stands ∙ c.if-not-there.true))
     c.in_ok-account.ensures.call c.in_ok-there.ensures.call
 
 pub returns-clause-call : goal.returns-clause-call

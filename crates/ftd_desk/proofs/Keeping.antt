@@ -1,7 +1,7 @@
 -- What is kept of accounts, of each one thing at most.
 use Rattle.std.proofs.Common.{◌≡◌, ◌∙◌, refl, sym, ap, subst, ℕ, Bool, true, false, cond, List, [], ◌∷◌, ◌++◌, get_or, set, Option, None, Some, nat_lt, length, bytes_eq}
 use Rattle.std.proofs.lemmas.Bool.{true≢false}
-use Rattle.std.specs.Prelude.{if◌then◌else◌, find, option_map, IfSome}
+use Rattle.std.specs.Prelude.{if◌then◌else◌, find, option_map, IfSome, MatchOption}
 use Rattle.std.specs.List.{position, position_or_len}
 use Rattle.std.specs.Option.{option_or}
 use Rattle.std.specs.List.{slice_get}
@@ -10,7 +10,8 @@ use Rattle.std.proofs.lemmas.List.Quantifiers.{position-Some}
 use Rattle.std.proofs.lemmas.Option.{slice_get-get_or}
 use Rattle.ftd_days.proofs.Years.{find_none}
 use Rattle.ftd_machine.proofs.Adding.{same_name, own_name, other_name}
-use Rattle.ftd_desk.specs.Kept.{Takes, TakesFound, EachIs}
+use Rattle.ftd_desk.specs.Kept.{Takes, TakesFound, EachIs, is_of, content_of}
+use Rattle.ftd_desk.specs.declared.kept.OfAccount.{OfAccount}
 
 -- where the first that passes is
 place_is : {X : Type 0} (test : X → Bool) (xs : List X) (place : ℕ) → position test xs ≡ Some place → place ≡ position_or_len test xs
@@ -57,73 +58,71 @@ right_after old new account taken Was Is takes own stay right other = by (bytes_
         if_more (λ later. old other ≡ Some later) (Is other) (new other) (λ later was. stay other apart later (kept_is old Was other later right was)) (takes.others other apart)
 
 -- so where a thing was found that is right of the account, or none was
-pub right_found : {X : Type 0} (old new : List ℕ → Option X) (account : List ℕ) (found : Option X) (Is : List ℕ → X → Type 0) → TakesFound old new account found → IfSome found (Is account) → EachIs old Is → EachIs new Is
-right_found old new account None Is same own right = subst (λ kept. EachIs kept Is) (sym same) right
-right_found old new account (Some x) Is takes own right = right_after old new account x Is Is takes own (λ other apart y was. was) right
+pub right_found : {X : Type 0} (N : Type 0) (old new : List ℕ → Option X) (account : List ℕ) (found : Option X) (Is : List ℕ → X → Type 0) → TakesFound old new account found → MatchOption found N (Is account) → EachIs old Is → EachIs new Is
+right_found N old new account None Is same own right = subst (λ kept. EachIs kept Is) (sym same) right
+right_found N old new account (Some x) Is takes own right = right_after old new account x Is Is takes own (λ other apart y was. was) right
 
 -- ---- a list of what is kept, each with the name of its account
 
-module _ {X Y : Type 0} (name_of : X → List ℕ) (content_of : X → Y) where
-  abbrev is_under : List ℕ → X → Bool
-  is_under account x = bytes_eq (name_of x) account
-
-  abbrev kept_in : List X → List ℕ → Option Y
-  kept_in xs account = option_map content_of (find (is_under account) xs)
+module _ {X : Type 0} where
+  abbrev kept_in : List (OfAccount X) → List ℕ → Option X
+  kept_in xs account = option_map content_of (find (is_of account) xs)
 
   -- one of the account, and none of another one
-  passes : (x : X) (account : List ℕ) → name_of x ≡ account → is_under account x ≡ true
+  passes : (x : OfAccount X) (account : List ℕ) → x.account ≡ account → is_of account x ≡ true
   passes x account is = rw is (own_name account)
 
-  fails : (x : X) (account other : List ℕ) → name_of x ≡ account → (account ≡ other → ⊥) → is_under other x ≡ false
+  fails : (x : OfAccount X) (account other : List ℕ) → x.account ≡ account → (account ≡ other → ⊥) → is_of other x ≡ false
   fails x account other is apart = rw is (other_name account other apart)
 
-  module _ (old : List X) (account : List ℕ) where
+  module _ (old : List (OfAccount X)) (account : List ℕ) where
     -- what is kept of the account stands at its place
-    pub kept_at : (place : ℕ) (x : X) → position (is_under account) old ≡ Some place → x ≡ get_or old place x → kept_in old account ≡ Some (content_of x)
+    pub kept_at : (place : ℕ) (x : OfAccount X) → position (is_of account) old ≡ Some place → x ≡ get_or old place x → kept_in old account ≡ Some x.content
     kept_at place x found is =
-        let at = position-Some (is_under account) old place x found in
-        ap (option_map content_of) (find_at (is_under account) old ∙ ap (slice_get old) (sym (place_is (is_under account) old place found)) ∙ slice_get-get_or old place x at.0 ∙ ap Some (sym is))
+        let at = position-Some (is_of account) old place x found in
+        ap (option_map content_of) (find_at (is_of account) old ∙ ap (slice_get old) (sym (place_is (is_of account) old place found)) ∙ slice_get-get_or old place x at.0 ∙ ap Some (sym is))
 
     -- what was kept of the account is another thing
-    pub changed : (new : List X) (place : ℕ) (x later : X) → position (is_under account) old ≡ Some place → x ≡ get_or old place x
-        → name_of later ≡ name_of x → new ≡ set old place later → Takes (kept_in old) (kept_in new) account (content_of later)
-    changed new place x later found is same changes =
-        let at = position-Some (is_under account) old place x found in
-        let was : name_of (get_or old place x) ≡ account = same_name _ account at.1 in
-        let named : name_of later ≡ account = same ∙ ap name_of is ∙ was in
-        let made : find (is_under account) (set old place later) ≡ Some later =
-        find-set (is_under account) old place later (place_is (is_under account) old place found) at.0 (passes later account named)
+    pub changed : (new : List (OfAccount X)) (place : ℕ) (x : OfAccount X) (taken : X) → position (is_of account) old ≡ Some place → x ≡ get_or old place x
+        → new ≡ set old place (record x { content = taken }) → Takes (kept_in old) (kept_in new) account taken
+    changed new place x taken found is changes =
+        let at = position-Some (is_of account) old place x found in
+        let later : OfAccount X = record x { content = taken } in
+        let was : (get_or old place x).account ≡ account = same_name _ account at.1 in
+        let named : x.account ≡ account = ap (λ (y : OfAccount X). y.account) is ∙ was in
+        let made : find (is_of account) (set old place later) ≡ Some later =
+        find-set (is_of account) old place later (place_is (is_of account) old place found) at.0 (passes later account named)
         in
         record {
           own = rw (changes, made) refl;
           others = λ other apart.
               as_kept (kept_in new other) (kept_in old other)
-              (rw changes (ap (option_map content_of) (find_past (is_under other) old place later x (fails (get_or old place x) account other was apart) (fails later account other named apart))));
+              (rw changes (ap (option_map content_of) (find_past (is_of other) old place later x (fails (get_or old place x) account other was apart) (fails later account other named apart))));
         }
 
     -- what is kept where nothing was of the account: what was kept of the others may be forgotten
-    pub record Without (room : List X) : Type 0 where
-      pub none : find (is_under account) room ≡ None
+    pub record Without (room : List (OfAccount X)) : Type 0 where
+      pub none : find (is_of account) room ≡ None
       pub others : (other : List ℕ) → IfSome (kept_in room other) (λ later. kept_in old other ≡ Some later)
 
-    pub all_left : position (is_under account) old ≡ None → (room : List X) → room ≡ old → Without room
+    pub all_left : position (is_of account) old ≡ None → (room : List (OfAccount X)) → room ≡ old → Without room
     all_left unknown room is = record {
-      none = rw is (find_none (is_under account) old unknown);
+      none = rw is (find_none (is_of account) old unknown);
       others = λ other. as_kept _ (kept_in old other) (rw is refl);
     }
 
-    pub none_left : (room : List X) → room ≡ [] → Without room
+    pub none_left : (room : List (OfAccount X)) → room ≡ [] → Without room
     none_left room is = record { none = rw is refl; others = λ other. rw is tt }
 
     -- nothing is added
-    pub not_added : (new room : List X) (taken : Y) → Without room → new ≡ room → Takes (kept_in old) (kept_in new) account taken
-    not_added new room taken without is = record { own = rw (is, without.none) tt; others = λ other apart. rw is (without.others other) }
+    pub not_added : (room : List (OfAccount X)) (taken : X) → Without room → Takes (kept_in old) (kept_in room) account taken
+    not_added room taken without = record { own = rw without.none tt; others = λ other apart. without.others other }
 
     -- the account's is added, or there is no memory for it
-    pub added : (new room : List X) (x : X) (taken : Y) (there : Bool) → Without room → name_of x ≡ account → content_of x ≡ taken
+    pub added : (new room : List (OfAccount X)) (x : OfAccount X) (taken : X) (there : Bool) → Without room → x.account ≡ account → x.content ≡ taken
         → new ≡ (if there then room ++ x ∷ [] else room) → Takes (kept_in old) (kept_in new) account taken
-    added new room x taken false without named holds is = not_added new room taken without is
+    added new room x taken false without named holds is = rw is (not_added room taken without)
     added new room x taken true without named holds is = record {
-      own = rw (is, find-append (is_under account) room (x ∷ []), without.none, passes x account named) holds;
-      others = λ other apart. rw (is, find-append (is_under other) room (x ∷ []), fails x account other named apart, or_none (find (is_under other) room)) (without.others other);
+      own = rw (is, find-append (is_of account) room (x ∷ []), without.none, passes x account named) holds;
+      others = λ other apart. rw (is, find-append (is_of other) room (x ∷ []), fails x account other named apart, or_none (find (is_of other) room)) (without.others other);
     }
