@@ -59,7 +59,7 @@ pub record StopsIn (old new : Held) (records : List (ℕ × Said)) (before after
 
 -- so many records at most go to the desk together
 abbrev pub most_together : ℕ
-most_together = 4_096
+most_together = 16_384
 
 -- nothing of these posts was done; but where their commit failed, a crash may find what all of them do
 abbrev pub PostsNone : Type 0 → Held → Held → List Request → Type 0

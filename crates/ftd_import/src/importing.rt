@@ -15,7 +15,7 @@ use std::alloc::Global;
 /// Posts the pay runs of a text, and says what became of its records, as if they were posted one
 /// after the other. The text is CSV with the header `employer,run,payday,fit,ss,medicare`, of at
 /// most 16 MiB. A malformed record is counted, noted and left out. The records go to the desk in
-/// lists of 4,096, each in one transaction; a list that meets a fault goes again, one record after
+/// lists of 16,384, each in one transaction; a list that meets a fault goes again, one record after
 /// the other.
 ///
 /// It stops with `TooLong` or `BadHeader` where the text is too long or has another header, and

@@ -16,7 +16,7 @@ use sqlite::Alter;
 use std::alloc::{AllocError, Global};
 
 /// So many records at most go to the desk together.
-const TOGETHER: usize = 4_096;
+const TOGETHER: usize = 16_384;
 
 /// The posts of the pay runs among the records.
 fn requests_of(alloc: Global, records: &[Record]) -> Result<Vec<Request>, AllocError>

@@ -52,9 +52,9 @@ fn each_list_is_told(rt: HostRuntime) -> Result<(), Fail> {
     let mut text = format!(in alloc; "employer,run,payday,fit,ss,medicare\n")?;
     tells(&rt, alloc, &mut desk, text.as_str(), &[], 1)?;
     // Records without a field more count as others do.
-    for _ in 0..8400 {
+    for _ in 0..33000 {
         text.push_str("ash\n")?;
     }
-    let counts = [(4096, 8400), (8192, 8400), (8400, 8400)];
+    let counts = [(16384, 33000), (32768, 33000), (33000, 33000)];
     tells(&rt, alloc, &mut desk, text.as_str(), &counts, 1)
 }

@@ -58,7 +58,7 @@ fn after_a_crash(alloc: Global, desk: Desk<Failing>) -> Result<Desk<Failing>, Fa
     Ok(Desk::new(alloc, store))
 }
 
-/// So many runs of 1.00 each; a list is 4,096.
+/// So many runs of 1.00 each; a list is 16,384.
 fn text(alloc: Global, runs: usize) -> Result<String, Fail> {
     let mut text = format!(in alloc; "employer,run,payday,fit,ss,medicare\n")?;
     for run in 0..runs {
@@ -109,12 +109,12 @@ fn stops(
     };
     let Stopped { done, cause } = stopped;
     assert_eq!(rt; cause, StopCause::Store);
-    assert!(rt; done.posted == 0 || done.posted == 4096);
+    assert!(rt; done.posted == 0 || done.posted == 16384);
     let mut opened = after_a_crash(alloc, desk)?;
     match import(alloc, &mut opened, text, &mut Quiet) {
         Ok(again) => {
             let whole = if done.posted == 0 {
-                min(runs, 4096)
+                min(runs, 16384)
             } else {
                 runs
             };
@@ -158,6 +158,6 @@ fn a_list_is_stopped_at_each_call(rt: HostRuntime) -> Result<(), Fail> {
 
 #[test]
 fn two_lists_are_stopped_at_some_calls(rt: HostRuntime) -> Result<(), Fail> {
-    let _count = stop_log(&rt, rt.alloc(), 4098, 2000)?;
+    let _count = stop_log(&rt, rt.alloc(), 16386, 2000)?;
     Ok(())
 }

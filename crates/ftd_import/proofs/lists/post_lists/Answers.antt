@@ -5,11 +5,12 @@ use Rattle.ftd_csv.specs.Answers.{record_view}
 use Rattle.ftd_desk.specs.Desks.{IsStopped, held}
 use Rattle.ftd_import.proofs.Again.{list_fits, next_list, stops_later}
 use Rattle.ftd_import.proofs.Outcomes.{posts_none, posts_then}
+use Rattle.ftd_import.specs.Imports.{most_together}
 use Rattle.ftd_import.proofs.lists.post_lists.Goals as goal
 
 pub loop-list-init : goal.loop-list-init
 loop-list-init g c =
-    let size : chunks_size c.into_iter-list-iterator.result ≡ 4_096 = search rules in
+    let size : chunks_size c.into_iter-list-iterator.result ≡ most_together = search rules in
     let all : chunks_rest c.into_iter-list-iterator.result ≡ c.args.records.now = search rules in
     let some : 0 < chunks_size c.into_iter-list-iterator.result = omega arith in
     (some, tt, size, ([], ap (map record_view) (sym all), posts_none (held g.S.Store c.args.desk.now) c.args.done.now, omega arith, refl))
@@ -40,7 +41,7 @@ loop-list-preserved g c =
     let steps = c.in-Some.ensures.steps in
     let list = map record_view c.in-Some.list.now in
     let split = next_list c.args.records.now (chunks_rest c.loop-list.list-iterator) c.in-Some.list.now (chunks_rest c.next.new.self) so_far.0 so_far.1 steps.1.0 in
-    let size : chunks_size c.next.new.self ≡ 4_096 = steps.0 ∙ c.loop-list.invariant.2 in
+    let size : chunks_size c.next.new.self ≡ most_together = steps.0 ∙ c.loop-list.invariant.2 in
     let some : 0 < chunks_size c.next.new.self = omega arith in (
       some,
       tt,
