@@ -1,6 +1,6 @@
-//! Prints the obligations of a history from standard input: the first year and the number of years on
-//! the first line, and then a line for each day sum, with its day and its cents. It measures `assess`
-//! beside another program that does the same.
+//! Prints the obligations of a history from standard input: the first year and the number of years
+//! on the first line, and then a line for each day sum, with its day and its cents. It measures
+//! `assess` beside another program that does the same.
 #![tactic(auto)]
 
 ghost use Rattle.std.specs.Prelude.{◌≡◌, ◌+◌, ◌<◌, ◌≤◌, length, All, IfOk};
@@ -50,7 +50,8 @@ fn day_sum(line: &str) -> Result<DaySum> {
 
 /// The sums of the lines, each of a day of the years from `first` up to, but without, `end`.
 fn day_sums(alloc: Global, first: u32, end: u32, text: &str) -> Result<Vec<DaySum>>
-    ensures within { IfOk result (λ sums. All (λ s. (first ≤ year_of s.day) × (year_of s.day < end)) sums.items) }
+    ensures within { IfOk result
+        (λ sums. All (λ s. (first ≤ year_of s.day) × (year_of s.day < end)) sums.items) }
     ensures small { IfOk result (λ sums. sum_by cents_of sums.items < 6_000_000_000_000_000) }
 {
     let mut sums = Vec::new(alloc);

@@ -21,28 +21,34 @@ abbrev pub IsOwed : Form → History → List ℕ → Obligation → Type 0
 IsOwed form h holidays o = IsObligation form h.lines h.sums holidays o
 
 -- the rows are the obligations that begin on the days from a up to, but without, b
-pub record AreRows (form : Form) (h : History) (holidays : List ℕ) (a b : ℕ) (rows : List Obligation) : Type 0 where
+pub record AreRows (form : Form) (h : History) (holidays : List ℕ) (a b : ℕ)
+    (rows : List Obligation) : Type 0 where
   pub by_first_day : ByFirstDay rows
-  pub all : (o : Obligation) → Has rows o ↔ (IsOwed form h holidays o × (a ≤ o.first) × (o.first < b))
+  pub all : (o : Obligation)
+      → Has rows o ↔ (IsOwed form h holidays o × (a ≤ o.first) × (o.first < b))
 
 -- each line is of an earlier year than those after it
 abbrev pub ByYear : List YearLine → Type 0
 ByYear [] = Unit {0}
-ByYear (line ∷ lines) = ((later : YearLine) → Has lines later → line.year < later.year) × ByYear lines
+ByYear (line ∷ lines) =
+    ((later : YearLine) → Has lines later → line.year < later.year) × ByYear lines
 
 -- the lines of the history after the change that differ
 pub record AreChanged (before after : History) (lines : List YearLine) : Type 0 where
   pub by_year : ByYear lines
-  pub all : (line : YearLine) → Has lines line ↔ (Has after.lines line × (Has before.lines line → ⊥))
+  pub all : (line : YearLine)
+      → Has lines line ↔ (Has after.lines line × (Has before.lines line → ⊥))
 
--- the patch goes from the day's deposit period before the change to the last window that was fed. It has
--- the obligations after the change that begin on its days, and the lines that differ; the obligations
--- that begin on other days stay.
-pub record IsPatch (form : Form) (day : ℕ) (before after : History) (holidays : List ℕ) (fed : Window) (patch : Patch) : Type 0 where
+-- the patch goes from the day's deposit period before the change to the last window that was fed.
+-- It has the obligations after the change that begin on its days, and the lines that differ; the
+-- obligations that begin on other days stay.
+pub record IsPatch (form : Form) (day : ℕ) (before after : History) (holidays : List ℕ)
+    (fed : Window) (patch : Patch) : Type 0 where
   pub period : Window
   pub is_period : IsDayPeriod form day before period
   pub from : patch.from ≡ period.from
   pub to : patch.to ≡ fed.to
   pub rows : AreRows form after holidays patch.from (patch.to + 1) patch.rows
   pub years : AreChanged before after patch.years
-  pub elsewhere : (o : Obligation) → (o.first < patch.from) ⊎ (patch.to < o.first) → IsOwed form before holidays o ↔ IsOwed form after holidays o
+  pub elsewhere : (o : Obligation) → (o.first < patch.from) ⊎ (patch.to < o.first)
+      → IsOwed form before holidays o ↔ IsOwed form after holidays o

@@ -27,8 +27,10 @@ abbrev pub open_from : Form → Option ℕ → ℕ → ℕ
 open_from form None day = month_start (month_of day)
 open_from form (Some turn) day = period_first form (turn + 1) day
 
--- the window is the rest of the year; the sums held are those of its open deposit period from the first day on
-pub record ReadyRest (form : Form) (line : YearLine) (asked : Window) (held : List DaySum) (first : ℕ) (turn : Option ℕ) : Type 0 where
+-- the window is the rest of the year; the sums held are those of its open deposit period from the
+-- first day on
+pub record ReadyRest (form : Form) (line : YearLine) (asked : Window) (held : List DaySum)
+    (first : ℕ) (turn : Option ℕ) : Type 0 where
   pub monthly : line.opening ≡ kind.Monthly
   pub from : year_start line.year < asked.from
   pub some : asked.from ≤ asked.to
@@ -56,7 +58,8 @@ pub record Repairing : Type 0 where
   pub from : ℕ
   -- the window that is asked for
   pub asked : Window
-  -- the obligations after the change that begin from there to the days that are held, and the lines that differ
+  -- the obligations after the change that begin from there to the days that are held, and the lines
+  -- that differ
   pub rows : List Obligation
   pub years : List YearLine
   -- the sums of the days that were fed and are not settled
@@ -76,8 +79,8 @@ repairing s stage = record {
   stage = stage;
 }
 
--- the lines are of years without a gap, each turn in its year and beside a monthly opening, the first that
--- which is being read
+-- the lines are of years without a gap, each turn in its year and beside a monthly opening, the
+-- first that which is being read
 pub record IsReady (r : Repairing) : Type 0 where
   pub line : YearLine
   pub later : List YearLine

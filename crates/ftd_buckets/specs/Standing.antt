@@ -1,6 +1,7 @@
 -- How a repair stands to the histories before and after a change.
 use Rattle.ftd_rules.specs.declared.Form.{Form}
-use Rattle.std.specs.Prelude.{◌≡◌, ℕ, ◌+◌, ◌<◌, ◌≤◌, ◌↔◌, Bool, IsTrue, List, [], ◌∷◌, Option, Some, MatchOption, IfSome, ⊤}
+use Rattle.std.specs.Prelude.{◌≡◌, ℕ, ◌+◌, ◌<◌, ◌≤◌, ◌↔◌, Bool, IsTrue, List, [], ◌∷◌, Option, Some}
+use Rattle.std.specs.Prelude.{MatchOption, IfSome, ⊤}
 use Rattle.std.specs.List.{sum_by}
 use Rattle.ftd_days.specs.Calendar.{year_start}
 use Rattle.ftd_rules.specs.Liability.{cents_of}
@@ -30,13 +31,16 @@ IfNeed (Done patch) P = ⊤
 IfNeed (Need repair window) P = P repair window
 
 -- the lines of years before `year` that differ
-pub record AreChangedBefore (before after : History) (year : ℕ) (lines : List YearLine) : Type 0 where
+pub record AreChangedBefore (before after : History) (year : ℕ)
+    (lines : List YearLine) : Type 0 where
   pub by_year : ByYear lines
-  pub all : (line : YearLine) → Has lines line ↔ (Has after.lines line × (Has before.lines line → ⊥) × (line.year < year))
+  pub all : (line : YearLine)
+      → Has lines line ↔ (Has after.lines line × (Has before.lines line → ⊥) × (line.year < year))
 
--- what is known whatever is asked: the year that is being read, with its lines before and after, that
--- nothing before the first window changes, and which earlier lines differ
-pub record StandsIn (form : Form) (day : ℕ) (holidays : List ℕ) (before after : History) (lines : List YearLine) (from : ℕ) (years : List YearLine) (old new : YearLine) : Type 0 where
+-- what is known whatever is asked: the year that is being read, with its lines before and after,
+-- that nothing before the first window changes, and which earlier lines differ
+pub record StandsIn (form : Form) (day : ℕ) (holidays : List ℕ) (before after : History)
+    (lines : List YearLine) (from : ℕ) (years : List YearLine) (old new : YearLine) : Type 0 where
   pub change : IsChange day before after
   pub later : List YearLine
   pub lines_are : lines ≡ old ∷ later
@@ -45,7 +49,8 @@ pub record StandsIn (form : Form) (day : ℕ) (holidays : List ℕ) (before afte
   pub period : Window
   pub is_period : IsDayPeriod form day before period
   pub begins : from ≡ period.from
-  pub earlier : (o : Obligation) → o.first < from → IsOwed form before holidays o ↔ IsOwed form after holidays o
+  pub earlier : (o : Obligation) → o.first < from
+      → IsOwed form before holidays o ↔ IsOwed form after holidays o
   pub changed : AreChangedBefore before after old.year years
 
 -- the first window is asked for
@@ -55,9 +60,10 @@ pub record AtPeriod (form : Form) (day : ℕ) (s : Repairing) (old : YearLine) :
   pub from : s.from ≡ s.asked.from
   pub rows : s.rows ≡ []
 
--- the rest of the day's year is asked for, whose turn differs. The open deposit period is that of the last
--- day fed, after the change; the rows are those that begin before its first day.
-pub record AtRest (form : Form) (day : ℕ) (holidays : List ℕ) (after : History) (s : Repairing) (old new : YearLine) (first : ℕ) (turn : Option ℕ) : Type 0 where
+-- the rest of the day's year is asked for, whose turn differs. The open deposit period is that of
+-- the last day fed, after the change; the rows are those that begin before its first day.
+pub record AtRest (form : Form) (day : ℕ) (holidays : List ℕ) (after : History) (s : Repairing)
+    (old new : YearLine) (first : ℕ) (turn : Option ℕ) : Type 0 where
   pub of_day : (year_start old.year ≤ day) × (day ≤ year_last old.year)
   pub period : Window
   pub is_period : IsPeriodOf form old day period
@@ -68,12 +74,14 @@ pub record AtRest (form : Form) (day : ℕ) (holidays : List ℕ) (after : Histo
   pub last : ℕ
   pub is_open : IsPeriodOf form new period.to (record { from = first; to = last })
   pub reached : s.from ≤ first
-  pub is_turn : MatchOption turn (IfSome new.turn (λ turn. period.to < turn)) (λ turn. new.turn ≡ Some turn)
+  pub is_turn : MatchOption turn (IfSome new.turn (λ turn. period.to < turn))
+      (λ turn. new.turn ≡ Some turn)
   pub sums : AreSumsOf after (record { from = first; to = period.to }) s.held
   pub rows : AreRows form after holidays s.from first s.rows
 
 -- a later year is asked for, whose opening differs
-pub record AtYear (form : Form) (day : ℕ) (holidays : List ℕ) (after : History) (s : Repairing) (old new : YearLine) (turned : Bool) : Type 0 where
+pub record AtYear (form : Form) (day : ℕ) (holidays : List ℕ) (after : History) (s : Repairing)
+    (old new : YearLine) (turned : Bool) : Type 0 where
   pub later : day < year_start old.year
   pub from : s.asked.from ≡ year_start old.year
   pub to : s.asked.to ≡ year_last old.year
@@ -84,11 +92,14 @@ pub record AtYear (form : Form) (day : ℕ) (holidays : List ℕ) (after : Histo
 
 abbrev pub StandsAt : Form → ℕ → List ℕ → History → Repairing → YearLine → YearLine → Stage → Type 0
 StandsAt form day holidays after s old new stage.Period = AtPeriod form day s old
-StandsAt form day holidays after s old new (stage.Rest first turn) = AtRest form day holidays after s old new first turn
-StandsAt form day holidays after s old new (stage.Year turned) = AtYear form day holidays after s old new turned
+StandsAt form day holidays after s old new (stage.Rest first turn) =
+    AtRest form day holidays after s old new first turn
+StandsAt form day holidays after s old new (stage.Year turned) =
+    AtYear form day holidays after s old new turned
 
 -- the repair of a change has been fed the sums of the history after it, window by window
-pub record Stands (form : Form) (day : ℕ) (holidays : List ℕ) (before after : History) (r : Repairing) : Type 0 where
+pub record Stands (form : Form) (day : ℕ) (holidays : List ℕ) (before after : History)
+    (r : Repairing) : Type 0 where
   pub old : YearLine
   pub new : YearLine
   pub common : StandsIn form day holidays before after r.lines r.from r.years old new

@@ -15,7 +15,8 @@ IsPeriodOf form line day w = IsPeriod form line w.from w.to × (w.from ≤ day) 
 
 -- the day's deposit period before the change
 abbrev pub IsDayPeriod : Form → ℕ → History → Window → Type 0
-IsDayPeriod form day before w = (line : YearLine) × Has before.lines line × IsPeriodOf form line day w
+IsDayPeriod form day before w =
+    (line : YearLine) × Has before.lines line × IsPeriodOf form line day w
 
 -- a year whose line differs: the line before and the line after
 pub record IsYearOf (before after : History) (old new : YearLine) : Type 0 where
@@ -46,22 +47,27 @@ pub record IsLaterYear (day : ℕ) (before after : History) (w : Window) : Type 
   pub from : w.from ≡ year_start old.year
   pub to : w.to ≡ year_last old.year
 
--- the windows whose day sums are needed: the day's deposit period before the change, the rest of its
--- year where the year's turn differs, and each later year whose opening differs
+-- the windows whose day sums are needed: the day's deposit period before the change, the rest of
+-- its year where the year's turn differs, and each later year whose opening differs
 abbrev pub IsNeeded : Form → ℕ → History → History → Window → Type 0
-IsNeeded form day before after w = IsDayPeriod form day before w ⊎ (IsRestOfYear form day before after w ⊎ IsLaterYear day before after w)
+IsNeeded form day before after w =
+    IsDayPeriod form day before w
+    ⊎ (IsRestOfYear form day before after w ⊎ IsLaterYear day before after w)
 
 -- of the windows needed, the next one after that which was fed
-pub record IsNext (form : Form) (day : ℕ) (before after : History) (fed next : Window) : Type 0 where
+pub record IsNext (form : Form) (day : ℕ) (before after : History)
+    (fed next : Window) : Type 0 where
   pub needed : IsNeeded form day before after next
   pub later : fed.to < next.from
   pub least : (w : Window) → IsNeeded form day before after w → fed.to < w.from → next.from ≤ w.from
 
 -- none of the windows needed begins after that which was fed
 abbrev pub NoneAfter : Form → ℕ → History → History → Window → Type 0
-NoneAfter form day before after fed = (w : Window) → IsNeeded form day before after w → w.from ≤ fed.to
+NoneAfter form day before after fed =
+    (w : Window) → IsNeeded form day before after w → w.from ≤ fed.to
 
 -- the window that was fed is the last one needed
-pub record IsLastNeeded (form : Form) (day : ℕ) (before after : History) (fed : Window) : Type 0 where
+pub record IsLastNeeded (form : Form) (day : ℕ) (before after : History)
+    (fed : Window) : Type 0 where
   pub needed : IsNeeded form day before after fed
   pub none_after : NoneAfter form day before after fed

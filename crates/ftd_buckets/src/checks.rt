@@ -11,9 +11,9 @@ use ftd_days::Day;
 use ftd_rules::year::{first_day, last_day};
 use ftd_rules::{DaySum, Kind, YearLine};
 
-/// Whether a repair may begin with these lines for a change of the day: they are of years of 2001 to
-/// 2098 without a gap, the first that of the day, and each turn lies in its year and beside a monthly
-/// opening.
+/// Whether a repair may begin with these lines for a change of the day: they are of years of 2001
+/// to 2098 without a gap, the first that of the day, and each turn lies in its year and beside a
+/// monthly opening.
 pub fn may_begin(lines: &[YearLine], day: Day) -> bool
     ensures { IsTrue result ↔ MayBegin day lines.now }
 {
@@ -25,7 +25,8 @@ pub fn may_begin(lines: &[YearLine], day: Day) -> bool
 
 /// Whether the day is one of the year, a year of 2001 to 2098.
 fn is_in(year: u32, day: Day) -> bool
-    ensures { IsTrue result ↔ ((2001 ≤ year) × (year ≤ 2098) × (year_start year ≤ day) × (day ≤ year_last year)) }
+    ensures { IsTrue result
+        ↔ ((2001 ≤ year) × (year ≤ 2098) × (year_start year ≤ day) × (day ≤ year_last year)) }
 {
     if year < 2001 || year > 2098 {
         return false;
@@ -33,8 +34,8 @@ fn is_in(year: u32, day: Day) -> bool
     first_day(year) <= day && day <= last_day(year)
 }
 
-/// Whether the lines are of the years from `year` on without a gap, none after 2098, each with its turn
-/// in its year and beside a monthly opening.
+/// Whether the lines are of the years from `year` on without a gap, none after 2098, each with its
+/// turn in its year and beside a monthly opening.
 fn follow(year: u32, lines: &[YearLine]) -> bool
     requires { 2001 ≤ year }
     ensures { IsTrue result ↔ (YearsFrom year lines.now × All TurnsWithin lines.now) }
@@ -45,7 +46,8 @@ fn follow(year: u32, lines: &[YearLine]) -> bool
     }
 }
 
-/// Whether the line is of the year, one up to 2098, with its turn in it and beside a monthly opening.
+/// Whether the line is of the year, one up to 2098, with its turn in it and beside a monthly
+/// opening.
 fn is_line_of(year: u32, line: &YearLine) -> bool
     requires { 2001 ≤ year }
     ensures { IsTrue result ↔ ((line.now.year ≡ year) × (year ≤ 2098) × TurnsWithin line.now) }

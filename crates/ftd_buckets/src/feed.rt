@@ -14,7 +14,8 @@ ghost use Rattle.ftd_buckets.specs.Standing.{Stands, held};
 ghost use Rattle.ftd_buckets.specs.Patches.{AreSumsOf};
 ghost use Rattle.ftd_buckets.specs.Private.Turned.{IsTurnNow, IsWithin};
 ghost use Rattle.ftd_buckets.specs.declared.turn.TurnNow.TheVariants as now;
-ghost use Rattle.ftd_buckets.specs.Private.Answered.{Answers, Serves, Holds, IsAtYearEnd, IsSettledYear};
+ghost use Rattle.ftd_buckets.specs.Private.Answered.{Answers, Serves, Holds, IsAtYearEnd};
+ghost use Rattle.ftd_buckets.specs.Private.Answered.{IsSettledYear};
 ghost use Rattle.ftd_buckets.specs.declared.state.Stage.TheVariants as stage;
 ghost use Rattle.ftd_buckets.specs.declared.state.Next.TheVariants as Next;
 
@@ -68,14 +69,20 @@ impl<'a> Settled<'a> {
         sums: &[DaySum],
     ) -> Result<Next<'a>, AllocError>
         requires ready { IsReady (repairing self stage.Period) }
-        requires within { (line : YearLine) (later : List YearLine) → self.lines.now ≡ line ∷ later → IsWithin line self.asked.from self.asked.to (now.Changed turn) }
+        requires within { (line : YearLine) (later : List YearLine) → self.lines.now ≡ line ∷ later
+            → IsWithin line self.asked.from self.asked.to (now.Changed turn) }
         requires rise { SumsRise self.asked.from self.asked.to sums.now }
         requires small { sum_by cents_of sums.now < 6_000_000_000_000_000 }
-        requires last { (line : YearLine) (later : List YearLine) → self.lines.now ≡ line ∷ later → self.asked.to ≡ year_last line.year }
-        ensures holds { IfOk result (Holds self.entry.form (sum_by cents_of self.entry.held.items + sum_by cents_of sums.now)) }
+        requires last { (line : YearLine) (later : List YearLine) → self.lines.now ≡ line ∷ later
+            → self.asked.to ≡ year_last line.year }
+        ensures holds { IfOk result
+            (Holds self.entry.form
+            (sum_by cents_of self.entry.held.items + sum_by cents_of sums.now)) }
         ensures serves { IfOk result (λ next. (day : ℕ) (holidays : List ℕ) (before after : History)
-            → (st : Stands self.entry.form day holidays before after (repairing self.entry stage.Period)) → AreSumsOf after self.entry.asked sums.now
-            → IsTurnNow st.old st.new self.entry.asked.to (now.Changed turn) → Serves self.entry.form day holidays before after self.entry.asked next) }
+            → (st : Stands self.entry.form day holidays before after
+            (repairing self.entry stage.Period)) → AreSumsOf after self.entry.asked sums.now
+            → IsTurnNow st.old st.new self.entry.asked.to (now.Changed turn)
+            → Serves self.entry.form day holidays before after self.entry.asked next) }
     {
         self.holidays.end_before_2100();
         let line = self.lines[0];
@@ -98,14 +105,20 @@ impl<'a> Settled<'a> {
     /// turn, if it has come.
     fn feed_turned(mut self, turn: Option<Day>, sums: &[DaySum]) -> Result<Next<'a>, AllocError>
         requires ready { IsReady (repairing self stage.Period) }
-        requires within { (line : YearLine) (later : List YearLine) → self.lines.now ≡ line ∷ later → IsWithin line self.asked.from self.asked.to (now.Changed turn) }
+        requires within { (line : YearLine) (later : List YearLine) → self.lines.now ≡ line ∷ later
+            → IsWithin line self.asked.from self.asked.to (now.Changed turn) }
         requires rise { SumsRise self.asked.from self.asked.to sums.now }
         requires small { sum_by cents_of sums.now < 6_000_000_000_000_000 }
-        requires goes_on { (line : YearLine) (later : List YearLine) → self.lines.now ≡ line ∷ later → self.asked.to < year_last line.year }
-        ensures holds { IfOk result (Holds self.entry.form (sum_by cents_of self.entry.held.items + sum_by cents_of sums.now)) }
+        requires goes_on { (line : YearLine) (later : List YearLine) → self.lines.now ≡ line ∷ later
+            → self.asked.to < year_last line.year }
+        ensures holds { IfOk result
+            (Holds self.entry.form
+            (sum_by cents_of self.entry.held.items + sum_by cents_of sums.now)) }
         ensures serves { IfOk result (λ next. (day : ℕ) (holidays : List ℕ) (before after : History)
-            → (st : Stands self.entry.form day holidays before after (repairing self.entry stage.Period)) → AreSumsOf after self.entry.asked sums.now
-            → IsTurnNow st.old st.new self.entry.asked.to (now.Changed turn) → Serves self.entry.form day holidays before after self.entry.asked next) }
+            → (st : Stands self.entry.form day holidays before after
+            (repairing self.entry stage.Period)) → AreSumsOf after self.entry.asked sums.now
+            → IsTurnNow st.old st.new self.entry.asked.to (now.Changed turn)
+            → Serves self.entry.form day holidays before after self.entry.asked next) }
     {
         self.holidays.end_before_2100();
         let line = self.lines[0];
@@ -143,7 +156,8 @@ impl<'a> Settled<'a> {
     ) -> Result<Next<'a>, AllocError>
         requires ready { IsReady (repairing self (stage.Rest first turn)) }
         requires rise { SumsRise self.asked.from self.asked.to sums.now }
-        requires small { held (repairing self (stage.Rest first turn)) + sum_by cents_of sums.now < 6_000_000_000_000_000 }
+        requires small { held (repairing self (stage.Rest first turn)) + sum_by cents_of sums.now
+            < 6_000_000_000_000_000 }
         ensures { IfOk result (Answers (repairing self.entry (stage.Rest first turn)) sums.now) }
     {
         self.holidays.end_before_2100();
@@ -183,9 +197,11 @@ impl<'a> Settled<'a> {
     /// otherwise than before, and else it is done.
     fn after_year(mut self, new: &YearLine) -> Result<Next<'a>, AllocError>
         requires ready { IsAtYearEnd self.lines.now self.asked.to new.now.year }
-        ensures holds { IfOk result (Holds self.entry.form (sum_by cents_of self.entry.held.items)) }
+        ensures holds { IfOk result
+            (Holds self.entry.form (sum_by cents_of self.entry.held.items)) }
         ensures serves { IfOk result (λ next. (day : ℕ) (holidays : List ℕ) (before after : History)
-            → IsSettledYear self.entry.form day holidays before after self.entry new.now → Serves self.entry.form day holidays before after self.entry.asked next) }
+            → IsSettledYear self.entry.form day holidays before after self.entry new.now
+            → Serves self.entry.form day holidays before after self.entry.asked next) }
     {
         self.years.push(*new)?;
         let turned = new.turn.is_some();
@@ -203,7 +219,8 @@ impl<'a> Settled<'a> {
     /// The repair asks for a further window.
     fn need(mut self, from: Day, to: Day, stage: Stage) -> Next<'a>
         requires ready { IsReady (asking (repairing self stage) from to) }
-        ensures { result ≡ Next.Need (asking (repairing self.entry stage) from to) (record { from = from; to = to }) }
+        ensures { result ≡ Next.Need (asking (repairing self.entry stage) from to)
+            (record { from = from; to = to }) }
     {
         self.asked = Window { from, to };
         let settled = self;

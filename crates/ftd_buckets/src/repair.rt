@@ -32,11 +32,13 @@ impl<'a> Repair<'a> {
         requires years { AreOpenYears lines.now }
         requires turns { All TurnsWithin lines.now }
         requires first { BeginWith day lines.now }
-        ensures window { (line : YearLine) × (later : List YearLine) × (lines.now ≡ line ∷ later) × IsPeriodOf form line day result.1 }
+        ensures window { (line : YearLine) × (later : List YearLine) × (lines.now ≡ line ∷ later)
+            × IsPeriodOf form line day result.1 }
         ensures form { result.0.form ≡ form }
         ensures asked { result.0.asked ≡ result.1 }
         ensures held { held result.0 ≡ 0 }
-        ensures stands { (before after : History) → IsChange day before after → AreLast before lines.now
+        ensures stands { (before after : History) → IsChange day before after
+            → AreLast before lines.now
             → Stands form day (holidays_of holidays.now) before after result.0 }
     {
         holidays.end_before_2100();
@@ -69,15 +71,25 @@ impl<'a> Repair<'a> {
     pub fn feed(self, sums: &[DaySum]) -> Result<Next<'a>, AllocError>
         requires rise { SumsRise self.asked.from self.asked.to sums.now }
         requires small { held self + sum_by cents_of sums.now < 6_000_000_000_000_000 }
-        ensures form { IfOk result (λ next. IfNeed next (λ repair window. repair.form ≡ self.entry.form)) }
+        ensures form { IfOk result
+            (λ next. IfNeed next (λ repair window. repair.form ≡ self.entry.form)) }
         ensures asked { IfOk result (λ next. IfNeed next (λ repair window. repair.asked ≡ window)) }
-        ensures held { IfOk result (λ next. IfNeed next (λ repair window. held repair ≤ held self.entry + sum_by cents_of sums.now)) }
-        ensures need { IfOk result (λ next. IfNeed next (λ repair window. (day : ℕ) (holidays : List ℕ) (before after : History)
-            → Stands self.entry.form day holidays before after self.entry → AreSumsOf after self.entry.asked sums.now
-            → Stands self.entry.form day holidays before after repair × IsNext self.entry.form day before after self.entry.asked window)) }
-        ensures done { IfOk result (λ next. IfDone next (λ patch. (day : ℕ) (holidays : List ℕ) (before after : History)
-            → Stands self.entry.form day holidays before after self.entry → AreSumsOf after self.entry.asked sums.now
-            → IsPatch self.entry.form day before after holidays self.entry.asked patch × IsLastNeeded self.entry.form day before after self.entry.asked)) }
+        ensures held { IfOk result
+            (λ next. IfNeed next
+            (λ repair window. held repair ≤ held self.entry + sum_by cents_of sums.now)) }
+        ensures need { IfOk result
+            (λ next. IfNeed next
+            (λ repair window. (day : ℕ) (holidays : List ℕ) (before after : History)
+            → Stands self.entry.form day holidays before after self.entry
+            → AreSumsOf after self.entry.asked sums.now
+            → Stands self.entry.form day holidays before after repair
+            × IsNext self.entry.form day before after self.entry.asked window)) }
+        ensures done { IfOk result
+            (λ next. IfDone next (λ patch. (day : ℕ) (holidays : List ℕ) (before after : History)
+            → Stands self.entry.form day holidays before after self.entry
+            → AreSumsOf after self.entry.asked sums.now
+            → IsPatch self.entry.form day before after holidays self.entry.asked patch
+            × IsLastNeeded self.entry.form day before after self.entry.asked)) }
     {
         let Repair { settled, stage } = self;
         match stage {

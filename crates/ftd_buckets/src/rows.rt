@@ -32,8 +32,10 @@ pub fn add_rows(
     requires whole { IsWhole form line.now first last }
     requires rise { SumsRise first last sums.now }
     requires small { sum_by cents_of sums.now < 6_000_000_000_000_000 }
-    ensures rows { OnOk result ((added : List Obligation) × (rows.new.items ≡ rows.old.items ++ added)
-        × AreOwed (due_date (holidays_of holidays.now)) (liability sums.now) (periods form (semiweekly_from line.now)) first (last + 1) added) }
+    ensures rows { OnOk result
+        ((added : List Obligation) × (rows.new.items ≡ rows.old.items ++ added)
+        × AreOwed (due_date (holidays_of holidays.now)) (liability sums.now)
+        (periods form (semiweekly_from line.now)) first (last + 1) added) }
     ensures known { All (λ d. d < holidays_end) (holidays_of holidays.now) }
 {
     holidays.end_before_2100();

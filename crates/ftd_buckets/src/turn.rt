@@ -8,7 +8,8 @@ ghost use Rattle.ftd_rules.specs.declared.YearLine.{YearLine};
 ghost use Rattle.ftd_rules.specs.Liability.{liability, cents_of, SumsRise};
 ghost use Rattle.ftd_rules.specs.Periods.{IsPeriod};
 ghost use Rattle.ftd_buckets.specs.Histories.{TurnsWithin};
-ghost use Rattle.ftd_buckets.specs.Private.Turned.{IsYearChange, IsTurnNow, IsWithin, IsFirstTurn, IsMonthStart};
+ghost use Rattle.ftd_buckets.specs.Private.Turned.{IsYearChange, IsTurnNow, IsWithin, IsFirstTurn};
+ghost use Rattle.ftd_buckets.specs.Private.Turned.{IsMonthStart};
 
 use crate::Window;
 use ftd_days::Day;
@@ -16,7 +17,8 @@ use ftd_rules::schedule::turn_of;
 use ftd_rules::year::first_semiweekly_day;
 use ftd_rules::{DaySum, YearLine};
 
-/// The turn of a year after a change of one day's runs, as far as the day's deposit period tells it.
+/// The turn of a year after a change of one day's runs, as far as the day's deposit period tells
+/// it.
 #[derive(Drop)]
 pub enum TurnNow {
     /// It is as it was.
@@ -35,7 +37,8 @@ pub fn turn_now(line: &YearLine, period: Window, sums: &[DaySum]) -> TurnNow
     requires rise { SumsRise period.from period.to sums.now }
     requires small { sum_by cents_of sums.now < 6_000_000_000_000_000 }
     ensures within { IsWithin line.now period.from period.to result }
-    ensures now { (before after : ℕ → ℕ → ℕ) (day : ℕ) (new : YearLine) → IsYearChange before after day line.now new
+    ensures now { (before after : ℕ → ℕ → ℕ) (day : ℕ) (new : YearLine)
+        → IsYearChange before after day line.now new
         → period.from ≤ day → day ≤ period.to
         → ((a b : ℕ) → period.from ≤ a → b ≤ period.to → after a b ≡ liability sums.now a b)
         → IsTurnNow line.now new period.to result }
@@ -68,7 +71,8 @@ pub fn turn_from(turn: Option<Day>, first: Day, last: Day, sums: &[DaySum]) -> O
     requires ends { last ≤ last_day }
     requires rise { SumsRise first last sums.now }
     requires small { sum_by cents_of sums.now < 6_000_000_000_000_000 }
-    ensures { MatchOption turn (IsFirstTurn (liability sums.now) first last result) (λ t. result ≡ Some t) }
+    ensures { MatchOption turn (IsFirstTurn (liability sums.now) first last result)
+        (λ t. result ≡ Some t) }
 {
     match turn {
         Some(turn) => Some(turn),

@@ -6,8 +6,8 @@ use ftd_rules::{Obligation, Rule};
 use std::alloc::Global;
 use std::test::Fail;
 
-/// A rule, the last day of an obligation, its due date, a holiday that is added, and the due date then:
-/// no text where it stays. Monday 27 May 2024 is a holiday before.
+/// A rule, the last day of an obligation, its due date, a holiday that is added, and the due date
+/// then: no text where it stays. Monday 27 May 2024 is a holiday before.
 const ADDED: [(Rule, &str, &str, &str, &str); 7] = [
     // The second business day after a Friday close, and the Saturday after it.
     (

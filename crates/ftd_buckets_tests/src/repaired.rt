@@ -1,5 +1,5 @@
-//! The windows that a repair asks for, and its patch. The expected texts are worked out by hand from the
-//! published rules and the legal holidays in the District of Columbia.
+//! The windows that a repair asks for, and its patch. The expected texts are worked out by hand
+//! from the published rules and the legal holidays in the District of Columbia.
 
 ghost use Rattle.std.specs.Prelude.{◌≡◌, ◌+◌, ◌<◌, ◌≤◌, IfOk};
 ghost use Rattle.std.specs.List.{sum_by};

@@ -23,7 +23,8 @@ text_fault records.Memory = fault.Memory
 abbrev pub fault_text : PlainFault → List ℕ
 fault_text fault.BadHeader = codes "refused header"
 fault_text fault.TooLong = codes "refused length"
-fault_text (fault.Malformed number field) = codes "record " ++ (decimal number ++ (codes " malformed field " ++ decimal field))
+fault_text (fault.Malformed number field) =
+    codes "record " ++ (decimal number ++ (codes " malformed field " ++ decimal field))
 fault_text (fault.RunDiffers number) = codes "run " ++ (decimal number ++ codes " differs")
 fault_text fault.TooManyRuns = codes "refused 19 TooManyRuns"
 fault_text fault.BadCalendar = codes "refused 5 BadCalendar"

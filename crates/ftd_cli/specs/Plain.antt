@@ -1,5 +1,7 @@
 -- What the command `plain` answers: the deposits of one employer in one year, from its pay runs.
-use Rattle.std.specs.Prelude.{◌≡◌, ◌≢◌, ℕ, ◌+◌, ◌==◌, ◌&&◌, ◌<◌, ◌≤◌, ◌⊎◌, ◌↔◌, Bool, false, List, [], ◌∷◌, ◌++◌, length, map, Option, Some, None, IsTrue, All, AllPairs, Contains, count_by, if◌then◌else◌, ⊤}
+use Rattle.std.specs.Prelude.{◌≡◌, ◌≢◌, ℕ, ◌+◌, ◌==◌, ◌&&◌, ◌<◌, ◌≤◌, ◌⊎◌, ◌↔◌, Bool, false, List}
+use Rattle.std.specs.Prelude.{[], ◌∷◌, ◌++◌, length, map, Option, Some, None, IsTrue, All, AllPairs}
+use Rattle.std.specs.Prelude.{Contains, count_by, if◌then◌else◌, ⊤}
 use Rattle.std.specs.List.{filter_map, flat_map}
 use Rattle.std.specs.List.Sorted.{IsStrictlyIncreasing}
 use Rattle.std.specs.Str.{bytes_eq}
@@ -21,7 +23,8 @@ use Rattle.ftd_cli.specs.declared.fault.PlainFault.TheVariants as fault
 abbrev pub most_runs : ℕ
 most_runs = 20_000
 
--- the holidays are a calendar of the year and the next: days of these years that rise, at most 60 of each
+-- the holidays are a calendar of the year and the next: days of these years that rise, at most 60
+-- of each
 pub record IsCalendar (year : ℕ) (holidays : List ℕ) : Type 0 where
   pub rising : IsStrictlyIncreasing holidays
   pub in_years : All (λ day. (year_of day ≡ year) ⊎ (year_of day ≡ year + 1)) holidays
@@ -45,11 +48,12 @@ pub record AreCounted (taken counted : List Run) : Type 0 where
   pub each_once : AllPairs (λ a b. a.number ≢ b.number) counted
   pub same : (run : Run) → Contains counted run ↔ Contains taken run
 
--- the run can't join those that were taken before it: one of them has its number and other content, or
--- it brings one number more than the most
+-- the run can't join those that were taken before it: one of them has its number and other content,
+-- or it brings one number more than the most
 abbrev pub RunFault : List Run → Run → PlainFault → Type 0
 RunFault before run (fault.RunDiffers number) =
-    (number ≡ run.number) × ((other : Run) × Contains before other × (other.number ≡ run.number) × (other ≢ run))
+    (number ≡ run.number)
+    × ((other : Run) × Contains before other × (other.number ≡ run.number) × (other ≢ run))
 RunFault before run fault.TooManyRuns =
     ((other : Run) → Contains before other → other.number ≢ run.number)
     × ((counted : List Run) × AreCounted before counted × (length counted ≡ most_runs))
@@ -59,10 +63,12 @@ RunFault before run (fault.Malformed number field) = ⊥
 RunFault before run fault.BadCalendar = ⊥
 RunFault before run fault.Memory = ⊥
 
--- a record is at fault, given the records before it. Records are numbered from 1, and the header is record 1.
+-- a record is at fault, given the records before it. Records are numbered from 1, and the header is
+-- record 1.
 abbrev pub AtFault : List ℕ → ℕ → List Said → Said → PlainFault → Type 0
 AtFault account year before (malformed place) f = f ≡ fault.Malformed (2 + length before) place
-AtFault account year before (pay_run run) f = IsTrue (is_taken account year run) × RunFault (taken account year before) run f
+AtFault account year before (pay_run run) f =
+    IsTrue (is_taken account year run) × RunFault (taken account year before) run f
 
 -- no record is at fault, each given the records before it
 abbrev pub NoneAtFault : List ℕ → ℕ → List Said → Type 0
@@ -71,7 +77,8 @@ NoneAtFault account year records =
     → records ≡ before ++ record_at ∷ after → AtFault account year before record_at f → ⊥
 
 -- the first record that is at fault, and its fault
-pub record FirstFault (account : List ℕ) (year : ℕ) (records : List Said) (f : PlainFault) : Type 0 where
+pub record FirstFault (account : List ℕ) (year : ℕ) (records : List Said)
+    (f : PlainFault) : Type 0 where
   pub before : List Said
   pub record_at : Said
   pub after : List Said
@@ -82,14 +89,15 @@ pub record FirstFault (account : List ℕ) (year : ℕ) (records : List Said) (f
 -- what a run adds to the liability of its payday: the income tax withheld and both shares of social
 -- security and of Medicare tax
 abbrev pub day_sum : Run → DaySum
-day_sum run = record { day = run.payday; cents = record { 0 = run_liability run.fit run.ss run.medicare } }
+day_sum run =
+    record { day = run.payday; cents = record { 0 = run_liability run.fit run.ss run.medicare } }
 
 -- the line of an obligation
 abbrev pub line_text : Obligation → List ℕ
 line_text row = obligation_text row ++ 10 ∷ []
 
--- the text prints the obligations of a monthly depositor on Form 941 with these sums in the year, a line
--- for each by first day: the year's lookback total is zero, and the account is not carried
+-- the text prints the obligations of a monthly depositor on Form 941 with these sums in the year, a
+-- line for each by first day: the year's lookback total is zero, and the account is not carried
 pub record Prints (year : ℕ) (holidays : List ℕ) (sums : List DaySum) (text : List ℕ) : Type 0 where
   pub line : YearLine
   pub of_year : line.year ≡ year
@@ -101,13 +109,15 @@ pub record Prints (year : ℕ) (holidays : List ℕ) (sums : List DaySum) (text 
   pub printed : text ≡ flat_map line_text rows
 
 -- the text of the deposits of the records, of which none is at fault
-pub record Deposits (account : List ℕ) (year : ℕ) (holidays : List ℕ) (records : List Said) (text : List ℕ) : Type 0 where
+pub record Deposits (account : List ℕ) (year : ℕ) (holidays : List ℕ) (records : List Said)
+    (text : List ℕ) : Type 0 where
   pub none_at_fault : NoneAtFault account year records
   pub counted : List Run
   pub are_counted : AreCounted (taken account year records) counted
   pub prints : Prints year holidays (map day_sum counted) text
 
--- the records of the text are looked at: it is not too long, the holidays are a calendar, and it has the header
+-- the records of the text are looked at: it is not too long, the holidays are a calendar, and it
+-- has the header
 pub record IsLookedAt (csv : List ℕ) (year : ℕ) (holidays : List ℕ) : Type 0 where
   pub short : length csv ≤ most_bytes
   pub calendar : IsCalendar year holidays
@@ -116,12 +126,16 @@ pub record IsLookedAt (csv : List ℕ) (year : ℕ) (holidays : List ℕ) : Type
 -- where each fault of `plain` stands; want of memory may come at any point
 abbrev pub PlainFails : List ℕ → List ℕ → ℕ → List ℕ → PlainFault → Type 0
 PlainFails csv account year holidays fault.TooLong = most_bytes < length csv
-PlainFails csv account year holidays fault.BadCalendar = (length csv ≤ most_bytes) × ¬ IsCalendar year holidays
-PlainFails csv account year holidays fault.BadHeader = (length csv ≤ most_bytes) × IsCalendar year holidays × ¬ HasHeader csv
+PlainFails csv account year holidays fault.BadCalendar =
+    (length csv ≤ most_bytes) × ¬ IsCalendar year holidays
+PlainFails csv account year holidays fault.BadHeader =
+    (length csv ≤ most_bytes) × IsCalendar year holidays × ¬ HasHeader csv
 PlainFails csv account year holidays (fault.Malformed number field) =
-    IsLookedAt csv year holidays × FirstFault account year (records_of csv) (fault.Malformed number field)
+    IsLookedAt csv year holidays
+    × FirstFault account year (records_of csv) (fault.Malformed number field)
 PlainFails csv account year holidays (fault.RunDiffers number) =
-    IsLookedAt csv year holidays × FirstFault account year (records_of csv) (fault.RunDiffers number)
+    IsLookedAt csv year holidays
+    × FirstFault account year (records_of csv) (fault.RunDiffers number)
 PlainFails csv account year holidays fault.TooManyRuns =
     IsLookedAt csv year holidays × FirstFault account year (records_of csv) fault.TooManyRuns
 PlainFails csv account year holidays fault.Memory = ⊤

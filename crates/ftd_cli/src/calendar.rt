@@ -18,8 +18,8 @@ fn days_of(year: u32, days: &[Day]) -> usize
     days.iter().take_while(|day| day.year() == year).count()
 }
 
-/// The holidays as a calendar of the year and the next. `BadCalendar` where they don't rise, don't all
-/// lie in these years, or are more than 60 for one.
+/// The holidays as a calendar of the year and the next. `BadCalendar` where they don't rise, don't
+/// all lie in these years, or are more than 60 for one.
 pub fn calendar(alloc: Global, year: u32, holidays: &[Day]) -> Result<Holidays, PlainFault>
     requires from { 2001 ≤ year }
     requires to { year ≤ 2098 }

@@ -18,13 +18,13 @@ use std::alloc::{AllocError, Global};
 use std::collections::BTreeMap;
 
 /// The deposits of an account in a year, from its pay runs as CSV (Pub. 15, section 11): the
-/// obligations of an employer that opens the year as a monthly depositor (its lookback total is zero,
-/// and it is not carried into the year as semiweekly), one line each, by first day.
+/// obligations of an employer that opens the year as a monthly depositor (its lookback total is
+/// zero, and it is not carried into the year as semiweekly), one line each, by first day.
 ///
-/// The year is one of 2001 to 2098. The holidays rise, lie in the year or the next, and are at most 60
-/// for each. The text has at most 16 MiB and the header `employer,run,payday,fit,ss,medicare`. Under it
-/// runs of other accounts and years are read too, and left out. A run of the account that comes again
-/// with equal content counts once. `PlainFault` says when which fault is answered.
+/// The year is one of 2001 to 2098. The holidays rise, lie in the year or the next, and are at most
+/// 60 for each. The text has at most 16 MiB and the header `employer,run,payday,fit,ss,medicare`.
+/// Under it runs of other accounts and years are read too, and left out. A run of the account that
+/// comes again with equal content counts once. `PlainFault` says when which fault is answered.
 pub fn plain(
     alloc: Global,
     csv: &[u8],

@@ -6,7 +6,8 @@ ghost use Rattle.std.specs.Ordering.{nat_cmp};
 ghost use Rattle.ftd_csv.specs.Answers.{record_view, run_view, said_in};
 ghost use Rattle.ftd_csv.specs.Records.{numbered_from};
 ghost use Rattle.ftd_cli.specs.Plain.{is_taken, most_runs};
-ghost use Rattle.ftd_cli.specs.Taking.{TakesRun, RefusesRun, TakesRecord, RefusesRecord, TakesAll, Stops};
+ghost use Rattle.ftd_cli.specs.Taking.{TakesRun, RefusesRun, TakesRecord, RefusesRecord, TakesAll};
+ghost use Rattle.ftd_cli.specs.Taking.{Stops};
 
 use crate::fault::PlainFault;
 use ftd_csv::{Content, EmployerRun, Record};

@@ -1,7 +1,8 @@
 -- What the reading of a text of pay runs answers.
 use Rattle.std.specs.Prelude.{◌≡◌, ◌<◌, ◌≤◌, ℕ, List, length, map, ⊤}
 use Rattle.std.specs.String.{string_bytes}
-use Rattle.ftd_csv.specs.Records.{HasHeader, Run, Said, malformed, numbered_from, pay_run, records_of}
+use Rattle.ftd_csv.specs.Records.{HasHeader, Run, Said, malformed, numbered_from, pay_run}
+use Rattle.ftd_csv.specs.Records.{records_of}
 use Rattle.ftd_csv.specs.declared.record.Content.{Content}
 use Rattle.ftd_csv.specs.declared.record.Content.TheVariants as content
 use Rattle.ftd_csv.specs.declared.record.EmployerRun.{EmployerRun}

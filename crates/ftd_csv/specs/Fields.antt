@@ -1,11 +1,14 @@
 -- The number of a pay run.
-use Rattle.std.specs.Prelude.{ℕ, ◌&&◌, nat_lt, nat_le, Bool, List, length, Option, Some, None, if◌then◌else◌}
+use Rattle.std.specs.Prelude.{ℕ, ◌&&◌, nat_lt, nat_le, Bool, List, length, Option, Some, None}
+use Rattle.std.specs.Prelude.{if◌then◌else◌}
 use Rattle.std.specs.Str.{all_ascii_digits}
 use Rattle.ftd_days.specs.Digits.{number_of}
 
 -- 1 to 9 digits of a value of at least 1
 abbrev pub is_run_number : List ℕ → Bool
-is_run_number text = nat_lt 0 (length text) && nat_le (length text) 9 && all_ascii_digits text && nat_lt 0 (number_of text)
+is_run_number text =
+    nat_lt 0 (length text) && nat_le (length text) 9 && all_ascii_digits text
+    && nat_lt 0 (number_of text)
 
 -- the number of a pay run that the text spells
 unfoldable pub run_number_of : List ℕ → Option ℕ

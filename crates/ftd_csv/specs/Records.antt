@@ -1,13 +1,14 @@
 -- The records of a CSV text of pay runs.
-use Rattle.std.specs.Prelude.{◌≡◌, ℕ, ◌+◌, List, [], ◌∷◌, map, Option, Some, None, codes, if◌then◌else◌}
+use Rattle.std.specs.Prelude.{◌≡◌, ℕ, ◌+◌, List, [], ◌∷◌, map, Option, Some, None, codes}
+use Rattle.std.specs.Prelude.{if◌then◌else◌}
 use Rattle.std.specs.List.{slice_get}
 use Rattle.csv.specs.Reading.{default_config, records, strip_bom}
 use Rattle.ftd_days.specs.Spelling.{day_of, cents_of}
 use Rattle.ftd_rules.specs.Accounts.{is_account_name}
 use Rattle.ftd_csv.specs.Fields.{run_number_of}
 
--- a pay run: its employer's account name, its number, the day on which the wages are paid, the federal
--- income tax withheld and both shares of social security and of Medicare tax
+-- a pay run: its employer's account name, its number, the day on which the wages are paid, the
+-- federal income tax withheld and both shares of social security and of Medicare tax
 pub record Run : Type 0 where
   pub employer : List ℕ
   pub number : ℕ
@@ -16,7 +17,8 @@ pub record Run : Type 0 where
   pub ss : ℕ
   pub medicare : ℕ
 
--- what a record says: a pay run, or the least of its six fields that is bad, or 0 where it has other than six
+-- what a record says: a pay run, or the least of its six fields that is bad, or 0 where it has
+-- other than six
 pub data Said : Type 0 where
   pay_run : Run → Said
   malformed : ℕ → Said
@@ -35,11 +37,19 @@ six_of employer number payday fit ss medicare =
     field (cents_of fit) 4 (λ fit.
     field (cents_of ss) 5 (λ ss.
     field (cents_of medicare) 6 (λ medicare.
-    pay_run (record { employer = employer; number = number; payday = payday; fit = fit; ss = ss; medicare = medicare })))))))
+    pay_run (record {
+      employer = employer;
+      number = number;
+      payday = payday;
+      fit = fit;
+      ss = ss;
+      medicare = medicare;
+    })))))))
 
 -- what a record of these fields says
 unfoldable pub said_of : List (List ℕ) → Said
-said_of (employer ∷ number ∷ payday ∷ fit ∷ ss ∷ medicare ∷ []) = six_of employer number payday fit ss medicare
+said_of (employer ∷ number ∷ payday ∷ fit ∷ ss ∷ medicare ∷ []) =
+    six_of employer number payday fit ss medicare
 said_of _ = malformed 0
 
 -- the rows of a text, by csv's default reading; a byte order mark at its start is taken away
@@ -48,7 +58,9 @@ rows_of text = records default_config (strip_bom text)
 
 -- the header
 abbrev pub header_row : List (List ℕ)
-header_row = codes "employer" ∷ codes "run" ∷ codes "payday" ∷ codes "fit" ∷ codes "ss" ∷ codes "medicare" ∷ []
+header_row =
+    codes "employer" ∷ codes "run" ∷ codes "payday" ∷ codes "fit" ∷ codes "ss" ∷ codes "medicare"
+    ∷ []
 
 -- the first row of the text is the header
 abbrev pub HasHeader : List ℕ → Type 0

@@ -1,8 +1,10 @@
--- What a reader of rows has left. Private contracts speak of it; the public ones say what the rows are (Records).
+-- What a reader of rows has left. Private contracts speak of it; the public ones say what the rows
+-- are (Records).
 use Rattle.std.specs.Prelude.{◌≡◌, ◌+◌, ℕ, false, List, [], length, Option, Some, None, IsSome}
 use Rattle.std.specs.Borrow.{Bor}
 use Rattle.csv.specs.Machine.{ends_at_end}
-use Rattle.csv.specs.Reading.{Ready, default_config, reader_config, reader_state, reader_trim, records_from, source_of}
+use Rattle.csv.specs.Reading.{Ready, default_config, reader_config, reader_state, reader_trim}
+use Rattle.csv.specs.Reading.{records_from, source_of}
 use Rattle.csv.specs.declared.parser.State.{State}
 use Rattle.csv.specs.declared.reader.Reader.{Reader}
 use Rattle.csv.specs.declared.reader.Trim.TheVariants as trim

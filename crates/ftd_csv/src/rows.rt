@@ -13,7 +13,8 @@ pub fn open_rows(alloc: Global, text: &[u8]) -> Result<Reader<&[u8]>, AllocError
     ensures { IfOk result (λ reader. IsReading reader × (rows_left reader ≡ rows_of text.now)) }
 {
     let mut reader = ReaderBuilder::new().flexible(true).from_reader(alloc, text);
-    // With a header row given, the reader keeps no copies of the first row, which may be a long one.
+    // With a header row given, the reader keeps no copies of the first row, which may be a long
+    // one.
     let Ok(()) = reader.set_byte_headers(ByteRecord::new(alloc)) else {
         return Err(AllocError);
     };

@@ -1,5 +1,5 @@
-//! Values of `ftd_days` from outside, through its public calls: texts that are read and printed, days of
-//! real calendars, business days.
+//! Values of `ftd_days` from outside, through its public calls: texts that are read and printed,
+//! days of real calendars, business days.
 #![tactic(auto)]
 
 #[cfg(test)]

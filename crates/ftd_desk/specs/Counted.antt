@@ -29,12 +29,17 @@ pub record AreCounted (counts : Counts) (s : State) : Type 0 where
   pub payments : AreRight payments_of counts.payments s
 
 -- a number that is kept, with which nothing is touched, or one that was counted in the tables
-abbrev pub Knows : {S : Type 0} → store.Ghosts S → Tx S → Tx S → Result ℕ StoreFault → Option ℕ → (ℕ → Tables → Type 0) → Type 0
-Knows g old new result known IsCount = ((new ≡ old) × (number : ℕ) × (known ≡ Some number) × (result ≡ Ok number)) ⊎ Reads g old new result IsCount
+abbrev pub Knows : {S : Type 0} → store.Ghosts S → Tx S → Tx S → Result ℕ StoreFault → Option ℕ
+    → (ℕ → Tables → Type 0) → Type 0
+Knows g old new result known IsCount =
+    ((new ≡ old) × (number : ℕ) × (known ≡ Some number) × (result ≡ Ok number))
+    ⊎ Reads g old new result IsCount
 
--- within a transaction over rows that stand for a state, the request is answered as the machine answers it, the rows are
--- those of the machine's next state, and the counts stay right
-abbrev pub ServesCounted : Counts → Request → Served → database.State → database.State → Tables → Type 0
+-- within a transaction over rows that stand for a state, the request is answered as the machine
+-- answers it, the rows are those of the machine's next state, and the counts stay right
+abbrev pub ServesCounted : Counts → Request → Served → database.State → database.State → Tables
+    → Type 0
 ServesCounted counts request served before after t =
     (s : State) → StandsFor t s → IsSound s → AreCounted counts s
-    → (next : State) × Step s request served.answer next × IsKept after.now next × AreCounted served.counts next
+    → (next : State) × Step s request served.answer next × IsKept after.now next
+    × AreCounted served.counts next

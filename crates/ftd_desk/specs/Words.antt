@@ -1,5 +1,6 @@
 -- What a request does to the database.
-use Rattle.std.specs.Prelude.{◌≡◌, ◌⊎◌, Bool, true, false, IsTrue, List, [], ◌∷◌, ◌++◌, length, Result, Ok, Err, Vec}
+use Rattle.std.specs.Prelude.{◌≡◌, ◌⊎◌, Bool, true, false, IsTrue, List, [], ◌∷◌, ◌++◌, length}
+use Rattle.std.specs.Prelude.{Result, Ok, Err, Vec}
 use Rattle.std.specs.List.{list_any}
 use Rattle.sqlite.specs.Effect.{Database}
 use Rattle.sqlite.specs.State as database
@@ -25,7 +26,8 @@ use Rattle.ftd_desk.specs.Desks.{Held, Keeps}
 use Rattle.ftd_desk.specs.declared.known.Known.{Known}
 use Rattle.ftd_desk.specs.declared.listed.ServedAll.{ServedAll}
 
--- what a crash may leave of a request beside the tables from before it: those of the machine's next state
+-- what a crash may leave of a request beside the tables from before it: those of the machine's next
+-- state
 pub record MayLeave (s : State) (request : Request) (left : Trees) : Type 0 where
   pub answer : Answer
   pub next : State
@@ -34,8 +36,8 @@ pub record MayLeave (s : State) (request : Request) (left : Trees) : Type 0 wher
   pub trees : left ≡ db.trees
   pub kept : IsKept db next
 
--- the request is answered as the machine answers it, and the desk stands for its next state; or there is a fault, and it
--- stands for the state as it was
+-- the request is answered as the machine answers it, and the desk stands for its next state; or
+-- there is a fault, and it stands for the state as it was
 pub record Handles (old new : Held) (request : Request) (answer : Answer) : Type 0 where
   pub honest : HasCleanDisk new.db → HasCleanDisk old.db
   pub opens : HasCleanDisk new.db → IsTrue new.db.is_open → IsTrue old.db.is_open
@@ -49,15 +51,15 @@ pub record Handles (old new : Held) (request : Request) (answer : Answer) : Type
   -- a refusal, and the answer to a question, leave what a crash finds
   pub keeps : is_change answer ≡ false → (answer ≡ Err Store → ⊥) → CrashKeeps old.db new.db
 
--- a run that is posted or voided changes the account's rows that its repair names, and no others: so of any tables with
--- the columns of the desk's, whether they stand for a state or not
+-- a run that is posted or voided changes the account's rows that its repair names, and no others:
+-- so of any tables with the columns of the desk's, whether they stand for a state or not
 abbrev pub RepairsRows : database.State → database.State → Request → Answer → Type 0
 RepairsRows old new request answer =
     HasCleanDisk new → IsTrue new.is_open → is_change answer ≡ true
     → (t : Tables) → Stands old.now t → Repairs request answer old.now new.now t
 
--- what a crash may leave of requests one after the other beside the tables from before them: those of the state that a
--- run of the first of them, up to some place, ends in
+-- what a crash may leave of requests one after the other beside the tables from before them: those
+-- of the state that a run of the first of them, up to some place, ends in
 pub record MayLeaveRun (s : State) (requests : List Request) (left : Trees) : Type 0 where
   pub asked : List Request
   pub others : List Request
@@ -69,9 +71,10 @@ pub record MayLeaveRun (s : State) (requests : List Request) (left : Trees) : Ty
   pub trees : left ≡ db.trees
   pub kept : IsKept db end
 
--- the requests are answered one after the other as the machine answers them, or with faults that change nothing, and the
--- desk stands for the state at the end
-pub record HandlesAll (old new : Held) (requests : List Request) (answers : List Answer) : Type 0 where
+-- the requests are answered one after the other as the machine answers them, or with faults that
+-- change nothing, and the desk stands for the state at the end
+pub record HandlesAll (old new : Held) (requests : List Request)
+    (answers : List Answer) : Type 0 where
   pub honest : HasCleanDisk new.db → HasCleanDisk old.db
   pub opens : HasCleanDisk new.db → IsTrue new.db.is_open → IsTrue old.db.is_open
   pub answered : HasCleanDisk new.db → IsTrue new.db.is_open → (s : State) → Keeps old s
@@ -100,14 +103,17 @@ pub record AreAnswers (requests : List Request) (answers : List Answer) : Type 0
   pub count : length answers ≡ length requests
   pub no_fault : list_any is_fault answers ≡ false
 
--- within a transaction over rows that stand for a state, the requests are answered so, the rows are those of the machine's
--- state at the end, and what is known stays right
-abbrev pub ServesAll : Known → List Request → ServedAll → database.State → database.State → Tables → Type 0
+-- within a transaction over rows that stand for a state, the requests are answered so, the rows are
+-- those of the machine's state at the end, and what is known stays right
+abbrev pub ServesAll : Known → List Request → ServedAll → database.State → database.State → Tables
+    → Type 0
 ServesAll known requests served before after t =
     (s : State) → StandsFor t s → IsSound s → IsKnown known s
-    → (end : State) × AreSteps s requests served.answers.items end × IsKept after.now end × IsKnown served.known end
+    → (end : State) × AreSteps s requests served.answers.items end × IsKept after.now end
+    × IsKnown served.known end
 
--- what a crash may leave of a list of requests beside the tables from before it: those of the machine's state at the end
+-- what a crash may leave of a list of requests beside the tables from before it: those of the
+-- machine's state at the end
 pub record MayLeaveAll (s : State) (requests : List Request) (left : Trees) : Type 0 where
   pub answers : List Answer
   pub end : State
@@ -131,9 +137,10 @@ abbrev pub some_change : Result (List Answer) Refusal → Bool
 some_change (Ok answers) = list_any is_change answers
 some_change (Err refusal) = false
 
--- all requests are answered as the machine answers them, and the desk stands for the state at the end; or there is a
--- fault, and it stands for the state as it was
-pub record HandlesTogether (old new : Held) (requests : List Request) (result : Result (List Answer) Refusal) : Type 0 where
+-- all requests are answered as the machine answers them, and the desk stands for the state at the
+-- end; or there is a fault, and it stands for the state as it was
+pub record HandlesTogether (old new : Held) (requests : List Request)
+    (result : Result (List Answer) Refusal) : Type 0 where
   pub honest : HasCleanDisk new.db → HasCleanDisk old.db
   pub opens : HasCleanDisk new.db → IsTrue new.db.is_open → IsTrue old.db.is_open
   pub answered : HasCleanDisk new.db → IsTrue new.db.is_open → (s : State) → Keeps old s

@@ -6,8 +6,8 @@ ghost use Rattle.ftd_machine.specs.Limits.{IsBounded};
 
 use ftd_machine::{Answer, Refusal, is_bounded};
 
-/// The answer to a request that changed nothing; `Store` for a list of which the amounts are together
-/// more than those of an account can be.
+/// The answer to a request that changed nothing; `Store` for a list of which the amounts are
+/// together more than those of an account can be.
 pub(crate) fn bounded(answer: Answer) -> Answer
     requires quiet { is_change answer ≡ false }
     ensures bounded { IfOk result IsBounded }

@@ -6,7 +6,8 @@ ghost use Rattle.ftd_machine.specs.Limits.{IsBounded};
 ghost use Rattle.ftd_machine.specs.State.{State};
 ghost use Rattle.ftd_desk.specs.Desks.{store_of, IsStopped, held, Rests, Keeps};
 ghost use Rattle.ftd_sql.specs.States.{CrashKeeps};
-ghost use Rattle.ftd_desk.specs.Words.{AreAnswers, Handles, RepairsRows, HandlesAll, HandlesTogether, listed};
+ghost use Rattle.ftd_desk.specs.Words.{AreAnswers, Handles, RepairsRows, HandlesAll};
+ghost use Rattle.ftd_desk.specs.Words.{HandlesTogether, listed};
 
 mod telling;
 
@@ -54,10 +55,10 @@ impl<S: Alter> Desk<S> {
         self.store
     }
 
-    /// Answers the request. `Memory` and `Store` change nothing. After a commit that failed the desk
-    /// is stopped: it answers `Store` to everything, and does not touch the tables. A list of which
-    /// the amounts are together 6,000,000,000,000,000 cents or more is none of an account's, and
-    /// answered with `Store`.
+    /// Answers the request. `Memory` and `Store` change nothing. After a commit that failed the
+    /// desk is stopped: it answers `Store` to everything, and does not touch the tables. A list of
+    /// which the amounts are together 6,000,000,000,000,000 cents or more is none of an account's,
+    /// and answered with `Store`.
     pub fn handle(&mut self, request: &Request) -> Answer
         ensures handles { Handles (held S.Store self.old) (held S.Store self.new)
             request.now result }
@@ -91,8 +92,8 @@ impl<S: Alter> Desk<S> {
         answer
     }
 
-    /// Answers the requests one after the other. `Err` says that there was no memory for the list of
-    /// answers; nothing was asked then.
+    /// Answers the requests one after the other. `Err` says that there was no memory for the list
+    /// of answers; nothing was asked then.
     pub fn run(&mut self, requests: &[Request]) -> Result<Vec<Answer>, AllocError>
         ensures runs { IfOk result (λ answers. HandlesAll (held S.Store self.old)
             (held S.Store self.new) requests.now answers.items) }
@@ -106,9 +107,9 @@ impl<S: Alter> Desk<S> {
         Ok(answers)
     }
 
-    /// Answers the requests one after the other in one transaction: what they change is kept together,
-    /// or, where there is a fault, not at all. `Memory` and `Store` change nothing. After a commit
-    /// that failed the desk is stopped; only then may a crash find what they change.
+    /// Answers the requests one after the other in one transaction: what they change is kept
+    /// together, or, where there is a fault, not at all. `Memory` and `Store` change nothing. After
+    /// a commit that failed the desk is stopped; only then may a crash find what they change.
     pub fn together(&mut self, requests: &[Request]) -> Result<Vec<Answer>, Refusal>
         ensures together { HandlesTogether (held S.Store self.old)
             (held S.Store self.new) requests.now (listed result) }

@@ -1,6 +1,7 @@
-//! Asks a desk the requests of standard input, one a line, and prints what it answers, line by line. The first argument is
-//! the file of the database; without one it is in memory. The requests between the lines `together` and `apart` are
-//! asked as one list. At the line `clock` it prints on standard error the microseconds since the one before.
+//! Asks a desk the requests of standard input, one a line, and prints what it answers, line by
+//! line. The first argument is the file of the database; without one it is in memory. The requests
+//! between the lines `together` and `apart` are asked as one list. At the line `clock` it prints on
+//! standard error the microseconds since the one before.
 #![tactic(auto)]
 
 use anyhow::{Result, bail};

@@ -135,7 +135,7 @@ whole_rises (pos a) (pos b) h = omega (arith, ints)
 whole_rises (pos a) (negsuc b) h = absurd (omega (arith, ints))
 whole_rises (negsuc a) b h = omega arith
 
-key_rises : (a b : ℤ) → a ≤ℤ b → whole (a +ℤ pos 25_567) ≤ whole (b +ℤ pos 25_567)
+pub key_rises : (a b : ℤ) → a ≤ℤ b → whole (a +ℤ pos 25_567) ≤ whole (b +ℤ pos 25_567)
 key_rises a b h = whole_rises (a +ℤ pos 25_567) (b +ℤ pos 25_567) (omega (arith, ints))
 
 abbrev itself : ℕ → ℕ

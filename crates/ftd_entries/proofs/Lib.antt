@@ -17,6 +17,5 @@ pub mod Totals
 pub mod Reporting
 pub mod Paying
 pub mod DayCells
-pub mod Sifted
 pub mod YearHolidays
 pub mod OwedRows

@@ -23,6 +23,9 @@ use Rattle.ftd_rows.specs.Cells.{day_number}
 use Rattle.ftd_rows.specs.Lists.{Pairs}
 use Rattle.ftd_rows.proofs.Found.{both}
 use Rattle.ftd_store.specs.Finds.{IsHoliday, FindsCalendar, ListsAdded}
+use Rattle.ftd_store.specs.Holidays.{HasHolidays}
+use Rattle.ftd_store.proofs.AddedYears.{or_false}
+use Rattle.ftd_store.proofs.Sifted.{filter_in, filter_out}
 use Rattle.ftd_machine.specs.Limits.{are_rising}
 use Rattle.ftd_machine.specs.State.{State, days_of, calendar_at, added_in, holidays}
 use Rattle.ftd_machine.specs.Sound.{IsSound, AreDistinct, year_of_calendar}
@@ -31,7 +34,6 @@ use Rattle.ftd_machine.proofs.Soundness.{found_none}
 use Rattle.ftd_entries.specs.Standing.{StandsFor, added_entry}
 use Rattle.ftd_entries.proofs.CalendarRows.{year_cell, calendar_known}
 use Rattle.ftd_entries.proofs.DayCells.{same_day}
-use Rattle.ftd_entries.proofs.Sifted.{filter_in, filter_out}
 
 -- ---- the calendar of a year
 
@@ -57,10 +59,6 @@ none_of day [] filed other = refl
 none_of day (c ∷ cs) filed other =
     one_more day c cs ∙ (ap (λ b. b || is_holiday (holidays_of cs) day) (not_among day c.year c.days (filed c (inl refl)) (other c (inl refl)))
     ∙ none_of day cs (λ g has. filed g (inr has)) (λ g has. other g (inr has)))
-
-or_false : (b : Bool) → (b || false) ≡ b
-or_false true = refl
-or_false false = refl
 
 in_calendar : (day : ℕ) (cs : List YearDays) (days : List ℕ) → AreDistinct year_of_calendar cs → AreFiled cs
     → option_map days_of (find (is_year (year_of day)) cs) ≡ Some days → is_holiday (holidays_of cs) day ≡ is_holiday days day
@@ -190,3 +188,7 @@ module _ (t : Tables) (s : State) (stands : StandsFor t s) (sound : IsSound s) w
       never_added day s.added_days (λ d has same. true≢false (sym (sound.added_days d has) ∙ (ap (λ x. is_some (calendar_at s (year_of x))) same ∙ ap is_some none))) in
       list_any-append (λ h. h == day) (holidays_of s.calendars) s.added_days
       ∙ (ap (λ b. b || is_holiday s.added_days day) of_given ∙ of_added)
+
+  -- a day of a year that was read is a holiday if the state keeps it as one
+  pub holiday_read : (read : List ℕ) (year day : ℕ) → HasHolidays t read year → year_of day ≡ year → is_holiday (holidays s) day ≡ is_holiday read day
+  holiday_read read year day has its = holiday_known has.given has.added year day has.is_given has.are_added its ∙ sym (has.same day its)

@@ -21,11 +21,13 @@ KnowsAccount name found t = (s : State) → StandsFor t s → (entries_of s name
 
 -- the form of an account that is known is that of its row
 abbrev pub HasForm : List ℕ → Option Account → Tables → Type 0
-HasForm name found t = (account : Account) → found ≡ Some account → FindsForm name (Some account.form) t
+HasForm name found t =
+    (account : Account) → found ≡ Some account → FindsForm name (Some account.form) t
 
 -- an account more, with its form
 abbrev pub with_enrolled : List ℕ → Account → Tables → Tables
-with_enrolled name a t = with_form name a.form (with_account name (record { start = a.start; carried = a.carried }) t)
+with_enrolled name a t =
+    with_form name a.form (with_account name (record { start = a.start; carried = a.carried }) t)
 
 -- whether the year of the account is open, as each state keeps it for which the tables stand
 abbrev pub KnowsYear : List ℕ → ℕ → Bool → Tables → Type 0

@@ -1,5 +1,6 @@
 -- A year that is opened.
-use Rattle.std.specs.Prelude.{◌≡◌, ◌⊎◌, ◌==◌, ◌&&◌, ◌-◌, ◌+◌, nat_lt, is_some, ℕ, Bool, List, Option, None, length}
+use Rattle.std.specs.Prelude.{◌≡◌, ◌⊎◌, ◌==◌, ◌&&◌, ◌-◌, ◌+◌, nat_lt, is_some, ℕ, Bool, List}
+use Rattle.std.specs.Prelude.{Option, None, length}
 use Rattle.std.specs.List.{list_any}
 use Rattle.ftd_schema.specs.Standing.{Tables}
 use Rattle.ftd_machine.specs.declared.entries.Account.{Account}
@@ -26,26 +27,30 @@ HasOpening lines line =
     ((line.opening ≡ Semiweekly) × OpensSemiweekly lines line)
     ⊎ ((line.opening ≡ Monthly) × (OpensSemiweekly lines line → ⊥))
 
--- the line of a year that is opened after these: with its lookback total, carried as the account is if it is the first,
--- with its opening, and without a turn, since no payday lies in it
-pub record IsNextLine (carried : Bool) (lines : List YearLine) (year : ℕ) (total : Cents) (line : YearLine) : Type 0 where
+-- the line of a year that is opened after these: with its lookback total, carried as the account is
+-- if it is the first, with its opening, and without a turn, since no payday lies in it
+pub record IsNextLine (carried : Bool) (lines : List YearLine) (year : ℕ) (total : Cents)
+    (line : YearLine) : Type 0 where
   pub year_is : line.year ≡ year
   pub lookback : line.lookback ≡ total
   pub is_carried : line.carried ≡ ((length lines == 0) && carried)
   pub opening : HasOpening lines line
   pub turn : line.turn ≡ None
 
--- what a state keeps of the account and of the year: the account, whether the year is open, and whether its calendar and
--- that of the next year are given
-pub record KeepsYear (name : List ℕ) (year : ℕ) (account : Option Account) (there given next : Bool) (s : State) : Type 0 where
+-- what a state keeps of the account and of the year: the account, whether the year is open, and
+-- whether its calendar and that of the next year are given
+pub record KeepsYear (name : List ℕ) (year : ℕ) (account : Option Account) (there given next : Bool)
+    (s : State) : Type 0 where
   pub account_is : (entries_of s name).account ≡ account
   pub there_is : is_open (entries_of s name) year ≡ there
   pub given_is : is_given s year ≡ given
   pub next_is : is_given s (year + 1) ≡ next
 
--- this is what each sound state keeps for which the tables stand, and the lines are those of the account
+-- this is what each sound state keeps for which the tables stand, and the lines are those of the
+-- account
 abbrev pub KnowsToOpen : List ℕ → ℕ → KnownYear → Tables → Type 0
 KnowsToOpen name year known t =
     (s : State) (stands : StandsFor t s) → IsSound s
-    → KeepsYear name year known.account (list_any (is_line_of year) known.lines.items) known.given known.next s
+    → KeepsYear name year known.account
+    (list_any (is_line_of year) known.lines.items) known.given known.next s
     × (known.lines.items ≡ (stands.settled name).lines)

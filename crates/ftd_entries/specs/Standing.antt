@@ -1,6 +1,7 @@
--- When tables stand for a state: each holds the rows of its entries, in the order in which they were accepted, and the
--- rows that follow from them are settled.
-use Rattle.std.specs.Prelude.{◌≡◌, ℕ, pos, Bool, bytes_eq, List, map, flat_map, filter, IsPermutation}
+-- When tables stand for a state: each holds the rows of its entries, in the order in which they
+-- were accepted, and the rows that follow from them are settled.
+use Rattle.std.specs.Prelude.{◌≡◌, ℕ, pos, Bool, bytes_eq, List, map, flat_map, filter}
+use Rattle.std.specs.Prelude.{IsPermutation}
 use Rattle.ftd_days.specs.Calendar.{year_of}
 use Rattle.ftd_days.specs.Holidays.{YearDays}
 use Rattle.ftd_days.specs.declared.cents.Cents.{Cents}
@@ -10,11 +11,17 @@ use Rattle.ftd_rules.specs.declared.run.PayRun.{PayRun}
 use Rattle.ftd_rules.specs.declared.run.Voidable.{Voidable}
 use Rattle.ftd_rules.specs.declared.payment.Payment.{Payment}
 use Rattle.ftd_rules.specs.Obligations.{AreObligations}
-use Rattle.ftd_schema.specs.declared.TableName.TheVariants.{Accounts, ReportedQuarters, CalendarYears, Holidays, Years, Runs, Payments, Obligations, Forms, ReportedYears, AddedHolidays}
-use Rattle.ftd_schema.specs.Rows.{AccountRow, FormRow, ReportedQuarterRow, ReportedYearRow, CalendarYearRow, HolidayRow, RunRow, PaymentRow, ObligationRow}
+use Rattle.ftd_schema.specs.declared.TableName.TheVariants.{Accounts, ReportedQuarters}
+use Rattle.ftd_schema.specs.declared.TableName.TheVariants.{CalendarYears, Holidays, Years, Runs}
+use Rattle.ftd_schema.specs.declared.TableName.TheVariants.{Payments, Obligations, Forms}
+use Rattle.ftd_schema.specs.declared.TableName.TheVariants.{ReportedYears, AddedHolidays}
+use Rattle.ftd_schema.specs.Rows.{AccountRow, FormRow, ReportedQuarterRow, ReportedYearRow}
+use Rattle.ftd_schema.specs.Rows.{CalendarYearRow, HolidayRow, RunRow, PaymentRow, ObligationRow}
 use Rattle.ftd_schema.specs.Standing.{Tables}
 use Rattle.ftd_sql.specs.Tests.{is_year_of}
-use Rattle.ftd_rows.specs.Rows.{account_row, form_row, reported_row, reported_year_row, calendar_year_row, holiday_row, year_row, run_row, payment_row, obligation_row}
+use Rattle.ftd_rows.specs.Rows.{account_row, form_row, reported_row, reported_year_row}
+use Rattle.ftd_rows.specs.Rows.{calendar_year_row, holiday_row, year_row, run_row, payment_row}
+use Rattle.ftd_rows.specs.Rows.{obligation_row}
 use Rattle.ftd_machine.specs.State.{State, Enrolled, Entry, entries_of, holidays}
 use Rattle.ftd_machine.specs.History.{form_of, live_sums, AreLinesOf}
 
@@ -22,7 +29,8 @@ use Rattle.ftd_machine.specs.History.{form_of, live_sums, AreLinesOf}
 
 -- an account stands in two tables: its first day and whether it was carried, and its form
 abbrev pub enrolled_row : Enrolled → AccountRow
-enrolled_row e = account_row e.name (record { start = e.account.start; carried = e.account.carried })
+enrolled_row e =
+    account_row e.name (record { start = e.account.start; carried = e.account.carried })
 
 abbrev pub enrolled_form : Enrolled → FormRow
 enrolled_form e = form_row e.name e.account.form
@@ -54,14 +62,17 @@ payment_entry e = payment_row e.name (pos e.key) e.content.value e.content.voide
 abbrev pub is_obligation_of : List ℕ → ObligationRow → Bool
 is_obligation_of name o = bytes_eq o.account name
 
--- the account's rows of open years are those of its lines, and its rows of obligations are those that it owes
+-- the account's rows of open years are those of its lines, and its rows of obligations are those
+-- that it owes
 pub record IsSettled (t : Tables) (s : State) (name : List ℕ) : Type 0 where
   pub lines : List YearLine
   pub are_lines : AreLinesOf (entries_of s name) lines
   pub owed : List Obligation
-  pub are_owed : AreObligations (form_of (entries_of s name).account) lines (live_sums (entries_of s name)) (holidays s) owed
+  pub are_owed : AreObligations (form_of (entries_of s name).account) lines
+      (live_sums (entries_of s name)) (holidays s) owed
   pub line_rows : IsPermutation (filter (is_year_of name) (t Years)) (map (year_row name) lines)
-  pub owed_rows : IsPermutation (filter (is_obligation_of name) (t Obligations)) (map (obligation_row name) owed)
+  pub owed_rows : IsPermutation (filter (is_obligation_of name) (t Obligations))
+      (map (obligation_row name) owed)
 
 -- the tables stand for the state
 pub record StandsFor (t : Tables) (s : State) : Type 0 where

@@ -11,7 +11,8 @@ use Rattle.ftd_machine.specs.declared.replies.Refusal.TheVariants.{QuarterMissin
 use Rattle.ftd_machine.specs.Sound.{IsSound}
 use Rattle.ftd_entries.specs.Standing.{StandsFor}
 
--- on Form 941 the total by these figures, or the refusal that names the earliest quarter that is missing
+-- on Form 941 the total by these figures, or the refusal that names the earliest quarter that is
+-- missing
 abbrev pub IsTotalOn941 : List (ℕ × Cents) → ℕ → ℕ → Result Cents Refusal → Type 0
 IsTotalOn941 reported start year (Ok total) = IsLookback reported start year total.0
 IsTotalOn941 reported start year (Err refusal) =

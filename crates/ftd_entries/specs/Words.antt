@@ -16,8 +16,8 @@ pub record IsKept (db : Database) (s : State) : Type 0 where
   pub stands_for : StandsFor tables s
   pub sound : IsSound s
 
--- within a transaction over rows that stand for a state, the request is answered as the machine answers it, and the rows
--- are those of the machine's next state
+-- within a transaction over rows that stand for a state, the request is answered as the machine
+-- answers it, and the rows are those of the machine's next state
 abbrev pub Serves : Request → Answer → database.State → database.State → Tables → Type 0
 Serves request answer before after t =
     (s : State) → StandsFor t s → IsSound s

@@ -2,7 +2,8 @@
 
 ghost use Rattle.std.specs.Prelude.{◌≡◌, ◌≤◌, All, IfOk};
 ghost use Rattle.ftd_store.specs.Frame.{Reads};
-ghost use Rattle.ftd_entries.specs.Totals.{IsTotalOn941, IsTotalOn943, KnowsTotal, KnowsTotalOn941, KnowsTotalOn943, figures_found, year_figures};
+ghost use Rattle.ftd_entries.specs.Totals.{IsTotalOn941, IsTotalOn943, KnowsTotal, KnowsTotalOn941};
+ghost use Rattle.ftd_entries.specs.Totals.{KnowsTotalOn943, figures_found, year_figures};
 
 use ftd_days::{Cents, Day, Quarter};
 use ftd_machine::{Account, Refusal};

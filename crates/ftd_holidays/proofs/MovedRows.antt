@@ -13,7 +13,7 @@ use Rattle.ftd_rows.specs.declared.obligations.AccountObligation.{AccountObligat
 use Rattle.ftd_rows.specs.Cells.{day_number}
 use Rattle.ftd_rows.specs.Lists.{Pairs}
 use Rattle.ftd_store.specs.Changes.{with_due_date}
-use Rattle.ftd_repairs.proofs.Items.{has_more, has_still, has_now}
+use Rattle.ftd_store.proofs.Items.{has_more, has_still, has_now}
 use Rattle.ftd_holidays.specs.Moved.{is_row_of, IsDueThen, IsMoved, IsAfter, MovesDue}
 
 -- days that a test finds not to differ

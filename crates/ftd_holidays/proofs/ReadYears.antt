@@ -1,45 +1,52 @@
 -- The holidays that were read of a year and of the years beside it.
-use Rattle.std.proofs.Common.{◌≡◌, ℕ, ◌+◌, ◌-◌, ◌≤◌, ◌⊎◌, Bool, true, false, List, [], Vec, None, Some, inl, inr, refl, sym, ap, ◌∙◌, arith}
-use Rattle.std.specs.Prelude.{◌==◌, ◌||◌, ◌&&◌, All}
+use Rattle.std.proofs.Common.{◌≡◌, ℕ, ◌+◌, ◌-◌, ◌≤◌, ◌⊎◌, Bool, true, false, List, [], Global, inl, inr, refl, sym, ap, ◌∙◌, subst, arith}
+use Rattle.std.specs.Prelude.{◌==◌, ◌||◌, ◌&&◌}
 use Rattle.ftd_days.specs.Calendar.{year_of}
 use Rattle.ftd_days.specs.Business.{is_holiday}
 use Rattle.ftd_days.specs.Holidays.{IsWithHoliday}
 use Rattle.ftd_days.proofs.Years.{eq_same, eq_not, same_or_not}
 use Rattle.ftd_schema.specs.Standing.{Tables}
-use Rattle.ftd_store.specs.Finds.{FindsCalendar, ListsAdded}
-use Rattle.ftd_machine.specs.State.{holidays}
+use Rattle.ftd_store.specs.Finds.{HasCalendar}
+use Rattle.ftd_store.specs.Holidays.{AddsYear, AddsIfGiven}
+use Rattle.ftd_store.proofs.AddedYears.{or_false}
+use Rattle.ftd_machine.specs.State.{State, holidays}
+use Rattle.ftd_machine.specs.Sound.{IsSound}
+use Rattle.ftd_entries.specs.Standing.{StandsFor}
 use Rattle.ftd_entries.proofs.YearHolidays.{holiday_known, holiday_unknown}
-use Rattle.ftd_repairs.proofs.Adding.{both_elsewhere}
-use Rattle.ftd_holidays.specs.Known.{AddsKeptYear, KnowsHolidays}
-
-or_false : (b : Bool) → (b || false) ≡ b
-or_false true = refl
-or_false false = refl
+use Rattle.ftd_holidays.specs.Known.{KnowsHolidays}
 
 -- ---- one year
 
--- a year whose calendar was not found has no holidays
-pub adds_none : (A : Type 0) (year : ℕ) (old : List ℕ) (t : Tables) → FindsCalendar {A = A} year None t → AddsKeptYear year old old t
-adds_none A year old t finds s stands sound day =
+-- the holidays of a year are added to others, as each state keeps them for which the tables stand
+abbrev pub AddsKeptYear : ℕ → List ℕ → List ℕ → Tables → Type 0
+AddsKeptYear year old new t = (s : State) → StandsFor t s → IsSound s → (day : ℕ)
+    → is_holiday new day
+    ≡ (is_holiday old day || ((year_of day == year) && is_holiday (holidays s) day))
+
+-- a year whose calendar was not given has no holidays
+none_kept : (year : ℕ) (old : List ℕ) (t : Tables) → HasCalendar year false t → AddsKeptYear year old old t
+none_kept year old t finds s stands sound day =
     let off : ((year_of day == year) && is_holiday (holidays s) day) ≡ false =
     elim (same_or_not (year_of day) year) [
-      | inl its ↦ ap (λ b. b && is_holiday (holidays s) day) (eq_same (year_of day) year its) ∙ holiday_unknown t s stands sound A year day finds its
+      | inl its ↦ ap (λ b. b && is_holiday (holidays s) day) (eq_same (year_of day) year its) ∙ holiday_unknown t s stands sound Global year day finds its
       | inr other ↦ ap (λ b. b && is_holiday (holidays s) day) (eq_not (year_of day) year other)
     ] in
     sym (ap (λ b. is_holiday old day || b) off ∙ or_false (is_holiday old day))
 
 -- another one those that it was given with, and those that were added
-pub adds_both : {A B : Type 0} (year : ℕ) (old new : List ℕ) (given : Vec ℕ A) (added : Vec ℕ B) (t : Tables)
-    → ((day : ℕ) → is_holiday new day ≡ (is_holiday old day || (is_holiday given.items day || is_holiday added.items day)))
-    → All (λ d. year_of d ≡ year) given.items → All (λ d. year_of d ≡ year) added.items
-    → FindsCalendar year (Some given) t → ListsAdded year added t → AddsKeptYear year old new t
-adds_both year old new given added t same of_given of_added finds lists s stands sound day =
-    let here : (is_holiday given.items day || is_holiday added.items day) ≡ ((year_of day == year) && is_holiday (holidays s) day) =
+both_kept : (year : ℕ) (old new : List ℕ) (t : Tables) → AddsYear year old new t → AddsKeptYear year old new t
+both_kept year old new t adds s stands sound day =
+    let here : (is_holiday adds.given.items day || is_holiday adds.added.items day) ≡ ((year_of day == year) && is_holiday (holidays s) day) =
     elim (same_or_not (year_of day) year) [
-      | inl its ↦ sym (ap (λ b. b && is_holiday (holidays s) day) (eq_same (year_of day) year its) ∙ holiday_known t s stands sound given added year day finds lists its)
-      | inr other ↦ both_elsewhere year given.items added.items of_given of_added day other ∙ sym (ap (λ b. b && is_holiday (holidays s) day) (eq_not (year_of day) year other))
+      | inl its ↦ sym (ap (λ b. b && is_holiday (holidays s) day) (eq_same (year_of day) year its) ∙ holiday_known t s stands sound adds.given adds.added year day adds.is_given adds.are_added its)
+      | inr other ↦ adds.elsewhere day other ∙ sym (ap (λ b. b && is_holiday (holidays s) day) (eq_not (year_of day) year other))
     ] in
-    same day ∙ ap (λ b. is_holiday old day || b) here
+    adds.same day ∙ ap (λ b. is_holiday old day || b) here
+
+-- so the holidays of a year, given or not, were added as they are kept
+pub adds_kept : (year : ℕ) (old new : List ℕ) (given : Bool) (t : Tables) → AddsIfGiven year old new given t → AddsKeptYear year old new t
+adds_kept year old new true t adds = both_kept year old new t adds
+adds_kept year old new false t adds = subst (λ (hs : List ℕ). AddsKeptYear year old hs t) (sym adds.1) (none_kept year old t adds.0)
 
 -- ---- three years
 

@@ -1,17 +1,11 @@
 -- The holidays that were read of some years, in the machine's words.
-use Rattle.std.specs.Prelude.{◌≡◌, ◌≤◌, ◌+◌, ◌==◌, ◌||◌, ◌&&◌, ℕ, List}
+use Rattle.std.specs.Prelude.{◌≡◌, ◌≤◌, ◌+◌, ◌==◌, ◌||◌, ℕ, List}
 use Rattle.ftd_days.specs.Business.{is_holiday}
 use Rattle.ftd_days.specs.Calendar.{year_of}
 use Rattle.ftd_schema.specs.Standing.{Tables}
 use Rattle.ftd_machine.specs.State.{State, holidays}
 use Rattle.ftd_machine.specs.Sound.{IsSound}
 use Rattle.ftd_entries.specs.Standing.{StandsFor}
-
--- the holidays of a year are added to others, as each state keeps them for which the tables stand
-abbrev pub AddsKeptYear : ℕ → List ℕ → List ℕ → Tables → Type 0
-AddsKeptYear year old new t = (s : State) → StandsFor t s → IsSound s → (day : ℕ)
-    → is_holiday new day
-    ≡ (is_holiday old day || ((year_of day == year) && is_holiday (holidays s) day))
 
 -- of the days of the year of the added one, of the year before and of the year after, those are
 -- holidays that each such state keeps, and the added one

@@ -25,7 +25,9 @@ detail_of _ = codes "{"
 
 -- a refusal as JSON
 abbrev pub refusal_text : Refusal → List ℕ
-refusal_text r = detail_of r ++ codes "\"name\":\"" ++ name_text r ++ codes "\",\"refused\":" ++ decimal (number_of r) ++ codes "}"
+refusal_text r =
+    detail_of r ++ codes "\"name\":\"" ++ name_text r ++ codes "\",\"refused\":"
+    ++ decimal (number_of r) ++ codes "}"
 
 -- its status: want of memory and a store that failed are faults of the server
 abbrev pub refusal_status : Refusal → Status

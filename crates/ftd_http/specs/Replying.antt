@@ -25,7 +25,8 @@ use Rattle.ftd_routes.specs.declared.ask.Asked.TheVariants as asked
 -- the obligations that went and came, as JSON
 abbrev pub posted_text : ℕ → ℕ → ℕ → ℕ → List ℕ
 posted_text from to removed added =
-    codes "{\"added\":" ++ decimal added ++ codes ",\"from\":\"" ++ day_text from ++ codes "\",\"removed\":" ++ decimal removed
+    codes "{\"added\":" ++ decimal added
+    ++ codes ",\"from\":\"" ++ day_text from ++ codes "\",\"removed\":" ++ decimal removed
     ++ codes ",\"reply\":\"posted\",\"to\":\"" ++ day_text to ++ codes "\"}"
 
 -- the schedule on a day, as JSON
@@ -39,11 +40,14 @@ reason_text Carried = codes "carried\"}"
 reason_text (Turned day) = concat (codes "turned\",\"turn\":\"" ∷ day_text day ∷ codes "\"}" ∷ [])
 
 abbrev pub schedule_text : ℕ → Kind → Reason → List ℕ
-schedule_text day kind reason = concat (codes "{\"day\":\"" ∷ day_text day ∷ codes "\",\"kind\":\"" ∷ kind_text kind ∷ codes "\",\"reason\":\"" ∷ reason_text reason ∷ [])
+schedule_text day kind reason =
+    concat (codes "{\"day\":\"" ∷ day_text day ∷ codes "\",\"kind\":\"" ∷ kind_text kind
+    ∷ codes "\",\"reason\":\"" ∷ reason_text reason ∷ [])
 
 -- the response to a schedule that a request asked for
 abbrev pub scheduled : Request → Kind → Reason → Said
-scheduled (request.Status account day) kind reason = json status.Okay (schedule_text day kind reason)
+scheduled (request.Status account day) kind reason =
+    json status.Okay (schedule_text day kind reason)
 scheduled _ kind reason = bare status.InternalServerError
 
 -- the response to the rows of a due list that a request asked for
@@ -61,7 +65,8 @@ summed _ sums = bare status.InternalServerError
 abbrev pub replied : Request → Reply → Said
 replied request reply.Done = json status.Okay (codes "{\"reply\":\"done\"}")
 replied request reply.Already = json status.Okay (codes "{\"reply\":\"already\"}")
-replied request (reply.Posted from to removed added) = json status.Okay (posted_text from to removed added)
+replied request (reply.Posted from to removed added) =
+    json status.Okay (posted_text from to removed added)
 replied request (reply.Status kind reason) = scheduled request kind reason
 replied request (reply.Due rows) = listed request rows
 replied request (reply.Days sums) = summed request sums
@@ -70,8 +75,8 @@ abbrev pub answered : Request → Answer → Said
 answered request (Ok reply) = replied request reply
 answered request (Err refusal) = refused refusal
 
--- The response to what is asked of a machine: where nothing is asked of it, it stays as it is. `goes` has the
--- machine, a request, its answer, and the machine after it.
+-- The response to what is asked of a machine: where nothing is asked of it, it stays as it is.
+-- `goes` has the machine, a request, its answer, and the machine after it.
 module _ {M : Type 0} (goes : M → Request → Answer → M → Type 0) where
   abbrev pub Responds : M → Asked → Said → M → Type 0
   Responds now asked.NoRoute said later = (later ≡ now) × (said ≡ bare status.NotFound)

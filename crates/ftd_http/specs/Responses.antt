@@ -1,5 +1,6 @@
 -- The text of a response.
-use Rattle.std.specs.Prelude.{ℕ, ◌++◌, Bool, true, false, List, [], ◌∷◌, length, codes, Option, Some, None}
+use Rattle.std.specs.Prelude.{ℕ, ◌++◌, Bool, true, false, List, [], ◌∷◌, length, codes, Option}
+use Rattle.std.specs.Prelude.{Some, None}
 use Rattle.std.specs.List.{concat}
 use Rattle.std.specs.Fmt.{decimal}
 use Rattle.ftd_messages.specs.declared.status.Status.{Status}
@@ -10,7 +11,8 @@ use Rattle.ftd_http.specs.declared.response.Content.{Content}
 use Rattle.ftd_http.specs.declared.response.Content.TheVariants as content
 use Rattle.ftd_http.specs.declared.response.Response.{Response}
 
--- a response: its status, the method that its route has (if the message has another), what its body is, and the body
+-- a response: its status, the method that its route has (if the message has another), what its body
+-- is, and the body
 pub record Said : Type 0 where
   pub status : Status
   pub allow : Option Method

@@ -1,5 +1,6 @@
 -- What an import does to the desk.
-use Rattle.std.specs.Prelude.{◌≡◌, ◌⊎◌, ◌<◌, ◌≤◌, ◌+◌, ◌++◌, ◌∷◌, [], ⊤, ℕ, Bool, true, false, IsTrue, List, Some, Err, length, map}
+use Rattle.std.specs.Prelude.{◌≡◌, ◌⊎◌, ◌<◌, ◌≤◌, ◌+◌, ◌++◌, ◌∷◌, [], ⊤, ℕ, Bool, true, false}
+use Rattle.std.specs.Prelude.{IsTrue, List, Some, Err, length, map}
 use Rattle.std.specs.List.{filter_map}
 use Rattle.sqlite.specs.State.{HasCleanDisk, Survives}
 use Rattle.ftd_csv.specs.Answers.{most_bytes}
@@ -11,7 +12,8 @@ use Rattle.ftd_machine.specs.declared.replies.Refusal.{Refusal}
 use Rattle.ftd_machine.specs.declared.requests.Request.{Request}
 use Rattle.ftd_desk.specs.Desks.{Held, Keeps}
 use Rattle.ftd_desk.specs.Words.{HandlesAll, HandlesTogether, MayLeaveAll, MayLeaveRun}
-use Rattle.ftd_import.specs.Outcomes.{Counts, IsNothing, IsSummary, Outcome, answer_in, fault_in, posts_of, record_in, request_in}
+use Rattle.ftd_import.specs.Outcomes.{Counts, IsNothing, IsSummary, Outcome, answer_in, fault_in}
+use Rattle.ftd_import.specs.Outcomes.{posts_of, record_in, request_in}
 use Rattle.ftd_import.specs.declared.summary.StopCause.{StopCause}
 use Rattle.ftd_import.specs.declared.summary.StopCause.TheVariants as cause
 use Rattle.ftd_import.specs.declared.summary.Stopped.{Stopped}
@@ -19,7 +21,8 @@ use Rattle.ftd_import.specs.declared.summary.Summary.{Summary}
 
 -- the desk was asked for the posts of these records, one after the other, and answered so
 abbrev pub Asks : Held → Held → List Outcome → Type 0
-Asks old new outcomes = HandlesAll old new (filter_map request_in outcomes) (filter_map answer_in outcomes)
+Asks old new outcomes =
+    HandlesAll old new (filter_map request_in outcomes) (filter_map answer_in outcomes)
 
 -- these are outcomes of the records, none of which is a fault
 pub record AreOutcomes (records : List (ℕ × Said)) (outcomes : List Outcome) : Type 0 where
@@ -27,16 +30,20 @@ pub record AreOutcomes (records : List (ℕ × Said)) (outcomes : List Outcome) 
   pub no_fault : filter_map fault_in outcomes ≡ []
 
 -- the records were posted, each in its place, and counted
-pub record Posts (old new : Held) (records : List (ℕ × Said)) (before after : Summary) : Type 0 where
+pub record Posts (old new : Held) (records : List (ℕ × Said))
+    (before after : Summary) : Type 0 where
   pub outcomes : List Outcome
   pub are : AreOutcomes records outcomes
   pub counts : Counts before outcomes after
   pub asks : Asks old new outcomes
 
--- this became of a record at which an import stopped: there was no memory to post it or to note it, or its post was answered
--- by a fault
+-- this became of a record at which an import stopped: there was no memory to post it or to note it,
+-- or its post was answered by a fault
 abbrev pub IsStop : ℕ × Said → StopCause → List Outcome → Type 0
-IsStop at why last = ((why ≡ cause.Memory) × (last ≡ [])) ⊎ ((outcome : Outcome) × (last ≡ outcome ∷ []) × (record_in outcome ≡ at) × (fault_in outcome ≡ Some why))
+IsStop at why last =
+    ((why ≡ cause.Memory) × (last ≡ []))
+    ⊎ ((outcome : Outcome) × (last ≡ outcome ∷ []) × (record_in outcome ≡ at)
+    × (fault_in outcome ≡ Some why))
 
 -- an import stopped at this record
 pub record StopsAt (old new : Held) (at : ℕ × Said) (why : StopCause) : Type 0 where
@@ -45,7 +52,8 @@ pub record StopsAt (old new : Held) (at : ℕ × Said) (why : StopCause) : Type 
   pub asks : Asks old new last
 
 -- an import stopped at one of the records: those before it were posted and counted
-pub record StopsIn (old new : Held) (records : List (ℕ × Said)) (before after : Summary) (why : StopCause) : Type 0 where
+pub record StopsIn (old new : Held) (records : List (ℕ × Said)) (before after : Summary)
+    (why : StopCause) : Type 0 where
   pub passed : List (ℕ × Said)
   pub at : ℕ × Said
   pub others : List (ℕ × Said)
@@ -61,21 +69,30 @@ pub record StopsIn (old new : Held) (records : List (ℕ × Said)) (before after
 abbrev pub most_together : ℕ
 most_together = 16_384
 
--- nothing of these posts was done; but where their commit failed, a crash may find what all of them do
+-- nothing of these posts was done; but where their commit failed, a crash may find what all of them
+-- do
 abbrev pub PostsNone : Type 0 → Held → Held → List Request → Type 0
-PostsNone failed old new posts = Asks old new [] ⊎ (failed × ((why : Refusal) × HandlesTogether old new posts (Err why)))
+PostsNone failed old new posts =
+    Asks old new [] ⊎ (failed × ((why : Refusal) × HandlesTogether old new posts (Err why)))
 
--- the requests are answered one after the other, and the desk stands for the state at the end; a crash finds what it would have
--- found before, or a state of a run of the first of the requests, or the state after all of a list
-pub record HandlesOrLeaves (old new : Held) (requests : List Request) (answers : List Answer) (list : List Request) : Type 0 where
+-- the requests are answered one after the other, and the desk stands for the state at the end; a
+-- crash finds what it would have found before, or a state of a run of the first of the requests, or
+-- the state after all of a list
+pub record HandlesOrLeaves (old new : Held) (requests : List Request) (answers : List Answer)
+    (list : List Request) : Type 0 where
   pub honest : HasCleanDisk new.db → HasCleanDisk old.db
   pub opens : HasCleanDisk new.db → IsTrue new.db.is_open → IsTrue old.db.is_open
-  pub answered : HasCleanDisk new.db → IsTrue new.db.is_open → (s : State) → Keeps old s → (end : State) × IsRun s requests answers end × Keeps new end
-  pub crash : Survives old.db new.db (λ left. IsTrue old.db.is_open × ((s : State) → Keeps old s → MayLeaveRun s requests left ⊎ MayLeaveAll s list left))
+  pub answered : HasCleanDisk new.db → IsTrue new.db.is_open → (s : State) → Keeps old s
+      → (end : State) × IsRun s requests answers end × Keeps new end
+  pub crash : Survives old.db new.db
+      (λ left. IsTrue old.db.is_open
+      × ((s : State) → Keeps old s → MayLeaveRun s requests left ⊎ MayLeaveAll s list left))
 
--- The commit of a list of posts failed, and the list was asked for again, one post after the other, up to some record of it. So the
--- desk answered the posts up to there one after the other, and a crash may also find the state after all of the list.
-pub record AsksAgain (old new : Held) (records passed : List (ℕ × Said)) (outcomes : List Outcome) : Type 0 where
+-- The commit of a list of posts failed, and the list was asked for again, one post after the other,
+-- up to some record of it. So the desk answered the posts up to there one after the other, and a
+-- crash may also find the state after all of the list.
+pub record AsksAgain (old new : Held) (records passed : List (ℕ × Said))
+    (outcomes : List Outcome) : Type 0 where
   pub before : List (ℕ × Said)
   pub list : List (ℕ × Said)
   pub others : List (ℕ × Said)
@@ -83,11 +100,13 @@ pub record AsksAgain (old new : Held) (records passed : List (ℕ × Said)) (out
   pub short : length list ≤ most_together
   pub begins : length before ≤ length passed
   pub ends : length passed < length before + length list
-  pub asks : HandlesOrLeaves old new (filter_map request_in outcomes) (filter_map answer_in outcomes) (posts_of (before ++ list))
+  pub asks : HandlesOrLeaves old new (filter_map request_in outcomes)
+      (filter_map answer_in outcomes) (posts_of (before ++ list))
 
--- an import stopped at one of the records: those before it were posted, each in its place, and told so; the desk was asked for them one
--- after the other, or, where a commit failed, in lists
-pub record StopsWithin (failed : Type 0) (old new : Held) (records : List (ℕ × Said)) (IsTold : List Outcome → Type 0) (why : StopCause) : Type 0 where
+-- an import stopped at one of the records: those before it were posted, each in its place, and told
+-- so; the desk was asked for them one after the other, or, where a commit failed, in lists
+pub record StopsWithin (failed : Type 0) (old new : Held) (records : List (ℕ × Said))
+    (IsTold : List Outcome → Type 0) (why : StopCause) : Type 0 where
   pub passed : List (ℕ × Said)
   pub at : ℕ × Said
   pub others : List (ℕ × Said)
@@ -97,7 +116,8 @@ pub record StopsWithin (failed : Type 0) (old new : Held) (records : List (ℕ �
   pub told : IsTold outcomes
   pub last : List Outcome
   pub stop : IsStop at why last
-  pub asks : Asks old new (outcomes ++ last) ⊎ (failed × AsksAgain old new records passed (outcomes ++ last))
+  pub asks : Asks old new (outcomes ++ last)
+      ⊎ (failed × AsksAgain old new records passed (outcomes ++ last))
 
 -- the records of the text, each with its number
 abbrev pub numbered_in : List ℕ → List (ℕ × Said)
@@ -112,11 +132,14 @@ pub record Imports (old new : Held) (text : List ℕ) (summary : Summary) : Type
   pub summary_is : IsSummary outcomes summary
   pub asks : Asks old new outcomes
 
--- the import stopped at one of the records: those before it were posted, each in its place, and this is their summary
-pub record StopsAmong (failed : Type 0) (old new : Held) (text : List ℕ) (done : Summary) (why : StopCause) : Type 0 where
+-- the import stopped at one of the records: those before it were posted, each in its place, and
+-- this is their summary
+pub record StopsAmong (failed : Type 0) (old new : Held) (text : List ℕ) (done : Summary)
+    (why : StopCause) : Type 0 where
   pub short : length text ≤ most_bytes
   pub header : HasHeader text
-  pub stops : StopsWithin failed old new (numbered_in text) (λ outcomes. IsSummary outcomes done) why
+  pub stops : StopsWithin failed old new (numbered_in text)
+      (λ outcomes. IsSummary outcomes done) why
 
 -- nothing was posted
 abbrev pub StopsFirst : Held → Held → Summary → Type 0
@@ -124,12 +147,16 @@ StopsFirst old new done = IsNothing done × Asks old new []
 
 -- where each cause stands; want of memory may come before there are records, or at one of them
 abbrev pub StopsFor : Type 0 → Held → Held → List ℕ → Summary → StopCause → Type 0
-StopsFor failed old new text done cause.TooLong = (most_bytes < length text) × StopsFirst old new done
-StopsFor failed old new text done cause.BadHeader = (length text ≤ most_bytes) × ¬ HasHeader text × StopsFirst old new done
-StopsFor failed old new text done cause.Memory = StopsFirst old new done ⊎ StopsAmong failed old new text done cause.Memory
+StopsFor failed old new text done cause.TooLong =
+    (most_bytes < length text) × StopsFirst old new done
+StopsFor failed old new text done cause.BadHeader =
+    (length text ≤ most_bytes) × ¬ HasHeader text × StopsFirst old new done
+StopsFor failed old new text done cause.Memory =
+    StopsFirst old new done ⊎ StopsAmong failed old new text done cause.Memory
 StopsFor failed old new text done cause.Store = StopsAmong failed old new text done cause.Store
 
--- the import stopped so: the posts went one after the other, or a commit failed, and they went in lists
+-- the import stopped so: the posts went one after the other, or a commit failed, and they went in
+-- lists
 abbrev pub Stops : Held → Held → List ℕ → Stopped → Type 0
 Stops old new text stopped = StopsFor ⊤ old new text stopped.done stopped.cause
 

@@ -1,5 +1,6 @@
 -- What becomes of the records of an import, and the summary of it.
-use Rattle.std.specs.Prelude.{◌≡◌, ◌+◌, ◌++◌, ℕ, Bool, true, false, List, [], length, map, Option, None, Some, Ok, Err}
+use Rattle.std.specs.Prelude.{◌≡◌, ◌+◌, ◌++◌, ℕ, Bool, true, false, List, [], length, map, Option}
+use Rattle.std.specs.Prelude.{None, Some, Ok, Err}
 use Rattle.std.specs.List.{filter, filter_map}
 use Rattle.ftd_csv.specs.Records.{Run, Said, malformed, pay_run}
 use Rattle.ftd_csv.specs.declared.record.RecordFault.{RecordFault}
@@ -17,7 +18,9 @@ use Rattle.ftd_import.specs.declared.summary.Summary.{Summary}
 
 -- the post of a pay run
 abbrev pub post_of : Run → Request
-post_of run = Post run.employer run.number run.payday (record { 0 = run.fit }) (record { 0 = run.ss }) (record { 0 = run.medicare })
+post_of run =
+    Post run.employer run.number run.payday (record { 0 = run.fit }) (record { 0 = run.ss })
+    (record { 0 = run.medicare })
 
 -- the post of a record that says a pay run
 abbrev pub post_in : ℕ × Said → Option Request
@@ -28,7 +31,8 @@ post_in (number, malformed field) = None
 abbrev pub posts_of : List (ℕ × Said) → List Request
 posts_of records = filter_map post_in records
 
--- what became of the record of this number: its pay run was posted and answered so, or it was left out, malformed at this field
+-- what became of the record of this number: its pay run was posted and answered so, or it was left
+-- out, malformed at this field
 pub data Outcome : Type 0 where
   posted : ℕ → Run → Answer → Outcome
   skipped : ℕ → ℕ → Outcome
@@ -112,7 +116,8 @@ pub record Counts (before : Summary) (outcomes : List Outcome) (after : Summary)
   pub notes_are : after.notes.items ≡ before.notes.items ++ filter_map note_in outcomes
 
 -- a summary after some more records, whose posts were answered so
-pub record CountsAnswers (before : Summary) (records : List (ℕ × Said)) (answers : List Answer) (after : Summary) : Type 0 where
+pub record CountsAnswers (before : Summary) (records : List (ℕ × Said)) (answers : List Answer)
+    (after : Summary) : Type 0 where
   pub outcomes : List Outcome
   pub all : map record_in outcomes ≡ records
   pub answered : filter_map answer_in outcomes ≡ answers

@@ -1,9 +1,11 @@
 //! Records are posted many at a time.
 
-ghost use Rattle.std.specs.Prelude.{◌≡◌, ◌<◌, ◌≤◌, ◌+◌, IfOk, OnOk, OnErr, MatchResult, length, map, vec_len, vec_capacity};
+ghost use Rattle.std.specs.Prelude.{◌≡◌, ◌<◌, ◌≤◌, ◌+◌, IfOk, OnOk, OnErr, MatchResult, length};
+ghost use Rattle.std.specs.Prelude.{map, vec_len, vec_capacity};
 ghost use Rattle.ftd_csv.specs.Answers.{record_view};
 ghost use Rattle.ftd_desk.specs.Desks.{IsStopped, held};
-ghost use Rattle.ftd_import.specs.Outcomes.{Counts, CountsAnswers, IsSame, most_counted, posts_of, tally};
+ghost use Rattle.ftd_import.specs.Outcomes.{Counts, CountsAnswers, IsSame, most_counted, posts_of};
+ghost use Rattle.ftd_import.specs.Outcomes.{tally};
 ghost use Rattle.ftd_import.specs.Imports.{Posts, PostsNone, StopsWithin, most_together};
 
 use crate::posting::{post_all, request_of};

@@ -1,6 +1,7 @@
 //! Records are posted one after the other.
 
-ghost use Rattle.std.specs.Prelude.{◌≡◌, ◌<◌, ◌≤◌, ◌+◌, ◌∷◌, [], IfOk, IfErr, OnOk, OnErr, MatchResult, length, map, vec_len, vec_capacity};
+ghost use Rattle.std.specs.Prelude.{◌≡◌, ◌<◌, ◌≤◌, ◌+◌, ◌∷◌, [], IfOk, IfErr, OnOk, OnErr};
+ghost use Rattle.std.specs.Prelude.{MatchResult, length, map, vec_len, vec_capacity};
 ghost use Rattle.ftd_csv.specs.Answers.{record_view, run_view};
 ghost use Rattle.ftd_desk.specs.Desks.{IsStopped, held};
 ghost use Rattle.ftd_csv.specs.Records.{pay_run};
@@ -68,9 +69,9 @@ fn post_record<S: Alter>(
 ) -> Result<(), StopCause>
     requires fits { tally done.old < most_counted }
     ensures posts { OnOk result (Posts (held S.Store desk.old) (held S.Store desk.new)
-        (record_view record.now ∷ []) done.old done.new) }
+        (record_view «record».now ∷ []) done.old done.new) }
     ensures stops { IfErr result (λ cause. StopsAt (held S.Store desk.old) (held S.Store desk.new)
-        (record_view record.now) cause) }
+        (record_view «record».now) cause) }
     ensures same { OnErr result (IsSame done.old done.new) }
     ensures grows { OnOk result (tally done.new ≤ tally done.old + 1) }
     ensures stopped { IsStopped desk.old → IsStopped desk.new }

@@ -1,7 +1,8 @@
 //! What an import says of its records.
 
 ghost use Rattle.std.specs.Prelude.{◌≡◌, ◌<◌, ◌≤◌, ◌+◌, ◌∷◌, [], vec_len, vec_capacity};
-ghost use Rattle.ftd_import.specs.Outcomes.{Counts, IsNothing, fault_of, most_counted, posted, skipped, tally, text_cause};
+ghost use Rattle.ftd_import.specs.Outcomes.{Counts, IsNothing, fault_of, most_counted, posted};
+ghost use Rattle.ftd_import.specs.Outcomes.{skipped, tally, text_cause};
 ghost use Rattle.ftd_csv.specs.Records.{Run};
 
 use ftd_csv::RecordFault;
@@ -118,7 +119,8 @@ impl Summary {
     pub(crate) fn count(&mut self, number: u32, answer: &Answer)
         requires room { vec_len self.old.notes < vec_capacity self.old.notes }
         requires fits { tally self.old < most_counted }
-        ensures counts { (run : Run) → Counts self.old (posted number run answer.now ∷ []) self.new }
+        ensures counts { (run : Run)
+            → Counts self.old (posted number run answer.now ∷ []) self.new }
         ensures adds { vec_len self.new.notes ≤ vec_len self.old.notes + 1 }
         ensures room { vec_capacity self.new.notes ≡ vec_capacity self.old.notes }
         ensures grows { tally self.new ≤ tally self.old + 1 }

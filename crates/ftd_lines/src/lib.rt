@@ -1,7 +1,7 @@
 //! Requests and answers as lines of text, for tests and benches.
 //!
-//! A line is a request's name and its words, as `post elm 1 2024-05-08 40000.00`; `owed` asks for a due list
-//! and tells the obligations alone. An answer is told in one line.
+//! A line is a request's name and its words, as `post elm 1 2024-05-08 40000.00`; `owed` asks for a
+//! due list and tells the obligations alone. An answer is told in one line.
 #![tactic(auto)]
 
 mod asking;

@@ -1,6 +1,7 @@
 -- What the desk answers to a question: the deposit schedule of a day, what must be deposited for a
 -- quarter, its liability by day.
-use Rattle.std.specs.Prelude.{◌≡◌, ◌⊎◌, ◌≤◌, ◌<◌, ◌↔◌, ◌&&◌, ℕ, ◌-◌, ◌+◌, ◌==◌, Bool, true, false, List, Option, None, Some, IsTrue, Ok, ⊤}
+use Rattle.std.specs.Prelude.{◌≡◌, ◌⊎◌, ◌≤◌, ◌<◌, ◌↔◌, ◌&&◌, ℕ, ◌-◌, ◌+◌, ◌==◌, Bool, true, false}
+use Rattle.std.specs.Prelude.{List, Option, None, Some, IsTrue, Ok, ⊤}
 use Rattle.std.specs.List.{list_any}
 use Rattle.ftd_days.specs.Calendar.{year_of, quarter_of, quarter_start}
 use Rattle.ftd_days.specs.declared.cents.Cents.{Cents}

@@ -1,5 +1,6 @@
 -- The history of an account: what the rules are told of its entries.
-use Rattle.std.specs.Prelude.{◌≡◌, ℕ, Bool, not, false, List, [], ◌∷◌, map, filter, Option, None, Some}
+use Rattle.std.specs.Prelude.{◌≡◌, ℕ, Bool, not, false, List, [], ◌∷◌, map, filter, Option, None}
+use Rattle.std.specs.Prelude.{Some}
 use Rattle.ftd_days.specs.declared.cents.Cents.{Cents}
 use Rattle.ftd_rules.specs.declared.Form.{Form}
 use Rattle.ftd_rules.specs.declared.Form.TheVariants.{F941, F943}

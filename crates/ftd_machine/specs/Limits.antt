@@ -38,7 +38,8 @@ is_calendar year days =
 abbrev pub most_entries : ℕ
 most_entries = 20_000
 
--- the amounts of an account are together below this, in cents: of 20,000 runs with three amounts each
+-- the amounts of an account are together below this, in cents: of 20,000 runs with three amounts
+-- each
 abbrev pub amounts_end : ℕ
 amounts_end = 6_000_000_000_000_000
 

@@ -1,7 +1,17 @@
 -- The numbers and the names of the refusals.
 use Rattle.std.specs.Prelude.{ℕ, List, codes}
 use Rattle.ftd_machine.specs.declared.replies.Refusal.{Refusal}
-use Rattle.ftd_machine.specs.declared.replies.Refusal.TheVariants.{BadName, BadYear, BadDay, BadCents, BadCalendar, BadNumber, UnknownAccount, AccountDiffers, CalendarDiffers, QuarterDiffers, RunDiffers, PaymentDiffers, UnknownRun, UnknownPayment, BeforeStart, CalendarMissing, QuarterMissing, YearNotOpen, TooManyRuns, TooManyPayments, Memory, Store, WrongForm, YearDiffers, YearMissing}
+use Rattle.ftd_machine.specs.declared.replies.Refusal.TheVariants.{BadName, BadYear, BadDay}
+use Rattle.ftd_machine.specs.declared.replies.Refusal.TheVariants.{BadCents, BadCalendar, BadNumber}
+use Rattle.ftd_machine.specs.declared.replies.Refusal.TheVariants.{UnknownAccount, AccountDiffers}
+use Rattle.ftd_machine.specs.declared.replies.Refusal.TheVariants.{CalendarDiffers, QuarterDiffers}
+use Rattle.ftd_machine.specs.declared.replies.Refusal.TheVariants.{RunDiffers, PaymentDiffers}
+use Rattle.ftd_machine.specs.declared.replies.Refusal.TheVariants.{UnknownRun, UnknownPayment}
+use Rattle.ftd_machine.specs.declared.replies.Refusal.TheVariants.{BeforeStart, CalendarMissing}
+use Rattle.ftd_machine.specs.declared.replies.Refusal.TheVariants.{QuarterMissing, YearNotOpen}
+use Rattle.ftd_machine.specs.declared.replies.Refusal.TheVariants.{TooManyRuns, TooManyPayments}
+use Rattle.ftd_machine.specs.declared.replies.Refusal.TheVariants.{Memory, Store, WrongForm}
+use Rattle.ftd_machine.specs.declared.replies.Refusal.TheVariants.{YearDiffers, YearMissing}
 
 abbrev pub number_of : Refusal → ℕ
 number_of BadName = 1

@@ -1,6 +1,7 @@
 -- The checks of each request, in the order in which they decide. They take what is known: the
 -- account, what has the key, whether the year is open, and how many entries there are.
-use Rattle.std.specs.Prelude.{ℕ, ◌+◌, ◌==◌, ◌&&◌, ◌++◌, not, nat_le, nat_lt, Bool, true, false, bytes_eq, List, [], ◌∷◌, length, Option, None, Some, if◌then◌else◌}
+use Rattle.std.specs.Prelude.{ℕ, ◌+◌, ◌==◌, ◌&&◌, ◌++◌, not, nat_le, nat_lt, Bool, true, false}
+use Rattle.std.specs.Prelude.{bytes_eq, List, [], ◌∷◌, length, Option, None, Some, if◌then◌else◌}
 use Rattle.ftd_days.specs.Calendar.{year_of, quarter_year, quarter_start}
 use Rattle.ftd_days.specs.Business.{is_holiday}
 use Rattle.ftd_days.specs.declared.cents.Cents.{Cents}
@@ -11,9 +12,19 @@ use Rattle.ftd_rules.specs.declared.run.PayRun.{PayRun}
 use Rattle.ftd_rules.specs.declared.payment.Payment.{Payment}
 use Rattle.ftd_rules.specs.declared.run.Voidable.{Voidable}
 use Rattle.ftd_rules.specs.Accounts.{is_account_name}
-use Rattle.ftd_machine.specs.Limits.{is_between, is_amount, is_number, is_calendar, most_holidays, most_entries}
+use Rattle.ftd_machine.specs.Limits.{is_between, is_amount, is_number, is_calendar, most_holidays}
+use Rattle.ftd_machine.specs.Limits.{most_entries}
 use Rattle.ftd_machine.specs.Checks.{Answer, needs, done_if, finds, meets, is_new}
-use Rattle.ftd_machine.specs.declared.replies.Refusal.TheVariants.{BadName, BadYear, BadDay, BadCents, BadCalendar, BadNumber, UnknownAccount, AccountDiffers, CalendarDiffers, QuarterDiffers, RunDiffers, PaymentDiffers, UnknownRun, UnknownPayment, BeforeStart, CalendarMissing, YearNotOpen, TooManyRuns, TooManyPayments, WrongForm, YearDiffers}
+use Rattle.ftd_machine.specs.declared.replies.Refusal.TheVariants.{BadName, BadYear, BadDay}
+use Rattle.ftd_machine.specs.declared.replies.Refusal.TheVariants.{BadCents, BadCalendar, BadNumber}
+use Rattle.ftd_machine.specs.declared.replies.Refusal.TheVariants.{UnknownAccount, AccountDiffers}
+use Rattle.ftd_machine.specs.declared.replies.Refusal.TheVariants.{CalendarDiffers, QuarterDiffers}
+use Rattle.ftd_machine.specs.declared.replies.Refusal.TheVariants.{RunDiffers, PaymentDiffers}
+use Rattle.ftd_machine.specs.declared.replies.Refusal.TheVariants.{UnknownRun, UnknownPayment}
+use Rattle.ftd_machine.specs.declared.replies.Refusal.TheVariants.{BeforeStart, CalendarMissing}
+use Rattle.ftd_machine.specs.declared.replies.Refusal.TheVariants.{YearNotOpen, TooManyRuns}
+use Rattle.ftd_machine.specs.declared.replies.Refusal.TheVariants.{TooManyPayments, WrongForm}
+use Rattle.ftd_machine.specs.declared.replies.Refusal.TheVariants.{YearDiffers}
 
 -- ---- equal content
 

@@ -7,7 +7,8 @@ use Rattle.ftd_rules.specs.declared.run.PayRun.{PayRun}
 use Rattle.ftd_rules.specs.declared.payment.Payment.{Payment}
 use Rattle.ftd_rules.specs.declared.run.Voidable.{Voidable}
 use Rattle.ftd_machine.specs.Limits.{is_between, is_calendar}
-use Rattle.ftd_machine.specs.State.{State, Enrolled, holidays, Entry, entries_of, is_of, is_open, is_given}
+use Rattle.ftd_machine.specs.State.{State, Enrolled, holidays, Entry, entries_of, is_of, is_open}
+use Rattle.ftd_machine.specs.State.{is_given}
 use Rattle.ftd_machine.specs.History.{year_of_entry}
 
 -- no two have the same key

@@ -1,6 +1,7 @@
 -- What the desk keeps: the entries that were accepted, in the order in which they were. It keeps no
 -- obligation, no total, no opening and no turn: these follow from the entries.
-use Rattle.std.specs.Prelude.{ℕ, ◌==◌, Bool, List, [], ◌++◌, bytes_eq, filter, find, Option, option_map, is_some}
+use Rattle.std.specs.Prelude.{ℕ, ◌==◌, Bool, List, [], ◌++◌, bytes_eq, filter, find, Option}
+use Rattle.std.specs.Prelude.{option_map, is_some}
 use Rattle.ftd_days.specs.Calendar.{year_of}
 use Rattle.ftd_days.specs.Holidays.{YearDays, holidays_of, calendar_of}
 use Rattle.ftd_days.specs.declared.cents.Cents.{Cents}

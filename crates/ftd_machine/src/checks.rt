@@ -3,7 +3,12 @@
 
 ghost use Rattle.std.specs.Prelude.{◌≡◌, Ok, Err, Some, None, if◌then◌else◌, option_copied, false};
 ghost use Rattle.ftd_machine.specs.Checks.{first_of};
-ghost use Rattle.ftd_machine.specs.Requests.{is_form, same_account, same_run, same_payment, enrol_checks, calendar_checks, add_holiday_checks, report_checks, report_year_checks, open_year_checks, post_checks, void_checks, pay_checks, void_payment_checks, status_checks, due_list_checks, schedule_b_checks};
+ghost use Rattle.ftd_machine.specs.Requests.{is_form, same_account, same_run, same_payment};
+ghost use Rattle.ftd_machine.specs.Requests.{enrol_checks, calendar_checks, add_holiday_checks};
+ghost use Rattle.ftd_machine.specs.Requests.{report_checks, report_year_checks, open_year_checks};
+ghost use Rattle.ftd_machine.specs.Requests.{post_checks, void_checks, pay_checks};
+ghost use Rattle.ftd_machine.specs.Requests.{void_payment_checks, status_checks, due_list_checks};
+ghost use Rattle.ftd_machine.specs.Requests.{schedule_b_checks};
 
 use crate::entries::Account;
 use crate::limits::{

@@ -5,7 +5,8 @@ ghost use Rattle.std.specs.List.{list_all, sum_by};
 ghost use Rattle.ftd_days.specs.Calendar.{quarter_start, year_of};
 ghost use Rattle.ftd_rules.specs.Liability.{cents_of};
 ghost use Rattle.ftd_rules.specs.Verdicts.{amount_of};
-ghost use Rattle.ftd_machine.specs.Limits.{IsBounded, amounts_end, is_between, is_amount, is_number, are_rising, is_calendar};
+ghost use Rattle.ftd_machine.specs.Limits.{IsBounded, amounts_end, is_between, is_amount};
+ghost use Rattle.ftd_machine.specs.Limits.{is_number, are_rising, is_calendar};
 
 use crate::replies::Reply;
 use ftd_days::{Cents, Day, Quarter};
@@ -20,7 +21,8 @@ pub const MOST_HOLIDAYS: usize = 60;
 /// The largest amount that a request may name, in cents.
 const MOST_CENTS: u64 = 99_999_999_999;
 
-/// What the amounts of an account stay below together, in cents: 20,000 runs with three amounts each.
+/// What the amounts of an account stay below together, in cents: 20,000 runs with three amounts
+/// each.
 const AMOUNTS_END: u64 = 6_000_000_000_000_000;
 
 /// Whether the year is one of these.
@@ -74,8 +76,8 @@ pub(crate) fn is_before_end(day: Day, quarter: Quarter) -> bool
     day <= quarter.last()
 }
 
-/// Whether the amounts of a list that is answered are together below 6,000,000,000,000,000 cents, as
-/// those of an account are.
+/// Whether the amounts of a list that is answered are together below 6,000,000,000,000,000 cents,
+/// as those of an account are.
 pub fn is_bounded(reply: &Reply) -> bool
     ensures { IsTrue result ↔ IsBounded reply.now }
 {

@@ -1,7 +1,8 @@
 //! Sources and targets of bytes: readers and writers that, once a call of them has failed, answer
 //! the fault from then on.
 
-ghost use Rattle.std.specs.Prelude.{◌≡◌, ◌≤◌, ◌<◌, ℕ, List, [], Option, Bool, true, false, length, take, IfOk, OnOk, OnErr};
+ghost use Rattle.std.specs.Prelude.{◌≡◌, ◌≤◌, ◌<◌, ℕ, List, [], Option, Bool, true, false, length};
+ghost use Rattle.std.specs.Prelude.{take, IfOk, OnOk, OnErr};
 ghost use Rattle.std.specs.Io.KnownBytes.{Keeps, Appends, Consumes, IsAtEnd};
 
 use std::io::{ErrorKind, Read, Write};
@@ -27,7 +28,8 @@ pub trait Source {
     /// room means that no more come. A fault loses no byte, and comes again at each later call.
     fn get(&mut self, buf: &mut [u8]) -> Result<usize, PortFault>
         ensures count { IfOk result (λ n. n ≤ length buf.new) }
-        ensures gives { IfOk result (λ n. Consumes (left self.old) (left self.new) (take n buf.new)) }
+        ensures gives { IfOk result
+            (λ n. Consumes (left self.old) (left self.new) (take n buf.new)) }
         ensures end { IfOk result (λ n. n ≡ 0 → 0 < length buf.new → IsAtEnd (left self.new)) }
         ensures works { OnOk result ((failed self.old ≡ false) × (failed self.new ≡ false)) }
         ensures fails { OnErr result (failed self.new ≡ true) }
@@ -47,7 +49,8 @@ pub trait Target {
     fn put(&mut self, bytes: &[u8]) -> Result<usize, PortFault>
         ensures count { IfOk result (λ n. n ≤ length bytes.now) }
         ensures some { IfOk result (λ n. n ≡ 0 → bytes.now ≡ []) }
-        ensures takes { IfOk result (λ n. Appends (taken self.old) (taken self.new) (take n bytes.now)) }
+        ensures takes { IfOk result
+            (λ n. Appends (taken self.old) (taken self.new) (take n bytes.now)) }
         ensures works { OnOk result ((failed self.old ≡ false) × (failed self.new ≡ false)) }
         ensures fails { OnErr result (failed self.new ≡ true) }
         ensures keeps { OnErr result (Keeps (taken self.old) (taken self.new)) };

@@ -1,5 +1,5 @@
 -- Runs that are posted by a book: what is answered, and what the book knows then.
-use Rattle.std.proofs.Common.{◌≡◌, ◌≢◌, ◌∙◌, inl, inr, refl, sym, ap, subst, ℕ, ◌+◌, ◌≤◌, Vec, Global, List, [], ◌∷◌, ◌++◌, map, length, Option, None, Some, Ok, arith}
+use Rattle.std.proofs.Common.{◌≡◌, ◌∙◌, inl, inr, refl, sym, ap, subst, ℕ, ◌+◌, ◌≤◌, Vec, Global, List, [], ◌∷◌, map, length, Option, None, Some, Ok, arith}
 use Rattle.std.specs.Prelude.{filter}
 use Rattle.std.specs.List.{list_any, sum_by}
 use Rattle.sqlite.specs.Store as store
@@ -56,6 +56,7 @@ use Rattle.ftd_entries.specs.Opening.{is_line_of}
 use Rattle.ftd_entries.proofs.Lines.{lines_known}
 use Rattle.ftd_entries.proofs.Kept.{kept_run, counted_runs}
 use Rattle.ftd_entries.proofs.KnownYears.{open_lines}
+use Rattle.ftd_entries.proofs.YearHolidays.{holiday_read}
 use Rattle.ftd_repairs.specs.declared.Difference.{Difference}
 use Rattle.ftd_repairs.specs.declared.reading.KnownYears.{KnownYears}
 use Rattle.ftd_repairs.specs.Calendars.{KnowsYears}
@@ -64,7 +65,6 @@ use Rattle.ftd_repairs.specs.Rescheduled.{HasLines}
 use Rattle.ftd_repairs.specs.Reposted.{IsRepostedBy, AddsRun}
 use Rattle.ftd_posting.specs.declared.books.Book.{Book}
 use Rattle.ftd_posting.specs.Books.{IsBook, AreHolidaysIn, PostsBy}
-use Rattle.ftd_posting.proofs.HolidaysRead.{holiday_read}
 use Rattle.ftd_posting.proofs.LiveRuns.{sums_listed}
 use Rattle.ftd_posting.proofs.PostedRuns.{told, run_added}
 use Rattle.ftd_posting.proofs.Reposting.{ChangesRuns, with_runs, lines_then, before, after, change, line_before, IsRightBy, AreKnown, placed_stands, placed_told, lines_put, are_lines}

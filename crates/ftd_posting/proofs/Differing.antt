@@ -8,7 +8,7 @@ use Rattle.ftd_rules.proofs.Cuts.{lt_or_le}
 use Rattle.ftd_rules.proofs.Owed.{has_append, has_left, has_right}
 use Rattle.ftd_machine.specs.Posting.{Differ}
 use Rattle.ftd_machine.proofs.Soundness.{has_filtered}
-use Rattle.ftd_entries.proofs.Sifted.{keeps_has}
+use Rattle.ftd_store.proofs.Sifted.{keeps_has}
 use Rattle.ftd_posting.proofs.Patching.{begins_before, begins_after, patched}
 
 -- the first day is one of the days, or it is not

@@ -1,7 +1,6 @@
 -- The holidays that were read of some years are those that the state keeps of them.
-use Rattle.std.proofs.Common.{◌≡◌, ℕ, ◌+◌, ◌≤◌, List, inl, inr, sym, ◌∙◌, arith}
+use Rattle.std.proofs.Common.{ℕ, ◌+◌, ◌≤◌, List, inl, inr, arith}
 use Rattle.ftd_days.specs.Calendar.{year_of, year_start}
-use Rattle.ftd_days.specs.Business.{is_holiday}
 use Rattle.ftd_days.proofs.Months.{year_is, year_later}
 use Rattle.ftd_rules.specs.declared.Form.{Form}
 use Rattle.ftd_rules.specs.declared.DaySum.{DaySum}
@@ -16,20 +15,11 @@ use Rattle.ftd_rules.proofs.Covering.{within_period, line_is}
 use Rattle.ftd_rules.proofs.Near.{due_near}
 use Rattle.ftd_rules.proofs.Schedules.{year_facts, year_start-mono}
 use Rattle.ftd_rules.proofs.Stated.{piece_owed}
-use Rattle.ftd_schema.specs.Standing.{Tables}
 use Rattle.ftd_machine.specs.State.{State, holidays}
 use Rattle.ftd_machine.specs.Sound.{IsSound}
-use Rattle.ftd_entries.specs.Standing.{StandsFor}
-use Rattle.ftd_entries.proofs.YearHolidays.{holiday_known}
-use Rattle.ftd_repairs.specs.Calendars.{HasHolidays}
 use Rattle.ftd_posting.specs.Books.{AreHolidaysIn}
 
-module _ (t : Tables) (s : State) (stands : StandsFor t s) (sound : IsSound s) where
-  -- a day of a year that was read is a holiday if the state keeps it as one
-  pub holiday_read : (read : List ℕ) (year day : ℕ) → HasHolidays t read year → year_of day ≡ year → is_holiday (holidays s) day ≡ is_holiday read day
-  holiday_read read year day has its = holiday_known t s stands sound has.given has.added year day has.is_given has.are_added its ∙ sym (has.same day its)
-
--- so each day from the last one of an obligation to its due date, where the years from one on were read
+-- each day from the last one of an obligation to its due date, where the years from one on were read
 pub holidays_near : (s : State) → IsSound s → (form : Form) (lines : List YearLine) (sums : List DaySum) (read : List ℕ) (year : ℕ) (o : Obligation) → AreLines sums lines
     → ((line : YearLine) → Has lines line → year ≤ line.year → AreHolidaysIn s read line.year × AreHolidaysIn s read (line.year + 1))
     → year_start year ≤ o.first → IsObligation form lines sums (holidays s) o → EqualHolidays o.last o.due read (holidays s)

@@ -22,12 +22,12 @@ use Rattle.ftd_rows.specs.Lists.{Pairs}
 use Rattle.ftd_rows.specs.Rows.{run_row}
 use Rattle.ftd_rows.specs.DaySums.{owed_on, IsLiveRun, ListsDaySums}
 use Rattle.ftd_rows.proofs.DaySums.{owed_is}
+use Rattle.ftd_store.proofs.Sifted.{filter_in, filter_out}
 use Rattle.ftd_machine.specs.State.{Entry, is_of}
 use Rattle.ftd_machine.specs.History.{liability_of, live, is_live, value_of}
 use Rattle.ftd_machine.specs.Step.{with_entry, with_voided, voided_if, is_under, as_voided, taken}
 use Rattle.ftd_entries.specs.Standing.{run_entry}
 use Rattle.ftd_entries.proofs.CalendarRows.{whole}
-use Rattle.ftd_entries.proofs.Sifted.{filter_in, filter_out}
 use Rattle.ftd_entries.proofs.DayCells.{day_le, same_day}
 
 -- ---- by entries

@@ -8,7 +8,7 @@ use Rattle.ftd_rules.specs.Obligations.{ByFirstDay}
 use Rattle.ftd_rules.proofs.Cuts.{lt_or_le}
 use Rattle.ftd_rules.proofs.Owed.{has_append, has_left, has_right}
 use Rattle.ftd_machine.proofs.Soundness.{has_filtered}
-use Rattle.ftd_entries.proofs.Sifted.{filter_in, filter_out, keeps_has}
+use Rattle.ftd_store.proofs.Sifted.{filter_in, filter_out, keeps_has}
 
 -- the rows that begin before the days, the new ones, and those that begin after them
 abbrev pub begins_before : ℕ → Obligation → Bool

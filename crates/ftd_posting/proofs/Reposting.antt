@@ -39,9 +39,10 @@ use Rattle.ftd_machine.specs.Posting.{IsPosted}
 use Rattle.ftd_machine.specs.Sound.{IsSound}
 use Rattle.ftd_machine.specs.declared.replies.Reply.TheVariants.{Posted}
 use Rattle.ftd_machine.proofs.Adding.{same_name, own_name}
-use Rattle.ftd_entries.proofs.Sifted.{sifted}
+use Rattle.ftd_store.proofs.Sifted.{sifted}
 use Rattle.ftd_entries.specs.Standing.{StandsFor, IsSettled, run_entry, is_obligation_of}
 use Rattle.ftd_entries.proofs.Lines.{lines_known}
+use Rattle.ftd_entries.proofs.YearHolidays.{holiday_read}
 use Rattle.ftd_repairs.specs.declared.Difference.{Difference}
 use Rattle.ftd_repairs.specs.Repaired.{RunsAre, Repairs}
 use Rattle.ftd_repairs.specs.Rescheduled.{AreAfter}
@@ -51,7 +52,7 @@ use Rattle.ftd_posting.proofs.Differing.{differ_whole}
 use Rattle.ftd_posting.proofs.RowsPlaced.{stays, placed_rows, gone_are, others_placed}
 use Rattle.ftd_posting.proofs.LiveRuns.{sums_listed}
 use Rattle.ftd_posting.specs.Books.{AreHolidaysIn}
-use Rattle.ftd_posting.proofs.HolidaysRead.{holiday_read, holidays_near}
+use Rattle.ftd_posting.proofs.HolidaysRead.{holidays_near}
 use Rattle.ftd_posting.proofs.RightByAll.{patch_by_all}
 use Rattle.ftd_posting.proofs.LinesAfter.{lines_after, lines_of_runs}
 

@@ -15,13 +15,13 @@ use Rattle.ftd_sql.specs.Tests.{is_obligation_between}
 use Rattle.ftd_rows.specs.Cells.{day_number}
 use Rattle.ftd_rows.specs.Rows.{obligation_row}
 use Rattle.ftd_rows.proofs.Found.{both}
+use Rattle.ftd_store.proofs.Sifted.{filter_in, filter_out, keeps_has, both_tests, both_are, sifted}
 use Rattle.ftd_machine.proofs.Adding.{same_name, own_name, other_name}
 use Rattle.ftd_machine.proofs.Soundness.{has_mapped, has_filtered}
 use Rattle.ftd_entries.specs.Standing.{is_obligation_of}
 use Rattle.ftd_entries.proofs.Giving.{mapped_has}
 use Rattle.ftd_entries.proofs.OwedRows.{obligation_is}
 use Rattle.ftd_entries.proofs.DayCells.{day_le}
-use Rattle.ftd_entries.proofs.Sifted.{filter_in, filter_out, keeps_has, both_tests, both_are, sifted}
 use Rattle.ftd_posting.proofs.Patching.{begins_before, begins_after, patched}
 use Rattle.ftd_posting.proofs.Differing.{BeginsWithin}
 

@@ -28,8 +28,8 @@ abbrev pub AreHolidaysIn : State → List ℕ → ℕ → Type 0
 AreHolidaysIn s known year =
     (day : ℕ) → year_of day ≡ year → is_holiday (holidays s) day ≡ is_holiday known day
 
--- the book is right of the account that the state keeps under the name: what it was enrolled as, its
--- open years, the holidays of those from the first year on and of the years after them, and the
+-- the book is right of the account that the state keeps under the name: what it was enrolled as,
+-- its open years, the holidays of those from the first year on and of the years after them, and the
 -- liability of its live runs from that year on
 pub record IsBook (s : State) (name : List ℕ) (book : Book) : Type 0 where
   pub account : (entries_of s name).account ≡ Some book.account
@@ -47,8 +47,8 @@ HasNoYear s name year =
     ((entries_of s name).account ≡ None) ⊎ (is_open (entries_of s name) year ≡ false)
 
 -- within a transaction over rows that stand for a state, of which the book is right, the run is
--- answered as the machine answers it, the rows are those of its next state, and the book is right of
--- that
+-- answered as the machine answers it, the rows are those of its next state, and the book is right
+-- of that
 abbrev pub PostsBy : List ℕ → ℕ → PayRun → Book → Book → Answer → database.State → database.State
     → Tables → Type 0
 PostsBy name number run old new answer before after t =

@@ -1,4 +1,5 @@
-//! Several runs of an account are posted, one after the other, and what is known of it is read once.
+//! Several runs of an account are posted, one after the other, and what is known of it is read
+//! once.
 
 ghost use Rattle.std.specs.Prelude.{◌≡◌, ◌≤◌, IfOk, IfSome, MatchOption, OnOk};
 ghost use Rattle.ftd_days.specs.Calendar.{year_of, year_start, last_day};

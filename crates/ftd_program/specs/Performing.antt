@@ -1,5 +1,6 @@
 -- What the program prints of an answer, and its exit status.
-use Rattle.std.specs.Prelude.{◌≡◌, ◌⊎◌, ◌≤◌, ℕ, Bool, IsTrue, true, List, Option, Result, MatchResult, Ok, Err, codes}
+use Rattle.std.specs.Prelude.{◌≡◌, ◌⊎◌, ◌≤◌, ℕ, Bool, IsTrue, true, List, Option, Result}
+use Rattle.std.specs.Prelude.{MatchResult, Ok, Err, codes}
 use Rattle.std.specs.Io.KnownBytes.{Appends}
 use Rattle.ftd_ports.specs.Writing.{WritesPrefix}
 use Rattle.sqlite.specs.State.{HasCleanDisk}
@@ -12,7 +13,6 @@ use Rattle.ftd_machine.specs.Limits.{amounts_end}
 use Rattle.ftd_machine.specs.Runs.{IsFault}
 use Rattle.ftd_machine.specs.Checks.{Answer}
 use Rattle.ftd_machine.specs.declared.replies.Refusal.{Refusal}
-use Rattle.ftd_machine.specs.declared.replies.Reply.{Reply}
 use Rattle.ftd_machine.specs.declared.requests.Request.{Request}
 use Rattle.ftd_machine.specs.declared.requests.Request.TheVariants.{DueList}
 use Rattle.ftd_questions.specs.Telling.{Replies, Refuses}
@@ -32,9 +32,11 @@ use Rattle.ftd_program.specs.declared.performing.Performed.{Performed}
 
 -- the text was written whole, or its target failed after a prefix of it
 abbrev pub IsPut : Option (List ℕ) → Option (List ℕ) → Bool → List ℕ → Type 0
-IsPut before after failed text = Appends before after text ⊎ (WritesPrefix before after text × (failed ≡ true))
+IsPut before after failed text =
+    Appends before after text ⊎ (WritesPrefix before after text × (failed ≡ true))
 
-module _ {O E : Type 0} (o_taken : O → Option (List ℕ)) (o_failed : O → Bool) (e_taken : E → Option (List ℕ)) (e_failed : E → Bool)
+module _ {O E : Type 0} (o_taken : O → Option (List ℕ)) (o_failed : O → Bool)
+    (e_taken : E → Option (List ℕ)) (e_failed : E → Bool)
     (out : O) (err : E) (p : Performed O E) where
   -- the line of a refusal on standard error
   pub record PrintsRefusal (refusal : Refusal) : Type 0 where
@@ -68,13 +70,16 @@ module _ {O E : Type 0} (o_taken : O → Option (List ℕ)) (o_failed : O → Bo
     pub line : IsPut (e_taken err) (e_taken p.err) (e_failed p.err) (cause_text why)
 
   abbrev pub PrintsStop : Stopped → Type 0
-  PrintsStop stopped = PrintsBoth stopped.cause (summary_text stopped.done) ⊎ FailsOutput (summary_text stopped.done)
+  PrintsStop stopped =
+      PrintsBoth stopped.cause (summary_text stopped.done) ⊎ FailsOutput (summary_text stopped.done)
 
   -- the pay runs of the text were imported, and what became of them printed
   pub record PerformsImport (old new : Held) (text : List ℕ) : Type 0 where
     pub import : Result Summary Stopped
-    pub imports : MatchResult import (λ summary. Imports old new text summary) (λ stopped. Stops old new text stopped)
-    pub prints : MatchResult import (λ summary. PrintsOut (summary_status summary) (summary_text summary)) PrintsStop
+    pub imports : MatchResult import (λ summary. Imports old new text summary)
+        (λ stopped. Stops old new text stopped)
+    pub prints : MatchResult import
+        (λ summary. PrintsOut (summary_status summary) (summary_text summary)) PrintsStop
 
   -- the text of the reply, or the line of the refusal
   abbrev pub Prints : Request → Answer → Type 0
@@ -87,32 +92,42 @@ module _ {O E : Type 0} (o_taken : O → Option (List ℕ)) (o_failed : O → Bo
     pub handles : Handles old new request answer
     pub prints : Prints request answer
 
-  -- a prefix of the due list was printed: there was no memory, or the store failed, in the middle of it
-  pub record BreaksDue (refusal : Refusal) (rows : List DueRow) (account : List ℕ) (quarter as_of : ℕ) : Type 0 where
+  -- a prefix of the due list was printed: there was no memory, or the store failed, in the middle
+  -- of it
+  pub record BreaksDue (refusal : Refusal) (rows : List DueRow) (account : List ℕ)
+      (quarter as_of : ℕ) : Type 0 where
     pub status_is : p.status ≡ 3
     pub part : WritesPrefix (o_taken out) (o_taken p.out) (due_text account quarter as_of rows)
     pub line : IsPut (e_taken err) (e_taken p.err) (e_failed p.err) (refusal_text refusal)
 
-  -- a prefix of it was printed: standard output failed, or the amounts came to more than those of an account can be
+  -- a prefix of it was printed: standard output failed, or the amounts came to more than those of
+  -- an account can be
   pub record FailsDue (rows : List DueRow) (account : List ℕ) (quarter as_of : ℕ) : Type 0 where
     pub status_is : p.status ≡ 3
     pub part : WritesPrefix (o_taken out) (o_taken p.out) (due_text account quarter as_of rows)
     pub reason : (o_failed p.out ≡ true) ⊎ (amounts_end ≤ sum_by amount_of rows)
     pub line : IsPut (e_taken err) (e_taken p.err) (e_failed p.err) (codes "failed Output\n")
 
-  -- what was printed of a due list: all of it; why it was refused; a prefix of it, or nothing, since there was no memory or the
-  -- store failed; a prefix of it, since standard output failed
+  -- what was printed of a due list: all of it; why it was refused; a prefix of it, or nothing,
+  -- since there was no memory or the store failed; a prefix of it, since standard output failed
   pub data PrintsDue (s : State) (account : List ℕ) (quarter as_of : ℕ) : Type 0 where
-    whole : (rows : List DueRow) → Replies s account quarter as_of rows → PrintsText 0 (due_text account quarter as_of rows) → PrintsDue s account quarter as_of
-    refused : (refusal : Refusal) → Refuses s account quarter as_of refusal → PrintsRefusal refusal → PrintsDue s account quarter as_of
-    unbegun : (refusal : Refusal) → IsFault (Err refusal) → PrintsRefusal refusal → PrintsDue s account quarter as_of
-    broken : (refusal : Refusal) (rows : List DueRow) → IsFault (Err refusal) → Replies s account quarter as_of rows → BreaksDue refusal rows account quarter as_of → PrintsDue s account quarter as_of
-    failed : (rows : List DueRow) → Replies s account quarter as_of rows → FailsDue rows account quarter as_of → PrintsDue s account quarter as_of
+    whole : (rows : List DueRow) → Replies s account quarter as_of rows
+        → PrintsText 0 (due_text account quarter as_of rows) → PrintsDue s account quarter as_of
+    refused : (refusal : Refusal) → Refuses s account quarter as_of refusal → PrintsRefusal refusal
+        → PrintsDue s account quarter as_of
+    unbegun : (refusal : Refusal) → IsFault (Err refusal) → PrintsRefusal refusal
+        → PrintsDue s account quarter as_of
+    broken : (refusal : Refusal) (rows : List DueRow) → IsFault (Err refusal)
+        → Replies s account quarter as_of rows → BreaksDue refusal rows account quarter as_of
+        → PrintsDue s account quarter as_of
+    failed : (rows : List DueRow) → Replies s account quarter as_of rows
+        → FailsDue rows account quarter as_of → PrintsDue s account quarter as_of
 
   -- the due list was asked of the desk, and printed from its rows as they came
   pub record PerformsDue (old new : Held) (account : List ℕ) (quarter as_of : ℕ) : Type 0 where
     pub stands : StandsAsBefore old new
-    pub prints : HasCleanDisk new.db → IsTrue new.db.is_open → (s : State) → Keeps old s → PrintsDue s account quarter as_of
+    pub prints : HasCleanDisk new.db → IsTrue new.db.is_open → (s : State) → Keeps old s
+        → PrintsDue s account quarter as_of
 
   abbrev pub Asks : Held → Held → Request → Type 0
   Asks old new (DueList account quarter as_of) = PerformsDue old new account quarter as_of

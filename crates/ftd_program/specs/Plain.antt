@@ -11,7 +11,8 @@ use Rattle.ftd_program.specs.declared.performing.Performed.{Performed}
 
 -- `refused header`, `record 4 malformed field 3`, `run 2 differs`
 unfoldable pub record_line : ℕ → ℕ → List ℕ
-record_line number field = codes "record " ++ (decimal number ++ (codes " malformed field " ++ (decimal field ++ 10 ∷ [])))
+record_line number field =
+    codes "record " ++ (decimal number ++ (codes " malformed field " ++ (decimal field ++ 10 ∷ [])))
 
 unfoldable pub run_line : ℕ → List ℕ
 run_line number = codes "run " ++ (decimal number ++ codes " differs\n")
@@ -24,15 +25,21 @@ fault_status fault.Memory = 3
 fault_status _ = 1
 
 -- why there are none, on standard error
-pub record PrintsFault {O E : Type 0} (e_taken : E → Option (List ℕ)) (e_failed : E → Bool) (out : O) (err : E) (p : Performed O E) (why : PlainFault) : Type 0 where
+pub record PrintsFault {O E : Type 0} (e_taken : E → Option (List ℕ)) (e_failed : E → Bool)
+    (out : O) (err : E) (p : Performed O E) (why : PlainFault) : Type 0 where
   pub status_is : p.status ≡ fault_status why
   pub out_is : p.out ≡ out
   pub line : IsPut (e_taken err) (e_taken p.err) (e_failed p.err) (fault_line why)
 
-module _ {O E : Type 0} (o_taken : O → Option (List ℕ)) (o_failed : O → Bool) (e_taken : E → Option (List ℕ)) (e_failed : E → Bool)
+module _ {O E : Type 0} (o_taken : O → Option (List ℕ)) (o_failed : O → Bool)
+    (e_taken : E → Option (List ℕ)) (e_failed : E → Bool)
     (out : O) (err : E) (p : Performed O E) where
   -- the deposits were printed, or why there are none
   pub record PerformsPlain (input : List ℕ) (task : PlainTask) : Type 0 where
     pub deposits : Result (List ℕ) PlainFault
-    pub gives : MatchResult deposits (λ text. PlainGives input task.account task.year task.holidays text) (λ fault. PlainFails input task.account task.year task.holidays fault)
-    pub prints : MatchResult deposits (λ text. PrintsOut o_taken o_failed e_taken e_failed out err p 0 text) (λ fault. PrintsFault e_taken e_failed out err p fault)
+    pub gives : MatchResult deposits
+        (λ text. PlainGives input task.account task.year task.holidays text)
+        (λ fault. PlainFails input task.account task.year task.holidays fault)
+    pub prints : MatchResult deposits
+        (λ text. PrintsOut o_taken o_failed e_taken e_failed out err p 0 text)
+        (λ fault. PrintsFault e_taken e_failed out err p fault)

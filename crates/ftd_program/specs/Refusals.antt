@@ -5,7 +5,9 @@ use Rattle.std.specs.List.{concat}
 use Rattle.ftd_days.specs.Text.{quarter_text}
 use Rattle.ftd_machine.specs.Refusals.{name_text, number_of}
 use Rattle.ftd_machine.specs.declared.replies.Refusal.{Refusal}
-use Rattle.ftd_machine.specs.declared.replies.Refusal.TheVariants.{CalendarMissing, QuarterMissing, YearNotOpen, Memory, Store, YearMissing}
+use Rattle.ftd_machine.specs.declared.replies.Refusal.TheVariants.{CalendarMissing, QuarterMissing}
+use Rattle.ftd_machine.specs.declared.replies.Refusal.TheVariants.{YearNotOpen, Memory, Store}
+use Rattle.ftd_machine.specs.declared.replies.Refusal.TheVariants.{YearMissing}
 
 -- where memory or the store failed it is a failure, else a refusal
 abbrev pub verb_text : Refusal → List ℕ
@@ -23,11 +25,13 @@ named_text _ = []
 
 -- a verb, a number, a name, and what is named
 abbrev pub line_of : List ℕ → ℕ → List ℕ → List (List ℕ) → List ℕ
-line_of verb number name named = concat (verb ∷ decimal number ∷ codes " " ∷ name ∷ (named ++ ((10 ∷ []) ∷ [])))
+line_of verb number name named =
+    concat (verb ∷ decimal number ∷ codes " " ∷ name ∷ (named ++ ((10 ∷ []) ∷ [])))
 
 -- `refused 17 QuarterMissing 2024Q2`
 unfoldable pub refusal_text : Refusal → List ℕ
-refusal_text refusal = line_of (verb_text refusal) (number_of refusal) (name_text refusal) (named_text refusal)
+refusal_text refusal =
+    line_of (verb_text refusal) (number_of refusal) (name_text refusal) (named_text refusal)
 
 abbrev pub refusal_status : Refusal → ℕ
 refusal_status Memory = 3

@@ -17,7 +17,8 @@ use Rattle.ftd_reports.specs.SchedulesB.{b_text}
 -- `posted 2024-05-01 2024-05-31 removed 0 added 1`
 unfoldable pub posted_text : ℕ → ℕ → ℕ → ℕ → List ℕ
 posted_text from to removed added =
-    concat (codes "posted " ∷ day_text from ∷ codes " " ∷ day_text to ∷ codes " removed " ∷ decimal removed ∷ codes " added " ∷ decimal added ∷ (10 ∷ []) ∷ [])
+    concat (codes "posted " ∷ day_text from ∷ codes " " ∷ day_text to ∷ codes " removed "
+    ∷ decimal removed ∷ codes " added " ∷ decimal added ∷ (10 ∷ []) ∷ [])
 
 abbrev pub kind_text : Kind → List ℕ
 kind_text Monthly = codes " monthly"
@@ -25,9 +26,12 @@ kind_text Semiweekly = codes " semiweekly"
 
 -- `2024-05-11 semiweekly turned 2024-05-10`
 unfoldable pub status_text : ℕ → Kind → Reason → List ℕ
-status_text day kind Lookback = concat (day_text day ∷ kind_text kind ∷ codes " lookback" ∷ (10 ∷ []) ∷ [])
-status_text day kind (Turned turn) = concat (day_text day ∷ kind_text kind ∷ codes " turned " ∷ day_text turn ∷ (10 ∷ []) ∷ [])
-status_text day kind Carried = concat (day_text day ∷ kind_text kind ∷ codes " carried" ∷ (10 ∷ []) ∷ [])
+status_text day kind Lookback =
+    concat (day_text day ∷ kind_text kind ∷ codes " lookback" ∷ (10 ∷ []) ∷ [])
+status_text day kind (Turned turn) =
+    concat (day_text day ∷ kind_text kind ∷ codes " turned " ∷ day_text turn ∷ (10 ∷ []) ∷ [])
+status_text day kind Carried =
+    concat (day_text day ∷ kind_text kind ∷ codes " carried" ∷ (10 ∷ []) ∷ [])
 
 -- the texts of the replies to questions, by what was asked
 abbrev pub status_told : Request → Kind → Reason → List ℕ
@@ -38,7 +42,8 @@ abbrev pub days_told : Request → List DaySum → List ℕ
 days_told (ScheduleB account quarter) sums = b_text account quarter sums
 days_told _ sums = []
 
--- the text of the reply to a request. A due list has none here: it is printed row by row, and `PrintsDue` says of what text.
+-- the text of the reply to a request. A due list has none here: it is printed row by row, and
+-- `PrintsDue` says of what text.
 abbrev pub reply_text : Request → Reply → List ℕ
 reply_text request reply.Done = concat (codes "done" ∷ (10 ∷ []) ∷ [])
 reply_text request reply.Already = concat (codes "already" ∷ (10 ∷ []) ∷ [])

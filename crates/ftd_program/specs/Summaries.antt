@@ -13,7 +13,9 @@ use Rattle.ftd_program.specs.Refusals.{refusal_text}
 -- `posted 2 already 0 refused 0 malformed 1`
 unfoldable pub counts_text : Summary → List ℕ
 counts_text summary =
-    concat (codes "posted " ∷ decimal summary.posted ∷ codes " already " ∷ decimal summary.already ∷ codes " refused " ∷ decimal summary.refused ∷ codes " malformed " ∷ decimal summary.malformed ∷ (10 ∷ []) ∷ [])
+    concat (codes "posted " ∷ decimal summary.posted ∷ codes " already " ∷ decimal summary.already
+    ∷ codes " refused " ∷ decimal summary.refused ∷ codes " malformed "
+    ∷ decimal summary.malformed ∷ (10 ∷ []) ∷ [])
 
 -- `record 4 `
 unfoldable pub record_text : ℕ → List ℕ

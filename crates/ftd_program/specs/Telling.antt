@@ -17,7 +17,8 @@ bad_name name = concat (codes "bad argument " ∷ name ∷ (10 ∷ []) ∷ [])
 abbrev pub bad_word : Word → List ℕ
 bad_word word = bad_name (word_text word)
 
-module _ {O E : Type 0} (o_taken : O → Option (List ℕ)) (o_failed : O → Bool) (e_taken : E → Option (List ℕ)) (e_failed : E → Bool)
+module _ {O E : Type 0} (o_taken : O → Option (List ℕ)) (o_failed : O → Bool)
+    (e_taken : E → Option (List ℕ)) (e_failed : E → Bool)
     (out out' : O) (err err' : E) where
   -- the text on standard error, and nothing on standard output
   pub record TellsFault (text : List ℕ) (meant status : ℕ) : Type 0 where

@@ -2,7 +2,8 @@
 
 ghost use Rattle.std.specs.Prelude.{◌≡◌};
 ghost use Rattle.ftd_program.specs.Performing.{IsPut, PrintsOut};
-ghost use Rattle.ftd_program.specs.Plain.{PerformsPlain, PrintsFault, fault_line, fault_status, record_line, run_line};
+ghost use Rattle.ftd_program.specs.Plain.{PerformsPlain, PrintsFault, fault_line, fault_status};
+ghost use Rattle.ftd_program.specs.Plain.{record_line, run_line};
 
 use crate::performing::{Performed, fail_output};
 use crate::telling::put;
@@ -13,9 +14,9 @@ use itoa::Buffer;
 use std::alloc::Global;
 
 /// Prints the deposits of an account in a year, from the pay runs of the input, CSV with the header
-/// `employer,run,payday,fit,ss,medicare`: a line for each obligation on `out`, or on `err` why there
-/// are none. The status is 1 where the input is refused, 3 where there was no memory, or where `out`
-/// failed after a prefix of the lines.
+/// `employer,run,payday,fit,ss,medicare`: a line for each obligation on `out`, or on `err` why
+/// there are none. The status is 1 where the input is refused, 3 where there was no memory, or
+/// where `out` failed after a prefix of the lines.
 pub fn print_plain<O: Target, E: Target>(
     alloc: Global,
     task: &PlainTask,

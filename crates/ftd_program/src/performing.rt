@@ -2,10 +2,13 @@
 
 ghost use Rattle.std.specs.Prelude.{◌≡◌, codes};
 ghost use Rattle.ftd_desk.specs.Desks.{held};
-ghost use Rattle.ftd_program.specs.Performing.{Asks, Does, IsPut, Performs, PerformsDue, PerformsImport, PrintsOut, PrintsRefusal, PrintsReply, PrintsStop};
+ghost use Rattle.ftd_program.specs.Performing.{Asks, Does, IsPut, Performs, PerformsDue};
+ghost use Rattle.ftd_program.specs.Performing.{PerformsImport, PrintsOut, PrintsRefusal};
+ghost use Rattle.ftd_program.specs.Performing.{PrintsReply, PrintsStop};
 ghost use Rattle.ftd_machine.specs.Limits.{IsBounded};
 ghost use Rattle.ftd_program.specs.Replies.{reply_text};
-ghost use Rattle.ftd_program.specs.Summaries.{cause_text, stop_status, summary_status, summary_text};
+ghost use Rattle.ftd_program.specs.Summaries.{cause_text, stop_status, summary_status};
+ghost use Rattle.ftd_program.specs.Summaries.{summary_text};
 
 use crate::refusals::{status_of, write_refusal};
 use crate::replies::write_reply;
@@ -24,18 +27,18 @@ use std::alloc::Global;
 /// What was done: the exit status, and where the texts went.
 #[derive(Drop)]
 pub struct Performed<O, E> {
-    /// 0 where it was answered, 1 where it was refused, 3 where memory, the store or standard output
-    /// failed.
+    /// 0 where it was answered, 1 where it was refused, 3 where memory, the store or standard
+    /// output failed.
     pub status: u8,
     pub out: O,
     pub err: E,
 }
 
 /// Does the job of a task: asks its request of the desk, or imports the pay runs of the input, CSV
-/// with the header `employer,run,payday,fit,ss,medicare`. What came of it goes to `out`, and the line
-/// of a refusal or of a fault to `err`. What the desk took stands, also where `out` fails: the status
-/// is 3 then, and a prefix of the text was written. `progress` is told how far an import is, and its
-/// end before anything is printed.
+/// with the header `employer,run,payday,fit,ss,medicare`. What came of it goes to `out`, and the
+/// line of a refusal or of a fault to `err`. What the desk took stands, also where `out` fails: the
+/// status is 3 then, and a prefix of the text was written. `progress` is told how far an import is,
+/// and its end before anything is printed.
 pub fn perform<S: Alter, O: Target, E: Target, P: Progress>(
     alloc: Global,
     task: &LocalTask,

@@ -6,7 +6,8 @@ ghost use Rattle.std.specs.Io.KnownBytes.{Appends};
 ghost use Rattle.ftd_ports.specs.Writing.{WritesPrefix};
 ghost use Rattle.ftd_rules.specs.Liability.{cents_of};
 ghost use Rattle.ftd_machine.specs.Limits.{IsBounded, amounts_end};
-ghost use Rattle.ftd_program.specs.Replies.{days_told, kind_text, posted_text, reply_text, status_told, status_text};
+ghost use Rattle.ftd_program.specs.Replies.{days_told, kind_text, posted_text, reply_text};
+ghost use Rattle.ftd_program.specs.Replies.{status_told, status_text};
 
 use ftd_days::Day;
 use ftd_machine::{Reason, Reply, Request};
@@ -25,7 +26,8 @@ pub fn write_reply<W: Target>(
     ensures ok { OnOk result
         (Appends (W.taken target.old) (W.taken target.new) (reply_text request.now reply.now)) }
     ensures err { OnErr result
-        (WritesPrefix (W.taken target.old) (W.taken target.new) (reply_text request.now reply.now)) }
+        (WritesPrefix (W.taken target.old) (W.taken target.new)
+        (reply_text request.now reply.now)) }
     ensures fault { OnErr result (W.failed target.new ≡ true) }
 {
     match reply {

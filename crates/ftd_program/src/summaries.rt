@@ -3,7 +3,8 @@
 ghost use Rattle.std.specs.Prelude.{◌≡◌, true, OnOk, OnErr};
 ghost use Rattle.std.specs.Io.KnownBytes.{Appends};
 ghost use Rattle.ftd_ports.specs.Writing.{WritesPrefix};
-ghost use Rattle.ftd_program.specs.Summaries.{counts_text, field_text, finding_text, note_text, record_text, summary_text};
+ghost use Rattle.ftd_program.specs.Summaries.{counts_text, field_text, finding_text, note_text};
+ghost use Rattle.ftd_program.specs.Summaries.{record_text, summary_text};
 
 use crate::refusals::write_refusal;
 use ftd_import::{Finding, Note, Summary};

@@ -9,9 +9,9 @@ ghost use Rattle.ftd_program.specs.Telling.{Tells, TellsHelp, bad_name, bad_word
 use ftd_ports::{Target, write_all, write_pieces};
 use ftd_words::{CliFault, Word};
 
-/// Prints why the words of a command line ask nothing, or the help that they ask for, and answers the
-/// exit status: 0 for help, 2 for a bad command line, 3 where there was no memory, or where standard
-/// output failed under the help.
+/// Prints why the words of a command line ask nothing, or the help that they ask for, and answers
+/// the exit status: 0 for help, 2 for a bad command line, 3 where there was no memory, or where
+/// standard output failed under the help.
 pub fn tell<O: Target, E: Target>(fault: &CliFault, out: &mut O, err: &mut E) -> u8
     ensures { Tells O.taken O.failed E.taken E.failed out.old out.new err.old err.new
         fault.now result }

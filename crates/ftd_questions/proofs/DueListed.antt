@@ -26,6 +26,7 @@ use Rattle.ftd_rules.proofs.Near.{due_near}
 use Rattle.ftd_rules.proofs.Status.{return_period_is}
 use Rattle.ftd_schema.specs.Standing.{Tables}
 use Rattle.ftd_rows.specs.Lists.{Pairs}
+use Rattle.ftd_store.specs.Holidays.{HasYears}
 use Rattle.ftd_machine.specs.State.{State, Entries, entries_of, holidays}
 use Rattle.ftd_machine.specs.History.{form_of, live_sums, live_payments}
 use Rattle.ftd_machine.specs.Sound.{IsSound}
@@ -33,18 +34,17 @@ use Rattle.ftd_machine.specs.Asking.{return_period, return_total, paid_for_retur
 use Rattle.ftd_machine.specs.declared.replies.Reply.TheVariants.{Due}
 use Rattle.ftd_machine.proofs.Soundness.{has_filtered}
 use Rattle.ftd_entries.specs.Standing.{StandsFor, IsSettled}
-use Rattle.ftd_questions.specs.Calendars.{HasTwoYears}
+use Rattle.ftd_entries.proofs.YearHolidays.{holiday_read}
 use Rattle.ftd_questions.specs.Returns.{KnowsPeriod}
 use Rattle.ftd_questions.specs.DueRows.{begins_in, IsReturnBy, IsRowBy}
 use Rattle.ftd_questions.specs.Walks.{begun}
 use Rattle.ftd_questions.specs.declared.return_periods.ReturnPeriod.{ReturnPeriod}
 use Rattle.ftd_questions.specs.declared.due_rows.QuarterReturn.{QuarterReturn}
-use Rattle.ftd_questions.proofs.HolidaysRead.{holiday_read}
 use Rattle.ftd_questions.proofs.OneVerdict.{same_test, verdict_one}
 use Rattle.ftd_questions.proofs.OwedRows.{kept_by_first_day}
 use Rattle.ftd_questions.proofs.ReturnDates.{AgreeIn, return_same, makeup_same, makeup_one}
 use Rattle.ftd_questions.proofs.OwedDays.{quarter_begins, piece, period_days, some_days}
-use Rattle.ftd_questions.proofs.Sifted.{keeps_has}
+use Rattle.ftd_store.proofs.Sifted.{keeps_has}
 
 -- ---- lists that go pair by pair
 
@@ -93,7 +93,7 @@ same_return F943 a b e = omega arith
 module _ (name : List ℕ) (quarter as_of : ℕ) (given : List YearDays) (period : ReturnPeriod) (next_day : Bool) (of_return : QuarterReturn) (rows : List DueRow) (from_2001 : 2001 ≤ quarter_year quarter) (to_2098 : quarter_year quarter ≤ 2098)
     (t : Tables) (s : State) (stands : StandsFor t s) (sound : IsSound s) (is_return : IsReturnBy (form_of (entries_of s name).account) quarter next_day period given of_return)
     (next_day_is : next_day ≡ has_next_day (form_of (entries_of s name).account) (stands.settled name).owed (return_period (form_of (entries_of s name).account) quarter))
-    (are_rows : Pairs (IsRowBy of_return as_of) (begun stands name quarter) rows) (years : HasTwoYears (quarter_year quarter) (holidays_of given) t) (known : KnowsPeriod name (form_of (entries_of s name).account) quarter period t) where
+    (are_rows : Pairs (IsRowBy of_return as_of) (begun stands name quarter) rows) (years : HasYears (quarter_year quarter) (quarter_year quarter + 1) (holidays_of given) t) (known : KnowsPeriod name (form_of (entries_of s name).account) quarter period t) where
   abbrev own : Entries
   own = entries_of s name
 
@@ -121,8 +121,8 @@ module _ (name : List ℕ) (quarter as_of : ℕ) (given : List YearDays) (period
   agree : AgreeIn year read all
   agree day low high =
       elim (lt_or_le day (year_start (year + 1))) [
-        | inl this ↦ holiday_read t s stands sound read year day years.0 (year_is year day (omega arith) (omega arith) low this)
-        | inr next ↦ holiday_read t s stands sound read (year + 1) day years.1 (year_is (year + 1) day (omega arith) (omega arith) next high)
+        | inl this ↦ holiday_read t s stands sound read year day (years year (omega arith) (omega arith)) (year_is year day (omega arith) (omega arith) low this)
+        | inr next ↦ holiday_read t s stands sound read (year + 1) day (years (year + 1) (omega arith) (omega arith)) (year_is (year + 1) day (omega arith) (omega arith) next high)
       ]
 
   -- ---- the account's obligations

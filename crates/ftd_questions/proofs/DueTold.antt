@@ -1,5 +1,5 @@
 -- The due list of a quarter: what is answered, and that it is the machine's answer.
-use Rattle.std.proofs.Common.{◌≡◌, ℕ, ◌≤◌, Bool, true, List, Option, None, Some, Ok, refl, sym, ap, ◌∙◌, subst}
+use Rattle.std.proofs.Common.{◌≡◌, ℕ, ◌+◌, ◌≤◌, Bool, true, List, Option, None, Some, Ok, refl, sym, ap, ◌∙◌, subst}
 use Rattle.std.specs.Prelude.{filter, nat_le}
 use Rattle.std.proofs.lemmas.Bool.{leb-true}
 use Rattle.std.specs.List.{list_any}
@@ -11,6 +11,7 @@ use Rattle.ftd_rules.specs.declared.verdict.DueRow.{DueRow}
 use Rattle.ftd_schema.specs.Standing.{Tables}
 use Rattle.ftd_rows.specs.Lists.{Pairs}
 use Rattle.ftd_rows.proofs.Found.{both}
+use Rattle.ftd_store.specs.Holidays.{HasYears}
 use Rattle.ftd_machine.specs.declared.entries.Account.{Account}
 use Rattle.ftd_machine.specs.declared.requests.Request.TheVariants.{DueList}
 use Rattle.ftd_machine.specs.declared.replies.Reply.TheVariants.{Due}
@@ -25,7 +26,6 @@ use Rattle.ftd_machine.specs.Step.{Step}
 use Rattle.ftd_machine.proofs.Deciding.{decided, passed}
 use Rattle.ftd_machine.proofs.Heads.{Gives, gives_needs, skip_needs}
 use Rattle.ftd_entries.specs.Standing.{StandsFor}
-use Rattle.ftd_questions.specs.Calendars.{HasTwoYears}
 use Rattle.ftd_questions.specs.Returns.{KnowsObligations, KnowsPeriod}
 use Rattle.ftd_questions.specs.DueRows.{begins_in, is_next_day_row, IsReturnBy, IsRowBy, KnowsForDue, KnowsDueList}
 use Rattle.ftd_questions.specs.Telling.{Passes, KnowsAsked, KnowsRows}
@@ -40,7 +40,7 @@ use Rattle.ftd_questions.proofs.FoundRows.{next_day_found, found_begun}
 -- the rows by what was read are the due list of each sound state
 pub due_known : (name : List ℕ) (form : Form) (quarter as_of : ℕ) (given : List YearDays) (period : ReturnPeriod) (next_day : Bool) (found : List Obligation) (of_return : QuarterReturn) (rows : List DueRow) → 2001 ≤ quarter_year quarter → quarter_year quarter ≤ 2098
     → IsReturnBy form quarter next_day period given of_return → next_day ≡ list_any is_next_day_row found → Pairs (IsRowBy of_return as_of) (filter (begins_in quarter) found) rows
-    → (t : Tables) → HasTwoYears (quarter_year quarter) (holidays_of given) t → KnowsPeriod name form quarter period t → KnowsObligations name period.first period.last found t → KnowsDueList name form quarter as_of rows t
+    → (t : Tables) → HasYears (quarter_year quarter) (quarter_year quarter + 1) (holidays_of given) t → KnowsPeriod name form quarter period t → KnowsObligations name period.first period.last found t → KnowsDueList name form quarter as_of rows t
 due_known name form quarter as_of given period next_day found of_return rows from to is_return is_next are_rows t years known are_found s stands sound form_is =
     let known_so = subst (λ f. KnowsPeriod name f quarter period t) (sym form_is) known in
     due_listed name quarter as_of given period next_day of_return rows from to t s stands sound (subst (λ f. IsReturnBy f quarter next_day period given of_return) (sym form_is) is_return)

@@ -19,7 +19,7 @@ use Rattle.ftd_questions.specs.Walks.{begun}
 use Rattle.ftd_questions.specs.declared.return_periods.ReturnPeriod.{ReturnPeriod}
 use Rattle.ftd_questions.proofs.DueListed.{same_return}
 use Rattle.ftd_questions.proofs.OwedDays.{quarter_begins, begins_is}
-use Rattle.ftd_questions.proofs.Sifted.{filter_in, filter_out}
+use Rattle.ftd_store.proofs.Sifted.{filter_in, filter_out}
 
 -- one of what a test keeps meets another test
 any_kept : {X : Type 0} (p r q : X → Bool) (xs : List X) → ((x : X) → Has xs x → p x ≡ r x) → list_any q (filter p xs) ≡ list_any (λ x. r x && q x) xs

@@ -1,20 +1,10 @@
 -- The items of a list as far as a loop has come.
 use Rattle.std.proofs.Common.{◌≡◌, ℕ, ◌+◌, ◌<◌, Bool, true, false, List, [], ◌∷◌, ◌++◌, take, length, get_or, refl, sym, ap, ◌∙◌, subst}
 use Rattle.std.specs.Prelude.{filter}
-use Rattle.std.proofs.lemmas.List.{take_more, append-nil}
+use Rattle.std.proofs.lemmas.List.{append-nil}
 use Rattle.std.proofs.lemmas.List.Elements.{filter-append}
 use Rattle.ftd_rows.specs.Lists.{Pairs}
-
--- one item more
-pub taken : {X : Type 0} (xs : List X) (i : ℕ) (x : X) → i < length xs → x ≡ get_or xs i x → take (i + 1) xs ≡ take i xs ++ x ∷ []
-taken {X = X} xs i x some is = take_more xs i x some ∙ ap (λ (y : X). take i xs ++ y ∷ []) (sym is)
-
--- one pair more
-pub pairs_more : {X Y : Type 0} (R : X → Y → Type 0) (xs : List X) (ys : List Y) (x : X) (y : Y) → Pairs R xs ys → R x y → Pairs R (xs ++ x ∷ []) (ys ++ y ∷ [])
-pairs_more R [] [] x y h r = (r, tt)
-pairs_more R [] (b ∷ ys) x y h r = absurd h
-pairs_more R (a ∷ xs) [] x y h r = absurd h
-pairs_more R (a ∷ xs) (b ∷ ys) x y h r = (h.0, pairs_more R xs ys x y h.1 r)
+use Rattle.ftd_store.proofs.Items.{taken, pairs_more}
 
 -- as far as a loop has come that goes by the items which a test keeps: one pair more, or none
 module _ {X Y : Type 0} (R : X → Y → Type 0) (p : X → Bool) (xs : List X) (ys : List Y) (i : ℕ) (x : X) (some : i < length xs) (is : x ≡ get_or xs i x) (so_far : Pairs R (filter p (take i xs)) ys) where

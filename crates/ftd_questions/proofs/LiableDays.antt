@@ -32,7 +32,7 @@ use Rattle.ftd_machine.specs.History.{is_live, live, liability_of, live_sums}
 use Rattle.ftd_machine.specs.Asking.{day_of_sum, IsLiableDay}
 use Rattle.ftd_entries.specs.Standing.{StandsFor, run_entry}
 use Rattle.ftd_entries.proofs.CalendarRows.{whole}
-use Rattle.ftd_questions.proofs.DayCells.{same_day}
+use Rattle.ftd_entries.proofs.DayCells.{same_day}
 use Rattle.ftd_questions.proofs.KeptSums.{kept_sum, none_of, live_cell}
 use Rattle.ftd_questions.proofs.Rising.{keys_rise, sum_of_its_day, sum_of_day}
 

@@ -1,9 +1,5 @@
 mod Items
-mod DayCells
-mod Sifted
 mod KeptSums
-mod Adding
-mod HolidaysRead
 mod Rising
 mod LiableDays
 mod Searching

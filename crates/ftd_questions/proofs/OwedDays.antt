@@ -23,7 +23,7 @@ use Rattle.ftd_questions.specs.Returns.{begins_on}
 use Rattle.ftd_questions.specs.DueRows.{begins_in}
 use Rattle.ftd_questions.specs.Walks.{begun}
 use Rattle.ftd_questions.proofs.OneVerdict.{same_test}
-use Rattle.ftd_questions.proofs.Sifted.{filter_in, filter_out}
+use Rattle.ftd_store.proofs.Sifted.{filter_in, filter_out}
 
 -- the first day of a quarter lies in it
 pub quarter_begins : (quarter : ℕ) → quarter_year quarter ≤ 2098 → quarter_of (quarter_start quarter) ≡ quarter

@@ -1,10 +1,9 @@
 -- The obligation rows that were read are those of the account's obligations that begin on the days.
 use Rattle.std.proofs.Common.{◌≡◌, ℕ, ℤ, pos, inl, inr, List, [], ◌∷◌, ◌++◌, map, Bool, false, ◌&&◌, Vec, refl, sym, ap, ◌∙◌, subst, arith}
 use Rattle.std.proofs.Math.IntN.{◌+ℤ◌, -ℤ-+ℤ_cancel}
-use Rattle.std.specs.Prelude.{filter, nat_le, int_le, ◌≤ℤ◌, ◌≤◌}
+use Rattle.std.specs.Prelude.{filter, nat_le, int_le}
 use Rattle.std.specs.List.Sorted.{IsPermutation}
 use Rattle.std.proofs.lemmas.Bool.{cases_Bool}
-use Rattle.std.proofs.lemmas.Int.{ints}
 use Rattle.std.proofs.lemmas.List.Sorted.{IsPermutation-trans, IsPermutation-sym}
 use Rattle.ftd_rules.specs.declared.Rule.{Rule}
 use Rattle.ftd_rules.specs.declared.Rule.TheVariants.{Monthly, Semiweekly, NextDay}
@@ -25,11 +24,11 @@ use Rattle.ftd_store.specs.Finds.{IsObligation, ListsObligations}
 use Rattle.ftd_machine.proofs.Adding.{own_name}
 use Rattle.ftd_machine.proofs.Soundness.{has_mapped, has_filtered}
 use Rattle.ftd_entries.specs.Standing.{is_obligation_of}
-use Rattle.ftd_entries.proofs.CalendarRows.{whole, whole_rises}
+use Rattle.ftd_entries.proofs.CalendarRows.{whole, key_rises}
 use Rattle.ftd_entries.proofs.Found.{day_is}
 use Rattle.ftd_questions.specs.Returns.{begins_on, KnowsObligations}
-use Rattle.ftd_questions.proofs.DayCells.{day_le}
-use Rattle.ftd_questions.proofs.Sifted.{filter_in, filter_out, sifted}
+use Rattle.ftd_entries.proofs.DayCells.{day_le}
+use Rattle.ftd_store.proofs.Sifted.{filter_in, filter_out, sifted}
 
 -- ---- one row
 
@@ -57,9 +56,6 @@ obligation_is account o p e =
 -- the first day of a row
 abbrev first_key : ObligationRow → ℕ
 first_key r = whole (r.first +ℤ pos 25_567)
-
-key_rises : (a b : ℤ) → a ≤ℤ b → whole (a +ℤ pos 25_567) ≤ whole (b +ℤ pos 25_567)
-key_rises a b h = whole_rises (a +ℤ pos 25_567) (b +ℤ pos 25_567) (omega (arith, ints))
 
 -- what a test keeps of obligations by first day is by first day
 pub kept_by_first_day : (p : Obligation → Bool) (os : List Obligation) → ByFirstDay os → ByFirstDay (filter p os)

@@ -22,7 +22,7 @@ use Rattle.ftd_machine.specs.History.{is_live, live}
 use Rattle.ftd_entries.specs.Standing.{payment_entry}
 use Rattle.ftd_entries.proofs.CalendarRows.{whole}
 use Rattle.ftd_questions.specs.Returns.{KnowsPayments}
-use Rattle.ftd_questions.proofs.DayCells.{day_le}
+use Rattle.ftd_entries.proofs.DayCells.{day_le}
 use Rattle.ftd_questions.proofs.KeptSums.{kept_sum, none_of, live_cell}
 
 -- ---- one payment

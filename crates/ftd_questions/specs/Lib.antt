@@ -1,5 +1,4 @@
 pub mod Schedules
-pub mod Calendars
 pub mod Returns
 pub mod DueRows
 pub mod Walks

@@ -1,10 +1,11 @@
 -- A due list that is told row by row, to a sink.
-use Rattle.std.specs.Prelude.{◌≡◌, ◌⊎◌, ℕ, List, [], ◌∷◌, ◌++◌, None, Result, Ok, Err}
+use Rattle.std.specs.Prelude.{◌≡◌, ◌⊎◌, ◌+◌, ℕ, List, [], ◌∷◌, ◌++◌, None, Result, Ok, Err}
 use Rattle.ftd_days.specs.Calendar.{quarter_year}
 use Rattle.ftd_days.specs.Holidays.{holidays_of}
 use Rattle.ftd_rules.specs.declared.verdict.DueRow.{DueRow}
 use Rattle.ftd_schema.specs.Standing.{Tables}
 use Rattle.ftd_rows.specs.Lists.{Pairs}
+use Rattle.ftd_store.specs.Holidays.{HasYears}
 use Rattle.ftd_machine.specs.State.{State, entries_of, is_open}
 use Rattle.ftd_machine.specs.History.{form_of}
 use Rattle.ftd_machine.specs.Sound.{IsSound}
@@ -16,7 +17,6 @@ use Rattle.ftd_machine.specs.declared.replies.Refusal.{Refusal}
 use Rattle.ftd_machine.specs.declared.replies.Reply.TheVariants.{Due}
 use Rattle.ftd_machine.specs.declared.requests.Request.TheVariants.{DueList}
 use Rattle.ftd_entries.specs.Standing.{StandsFor}
-use Rattle.ftd_questions.specs.Calendars.{HasTwoYears}
 use Rattle.ftd_questions.specs.DueRows.{IsRowBy}
 use Rattle.ftd_questions.specs.Returns.{KnowsPeriod}
 use Rattle.ftd_questions.specs.Walks.{begun}
@@ -86,7 +86,8 @@ KnowsRows name quarter as_of of_return t =
 -- the holidays and the return period of the quarter
 pub record KnowsReturn (name : List ℕ) (quarter : ℕ) (known : KnownReturn) (t : Tables)
     : Type 0 where
-  pub holidays : HasTwoYears (quarter_year quarter) (holidays_of known.holidays) t
+  pub holidays : HasYears (quarter_year quarter) (quarter_year quarter + 1)
+      (holidays_of known.holidays) t
   pub period : KnowsPeriod name known.form quarter known.period t
 
 -- what the question rests on, where all of its checks pass; or the refusal

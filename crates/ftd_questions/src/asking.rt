@@ -1,6 +1,7 @@
 //! What a due list that is told row by row rests on besides its obligations, or why it is refused.
 
-ghost use Rattle.std.specs.Prelude.{◌≡◌, ◌⊎◌, ◌<◌, ◌≤◌, None, Some, Ok, Err, IfOk, IfErr, MatchResult};
+ghost use Rattle.std.specs.Prelude.{◌≡◌, ◌⊎◌, ◌<◌, ◌≤◌, None, Some, Ok, Err, IfOk, IfErr};
+ghost use Rattle.std.specs.Prelude.{MatchResult};
 ghost use Rattle.std.specs.List.{sum_by};
 ghost use Rattle.ftd_days.specs.Calendar.{quarter_year};
 ghost use Rattle.ftd_rules.specs.Payments.{payment_cents};
@@ -16,7 +17,6 @@ ghost use Rattle.ftd_questions.specs.Walks.{Stays, IsSeen};
 
 use crate::due::{KnownForDue, known_for_due};
 use crate::faults::refusal_of;
-use crate::holidays::two_years;
 use crate::return_periods::{ReturnPeriod, return_period};
 use ftd_days::{Day, Holidays, Quarter};
 use ftd_machine::{Refusal, due_list_check};
@@ -72,7 +72,8 @@ fn known_return<S: Alter>(
     ensures small { IfOk result (λ known.
         sum_by payment_cents known.period.payments.items < 6_000_000_000_000_000) }
 {
-    let holidays = two_years(tx, alloc, quarter.year())?;
+    let year = quarter.year();
+    let holidays = tx.holidays(alloc, year, year + 1)?;
     let period = return_period(tx, alloc, name, form, quarter)?;
     Ok(KnownReturn {
         form,

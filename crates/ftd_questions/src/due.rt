@@ -8,7 +8,6 @@ ghost use Rattle.ftd_entries.specs.Words.{Serves};
 ghost use Rattle.ftd_questions.specs.DueRows.{KnowsDueList, KnowsForDue};
 
 use crate::due_rows::{due_rows, has_next_day, quarter_return};
-use crate::holidays::two_years;
 use crate::return_periods::return_period;
 use ftd_days::{Day, Quarter};
 use ftd_entries::{is_open, known};
@@ -56,7 +55,8 @@ fn rows_of_quarter<S: Alter>(
     ensures call { Reads S.Store tx.old tx.new result
         (λ rows. KnowsDueList name.now form quarter as_of rows.items) }
 {
-    let holidays = two_years(tx, alloc, quarter.year())?;
+    let year = quarter.year();
+    let holidays = tx.holidays(alloc, year, year + 1)?;
     let period = return_period(tx, alloc, name, form, quarter)?;
     let obligations = tx.obligations(alloc, name, period.first, period.last)?;
     let next_day = has_next_day(&obligations);

@@ -7,7 +7,6 @@ mod asking;
 mod due;
 mod due_rows;
 mod faults;
-mod holidays;
 mod liable;
 mod return_periods;
 mod schedules;

@@ -8,7 +8,8 @@ ghost use Rattle.ftd_schema.specs.Standing.{Tables, Stands};
 ghost use Rattle.ftd_store.specs.Seen.{seen};
 ghost use Rattle.ftd_store.specs.Walking.{walked, HasListed};
 ghost use Rattle.ftd_machine.specs.Asking.{return_period};
-ghost use Rattle.ftd_questions.specs.Walks.{Stays, StaysIfSettled, IsSeen, KnowsNextDay, KnowsNextDayOfReturn};
+ghost use Rattle.ftd_questions.specs.Walks.{Stays, StaysIfSettled, IsSeen, KnowsNextDay};
+ghost use Rattle.ftd_questions.specs.Walks.{KnowsNextDayOfReturn};
 
 use crate::due_rows::is_next_day;
 use ftd_days::Quarter;

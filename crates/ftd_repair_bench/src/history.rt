@@ -16,8 +16,8 @@ use std::alloc::{AllocError, Global};
 /// The sums of a history stay below this amount.
 pub const LIMIT: u64 = 6_000_000_000_000_000;
 
-/// An account: its form, its open years from `first` on with their lookback totals, whether it is carried
-/// into the first, and the amount of each day.
+/// An account: its form, its open years from `first` on with their lookback totals, whether it is
+/// carried into the first, and the amount of each day.
 #[derive(Drop)]
 pub struct Account {
     pub form: Form,
@@ -143,7 +143,8 @@ fn in_years(first: u32, end: u32, sums: &[DaySum]) -> bool
 
 /// What the sums are together. None where that is no amount of a history.
 pub fn total_of(sums: &[DaySum]) -> Option<u64>
-    ensures { IfSome result (λ total. (sum_by cents_of sums.now ≡ total) × (total < 6_000_000_000_000_000)) }
+    ensures { IfSome result
+        (λ total. (sum_by cents_of sums.now ≡ total) × (total < 6_000_000_000_000_000)) }
 {
     match sums {
         [] => Some(0),

@@ -1,6 +1,6 @@
-//! Repairs random histories after random changes of one day, and compares what comes of it with a new
-//! assessment. The standard input says `changes SEED COUNT`, or `speed COUNT` for the time of a repair
-//! beside that of an assessment, which is written on standard error.
+//! Repairs random histories after random changes of one day, and compares what comes of it with a
+//! new assessment. The standard input says `changes SEED COUNT`, or `speed COUNT` for the time of a
+//! repair beside that of an assessment, which is written on standard error.
 #![tactic(auto)]
 
 mod history;

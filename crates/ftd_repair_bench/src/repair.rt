@@ -30,7 +30,8 @@ fn window_sums(alloc: Global, account: &Account, window: Window) -> Result<Vec<D
     Ok(sums)
 }
 
-/// The patch after a change of the day, and how many windows it took. The lines are those before the change.
+/// The patch after a change of the day, and how many windows it took. The lines are those before
+/// the change.
 pub fn repaired(
     alloc: Global,
     account: &Account,

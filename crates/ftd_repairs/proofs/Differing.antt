@@ -7,7 +7,7 @@ use Rattle.ftd_rules.specs.Obligations.{ByFirstDay}
 use Rattle.ftd_rules.proofs.Owed.{has_append, has_left, has_right}
 use Rattle.ftd_rows.specs.Lists.{Pairs, Lists}
 use Rattle.ftd_machine.specs.Posting.{AreOnlyIn}
-use Rattle.ftd_repairs.proofs.Items.{has_at, has_more, has_still, has_now}
+use Rattle.ftd_store.proofs.Items.{has_at, has_more, has_still, has_now}
 
 -- ---- by first day
 

@@ -15,7 +15,7 @@ use Rattle.ftd_buckets.specs.Ready.{Repairing}
 use Rattle.ftd_buckets.specs.Standing.{Stands, IfNeed, IfDone}
 use Rattle.ftd_schema.specs.Standing.{Tables}
 use Rattle.ftd_repairs.specs.Repaired.{IsRightWhere, AreLiveIn, AreWithin, RunsAre, Repairs, SumsAre}
-use Rattle.ftd_repairs.proofs.Items.{has_middle}
+use Rattle.ftd_store.proofs.Items.{has_middle}
 
 -- the repair stands to every pair of histories of which the runs are told so, and the window that it asks for is needed
 abbrev pub ServesWhere : (History → History → Type 0) → Form → ℕ → List YearLine → List ℕ → Repairing → Window → Type 0

@@ -16,7 +16,7 @@ use Rattle.ftd_sql.specs.Tests.{is_year_of}
 use Rattle.ftd_rows.specs.Rows.{year_row}
 use Rattle.ftd_store.specs.Changes.{with_year}
 use Rattle.ftd_repairs.specs.Rescheduled.{IsAfter, IsRescheduled, IsUnnamed, AreAfter, HasLines, PutsLines, PutsRows, PutsPatch, PutsInto}
-use Rattle.ftd_repairs.proofs.Items.{taken, pairs_more, pairs_length}
+use Rattle.ftd_store.proofs.Items.{taken, pairs_more, pairs_length}
 use Rattle.ftd_repairs.proofs.YearRows.{put, put_has, put_others}
 
 -- ---- lines one after the other

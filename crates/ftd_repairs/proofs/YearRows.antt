@@ -18,8 +18,9 @@ use Rattle.ftd_rows.specs.Rows.{year_row}
 use Rattle.ftd_rows.proofs.Found.{both, same_bytes}
 use Rattle.ftd_store.specs.Changes.{put_among}
 use Rattle.ftd_store.proofs.Same.{same_int}
+use Rattle.ftd_store.proofs.Sifted.{filter_in, filter_out}
 use Rattle.ftd_machine.proofs.Adding.{own_name, other_name}
-use Rattle.ftd_repairs.proofs.Items.{has_middle}
+use Rattle.ftd_store.proofs.Items.{has_middle}
 
 -- ---- tests
 
@@ -31,12 +32,6 @@ int_is_not a b other = elim (cases_Bool (int_eq a b)) [ inl same ↦ absurd (oth
 
 year_is : (a b : ℕ) → pos a ≡ pos b → a ≡ b
 year_is a b h = cc
-
-filter_in : {X : Type 0} (p : X → Bool) (x : X) (xs : List X) → p x ≡ true → filter p (x ∷ xs) ≡ x ∷ filter p xs
-filter_in p x xs passes = rw passes refl
-
-filter_out : {X : Type 0} (p : X → Bool) (x : X) (xs : List X) → p x ≡ false → filter p (x ∷ xs) ≡ filter p xs
-filter_out p x xs fails = rw fails refl
 
 -- ---- one row
 

@@ -1,41 +1,19 @@
--- The legal holidays as the tables have them, year by year.
-use Rattle.std.specs.Prelude.{◌≡◌, ◌≢◌, ◌||◌, ◌≤◌, ◌+◌, false, ℕ, List, Some}
-use Rattle.std.specs.Global.{Vec}
-use Rattle.ftd_days.specs.Business.{is_holiday}
+-- The holidays of an account's open years, as the tables have them.
+use Rattle.std.specs.Prelude.{◌≤◌, ◌+◌, ℕ, List}
 use Rattle.ftd_days.specs.Calendar.{year_of}
 use Rattle.ftd_days.specs.Holidays.{holidays_of}
 use Rattle.ftd_rules.specs.declared.YearLine.{YearLine}
 use Rattle.ftd_rules.specs.Lists.{Has}
 use Rattle.ftd_schema.specs.Standing.{Tables}
-use Rattle.ftd_store.specs.Finds.{FindsCalendar, ListsAdded, ListsYears}
+use Rattle.ftd_store.specs.Finds.{ListsYears}
+use Rattle.ftd_store.specs.Holidays.{HasHolidays}
 use Rattle.ftd_repairs.specs.declared.reading.KnownYears.{KnownYears}
 
--- of the days of the year exactly those are holidays that its calendar was given with, and those
--- that were added to it later
-pub record HasHolidays (t : Tables) (holidays : List ℕ) (year : ℕ) : Type 0 where
-  pub given : Vec ℕ
-  pub is_given : FindsCalendar year (Some given) t
-  pub added : Vec ℕ
-  pub are_added : ListsAdded year added t
-  pub same : (day : ℕ) → year_of day ≡ year
-      → is_holiday holidays day ≡ (is_holiday given.items day || is_holiday added.items day)
-
--- so of each open year from that of the day on, and of the year after it
+-- the holidays of each open year from that of the day on, and of the year after it
 abbrev pub HasHolidaysFrom : ℕ → List YearLine → List ℕ → Tables → Type 0
 HasHolidaysFrom day lines holidays t =
     (line : YearLine) → Has lines line → year_of day ≤ line.year
     → HasHolidays t holidays line.year × HasHolidays t holidays (line.year + 1)
-
--- the holidays of a year that are told so of the tables were added to others: days of this year
-pub record AddsYear (year : ℕ) (old new : List ℕ) (t : Tables) : Type 0 where
-  pub given : Vec ℕ
-  pub is_given : FindsCalendar year (Some given) t
-  pub added : Vec ℕ
-  pub are_added : ListsAdded year added t
-  pub same : (day : ℕ) → is_holiday new day
-      ≡ (is_holiday old day || (is_holiday given.items day || is_holiday added.items day))
-  pub elsewhere : (day : ℕ) → year_of day ≢ year
-      → (is_holiday given.items day || is_holiday added.items day) ≡ false
 
 -- the account's open years, and the holidays of those from the day's on and of the years after them
 pub record KnowsYears (account : List ℕ) (day : ℕ) (known : KnownYears) (t : Tables) : Type 0 where

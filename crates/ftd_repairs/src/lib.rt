@@ -17,7 +17,7 @@ mod windows;
 
 pub use crate::ledgers::{Ledger, add_by_ledger};
 pub use crate::posting::{add_repaired, void_repaired};
-pub use crate::reading::{KnownYears, add_both, known_years};
+pub use crate::reading::{KnownYears, known_years};
 
 /// How an account's obligations differ before and after a change of its runs.
 #[derive(Clone, Copy, Debug, PartialEq, Eq)]

@@ -1,11 +1,13 @@
 //! A patch is put in the place of an account's rows.
 
-ghost use Rattle.std.specs.Prelude.{◌≡◌, ◌++◌, ◌∷◌, ◌↔◌, [], List, IsTrue, IfSome, MatchOption, All};
+ghost use Rattle.std.specs.Prelude.{◌≡◌, ◌++◌, ◌∷◌, ◌↔◌, [], List, IsTrue, IfSome, MatchOption};
+ghost use Rattle.std.specs.Prelude.{All};
 ghost use Rattle.ftd_rules.specs.declared.Obligation.{Obligation};
 ghost use Rattle.ftd_rules.specs.declared.YearLine.{YearLine};
 ghost use Rattle.ftd_buckets.specs.Histories.{MayBegin};
 ghost use Rattle.ftd_rows.specs.Amounts.{IsStorable};
-ghost use Rattle.ftd_repairs.specs.Rescheduled.{IsRescheduled, IsUnnamed, HasLines, PutsInto, PutsRows};
+ghost use Rattle.ftd_repairs.specs.Rescheduled.{IsRescheduled, IsUnnamed, HasLines, PutsInto};
+ghost use Rattle.ftd_repairs.specs.Rescheduled.{PutsRows};
 ghost use Rattle.ftd_repairs.specs.Replaced.{AreBetween};
 ghost use Rattle.ftd_repairs.specs.Reposted.{Places, RepairsRows};
 ghost use Rattle.ftd_store.specs.Frame.{Turns};

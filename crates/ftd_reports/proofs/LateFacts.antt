@@ -1,11 +1,11 @@
 -- A due list whose text begins with its first row: the rows so far, one more, and the end.
-use Rattle.std.proofs.Common.{◌≡◌, ◌⊎◌, ℕ, ◌+◌, ◌≤◌, Bool, true, false, List, [], ◌∷◌, ◌++◌, Option, refl, sym, ap, ◌∙◌, subst, arith, append_assoc, append-nil}
+use Rattle.std.proofs.Common.{◌≡◌, ℕ, ◌+◌, true, false, List, [], ◌∷◌, ◌++◌, Option, refl, sym, ap, ◌∙◌, subst, append_assoc, append-nil}
 use Rattle.std.specs.Io.KnownBytes.{Appends}
 use Rattle.std.specs.List.{flat_map, sum_by}
 use Rattle.std.proofs.KnownBytes.{Appends-trans}
 use Rattle.std.proofs.lemmas.Grind.{flat_map-append}
 use Rattle.ftd_ports.specs.Writing.{WritesPrefix}
-use Rattle.ftd_ports.proofs.WritingFacts.{HasWritten, breaks_off, prefix_more}
+use Rattle.ftd_ports.proofs.WritingFacts.{HasWritten}
 use Rattle.ftd_rules.specs.declared.verdict.DueRow.{DueRow}
 use Rattle.ftd_rules.specs.Verdicts.{amount_of}
 use Rattle.ftd_reports.specs.DueLists.{due_head, due_line, due_text, total_line}

@@ -24,7 +24,8 @@ abbrev pub most_total : ℕ
 most_total = 6_000_000_000_000_000
 
 -- the text took a row: it had not failed, its line was written, and its amount counts
-pub record TakesRow {W : Type 0} (taken : W → Option (List ℕ)) (before : DueText W) (row : DueRow) (after : DueText W) : Type 0 where
+pub record TakesRow {W : Type 0} (taken : W → Option (List ℕ)) (before : DueText W) (row : DueRow)
+    (after : DueText W) : Type 0 where
   pub worked : has_failed before ≡ false
   pub works : has_failed after ≡ false
   pub writes : Appends (taken (writer_of before)) (taken (writer_of after)) (due_line row)
@@ -34,14 +35,18 @@ pub record TakesRow {W : Type 0} (taken : W → Option (List ℕ)) (before : Due
 -- the text failed at a row: a prefix of its line was written, since the writer failed, since the
 -- total would come to the bound, or since the text had failed before, and then nothing changes any
 -- more
-pub record BreaksAt {W : Type 0} (taken : W → Option (List ℕ)) (failed : W → Bool) (before : DueText W) (row : DueRow) (after : DueText W) : Type 0 where
+pub record BreaksAt {W : Type 0} (taken : W → Option (List ℕ)) (failed : W → Bool)
+    (before : DueText W) (row : DueRow) (after : DueText W) : Type 0 where
   pub fails : has_failed after ≡ true
   pub writes : WritesPrefix (taken (writer_of before)) (taken (writer_of after)) (due_line row)
-  pub reason : (has_failed before ≡ true) ⊎ ((failed (writer_of after) ≡ true) ⊎ (most_total ≤ total_of before + amount_of row))
+  pub reason : (has_failed before ≡ true)
+      ⊎ ((failed (writer_of after) ≡ true) ⊎ (most_total ≤ total_of before + amount_of row))
   pub stays : has_failed before ≡ true → after ≡ before
 
 -- from these bytes on the first line and the lines of these rows were written, and nothing failed
-pub record HasRows {W : Type 0} (taken : W → Option (List ℕ)) (start : Option (List ℕ)) (account : List ℕ) (quarter as_of : ℕ) (rows : List DueRow) (text : DueText W) : Type 0 where
+pub record HasRows {W : Type 0} (taken : W → Option (List ℕ)) (start : Option (List ℕ))
+    (account : List ℕ) (quarter as_of : ℕ) (rows : List DueRow) (text : DueText W) : Type 0 where
   pub works : has_failed text ≡ false
-  pub written : Appends start (taken (writer_of text)) (due_head account quarter as_of ++ flat_map due_line rows)
+  pub written : Appends start (taken (writer_of text))
+      (due_head account quarter as_of ++ flat_map due_line rows)
   pub total : total_of text ≡ sum_by amount_of rows

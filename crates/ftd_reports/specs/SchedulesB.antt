@@ -10,7 +10,8 @@ use Rattle.ftd_reports.specs.Columns.{space, line_end, left_in, amount_in}
 
 -- the first line: `SCHEDULE B`, account and quarter
 abbrev pub b_head : List ℕ → ℕ → List ℕ
-b_head account quarter = codes "SCHEDULE B " ++ account ++ (space ∷ quarter_text quarter) ++ (line_end ∷ [])
+b_head account quarter =
+    codes "SCHEDULE B " ++ account ++ (space ∷ quarter_text quarter) ++ (line_end ∷ [])
 
 -- each other line: a label at the left of 12 bytes, and an amount at the right of 17
 unfoldable pub b_line : List ℕ → ℕ → List ℕ
@@ -30,7 +31,9 @@ of_month month sums = filter (λ sum. month_of sum.day == month) sums
 
 -- the lines of a month: one for each of its days, and one for the month
 unfoldable pub month_lines : List DaySum → ℕ → List ℕ
-month_lines sums month = flat_map day_line (of_month month sums) ++ b_line (month_text month) (sum_by cents_of (of_month month sums))
+month_lines sums month =
+    flat_map day_line (of_month month sums)
+    ++ b_line (month_text month) (sum_by cents_of (of_month month sums))
 
 -- the months of a quarter
 abbrev pub months_of : ℕ → List ℕ
@@ -40,4 +43,6 @@ months_of quarter = (3 * quarter) ∷ (3 * quarter + 1) ∷ (3 * quarter + 2) �
 -- quarter
 unfoldable pub b_text : List ℕ → ℕ → List DaySum → List ℕ
 b_text account quarter sums =
-    b_head account quarter ++ (flat_map (month_lines sums) (months_of quarter) ++ b_line (quarter_text quarter) (sum_by cents_of sums))
+    b_head account quarter
+    ++ (flat_map (month_lines sums) (months_of quarter)
+    ++ b_line (quarter_text quarter) (sum_by cents_of sums))

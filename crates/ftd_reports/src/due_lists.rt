@@ -13,10 +13,10 @@ use ftd_ports::{Target, WriteFault, write_pieces};
 use ftd_rules::{DueRow, Obligation};
 use itoa::Buffer;
 
-/// Writes the due list of an account's quarter as of a day: a first line, a line for each row, and a
-/// last line with the total of the amounts. The amounts are together below 6,000,000,000,000,000
-/// cents. It takes no memory but what the target takes. Where the target fails, a prefix of the text
-/// was written, and it fails nowhere else.
+/// Writes the due list of an account's quarter as of a day: a first line, a line for each row, and
+/// a last line with the total of the amounts. The amounts are together below 6,000,000,000,000,000
+/// cents. It takes no memory but what the target takes. Where the target fails, a prefix of the
+/// text was written, and it fails nowhere else.
 pub fn due_list<W: Target>(
     account: &str,
     quarter: Quarter,

@@ -42,8 +42,11 @@ formed (Some request) = asked.Asks request
 abbrev pub routed : List ℕ → List ℕ → List ℕ → Option Ask → Asked
 routed method target body None = asked.NoRoute
 routed method target body (Some route) =
-    if bytes_eq method (method_text (method_of route)) then formed (request_of route target body) else asked.OtherMethod (method_of route)
+    if bytes_eq method (method_text (method_of route)) then formed (request_of route target body)
+    else asked.OtherMethod (method_of route)
 
--- what a message of this method, this target and this body asks; a target that is no UTF-8 has no route
+-- what a message of this method, this target and this body asks; a target that is no UTF-8 has no
+-- route
 unfoldable pub asked_of : List ℕ → List ℕ → List ℕ → Asked
-asked_of method target body = if is_utf8 target then routed method target body (route_of target) else asked.NoRoute
+asked_of method target body =
+    if is_utf8 target then routed method target body (route_of target) else asked.NoRoute

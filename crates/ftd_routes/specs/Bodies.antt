@@ -1,5 +1,6 @@
 -- The members of a body.
-use Rattle.std.specs.Prelude.{ℕ, List, [], ◌∷◌, Bool, false, Option, Some, None, option_and_then, option_map, if◌then◌else◌}
+use Rattle.std.specs.Prelude.{ℕ, List, [], ◌∷◌, Bool, false, Option, Some, None, option_and_then}
+use Rattle.std.specs.Prelude.{option_map, if◌then◌else◌}
 use Rattle.std.specs.Str.{is_utf8}
 use Rattle.serde_json.specs.Data.{Data, Items, no_items, item}
 use Rattle.serde_json.specs.Read.{read}
@@ -20,7 +21,8 @@ text_at key d = option_and_then as_str (get key d)
 
 -- the whole number below 2 ^ 32 at a member
 abbrev pub whole_at : List ℕ → Data → Option ℕ
-whole_at key d = option_and_then small (option_and_then (λ v. option_and_then as_u64 (as_number v)) (get key d))
+whole_at key d =
+    option_and_then small (option_and_then (λ v. option_and_then as_u64 (as_number v)) (get key d))
 
 -- the truth value at a member, false where the member is missing
 abbrev pub flag_or_false : Option Data → Option Bool
@@ -40,7 +42,9 @@ amount_at key d = option_and_then amount_of (text_at key d)
 -- the days that the items of an array spell, if each of them is a text that spells one
 abbrev pub days_in : Items → Option (List ℕ)
 days_in no_items = Some []
-days_in (item d ds) = option_and_then (λ day. option_map (λ days. day ∷ days) (days_in ds)) (option_and_then day_of (as_str d))
+days_in (item d ds) =
+    option_and_then (λ day. option_map (λ days. day ∷ days) (days_in ds))
+    (option_and_then day_of (as_str d))
 
 abbrev pub days_at : List ℕ → Data → Option (List ℕ)
 days_at key d = option_and_then days_in (option_and_then as_array (get key d))

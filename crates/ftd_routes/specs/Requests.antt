@@ -7,7 +7,8 @@ use Rattle.ftd_machine.specs.declared.requests.Request.{Request}
 use Rattle.ftd_machine.specs.declared.requests.Request.TheVariants as request
 use Rattle.ftd_routes.specs.Paths.{part}
 use Rattle.ftd_routes.specs.Values.{path_number}
-use Rattle.ftd_routes.specs.Bodies.{json_of, text_at, whole_at, flag_or_false, form_or_941, days_at, day_at, quarter_at, amount_at}
+use Rattle.ftd_routes.specs.Bodies.{json_of, text_at, whole_at, flag_or_false, form_or_941, days_at}
+use Rattle.ftd_routes.specs.Bodies.{day_at, quarter_at, amount_at}
 use Rattle.ftd_routes.specs.declared.route.Ask.{Ask}
 use Rattle.ftd_routes.specs.declared.route.Ask.TheVariants as ask
 

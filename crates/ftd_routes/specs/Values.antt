@@ -1,5 +1,6 @@
 -- Values in paths and bodies.
-use Rattle.std.specs.Prelude.{ℕ, ◌^◌, nat_lt, List, Option, Some, None, option_and_then, option_map, codes, if◌then◌else◌}
+use Rattle.std.specs.Prelude.{ℕ, ◌^◌, nat_lt, List, Option, Some, None, option_and_then, option_map}
+use Rattle.std.specs.Prelude.{codes, if◌then◌else◌}
 use Rattle.std.specs.Str.{bytes_eq}
 use Rattle.ftd_days.specs.Spelling.{cents_of}
 use Rattle.ftd_days.specs.declared.cents.Cents.{Cents}
@@ -24,4 +25,6 @@ amount_of text = option_map in_cents (cents_of text)
 
 -- the form that the text names
 abbrev pub form_of : List ℕ → Option Form
-form_of text = if bytes_eq text (codes "941") then Some F941 else if bytes_eq text (codes "943") then Some F943 else None
+form_of text =
+    if bytes_eq text (codes "941") then Some F941 else if bytes_eq text (codes "943") then Some F943
+    else None

@@ -1,5 +1,6 @@
 -- The desk's values as the numbers and texts of cells.
-use Rattle.std.specs.Prelude.{◌≡◌, ◌⊎◌, ◌<◌, ◌^◌, ℕ, ℤ, pos, ◌-ℤ◌, neg_ℤ, Bool, if◌then◌else◌, List, [], ◌∷◌, length, string_bytes, IsUtf8}
+use Rattle.std.specs.Prelude.{◌≡◌, ◌⊎◌, ◌<◌, ◌^◌, ℕ, ℤ, pos, ◌-ℤ◌, neg_ℤ, Bool, if◌then◌else◌, List}
+use Rattle.std.specs.Prelude.{[], ◌∷◌, length, string_bytes, IsUtf8}
 use Rattle.jiff.specs.Words.{IsBetween}
 use Rattle.sqlite.specs.declared.types.Value.{Value}
 use Rattle.sqlite.specs.declared.types.Value.TheVariants.{Null, Int, Text}
@@ -90,25 +91,37 @@ abbrev pub day_cells : ℕ → Row
 day_cells day = Int (day_number day) ∷ []
 
 abbrev pub pay_run_cells : PayRun → Row
-pay_run_cells r = Int (day_number r.payday) ∷ Int (pos r.fit.0) ∷ Int (pos r.ss.0) ∷ Int (pos r.medicare.0) ∷ []
+pay_run_cells r =
+    Int (day_number r.payday) ∷ Int (pos r.fit.0) ∷ Int (pos r.ss.0) ∷ Int (pos r.medicare.0) ∷ []
 
 abbrev pub stored_run_cells : Voidable PayRun → Row
-stored_run_cells r = Int (day_number r.value.payday) ∷ Int (pos r.value.fit.0) ∷ Int (pos r.value.ss.0) ∷ Int (pos r.value.medicare.0) ∷ Int (flag_number r.voided) ∷ []
+stored_run_cells r =
+    Int (day_number r.value.payday) ∷ Int (pos r.value.fit.0) ∷ Int (pos r.value.ss.0)
+    ∷ Int (pos r.value.medicare.0) ∷ Int (flag_number r.voided) ∷ []
 
 abbrev pub payment_cells : Payment → Row
 payment_cells p = Int (day_number p.for_day) ∷ Int (day_number p.paid) ∷ Int (pos p.cents.0) ∷ []
 
 abbrev pub stored_payment_cells : Voidable Payment → Row
-stored_payment_cells p = Int (day_number p.value.paid) ∷ Int (day_number p.value.for_day) ∷ Int (pos p.value.cents.0) ∷ Int (flag_number p.voided) ∷ []
+stored_payment_cells p =
+    Int (day_number p.value.paid) ∷ Int (day_number p.value.for_day) ∷ Int (pos p.value.cents.0)
+    ∷ Int (flag_number p.voided) ∷ []
 
 abbrev pub obligation_cells : Obligation → Row
-obligation_cells o = Int (day_number o.first) ∷ Int (day_number o.last) ∷ Int (rule_number o.rule) ∷ Int (pos o.cents.0) ∷ Int (day_number o.due) ∷ []
+obligation_cells o =
+    Int (day_number o.first) ∷ Int (day_number o.last) ∷ Int (rule_number o.rule)
+    ∷ Int (pos o.cents.0) ∷ Int (day_number o.due) ∷ []
 
 abbrev pub account_obligation_cells : AccountObligation → Row
-account_obligation_cells o = Text (string_bytes o.account) ∷ Int (day_number o.obligation.first) ∷ Int (day_number o.obligation.last) ∷ Int (rule_number o.obligation.rule) ∷ Int (pos o.obligation.cents.0) ∷ Int (day_number o.obligation.due) ∷ []
+account_obligation_cells o =
+    Text (string_bytes o.account) ∷ Int (day_number o.obligation.first)
+    ∷ Int (day_number o.obligation.last) ∷ Int (rule_number o.obligation.rule)
+    ∷ Int (pos o.obligation.cents.0) ∷ Int (day_number o.obligation.due) ∷ []
 
 abbrev pub year_cells : StoredYear → Row
-year_cells y = Int (pos y.year) ∷ Int (pos y.lookback.0) ∷ Int (schedule_number y.opening) ∷ or_null (λ day. Int (day_number day)) y.turn ∷ []
+year_cells y =
+    Int (pos y.year) ∷ Int (pos y.lookback.0) ∷ Int (schedule_number y.opening)
+    ∷ or_null (λ day. Int (day_number day)) y.turn ∷ []
 
 -- ---- rows that show some value
 
@@ -128,22 +141,37 @@ abbrev pub IsDayCells : Row → Type 0
 IsDayCells row = (length row ≡ 1) × IsDayCell (column row 0)
 
 abbrev pub IsPayRunCells : Row → Type 0
-IsPayRunCells row = (length row ≡ 4) × IsDayCell (column row 0) × IsAmountCell (column row 1) × IsAmountCell (column row 2) × IsAmountCell (column row 3)
+IsPayRunCells row =
+    (length row ≡ 4) × IsDayCell (column row 0) × IsAmountCell (column row 1)
+    × IsAmountCell (column row 2) × IsAmountCell (column row 3)
 
 abbrev pub IsStoredRunCells : Row → Type 0
-IsStoredRunCells row = (length row ≡ 5) × IsDayCell (column row 0) × IsAmountCell (column row 1) × IsAmountCell (column row 2) × IsAmountCell (column row 3) × IsFlagCell (column row 4)
+IsStoredRunCells row =
+    (length row ≡ 5) × IsDayCell (column row 0) × IsAmountCell (column row 1)
+    × IsAmountCell (column row 2) × IsAmountCell (column row 3) × IsFlagCell (column row 4)
 
 abbrev pub IsPaymentCells : Row → Type 0
-IsPaymentCells row = (length row ≡ 3) × IsDayCell (column row 0) × IsDayCell (column row 1) × IsAmountCell (column row 2)
+IsPaymentCells row =
+    (length row ≡ 3) × IsDayCell (column row 0) × IsDayCell (column row 1)
+    × IsAmountCell (column row 2)
 
 abbrev pub IsStoredPaymentCells : Row → Type 0
-IsStoredPaymentCells row = (length row ≡ 4) × IsDayCell (column row 0) × IsDayCell (column row 1) × IsAmountCell (column row 2) × IsFlagCell (column row 3)
+IsStoredPaymentCells row =
+    (length row ≡ 4) × IsDayCell (column row 0) × IsDayCell (column row 1)
+    × IsAmountCell (column row 2) × IsFlagCell (column row 3)
 
 abbrev pub IsObligationCells : Row → Type 0
-IsObligationCells row = (length row ≡ 5) × IsDayCell (column row 0) × IsDayCell (column row 1) × IsRuleCell (column row 2) × IsAmountCell (column row 3) × IsDayCell (column row 4)
+IsObligationCells row =
+    (length row ≡ 5) × IsDayCell (column row 0) × IsDayCell (column row 1)
+    × IsRuleCell (column row 2) × IsAmountCell (column row 3) × IsDayCell (column row 4)
 
 abbrev pub IsAccountObligationCells : Row → Type 0
-IsAccountObligationCells row = (length row ≡ 6) × IsTextCell (column row 0) × IsDayCell (column row 1) × IsDayCell (column row 2) × IsRuleCell (column row 3) × IsAmountCell (column row 4) × IsDayCell (column row 5)
+IsAccountObligationCells row =
+    (length row ≡ 6) × IsTextCell (column row 0) × IsDayCell (column row 1)
+    × IsDayCell (column row 2) × IsRuleCell (column row 3) × IsAmountCell (column row 4)
+    × IsDayCell (column row 5)
 
 abbrev pub IsYearCells : Row → Type 0
-IsYearCells row = (length row ≡ 4) × IsCountCell (column row 0) × IsAmountCell (column row 1) × IsScheduleCell (column row 2) × ((column row 3 ≡ Null) ⊎ IsDayCell (column row 3))
+IsYearCells row =
+    (length row ≡ 4) × IsCountCell (column row 0) × IsAmountCell (column row 1)
+    × IsScheduleCell (column row 2) × ((column row 3 ≡ Null) ⊎ IsDayCell (column row 3))

@@ -11,7 +11,8 @@ use Rattle.ftd_rows.specs.Lists.{Lists}
 
 -- the liability that a run makes: on its payday, all that was withheld and both halves
 abbrev pub run_sum : PayRun → DaySum
-run_sum r = record { day = r.payday; cents = record { 0 = run_liability r.fit.0 r.ss.0 r.medicare.0 } }
+run_sum r =
+    record { day = r.payday; cents = record { 0 = run_liability r.fit.0 r.ss.0 r.medicare.0 } }
 
 -- what is owed for the run, where it was paid on the day, in cents
 abbrev pub owed_on : ℕ → PayRun → ℕ
@@ -29,8 +30,10 @@ ArePositive sums = All (λ s. 0 < s.cents.0) sums
 abbrev pub IsLiveRun : List ℕ → RunRow → PayRun → Type 0
 IsLiveRun account row r = (number : ℤ) × (row ≡ run_row account number r false)
 
--- the days rise, no sum is zero, and the liability of each day is the total of the runs that were paid on it
-pub record ListsDaySums (Rise : RunRow → RunRow → Type 0) (account : List ℕ) (rows : List RunRow) (sums : List DaySum) : Type 0 where
+-- the days rise, no sum is zero, and the liability of each day is the total of the runs that were
+-- paid on it
+pub record ListsDaySums (Rise : RunRow → RunRow → Type 0) (account : List ℕ) (rows : List RunRow)
+    (sums : List DaySum) : Type 0 where
   pub runs : List PayRun
   pub listed : Lists Rise (IsLiveRun account) rows runs
   pub rise : DaysRise sums

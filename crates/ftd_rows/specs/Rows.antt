@@ -5,24 +5,34 @@ use Rattle.ftd_days.specs.declared.cents.Cents.{Cents}
 use Rattle.ftd_rules.specs.declared.Form.{Form}
 use Rattle.ftd_rules.specs.declared.Obligation.{Obligation}
 use Rattle.ftd_rules.specs.declared.YearLine.{YearLine}
-use Rattle.ftd_schema.specs.Rows.{AccountRow, FormRow, ReportedQuarterRow, ReportedYearRow, CalendarYearRow, HolidayRow, YearRow, RunRow, PaymentRow, ObligationRow}
+use Rattle.ftd_schema.specs.Rows.{AccountRow, FormRow, ReportedQuarterRow, ReportedYearRow}
+use Rattle.ftd_schema.specs.Rows.{CalendarYearRow, HolidayRow, YearRow, RunRow, PaymentRow}
+use Rattle.ftd_schema.specs.Rows.{ObligationRow}
 use Rattle.ftd_rows.specs.Cells.{day_number, flag_number, rule_number, schedule_number, form_number}
 use Rattle.ftd_rows.specs.declared.accounts.Account.{Account}
 use Rattle.ftd_rules.specs.declared.run.PayRun.{PayRun}
 use Rattle.ftd_rules.specs.declared.payment.Payment.{Payment}
 
 abbrev pub account_row : List ℕ → Account → AccountRow
-account_row name a = record { name = name; start = day_number a.start; carried = flag_number a.carried }
+account_row name a =
+    record { name = name; start = day_number a.start; carried = flag_number a.carried }
 
 abbrev pub form_row : List ℕ → Form → FormRow
 form_row account form = record { account = account; form = form_number form }
 
 -- the total that an account reported for a quarter, and for a year
 abbrev pub reported_row : List ℕ → ℕ → Cents → ReportedQuarterRow
-reported_row account quarter cents = record { account = account; year = pos (quarter_year quarter); quarter = pos (quarter_number quarter); cents = pos cents.0 }
+reported_row account quarter cents =
+    record {
+      account = account;
+      year = pos (quarter_year quarter);
+      quarter = pos (quarter_number quarter);
+      cents = pos cents.0;
+    }
 
 abbrev pub reported_year_row : List ℕ → ℕ → Cents → ReportedYearRow
-reported_year_row account year cents = record { account = account; year = pos year; cents = pos cents.0 }
+reported_year_row account year cents =
+    record { account = account; year = pos year; cents = pos cents.0 }
 
 -- a year whose calendar is given, and a holiday of the year
 abbrev pub calendar_year_row : ℕ → CalendarYearRow
@@ -33,15 +43,43 @@ holiday_row year day = record { day = day_number day; year = pos year }
 
 -- the line's row; whether the account is carried into the year stands with the account
 abbrev pub year_row : List ℕ → YearLine → YearRow
-year_row account line = record { account = account; year = pos line.year; lookback = pos line.lookback.0; opening = schedule_number line.opening; turn = option_map day_number line.turn }
+year_row account line = record {
+  account = account;
+  year = pos line.year;
+  lookback = pos line.lookback.0;
+  opening = schedule_number line.opening;
+  turn = option_map day_number line.turn;
+}
 
 -- a run, void or not
 abbrev pub run_row : List ℕ → ℤ → PayRun → Bool → RunRow
-run_row account number r voided = record { account = account; number = number; payday = day_number r.payday; fit = pos r.fit.0; ss = pos r.ss.0; medicare = pos r.medicare.0; voided = flag_number voided }
+run_row account number r voided = record {
+  account = account;
+  number = number;
+  payday = day_number r.payday;
+  fit = pos r.fit.0;
+  ss = pos r.ss.0;
+  medicare = pos r.medicare.0;
+  voided = flag_number voided;
+}
 
 -- a payment, void or not
 abbrev pub payment_row : List ℕ → ℤ → Payment → Bool → PaymentRow
-payment_row account number p voided = record { account = account; number = number; paid = day_number p.paid; for_day = day_number p.for_day; cents = pos p.cents.0; voided = flag_number voided }
+payment_row account number p voided = record {
+  account = account;
+  number = number;
+  paid = day_number p.paid;
+  for_day = day_number p.for_day;
+  cents = pos p.cents.0;
+  voided = flag_number voided;
+}
 
 abbrev pub obligation_row : List ℕ → Obligation → ObligationRow
-obligation_row account o = record { account = account; first = day_number o.first; last = day_number o.last; rule = rule_number o.rule; cents = pos o.cents.0; due = day_number o.due }
+obligation_row account o = record {
+  account = account;
+  first = day_number o.first;
+  last = day_number o.last;
+  rule = rule_number o.rule;
+  cents = pos o.cents.0;
+  due = day_number o.due;
+}

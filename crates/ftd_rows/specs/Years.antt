@@ -10,7 +10,13 @@ use Rattle.ftd_rows.specs.Rows.{account_row}
 
 -- the year as a line, with whether the account is carried into it
 abbrev pub year_line : Bool → StoredYear → YearLine
-year_line carried y = record { year = y.year; lookback = y.lookback; carried = carried; opening = y.opening; turn = y.turn }
+year_line carried y = record {
+  year = y.year;
+  lookback = y.lookback;
+  carried = carried;
+  opening = y.opening;
+  turn = y.turn;
+}
 
 -- the years as lines, of which the first alone may be carried
 abbrev pub year_lines : Bool → List StoredYear → List YearLine
@@ -25,8 +31,10 @@ is_carried (Some a) = a.carried
 -- the first line is carried as the account of these rows is, which are one
 abbrev pub FirstCarriedAs : List ℕ → List AccountRow → List YearLine → Type 0
 FirstCarriedAs name accounts [] = Unit {0}
-FirstCarriedAs name accounts (line ∷ lines) = (a : Account) × (accounts ≡ account_row name a ∷ []) × (line.carried ≡ a.carried)
+FirstCarriedAs name accounts (line ∷ lines) =
+    (a : Account) × (accounts ≡ account_row name a ∷ []) × (line.carried ≡ a.carried)
 
 -- a turn is a day of the line's year, which opens monthly
 abbrev pub HasFittingTurn : YearLine → Type 0
-HasFittingTurn line = IfSome line.turn (λ turn. (line.opening ≡ Monthly) × (year_of turn ≡ line.year))
+HasFittingTurn line =
+    IfSome line.turn (λ turn. (line.opening ≡ Monthly) × (year_of turn ≡ line.year))

@@ -1,6 +1,7 @@
 //! The accounts, and what they reported.
 
-ghost use Rattle.ftd_rows.specs.Cells.{account_cells, form_cells, cents_cells, IsAccountCells, IsFormCells, IsCentsCells};
+ghost use Rattle.ftd_rows.specs.Cells.{account_cells, form_cells, cents_cells, IsAccountCells};
+ghost use Rattle.ftd_rows.specs.Cells.{IsFormCells, IsCentsCells};
 
 use crate::cells::{StoredDay, StoredFlag, StoredForm};
 use crate::faults::StoreFault;

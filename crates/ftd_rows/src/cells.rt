@@ -3,7 +3,9 @@
 ghost use Rattle.std.specs.Prelude.{◌≡◌, ◌<◌, ◌^◌, pos};
 ghost use Rattle.sqlite.specs.Values.{narrow_refusal};
 ghost use Rattle.sqlite.specs.declared.types.Value.TheVariants.{Int};
-ghost use Rattle.ftd_rows.specs.Cells.{day_number, flag_number, rule_number, schedule_number, form_number, IsDayCell, IsFlagCell, IsRuleCell, IsScheduleCell, IsFormCell};
+ghost use Rattle.ftd_rows.specs.Cells.{day_number, flag_number, rule_number, schedule_number};
+ghost use Rattle.ftd_rows.specs.Cells.{form_number, IsDayCell, IsFlagCell, IsRuleCell};
+ghost use Rattle.ftd_rows.specs.Cells.{IsScheduleCell, IsFormCell};
 
 use ftd_days::{Cents, Day};
 use ftd_rules::{Form, Kind, Rule};

@@ -1,6 +1,7 @@
 //! The obligations of the accounts.
 
-ghost use Rattle.ftd_rows.specs.Cells.{obligation_cells, account_obligation_cells, IsObligationCells, IsAccountObligationCells};
+ghost use Rattle.ftd_rows.specs.Cells.{obligation_cells, account_obligation_cells};
+ghost use Rattle.ftd_rows.specs.Cells.{IsObligationCells, IsAccountObligationCells};
 
 use crate::cells::{StoredDay, StoredRule};
 use crate::faults::StoreFault;

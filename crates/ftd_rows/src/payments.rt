@@ -1,6 +1,7 @@
 //! The payments of the accounts.
 
-ghost use Rattle.ftd_rows.specs.Cells.{payment_cells, stored_payment_cells, IsPaymentCells, IsStoredPaymentCells};
+ghost use Rattle.ftd_rows.specs.Cells.{payment_cells, stored_payment_cells, IsPaymentCells};
+ghost use Rattle.ftd_rows.specs.Cells.{IsStoredPaymentCells};
 
 use crate::cells::{StoredDay, StoredFlag};
 use crate::faults::StoreFault;

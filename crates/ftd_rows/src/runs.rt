@@ -1,6 +1,7 @@
 //! The pay runs of the accounts.
 
-ghost use Rattle.ftd_rows.specs.Cells.{pay_run_cells, stored_run_cells, IsPayRunCells, IsStoredRunCells};
+ghost use Rattle.ftd_rows.specs.Cells.{pay_run_cells, stored_run_cells, IsPayRunCells};
+ghost use Rattle.ftd_rows.specs.Cells.{IsStoredRunCells};
 
 use crate::cells::{StoredDay, StoredFlag};
 use crate::faults::StoreFault;

@@ -3,8 +3,8 @@ use Rattle.std.specs.Prelude.{ℕ, min, nat_lt, ◌||◌, List, if◌then◌else
 use Rattle.std.specs.List.{sum_by}
 use Rattle.ftd_rules.specs.declared.payment.Payment.{Payment}
 
--- what a payment counts for the days first to last by a day: its amount if it is for one of these days and
--- dated not after the day, and else nothing
+-- what a payment counts for the days first to last by a day: its amount if it is for one of these
+-- days and dated not after the day, and else nothing
 abbrev pub counts_by : ℕ → ℕ → ℕ → Payment → ℕ
 counts_by first last by p =
     if nat_lt p.for_day first || nat_lt last p.for_day || nat_lt by p.paid then 0 else p.cents.0

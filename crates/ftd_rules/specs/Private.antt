@@ -1,5 +1,5 @@
--- Words that private contracts, invariants and proofs alone use. What the crate promises is said without
--- them.
+-- Words that private contracts, invariants and proofs alone use. What the crate promises is said
+-- without them.
 pub mod Due
 pub mod Years
 pub mod Periods

@@ -31,12 +31,12 @@ impl Payment {
     }
 }
 
-/// What was paid for the days from `first` to `last` by the day `by`, as known on the day `as_of`: the
-/// payments for one of these days that are dated not after `by` and not after `as_of`, added up. The
-/// payments are those that are not void, together below 6,000,000,000,000,000 cents. With the days of an
-/// obligation and its due date or makeup date this is what its verdict asks for, and with the days of a
-/// quarter and the due date of its return what a small quarter's does (Pub. 15 section 11, "Accuracy
-/// of Deposits Rule" and "Payment with return"). Takes no memory.
+/// What was paid for the days from `first` to `last` by the day `by`, as known on the day `as_of`:
+/// the payments for one of these days that are dated not after `by` and not after `as_of`, added
+/// up. The payments are those that are not void, together below 6,000,000,000,000,000 cents. With
+/// the days of an obligation and its due date or makeup date this is what its verdict asks for, and
+/// with the days of a quarter and the due date of its return what a small quarter's does (Pub. 15
+/// section 11, "Accuracy of Deposits Rule" and "Payment with return"). Takes no memory.
 pub fn paid_by(payments: &[Payment], first: Day, last: Day, as_of: Day, by: Day) -> Cents
     requires { sum_by payment_cents payments.now < 6_000_000_000_000_000 }
     ensures { result.0 ≡ paid_by payments.now first last as_of by }

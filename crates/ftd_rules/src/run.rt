@@ -2,8 +2,8 @@
 
 use ftd_days::{Cents, Day};
 
-/// A pay run: what is withheld and owed on the wages of a payday. Its liability is the sum of the three amounts and
-/// arises on the payday (Pub. 15 section 11, "When To Deposit").
+/// A pay run: what is withheld and owed on the wages of a payday. Its liability is the sum of the
+/// three amounts and arises on the payday (Pub. 15 section 11, "When To Deposit").
 #[derive(Clone, Copy, Debug, PartialEq, Eq)]
 pub struct PayRun {
     /// The day on which the wages are paid.

@@ -1,5 +1,5 @@
-//! Worked examples of the rules, through their public calls: obligations of whole histories, lookback
-//! totals, due dates, dates of returns and makeup dates, verdicts.
+//! Worked examples of the rules, through their public calls: obligations of whole histories,
+//! lookback totals, due dates, dates of returns and makeup dates, verdicts.
 #![tactic(auto)]
 
 #[cfg(test)]

@@ -5,21 +5,37 @@ use Rattle.sqlite_schema.specs.declared.schema.Column.{Column}
 use Rattle.sqlite_schema.specs.declared.schema.Reference.{Reference}
 use Rattle.ftd_tables.specs.Tables.{a_text, a_number, maybe_number, refers, a_table}
 use Rattle.ftd_schema.specs.declared.TableName.{TableName}
-use Rattle.ftd_schema.specs.declared.TableName.TheVariants.{Metas, Accounts, ReportedQuarters, CalendarYears, Holidays, Years, Runs, Payments, Obligations, Forms, ReportedYears, AddedHolidays}
+use Rattle.ftd_schema.specs.declared.TableName.TheVariants.{Metas, Accounts, ReportedQuarters}
+use Rattle.ftd_schema.specs.declared.TableName.TheVariants.{CalendarYears, Holidays, Years, Runs}
+use Rattle.ftd_schema.specs.declared.TableName.TheVariants.{Payments, Obligations, Forms}
+use Rattle.ftd_schema.specs.declared.TableName.TheVariants.{ReportedYears, AddedHolidays}
 use Rattle.ftd_schema.specs.Names.{name_of}
 
 abbrev pub columns_of : TableName → List Column
 columns_of Metas = a_text (codes "tag") ∷ a_number (codes "version") ∷ []
-columns_of Accounts = a_text (codes "name") ∷ a_number (codes "start") ∷ a_number (codes "carried") ∷ []
-columns_of ReportedQuarters = a_text (codes "account") ∷ a_number (codes "cal_year") ∷ a_number (codes "quarter") ∷ a_number (codes "cents") ∷ []
+columns_of Accounts =
+    a_text (codes "name") ∷ a_number (codes "start") ∷ a_number (codes "carried") ∷ []
+columns_of ReportedQuarters =
+    a_text (codes "account") ∷ a_number (codes "cal_year") ∷ a_number (codes "quarter")
+    ∷ a_number (codes "cents") ∷ []
 columns_of CalendarYears = a_number (codes "cal_year") ∷ []
 columns_of Holidays = a_number (codes "day") ∷ a_number (codes "cal_year") ∷ []
-columns_of Years = a_text (codes "account") ∷ a_number (codes "cal_year") ∷ a_number (codes "lookback") ∷ a_number (codes "opening") ∷ maybe_number (codes "turn") ∷ []
-columns_of Runs = a_text (codes "account") ∷ a_number (codes "run") ∷ a_number (codes "payday") ∷ a_number (codes "fit") ∷ a_number (codes "ss") ∷ a_number (codes "medicare") ∷ a_number (codes "voided") ∷ []
-columns_of Payments = a_text (codes "account") ∷ a_number (codes "payment") ∷ a_number (codes "paid") ∷ a_number (codes "for_day") ∷ a_number (codes "cents") ∷ a_number (codes "voided") ∷ []
-columns_of Obligations = a_text (codes "account") ∷ a_number (codes "first_day") ∷ a_number (codes "last_day") ∷ a_number (codes "rule") ∷ a_number (codes "cents") ∷ a_number (codes "due") ∷ []
+columns_of Years =
+    a_text (codes "account") ∷ a_number (codes "cal_year") ∷ a_number (codes "lookback")
+    ∷ a_number (codes "opening") ∷ maybe_number (codes "turn") ∷ []
+columns_of Runs =
+    a_text (codes "account") ∷ a_number (codes "run") ∷ a_number (codes "payday")
+    ∷ a_number (codes "fit") ∷ a_number (codes "ss") ∷ a_number (codes "medicare")
+    ∷ a_number (codes "voided") ∷ []
+columns_of Payments =
+    a_text (codes "account") ∷ a_number (codes "payment") ∷ a_number (codes "paid")
+    ∷ a_number (codes "for_day") ∷ a_number (codes "cents") ∷ a_number (codes "voided") ∷ []
+columns_of Obligations =
+    a_text (codes "account") ∷ a_number (codes "first_day") ∷ a_number (codes "last_day")
+    ∷ a_number (codes "rule") ∷ a_number (codes "cents") ∷ a_number (codes "due") ∷ []
 columns_of Forms = a_text (codes "account") ∷ a_number (codes "form") ∷ []
-columns_of ReportedYears = a_text (codes "account") ∷ a_number (codes "cal_year") ∷ a_number (codes "cents") ∷ []
+columns_of ReportedYears =
+    a_text (codes "account") ∷ a_number (codes "cal_year") ∷ a_number (codes "cents") ∷ []
 columns_of AddedHolidays = a_number (codes "day") ∷ a_number (codes "cal_year") ∷ []
 
 -- how many of the first columns are the key

@@ -4,7 +4,10 @@ use Rattle.std.specs.List.{list_any}
 use Rattle.sqlite_schema.specs.declared.schema.Schema.{Schema}
 use Rattle.sqlite_schema.specs.Names.{table_named, view_named, index_named}
 use Rattle.ftd_schema.specs.declared.TableName.{TableName}
-use Rattle.ftd_schema.specs.declared.TableName.TheVariants.{Metas, Accounts, ReportedQuarters, CalendarYears, Holidays, Years, Runs, Payments, Obligations, Forms, ReportedYears, AddedHolidays}
+use Rattle.ftd_schema.specs.declared.TableName.TheVariants.{Metas, Accounts, ReportedQuarters}
+use Rattle.ftd_schema.specs.declared.TableName.TheVariants.{CalendarYears, Holidays, Years, Runs}
+use Rattle.ftd_schema.specs.declared.TableName.TheVariants.{Payments, Obligations, Forms}
+use Rattle.ftd_schema.specs.declared.TableName.TheVariants.{ReportedYears, AddedHolidays}
 
 -- as it is written in SQL
 abbrev pub name_of : TableName → List ℕ
@@ -23,7 +26,9 @@ name_of AddedHolidays = codes "added_holiday"
 
 -- in the order in which they are made
 abbrev pub all_names : List TableName
-all_names = Metas ∷ Accounts ∷ ReportedQuarters ∷ CalendarYears ∷ Holidays ∷ Years ∷ Runs ∷ Payments ∷ Obligations ∷ Forms ∷ ReportedYears ∷ AddedHolidays ∷ []
+all_names =
+    Metas ∷ Accounts ∷ ReportedQuarters ∷ CalendarYears ∷ Holidays ∷ Years ∷ Runs ∷ Payments
+    ∷ Obligations ∷ Forms ∷ ReportedYears ∷ AddedHolidays ∷ []
 
 -- those that version 2 has beside those of version 1, in the order in which they are made
 abbrev pub later_names : List TableName
@@ -31,7 +36,8 @@ later_names = Forms ∷ ReportedYears ∷ AddedHolidays ∷ []
 
 -- a table, a view or an index has the name; small and capital letters are not told apart
 abbrev pub is_taken : Schema → List ℕ → Bool
-is_taken s name = is_some (table_named s name) || (is_some (view_named s name) || is_some (index_named s name))
+is_taken s name =
+    is_some (table_named s name) || (is_some (view_named s name) || is_some (index_named s name))
 
 -- one of these names is taken
 abbrev pub has_any : List TableName → Schema → Bool

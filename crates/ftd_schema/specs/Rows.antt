@@ -4,14 +4,18 @@ use Rattle.sqlite.specs.declared.types.Value.TheVariants.{Int, Text}
 use Rattle.sqlite.specs.Order.{Row}
 use Rattle.sqlite.specs.Values.{or_null}
 use Rattle.ftd_schema.specs.declared.TableName.{TableName}
-use Rattle.ftd_schema.specs.declared.TableName.TheVariants.{Metas, Accounts, ReportedQuarters, CalendarYears, Holidays, Years, Runs, Payments, Obligations, Forms, ReportedYears, AddedHolidays}
+use Rattle.ftd_schema.specs.declared.TableName.TheVariants.{Metas, Accounts, ReportedQuarters}
+use Rattle.ftd_schema.specs.declared.TableName.TheVariants.{CalendarYears, Holidays, Years, Runs}
+use Rattle.ftd_schema.specs.declared.TableName.TheVariants.{Payments, Obligations, Forms}
+use Rattle.ftd_schema.specs.declared.TableName.TheVariants.{ReportedYears, AddedHolidays}
 
 -- the mark of the desk's database, and its version
 pub record MetaRow : Type 0 where
   pub tag : List ℕ
   pub version : ℤ
 
--- an employer: its name, its first day, and whether it was carried over as semiweekly (1) or not (0)
+-- an employer: its name, its first day, and whether it was carried over as semiweekly (1) or not
+-- (0)
 pub record AccountRow : Type 0 where
   pub name : List ℕ
   pub start : ℤ
@@ -32,7 +36,8 @@ pub record HolidayRow : Type 0 where
   pub day : ℤ
   pub year : ℤ
 
--- an open year of an account: its lookback total, how it opens (0 monthly, 1 semiweekly), and its turn
+-- an open year of an account: its lookback total, how it opens (0 monthly, 1 semiweekly), and its
+-- turn
 pub record YearRow : Type 0 where
   pub account : List ℕ
   pub year : ℤ
@@ -101,10 +106,15 @@ cells_of Accounts a = Text a.name ∷ Int a.start ∷ Int a.carried ∷ []
 cells_of ReportedQuarters r = Text r.account ∷ Int r.year ∷ Int r.quarter ∷ Int r.cents ∷ []
 cells_of CalendarYears c = Int c.year ∷ []
 cells_of Holidays h = Int h.day ∷ Int h.year ∷ []
-cells_of Years y = Text y.account ∷ Int y.year ∷ Int y.lookback ∷ Int y.opening ∷ or_null Int y.turn ∷ []
-cells_of Runs r = Text r.account ∷ Int r.number ∷ Int r.payday ∷ Int r.fit ∷ Int r.ss ∷ Int r.medicare ∷ Int r.voided ∷ []
-cells_of Payments p = Text p.account ∷ Int p.number ∷ Int p.paid ∷ Int p.for_day ∷ Int p.cents ∷ Int p.voided ∷ []
-cells_of Obligations b = Text b.account ∷ Int b.first ∷ Int b.last ∷ Int b.rule ∷ Int b.cents ∷ Int b.due ∷ []
+cells_of Years y =
+    Text y.account ∷ Int y.year ∷ Int y.lookback ∷ Int y.opening ∷ or_null Int y.turn ∷ []
+cells_of Runs r =
+    Text r.account ∷ Int r.number ∷ Int r.payday ∷ Int r.fit ∷ Int r.ss ∷ Int r.medicare
+    ∷ Int r.voided ∷ []
+cells_of Payments p =
+    Text p.account ∷ Int p.number ∷ Int p.paid ∷ Int p.for_day ∷ Int p.cents ∷ Int p.voided ∷ []
+cells_of Obligations b =
+    Text b.account ∷ Int b.first ∷ Int b.last ∷ Int b.rule ∷ Int b.cents ∷ Int b.due ∷ []
 cells_of Forms f = Text f.account ∷ Int f.form ∷ []
 cells_of ReportedYears r = Text r.account ∷ Int r.year ∷ Int r.cents ∷ []
 cells_of AddedHolidays h = Int h.day ∷ Int h.year ∷ []

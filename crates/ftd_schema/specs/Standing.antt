@@ -4,7 +4,10 @@ use Rattle.sqlite.specs.Effect.{Database}
 use Rattle.sqlite.specs.Table.{Table}
 use Rattle.ftd_tables.specs.Places.{IsAt, Holds}
 use Rattle.ftd_schema.specs.declared.TableName.{TableName}
-use Rattle.ftd_schema.specs.declared.TableName.TheVariants.{Metas, Accounts, ReportedQuarters, CalendarYears, Holidays, Years, Runs, Payments, Obligations, Forms, ReportedYears, AddedHolidays}
+use Rattle.ftd_schema.specs.declared.TableName.TheVariants.{Metas, Accounts, ReportedQuarters}
+use Rattle.ftd_schema.specs.declared.TableName.TheVariants.{CalendarYears, Holidays, Years, Runs}
+use Rattle.ftd_schema.specs.declared.TableName.TheVariants.{Payments, Obligations, Forms}
+use Rattle.ftd_schema.specs.declared.TableName.TheVariants.{ReportedYears, AddedHolidays}
 use Rattle.ftd_schema.specs.Names.{name_of}
 use Rattle.ftd_schema.specs.Rows.{RowOf, cells_of}
 use Rattle.ftd_schema.specs.Layout.{table_of, is_rewritten}
@@ -34,7 +37,8 @@ with_rows n rows t m = t m
 
 -- the database stands for these rows
 abbrev pub Stands : Database → Tables → Type 0
-Stands db t = (n : TableName) → Holds (is_rewritten n) db (name_of n) (table_of n) (cells_of n) (t n)
+Stands db t =
+    (n : TableName) → Holds (is_rewritten n) db (name_of n) (table_of n) (cells_of n) (t n)
 
 -- the name is none of the desk's
 abbrev pub IsForeign : List ℕ → Type 0
@@ -42,7 +46,9 @@ IsForeign name = (n : TableName) → name ≢ name_of n
 
 -- every table of another name is there still, at its place, and has its rows
 abbrev pub KeepsForeign : Database → Database → Type 0
-KeepsForeign old new = (name : List ℕ) (t : Table) (at : ℕ) → IsAt old.schema name t at → IsForeign t.name → IsAt new.schema name t at × (new.trees t.tree ≡ old.trees t.tree)
+KeepsForeign old new =
+    (name : List ℕ) (t : Table) (at : ℕ) → IsAt old.schema name t at → IsForeign t.name
+    → IsAt new.schema name t at × (new.trees t.tree ≡ old.trees t.tree)
 
 -- the database stands for these rows now, and keeps every table of another name
 abbrev pub Becomes : Database → Database → Tables → Type 0
@@ -59,7 +65,9 @@ IsFirst n = ⊤
 
 -- the database stands for these rows of the nine tables of version 1
 abbrev pub StandsAsFirst : Database → Tables → Type 0
-StandsAsFirst db t = (n : TableName) → IsFirst n → Holds (is_rewritten n) db (name_of n) (table_of n) (cells_of n) (t n)
+StandsAsFirst db t =
+    (n : TableName) → IsFirst n
+    → Holds (is_rewritten n) db (name_of n) (table_of n) (cells_of n) (t n)
 
 -- the rows of the nine tables, and none in the others
 abbrev pub first_rows : Tables → (n : TableName) → List (RowOf n)

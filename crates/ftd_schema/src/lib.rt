@@ -1,5 +1,5 @@
-//! The desk's twelve tables: their names, for code and for contracts; the typed rows of each, and the rows for which a
-//! database stands.
+//! The desk's twelve tables: their names, for code and for contracts; the typed rows of each, and
+//! the rows for which a database stands.
 #![tactic(auto)]
 
 ghost use Rattle.std.specs.Prelude.{◌≡◌};

@@ -12,6 +12,7 @@ abbrev pub held : {S : Type 0} → store.Ghosts S → Found S → State
 held g it = state g it.conn
 
 -- what is seen of the database then, and the outcome
-abbrev pub Ended : {S : Type 0} → store.Ghosts S → Result (Connection S) (NotOpened S) → (State → Result (Unit {0}) OpenFault → Type 0) → Type 0
+abbrev pub Ended : {S : Type 0} → store.Ghosts S → Result (Connection S) (NotOpened S)
+    → (State → Result (Unit {0}) OpenFault → Type 0) → Type 0
 Ended g (Ok it) P = P (state g it) (Ok tt)
 Ended g (Err e) P = P (state g e.connection) (Err e.fault)

@@ -7,11 +7,13 @@ use Rattle.ftd_rows.specs.declared.faults.StoreFault.{StoreFault}
 use Rattle.ftd_sql.specs.States.{CrashKeeps, within}
 
 -- what the step keeps, whatever comes of it, and what it did with Ok
-pub record Steps {S A : Type 0} (g : store.Ghosts S) (old new : Transaction S) (result : Result A StoreFault) (Does : A → State → State → Type 0) : Type 0 where
+pub record Steps {S A : Type 0} (g : store.Ghosts S) (old new : Transaction S)
+    (result : Result A StoreFault) (Does : A → State → State → Type 0) : Type 0 where
   -- it stays a transaction on the same connection
   pub same : new.conn.ghost_name ≡ old.conn.ghost_name
   -- with Ok it is in a transaction as before
-  pub mode : HasCleanDisk (within g new) → OnOk result ((within g new).in_transaction ≡ (within g old).in_transaction)
+  pub mode : HasCleanDisk (within g new)
+      → OnOk result ((within g new).in_transaction ≡ (within g old).in_transaction)
   -- nothing is committed
   pub kept : HasCleanDisk (within g new) → KeepsCommit (within g old) (within g new)
   -- a crash finds what it would have found

@@ -1,5 +1,7 @@
 -- How a database is told to be the desk's, and what it becomes when it is opened.
-use Rattle.std.specs.Prelude.{◌≡◌, ◌<◌, ◌≤◌, ◌&&◌, ℕ, pos, Bool, true, false, List, [], ◌∷◌, codes, map, Option, Some, None, Result, Ok, Err, IsErrAnd, IfErr, OnOk, OnErr, IsTrue, ⊤, ◌⊎◌, is_some, option_and_then, slice_get}
+use Rattle.std.specs.Prelude.{◌≡◌, ◌<◌, ◌≤◌, ◌&&◌, ℕ, pos, Bool, true, false, List, [], ◌∷◌, codes}
+use Rattle.std.specs.Prelude.{map, Option, Some, None, Result, Ok, Err, IsErrAnd, IfErr, OnOk}
+use Rattle.std.specs.Prelude.{OnErr, IsTrue, ⊤, ◌⊎◌, is_some, option_and_then, slice_get}
 use Rattle.std.specs.List.Sorted.{IsPermutation}
 use Rattle.sqlite.specs.Effect.{Database}
 use Rattle.sqlite.specs.Order.{Row}
@@ -12,11 +14,13 @@ use Rattle.sqlite.specs.declared.types.Value.TheVariants.{Int, Text}
 use Rattle.sqlite_schema.specs.Names.{table_named, column_named}
 use Rattle.ftd_tables.specs.Places.{KeepsTables, Holds}
 use Rattle.ftd_schema.specs.declared.TableName.{TableName}
-use Rattle.ftd_schema.specs.declared.TableName.TheVariants.{Metas, Accounts, Forms, ReportedYears, AddedHolidays}
+use Rattle.ftd_schema.specs.declared.TableName.TheVariants.{Metas, Accounts, Forms, ReportedYears}
+use Rattle.ftd_schema.specs.declared.TableName.TheVariants.{AddedHolidays}
 use Rattle.ftd_schema.specs.Names.{name_of, all_names, later_names, has_any}
 use Rattle.ftd_schema.specs.Layout.{table_of}
 use Rattle.ftd_schema.specs.Rows.{cells_of, MetaRow, AccountRow, FormRow}
-use Rattle.ftd_schema.specs.Standing.{Tables, no_rows, with_rows, Stands, KeepsForeign, IsFirst, StandsAsFirst}
+use Rattle.ftd_schema.specs.Standing.{Tables, no_rows, with_rows, Stands, KeepsForeign, IsFirst}
+use Rattle.ftd_schema.specs.Standing.{StandsAsFirst}
 use Rattle.ftd_sql.specs.Making.{IsFree}
 use Rattle.ftd_sql.specs.States.{ShowsAgain}
 use Rattle.ftd_sql.specs.declared.texts.TheConstants.{LIST_METAS}
@@ -32,7 +36,8 @@ abbrev pub IsNew : Schema → Type 0
 IsNew s = has_any all_names s ≡ false
 
 abbrev has_columns : Option Table → Bool
-has_columns (Some t) = is_some (column_named t (codes "tag")) && is_some (column_named t (codes "version"))
+has_columns (Some t) =
+    is_some (column_named t (codes "tag")) && is_some (column_named t (codes "version"))
 has_columns None = false
 
 -- ftd_meta is a table with a tag and a version
@@ -56,7 +61,8 @@ HasVersion metas version = metas ≡ tag_row version ∷ []
 abbrev pub KeepsRows : Database → Database → Type 0
 KeepsRows old new = (t : Tables) → Stands old t → Stands new t × KeepsTables old new
 
--- the twelve tables were made: they are empty but for the tag of version 2, and every other table is as it was
+-- the twelve tables were made: they are empty but for the tag of version 2, and every other table
+-- is as it was
 abbrev pub IsMade : Database → Database → Type 0
 IsMade old new = Stands new (with_rows Metas (tag_row 2 ∷ []) no_rows) × KeepsTables old new
 
@@ -74,7 +80,10 @@ pub record IsMigration (first second : Tables) : Type 0 where
 
 -- the tables of version 1 became those of version 2, and every table of another name is as it was
 abbrev pub IsMigrated : Database → Database → Type 0
-IsMigrated old new = (first : Tables) → StandsAsFirst old first → HasVersion (first Metas) 1 → lacks_sequence old.schema ≡ false → ((second : Tables) × Stands new second × IsMigration first second) × KeepsForeign old new
+IsMigrated old new =
+    (first : Tables) → StandsAsFirst old first → HasVersion (first Metas) 1
+    → lacks_sequence old.schema ≡ false
+    → ((second : Tables) × Stands new second × IsMigration first second) × KeepsForeign old new
 
 -- what is done in one transaction
 abbrev pub Becomes : Change → Database → Database → Type 0
@@ -85,17 +94,23 @@ Becomes Migrate old new = IsMigrated old new
 abbrev pub MayBecome : Change → Database → Trees → Type 0
 MayBecome how old left = (db : Database) × (left ≡ db.trees) × Becomes how old db
 
--- what a crash may leave of a database that is being opened, beside what there was: version 2 in whole
+-- what a crash may leave of a database that is being opened, beside what there was: version 2 in
+-- whole
 abbrev pub MayBeOpened : Database → Trees → Type 0
-MayBeOpened old left = ((is_tagged old.schema ≡ false) × MayBecome Make old left) ⊎ ((is_tagged old.schema ≡ true) × MayBecome Migrate old left)
+MayBeOpened old left =
+    ((is_tagged old.schema ≡ false) × MayBecome Make old left)
+    ⊎ ((is_tagged old.schema ≡ true) × MayBecome Migrate old left)
 
 -- ---- what is answered
 
 -- how a database with this version was opened: version 2 as it is, version 1 by migration
 abbrev pub Opens : State → State → (ℕ → Type 0) → Bool → Result (Unit {0}) OpenFault → Type 0
-Opens old new Is taken (Ok opened) = (Is 2 × IsUnchanged old new) ⊎ (Is 1 × (taken ≡ false) × IsMigrated old.now new.now × (new.committed ≡ new.now))
+Opens old new Is taken (Ok opened) =
+    (Is 2 × IsUnchanged old new)
+    ⊎ (Is 1 × (taken ≡ false) × IsMigrated old.now new.now × (new.committed ≡ new.now))
 Opens old new Is taken (Err (Newer version)) = (2 < version) × Is version
-Opens old new Is taken (Err NotOurs) = (version : ℕ) → 1 ≤ version → Is version → (version ≡ 1) × (taken ≡ true)
+Opens old new Is taken (Err NotOurs) =
+    (version : ℕ) → 1 ≤ version → Is version → (version ≡ 1) × (taken ≡ true)
 Opens old new Is taken (Err (Store fault)) = ⊤
 
 -- a fault of the store says nothing of what the database is
@@ -105,18 +120,25 @@ IsStoreFault e = ⊥
 
 -- the answer follows from what ftd_meta would show to a reading before
 abbrev pub OpensByReading : State → State → Result (Unit {0}) OpenFault → Type 0
-OpensByReading old new r = IsErrAnd r IsStoreFault ⊎ ((rows : List Row) × Shown LIST_METAS.now [] old old rows × Opens old new (ReadsVersion rows) (has_any later_names old.now.schema) r)
+OpensByReading old new r =
+    IsErrAnd r IsStoreFault
+    ⊎ ((rows : List Row) × Shown LIST_METAS.now [] old old rows
+    × Opens old new (ReadsVersion rows) (has_any later_names old.now.schema) r)
 
 -- how an opening ended: what the database was, what is seen of it then, and the answer
 pub record Opening (old new : State) (r : Result (Unit {0}) OpenFault) : Type 0 where
   -- a new database is given the tables
-  pub new_database : IsNew old.now.schema → IsFree old.now.schema → HasCleanDisk new → OnOk r (IsMade old.now new.now × (new.committed ≡ new.now))
+  pub new_database : IsNew old.now.schema → IsFree old.now.schema → HasCleanDisk new
+      → OnOk r (IsMade old.now new.now × (new.committed ≡ new.now))
   pub never_refused : IsNew old.now.schema → IfErr r IsStoreFault
   -- where one of the names is taken, and ftd_meta can not be read, it is not the desk's
-  pub foreign : has_any all_names old.now.schema ≡ true → is_tagged old.now.schema ≡ false → r ≡ Err NotOurs
+  pub foreign : has_any all_names old.now.schema ≡ true → is_tagged old.now.schema ≡ false
+      → r ≡ Err NotOurs
   -- else what ftd_meta shows decides, and so do its rows where it is the desk's own table
   pub read : is_tagged old.now.schema ≡ true → HasCleanDisk new → OpensByReading old new r
-  pub version : (metas : List MetaRow) → Holds false old.now (name_of Metas) (table_of Metas) (cells_of Metas) metas → HasCleanDisk new → Opens old new (HasVersion metas) (has_any later_names old.now.schema) r
+  pub version : (metas : List MetaRow)
+      → Holds false old.now (name_of Metas) (table_of Metas) (cells_of Metas) metas
+      → HasCleanDisk new → Opens old new (HasVersion metas) (has_any later_names old.now.schema) r
   -- whatever the fault, the rows are as they were
   pub kept : HasCleanDisk new → IsTrue new.is_open → OnErr r (ShowsAgain old new)
   -- a crash finds what it would have found, or version 2 in whole

@@ -24,7 +24,8 @@ const FORM_941: i64 = 0;
 
 // puts the account of this name on Form 941
 fn add_form<S: Alter>(tx: &mut Transaction<'_, S>, name: &Row) -> Result<(), StoreFault>
-    ensures step { Steps S.Store tx.old tx.new result (λ _ old new. (account : AccountRow) (t : Tables)
+    ensures step { Steps S.Store tx.old tx.new result
+        (λ _ old new. (account : AccountRow) (t : Tables)
         → name.now ≡ name_shown account → Stands old.now t
         → Becomes old.now new.now (with_rows Forms (t Forms ++ (on_form_941 account ∷ [])) t)) }
 {
@@ -35,7 +36,8 @@ fn add_form<S: Alter>(tx: &mut Transaction<'_, S>, name: &Row) -> Result<(), Sto
 
 // puts the accounts of these names on Form 941
 fn add_forms<S: Alter>(tx: &mut Transaction<'_, S>, names: &[Row]) -> Result<(), StoreFault>
-    ensures step { Steps S.Store tx.old tx.new result (λ _ old new. (accounts : List AccountRow) (t : Tables)
+    ensures step { Steps S.Store tx.old tx.new result
+        (λ _ old new. (accounts : List AccountRow) (t : Tables)
         → names.now ≡ map name_shown accounts → Stands old.now t
         → Becomes old.now new.now (with_rows Forms (t Forms ++ map on_form_941 accounts) t)) }
 {

@@ -9,7 +9,8 @@ ghost use Rattle.ftd_sql.specs.States.{CrashKeeps, ShowsAgain};
 ghost use Rattle.ftd_sql.specs.declared.texts.TheConstants.{LIST_METAS};
 ghost use Rattle.ftd_setup.specs.Ended.{held, Ended};
 ghost use Rattle.ftd_setup.specs.Steps.{Steps};
-ghost use Rattle.ftd_setup.specs.Versions.{IsNew, IsMade, is_tagged, Becomes, MayBecome, MayBeOpened, IsStoreFault, OpensByReading, Opening};
+ghost use Rattle.ftd_setup.specs.Versions.{IsNew, IsMade, is_tagged, Becomes, MayBecome};
+ghost use Rattle.ftd_setup.specs.Versions.{MayBeOpened, IsStoreFault, OpensByReading, Opening};
 
 use crate::making::{Indexes, make};
 use crate::migrating::migrate;
@@ -109,7 +110,8 @@ impl<S: Alter> Found<S> {
     // the rows of ftd_meta
     fn read_tag(&mut self) -> Result<Vec<Row>, StoreFault>
         ensures shown { HasCleanDisk (held S.Store self.new) → IfOk result
-            (λ rows. Shown LIST_METAS.now [] (held S.Store self.old) (held S.Store self.old) rows.items
+            (λ rows. Shown LIST_METAS.now [] (held S.Store self.old)
+            (held S.Store self.old) rows.items
             × IsUnchanged (held S.Store self.old) (held S.Store self.new)) }
         ensures kept { HasCleanDisk (held S.Store self.new) → IsTrue (held S.Store self.new).is_open
             → ShowsAgain (held S.Store self.old) (held S.Store self.new) }
@@ -146,15 +148,18 @@ impl<S: Alter> Found<S> {
     }
 
     fn prepare(&mut self) -> Result<(), OpenFault>
-        ensures new_database { IsNew (held S.Store self.old).now.schema → HasCleanDisk (held S.Store self.new)
+        ensures new_database { IsNew (held S.Store self.old).now.schema
+            → HasCleanDisk (held S.Store self.new)
             → OnOk result (IsFree (held S.Store self.old).now.schema
             → IsMade (held S.Store self.old).now (held S.Store self.new).now
             × ((held S.Store self.new).committed ≡ (held S.Store self.new).now)) }
-        ensures never_refused { IsNew (held S.Store self.old).now.schema → IfErr result IsStoreFault }
+        ensures never_refused { IsNew (held S.Store self.old).now.schema
+            → IfErr result IsStoreFault }
         ensures foreign { has_any all_names (held S.Store self.old).now.schema ≡ true
             → is_tagged (held S.Store self.old).now.schema ≡ false
             → (result ≡ Err OpenFault.NotOurs) × (self.new ≡ self.old) }
-        ensures read { is_tagged (held S.Store self.old).now.schema ≡ true → HasCleanDisk (held S.Store self.new)
+        ensures read { is_tagged (held S.Store self.old).now.schema ≡ true
+            → HasCleanDisk (held S.Store self.new)
             → OpensByReading (held S.Store self.old) (held S.Store self.new) result }
         ensures kept { HasCleanDisk (held S.Store self.new) → IsTrue (held S.Store self.new).is_open
             → OnErr result (ShowsAgain (held S.Store self.old) (held S.Store self.new)) }
@@ -174,16 +179,19 @@ impl<S: Alter> Found<S> {
 
 /// Makes a database the desk's, or finds that it is.
 ///
-/// Where none of the twelve names is taken by a table, a view or an index, the twelve tables are made in one transaction,
-/// with the tag (`ftd`, 2) and, where nothing has their names, two indexes by day. Where ftd_meta has exactly one row, with
-/// the tag `ftd`: version 2 is opened as it is; version 1 becomes version 2 in one transaction, with every account on Form
-/// 941, or is `NotOurs` where one of the three later names is taken; a greater version is `Newer`. All else is `NotOurs`.
-/// `Store` where memory is refused, where the database fails, and where it is in a transaction. A fault gives the
-/// connection back with the same rows. Tables of other names are left alone.
+/// Where none of the twelve names is taken by a table, a view or an index, the twelve tables are
+/// made in one transaction, with the tag (`ftd`, 2) and, where nothing has their names, two indexes
+/// by day. Where ftd_meta has exactly one row, with the tag `ftd`: version 2 is opened as it is;
+/// version 1 becomes version 2 in one transaction, with every account on Form 941, or is `NotOurs`
+/// where one of the three later names is taken; a greater version is `Newer`. All else is
+/// `NotOurs`. `Store` where memory is refused, where the database fails, and where it is in a
+/// transaction. A fault gives the connection back with the same rows. Tables of other names are
+/// left alone.
 pub fn open<S: Alter>(conn: Connection<S>) -> Result<Connection<S>, NotOpened<S>>
     ensures ended { Ended S.Store result (Opening (state S.Store conn)) }
     ensures untouched { has_any all_names (state S.Store conn).now.schema ≡ true
-        → is_tagged (state S.Store conn).now.schema ≡ false → IfErr result (λ e. e.connection ≡ conn) }
+        → is_tagged (state S.Store conn).now.schema ≡ false
+        → IfErr result (λ e. e.connection ≡ conn) }
 {
     let mut found = Found { conn };
     match found.prepare() {

@@ -25,7 +25,8 @@ pub(crate) fn is_tagged(schema: &Schema) -> bool
 
 // the version in a row of ftd_meta
 fn version_of(row: &Row) -> Option<u64>
-    ensures read { IfSome result (λ version. row.now ≡ Text (codes "ftd") ∷ Int (pos version) ∷ []) }
+    ensures read { IfSome result
+        (λ version. row.now ≡ Text (codes "ftd") ∷ Int (pos version) ∷ []) }
     ensures none { result ≡ None → (version : ℕ)
         → ¬ (row.now ≡ Text (codes "ftd") ∷ Int (pos version) ∷ []) }
 {

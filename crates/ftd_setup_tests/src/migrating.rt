@@ -149,7 +149,8 @@ struct Calls {
     db: u64,
 }
 
-/// Opens a file of version 1 over files that fail after so many calls. None where the files themselves can't be opened.
+/// Opens a file of version 1 over files that fail after so many calls. None where the files
+/// themselves can't be opened.
 fn failing(alloc: Global, first: &Memory, calls: Calls) -> Result<Option<Failing>, Fail> {
     let files = Files {
         log: Fuse::new(Memory::new(alloc), calls.log),
@@ -190,7 +191,8 @@ fn opened(conn: Failing) -> (bool, Failing) {
     }
 }
 
-/// Whether the files are closed, and what a crash leaves: the version, and how many tables there are.
+/// Whether the files are closed, and what a crash leaves: the version, and how many tables there
+/// are.
 fn left(alloc: Global, conn: Failing) -> Result<(bool, i64, i64), Fail> {
     let (is_closed, mut files) = match conn.close_files() {
         Ok(files) => (true, files),
@@ -224,8 +226,8 @@ fn migrate(rt: &impl Abort, alloc: Global, first: &Memory, calls: Calls) -> Resu
     })
 }
 
-/// How often a migration of a database of version 1 came out each way, the log stopping at each call in turn, or the
-/// database file, until none stops.
+/// How often a migration of a database of version 1 came out each way, the log stopping at each
+/// call in turn, or the database file, until none stops.
 fn ends(rt: &impl Abort, alloc: Global, is_log: bool) -> Result<[u32; 3], Fail> {
     let first = first(alloc)?;
     let mut seen = [0u32; 3];

@@ -1,5 +1,5 @@
-//! Databases and texts of the tests, and calls on them without a clause, so that the proof of a test does not carry the
-//! state of each call.
+//! Databases and texts of the tests, and calls on them without a clause, so that the proof of a
+//! test does not carry the state of each call.
 
 use ftd_setup::{NotOpened, OpenFault};
 use sqlite::{Alter, Connection, MemStore};

@@ -3,7 +3,9 @@ use Rattle.std.specs.Prelude.{[], ◌∷◌}
 use Rattle.sqlite.specs.declared.types.Value.TheVariants.{Int, Text}
 use Rattle.sqlite.specs.Order.{Row}
 use Rattle.sqlite.specs.Values.{or_null}
-use Rattle.ftd_schema.specs.Rows.{MetaRow, AccountRow, ReportedQuarterRow, CalendarYearRow, HolidayRow, YearRow, RunRow, PaymentRow, ObligationRow, FormRow, ReportedYearRow}
+use Rattle.ftd_schema.specs.Rows.{MetaRow, AccountRow, ReportedQuarterRow, CalendarYearRow}
+use Rattle.ftd_schema.specs.Rows.{HolidayRow, YearRow, RunRow, PaymentRow, ObligationRow, FormRow}
+use Rattle.ftd_schema.specs.Rows.{ReportedYearRow}
 
 abbrev pub meta_shown : MetaRow → Row
 meta_shown m = Text m.tag ∷ Int m.version ∷ []

@@ -1,4 +1,5 @@
--- The texts that make each table and add a row to it, and a database in which the tables can be made.
+-- The texts that make each table and add a row to it, and a database in which the tables can be
+-- made.
 use Rattle.std.specs.Prelude.{◌≡◌, ℕ, List, [], IsTrue, false}
 use Rattle.std.specs.List.{All}
 use Rattle.sqlite.specs.Schema.{Schema}
@@ -6,7 +7,10 @@ use Rattle.sqlite.specs.Does.{lacks_sequence}
 use Rattle.sqlite.specs.Effect.{Database}
 use Rattle.ftd_tables.specs.Places.{IsUnnamed, Holds}
 use Rattle.ftd_schema.specs.declared.TableName.{TableName}
-use Rattle.ftd_schema.specs.declared.TableName.TheVariants.{Metas, Accounts, ReportedQuarters, CalendarYears, Holidays, Years, Runs, Payments, Obligations, Forms, ReportedYears, AddedHolidays}
+use Rattle.ftd_schema.specs.declared.TableName.TheVariants.{Metas, Accounts, ReportedQuarters}
+use Rattle.ftd_schema.specs.declared.TableName.TheVariants.{CalendarYears, Holidays, Years, Runs}
+use Rattle.ftd_schema.specs.declared.TableName.TheVariants.{Payments, Obligations, Forms}
+use Rattle.ftd_schema.specs.declared.TableName.TheVariants.{ReportedYears, AddedHolidays}
 use Rattle.ftd_schema.specs.Names.{name_of, all_names}
 use Rattle.ftd_schema.specs.Rows.{cells_of}
 use Rattle.ftd_schema.specs.Layout.{table_of, is_rewritten}
@@ -40,8 +44,8 @@ add_of Forms = text.ADD_FORM.now
 add_of ReportedYears = text.ADD_REPORTED_YEAR.now
 add_of AddedHolidays = text.ADD_ADDED_HOLIDAY.now
 
--- these tables can be made: where their rows are ever changed or taken out, no foreign key with an action names them, and no
--- sqlite_sequence is missing
+-- these tables can be made: where their rows are ever changed or taken out, no foreign key with an
+-- action names them, and no sqlite_sequence is missing
 pub record AreFree (names : List TableName) (s : Schema) : Type 0 where
   pub unnamed : All (λ n. IsTrue (is_rewritten n) → IsUnnamed s (name_of n)) names
   pub counted : lacks_sequence s ≡ false
@@ -52,4 +56,5 @@ IsFree s = AreFree all_names s
 
 -- these tables hold no rows
 abbrev pub AreEmpty : List TableName → Database → Type 0
-AreEmpty names db = All (λ n. Holds (is_rewritten n) db (name_of n) (table_of n) (cells_of n) []) names
+AreEmpty names db =
+    All (λ n. Holds (is_rewritten n) db (name_of n) (table_of n) (cells_of n) []) names

@@ -27,4 +27,6 @@ ObligationsRise a b = a.first ≤ℤ b.first
 
 -- by account, and by first day in one account
 abbrev pub AccountsRise : ObligationRow → ObligationRow → Type 0
-AccountsRise a b = (slice_cmp nat_cmp a.account b.account ≡ Less) ⊎ ((a.account ≡ b.account) × (a.first ≤ℤ b.first))
+AccountsRise a b =
+    (slice_cmp nat_cmp a.account b.account ≡ Less)
+    ⊎ ((a.account ≡ b.account) × (a.first ≤ℤ b.first))

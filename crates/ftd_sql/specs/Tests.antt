@@ -1,7 +1,10 @@
--- Which rows a statement speaks of, and how it changes them. Numbers, days and amounts are as they are stored.
+-- Which rows a statement speaks of, and how it changes them. Numbers, days and amounts are as they
+-- are stored.
 use Rattle.std.specs.Prelude.{ℕ, ℤ, pos, Bool, ◌&&◌, bytes_eq, int_le, int_lt, List, Option}
 use Rattle.std.specs.Ordering.{int_eq}
-use Rattle.ftd_schema.specs.Rows.{MetaRow, AccountRow, ReportedQuarterRow, CalendarYearRow, HolidayRow, YearRow, RunRow, PaymentRow, ObligationRow, FormRow, ReportedYearRow}
+use Rattle.ftd_schema.specs.Rows.{MetaRow, AccountRow, ReportedQuarterRow, CalendarYearRow}
+use Rattle.ftd_schema.specs.Rows.{HolidayRow, YearRow, RunRow, PaymentRow, ObligationRow, FormRow}
+use Rattle.ftd_schema.specs.Rows.{ReportedYearRow}
 
 -- the row of the tag
 abbrev pub is_tag : List ℕ → MetaRow → Bool
@@ -17,7 +20,8 @@ is_form_of account f = bytes_eq f.account account
 
 -- the figure of the account's quarter
 abbrev pub is_reported : List ℕ → ℤ → ℤ → ReportedQuarterRow → Bool
-is_reported account year quarter r = bytes_eq r.account account && (int_eq r.year year && int_eq r.quarter quarter)
+is_reported account year quarter r =
+    bytes_eq r.account account && (int_eq r.year year && int_eq r.quarter quarter)
 
 -- the figure of the account's year
 abbrev pub is_reported_year : List ℕ → ℤ → ReportedYearRow → Bool
@@ -38,7 +42,8 @@ is_year account year y = bytes_eq y.account account && int_eq y.year year
 abbrev pub is_year_of : List ℕ → YearRow → Bool
 is_year_of account y = bytes_eq y.account account
 
--- the account's run of the number, each of its runs, and each of its live runs with a payday between two days
+-- the account's run of the number, each of its runs, and each of its live runs with a payday
+-- between two days
 abbrev pub is_run : List ℕ → ℤ → RunRow → Bool
 is_run account number r = bytes_eq r.account account && int_eq r.number number
 
@@ -46,9 +51,12 @@ abbrev pub is_run_of : List ℕ → RunRow → Bool
 is_run_of account r = bytes_eq r.account account
 
 abbrev pub is_live_run_between : List ℕ → ℤ → ℤ → RunRow → Bool
-is_live_run_between account from to r = bytes_eq r.account account && (int_le from r.payday && (int_le r.payday to && int_eq r.voided (pos 0)))
+is_live_run_between account from to r =
+    bytes_eq r.account account
+    && (int_le from r.payday && (int_le r.payday to && int_eq r.voided (pos 0)))
 
--- the account's payment of the number, each of its payments, and each of its live payments for a day between two days
+-- the account's payment of the number, each of its payments, and each of its live payments for a
+-- day between two days
 abbrev pub is_payment : List ℕ → ℤ → PaymentRow → Bool
 is_payment account number p = bytes_eq p.account account && int_eq p.number number
 
@@ -56,11 +64,14 @@ abbrev pub is_payment_of : List ℕ → PaymentRow → Bool
 is_payment_of account p = bytes_eq p.account account
 
 abbrev pub is_live_payment_between : List ℕ → ℤ → ℤ → PaymentRow → Bool
-is_live_payment_between account from to p = bytes_eq p.account account && (int_le from p.for_day && (int_le p.for_day to && int_eq p.voided (pos 0)))
+is_live_payment_between account from to p =
+    bytes_eq p.account account
+    && (int_le from p.for_day && (int_le p.for_day to && int_eq p.voided (pos 0)))
 
 -- an obligation of the account whose first day lies between two days, and the one of a first day
 abbrev pub is_obligation_between : List ℕ → ℤ → ℤ → ObligationRow → Bool
-is_obligation_between account from to o = bytes_eq o.account account && (int_le from o.first && int_le o.first to)
+is_obligation_between account from to o =
+    bytes_eq o.account account && (int_le from o.first && int_le o.first to)
 
 abbrev pub is_obligation : List ℕ → ℤ → ObligationRow → Bool
 is_obligation account first o = bytes_eq o.account account && int_eq o.first first
@@ -79,11 +90,13 @@ voided_payment p = record p { voided = pos 1 }
 
 -- an open year with these figures
 abbrev pub with_figures : ℤ → ℤ → Option ℤ → YearRow → YearRow
-with_figures lookback opening turn y = record y { lookback = lookback; opening = opening; turn = turn }
+with_figures lookback opening turn y =
+    record y { lookback = lookback; opening = opening; turn = turn }
 
 -- an obligation with the terms of another one, of its own account and first day
 abbrev pub with_terms : ObligationRow → ObligationRow → ObligationRow
-with_terms other o = record o { last = other.last; rule = other.rule; cents = other.cents; due = other.due }
+with_terms other o =
+    record o { last = other.last; rule = other.rule; cents = other.cents; due = other.due }
 
 -- an obligation with this due date
 abbrev pub with_due : ℤ → ObligationRow → ObligationRow

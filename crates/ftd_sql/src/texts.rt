@@ -1,5 +1,6 @@
-//! The texts of the statements: each is written here and nowhere else. Values are given in the order of the columns
-//! unless a text says otherwise. A day is its number of days since 1970-01-01, an amount is in cents.
+//! The texts of the statements: each is written here and nowhere else. Values are given in the
+//! order of the columns unless a text says otherwise. A day is its number of days since 1970-01-01,
+//! an amount is in cents.
 
 // ---- ftd_meta: whose database it is
 
@@ -109,7 +110,8 @@ pub const ADD_OBLIGATION: &str =
 /// Takes out the obligations of an account with a first day between two days.
 pub const REMOVE_OBLIGATIONS: &str =
     "DELETE FROM bucket WHERE account = ?1 AND first_day >= ?2 AND first_day <= ?3";
-/// The obligations of all accounts that begin before a day and are due on it or later, by account and first day.
+/// The obligations of all accounts that begin before a day and are due on it or later, by account
+/// and first day.
 pub const LIST_DUE_OVER: &str =
     "SELECT account, first_day, last_day, rule, cents, due FROM bucket WHERE first_day < ?1 AND due >= ?1 ORDER BY account, first_day";
 /// Gives the obligation of an account and a first day its other cells anew, given as its row is.

@@ -8,3 +8,6 @@ pub mod YearRows
 pub mod Putting
 pub mod Walks
 pub mod Turning
+pub mod Items
+pub mod Sifted
+pub mod AddedYears

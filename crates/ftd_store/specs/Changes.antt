@@ -2,10 +2,14 @@
 use Rattle.std.specs.Prelude.{ℕ, pos, false, not, List, [], ◌∷◌, ◌++◌, map, filter}
 use Rattle.ftd_tables.specs.Kept.{changed}
 use Rattle.ftd_schema.specs.declared.TableName.{TableName}
-use Rattle.ftd_schema.specs.declared.TableName.TheVariants.{Accounts, ReportedQuarters, CalendarYears, Holidays, Years, Runs, Payments, Obligations, Forms, ReportedYears, AddedHolidays}
+use Rattle.ftd_schema.specs.declared.TableName.TheVariants.{Accounts, ReportedQuarters}
+use Rattle.ftd_schema.specs.declared.TableName.TheVariants.{CalendarYears, Holidays, Years, Runs}
+use Rattle.ftd_schema.specs.declared.TableName.TheVariants.{Payments, Obligations, Forms}
+use Rattle.ftd_schema.specs.declared.TableName.TheVariants.{ReportedYears, AddedHolidays}
 use Rattle.ftd_schema.specs.Rows.{RowOf, YearRow}
 use Rattle.ftd_schema.specs.Standing.{Tables, with_rows}
-use Rattle.ftd_sql.specs.Tests.{is_run, voided_run, is_payment, voided_payment, is_obligation_between, is_obligation, with_terms, with_due, is_year}
+use Rattle.ftd_sql.specs.Tests.{is_run, voided_run, is_payment, voided_payment}
+use Rattle.ftd_sql.specs.Tests.{is_obligation_between, is_obligation, with_terms, with_due, is_year}
 use Rattle.ftd_days.specs.Calendar.{year_of}
 use Rattle.ftd_days.specs.declared.cents.Cents.{Cents}
 use Rattle.ftd_rules.specs.declared.Form.{Form}
@@ -15,7 +19,9 @@ use Rattle.ftd_rows.specs.declared.accounts.Account.{Account}
 use Rattle.ftd_rules.specs.declared.run.PayRun.{PayRun}
 use Rattle.ftd_rules.specs.declared.payment.Payment.{Payment}
 use Rattle.ftd_rows.specs.Cells.{day_number}
-use Rattle.ftd_rows.specs.Rows.{account_row, form_row, reported_row, reported_year_row, calendar_year_row, holiday_row, year_row, run_row, payment_row, obligation_row}
+use Rattle.ftd_rows.specs.Rows.{account_row, form_row, reported_row, reported_year_row}
+use Rattle.ftd_rows.specs.Rows.{calendar_year_row, holiday_row, year_row, run_row, payment_row}
+use Rattle.ftd_rows.specs.Rows.{obligation_row}
 
 -- one more row in a table
 abbrev pub adding : (n : TableName) → RowOf n → Tables → Tables
@@ -39,7 +45,9 @@ with_reported_year account year cents = adding ReportedYears (reported_year_row 
 
 -- the year's calendar is given, with these holidays
 abbrev pub with_calendar : ℕ → List ℕ → Tables → Tables
-with_calendar year days t = with_rows Holidays (t Holidays ++ map (holiday_row year) days) (adding CalendarYears (calendar_year_row year) t)
+with_calendar year days t =
+    with_rows Holidays (t Holidays ++ map (holiday_row year) days)
+    (adding CalendarYears (calendar_year_row year) t)
 
 -- a holiday is added to its year, whose calendar was given
 abbrev pub with_added_holiday : ℕ → Tables → Tables
@@ -55,7 +63,8 @@ put_among (there ∷ more) y rows = map (changed (is_year y.account y.year) (λ 
 -- the line is that of its account and year, each other as it was
 abbrev pub with_year : List ℕ → YearLine → Tables → Tables
 with_year account line t =
-    let y = year_row account line in with_rows Years (put_among (filter (is_year account (pos line.year)) (t Years)) y (t Years)) t
+    let y = year_row account line in
+    with_rows Years (put_among (filter (is_year account (pos line.year)) (t Years)) y (t Years)) t
 
 -- ---- runs and payments
 
@@ -65,33 +74,46 @@ with_run account number run = adding Runs (run_row account (pos number) run fals
 
 -- the account's run of the number is void
 abbrev pub with_void_run : List ℕ → ℕ → Tables → Tables
-with_void_run account number t = with_rows Runs (map (changed (is_run account (pos number)) voided_run) (t Runs)) t
+with_void_run account number t =
+    with_rows Runs (map (changed (is_run account (pos number)) voided_run) (t Runs)) t
 
 -- one more payment of the account, which is not void
 abbrev pub with_payment : List ℕ → ℕ → Payment → Tables → Tables
-with_payment account number payment = adding Payments (payment_row account (pos number) payment false)
+with_payment account number payment =
+    adding Payments (payment_row account (pos number) payment false)
 
 -- the account's payment of the number is void
 abbrev pub with_void_payment : List ℕ → ℕ → Tables → Tables
-with_void_payment account number t = with_rows Payments (map (changed (is_payment account (pos number)) voided_payment) (t Payments)) t
+with_void_payment account number t =
+    with_rows Payments (map (changed (is_payment account (pos number)) voided_payment)
+    (t Payments)) t
 
 -- ---- obligations
 
 -- the account's obligations with a first day between two days are gone
 abbrev pub without_obligations : List ℕ → ℕ → ℕ → Tables → Tables
-without_obligations account from to t = with_rows Obligations (filter (λ o. not (is_obligation_between account (day_number from) (day_number to) o)) (t Obligations)) t
+without_obligations account from to t =
+    with_rows Obligations
+    (filter (λ o. not (is_obligation_between account (day_number from) (day_number to) o))
+    (t Obligations)) t
 
 -- and these stand last
 abbrev pub with_obligations : List ℕ → ℕ → ℕ → List Obligation → Tables → Tables
 with_obligations account from to given t =
-    with_rows Obligations (filter (λ o. not (is_obligation_between account (day_number from) (day_number to) o)) (t Obligations) ++ map (obligation_row account) given) t
+    with_rows Obligations
+    (filter (λ o. not (is_obligation_between account (day_number from) (day_number to) o))
+    (t Obligations) ++ map (obligation_row account) given) t
 
 -- the account's obligation of this one's first day has the terms of this one
 abbrev pub with_obligation : List ℕ → Obligation → Tables → Tables
 with_obligation account o t =
     let row = obligation_row account o in
-    with_rows Obligations (map (changed (is_obligation account row.first) (with_terms row)) (t Obligations)) t
+    with_rows Obligations
+    (map (changed (is_obligation account row.first) (with_terms row)) (t Obligations)) t
 
 -- the account's obligation of the first day is due then
 abbrev pub with_due_date : List ℕ → ℕ → ℕ → Tables → Tables
-with_due_date account first due t = with_rows Obligations (map (changed (is_obligation account (day_number first)) (with_due (day_number due))) (t Obligations)) t
+with_due_date account first due t =
+    with_rows Obligations
+    (map (changed (is_obligation account (day_number first)) (with_due (day_number due)))
+    (t Obligations)) t

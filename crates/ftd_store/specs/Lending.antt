@@ -14,4 +14,7 @@ use Rattle.ftd_store.specs.Ends.{LeavesRows}
 module _ (S : RattleType) (g : store.Ghosts S.Denot) where
   -- the rows are as they were, and a crash finds what it would have found
   abbrev pub store_rests : MutBor (Store S.Denot) → Result (Tx S.Denot) StoreFault → Fml
-  store_rests s r = RestsIfErr (contracts.the_row S g) s (λ it. it.store.ghost_name) r (λ last. (HasCleanDisk (seen g last) → LeavesRows (seen g s.now) (seen g last)) × CrashKeeps (seen g s.now) (seen g last))
+  store_rests s r =
+      RestsIfErr (contracts.the_row S g) s (λ it. it.store.ghost_name) r
+      (λ last. (HasCleanDisk (seen g last) → LeavesRows (seen g s.now) (seen g last))
+      × CrashKeeps (seen g s.now) (seen g last))

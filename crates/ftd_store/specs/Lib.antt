@@ -3,6 +3,7 @@ pub mod Frame
 pub mod Ends
 pub mod Changes
 pub mod Finds
+pub mod Holidays
 pub mod Lending
 pub mod Opened
 pub mod Walking

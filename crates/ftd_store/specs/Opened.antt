@@ -9,7 +9,8 @@ use Rattle.ftd_store.specs.declared.store.Store.{Store}
 use Rattle.ftd_store.specs.Seen.{seen}
 
 -- what is seen of the database then, and the outcome
-abbrev pub Ended : {S : Type 0} → store.Ghosts S → Result (Store S) (NotOpened S) → (State → Result (Unit {0}) OpenFault → Type 0) → Type 0
+abbrev pub Ended : {S : Type 0} → store.Ghosts S → Result (Store S) (NotOpened S)
+    → (State → Result (Unit {0}) OpenFault → Type 0) → Type 0
 Ended g (Ok it) P = P (seen g it) (Ok tt)
 Ended g (Err e) P = P (state g e.connection) (Err e.fault)
 

@@ -20,7 +20,9 @@ use Rattle.ftd_store.specs.Finds.{IsObligation}
 
 -- the obligations of the account with a first day in the quarter
 abbrev pub rows_in : List ℕ → ℕ → Tables → List ObligationRow
-rows_in account quarter t = filter (is_obligation_between account (day_number (quarter_start quarter)) (day_number (quarter_start (quarter + 1) - 1))) (t Obligations)
+rows_in account quarter t =
+    filter (is_obligation_between account (day_number (quarter_start quarter))
+    (day_number (quarter_start (quarter + 1) - 1))) (t Obligations)
 
 module _ {S : Type 0} (g : store.Ghosts S) where
   -- what is shown of the store that they borrow
@@ -30,11 +32,18 @@ module _ {S : Type 0} (g : store.Ghosts S) where
   -- these obligations of the account's quarter have been given
   abbrev pub HasListed : List ℕ → ℕ → Rows S g → List Obligation → Type 0
   HasListed account quarter rows listed =
-      HasGiven g LIST_OBLIGATIONS.now (pair_given account (day_number (quarter_start quarter)) (day_number (quarter_start (quarter + 1) - 1))) rows.conn.now (map obligation_cells listed)
+      HasGiven g LIST_OBLIGATIONS.now
+      (pair_given account (day_number (quarter_start quarter))
+      (day_number (quarter_start
+      (quarter + 1) - 1))) rows.conn.now (map obligation_cells listed)
 
   -- one more is given, and those so far are the first of the quarter; or they are all of it
   abbrev pub Continues : List ℕ → ℕ → Rows S g → List Obligation → Option Obligation → Type 0
   Continues account quarter rows listed (Some o) =
       HasListed account quarter rows (listed ++ o ∷ [])
-      × ((t : Tables) → Stands (walked rows).now t → ListsFirst ObligationsRise (IsObligation account) (rows_in account quarter t) (listed ++ o ∷ []))
-  Continues account quarter rows listed None = (t : Tables) → Stands (walked rows).now t → Lists ObligationsRise (IsObligation account) (rows_in account quarter t) listed
+      × ((t : Tables) → Stands (walked rows).now t
+      → ListsFirst ObligationsRise (IsObligation account) (rows_in account quarter t)
+      (listed ++ o ∷ []))
+  Continues account quarter rows listed None =
+      (t : Tables) → Stands (walked rows).now t
+      → Lists ObligationsRise (IsObligation account) (rows_in account quarter t) listed

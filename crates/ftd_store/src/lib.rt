@@ -6,6 +6,7 @@
 
 mod accounts;
 mod calendars;
+mod holidays;
 mod obligation_rows;
 mod obligations;
 mod opening;

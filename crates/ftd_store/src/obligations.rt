@@ -6,7 +6,8 @@ ghost use Rattle.ftd_sql.specs.Tests.{is_obligation};
 ghost use Rattle.ftd_rows.specs.Amounts.{IsStorable};
 ghost use Rattle.ftd_rows.specs.Cells.{day_number};
 ghost use Rattle.ftd_rows.specs.Rows.{obligation_row};
-ghost use Rattle.ftd_store.specs.Changes.{adding, without_obligations, with_obligations, with_obligation, with_due_date};
+ghost use Rattle.ftd_store.specs.Changes.{adding, without_obligations, with_obligations};
+ghost use Rattle.ftd_store.specs.Changes.{with_obligation, with_due_date};
 ghost use Rattle.ftd_store.specs.Finds.{ListsObligations, ListsDueOver};
 ghost use Rattle.ftd_store.specs.Frame.{Reads, Writes, WritesOne};
 

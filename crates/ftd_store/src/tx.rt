@@ -1,6 +1,7 @@
 //! A transaction over the desk's tables.
 
-ghost use Rattle.std.specs.Prelude.{◌≡◌, ◌<◌, ◌^◌, true, false, is_err, if◌then◌else◌, map, [], ◌∷◌, IsTrue, IfOk, OnOk, OnErr, Err, Ok};
+ghost use Rattle.std.specs.Prelude.{◌≡◌, ◌<◌, ◌^◌, true, false, is_err, if◌then◌else◌, map, []};
+ghost use Rattle.std.specs.Prelude.{◌∷◌, IsTrue, IfOk, OnOk, OnErr, Err, Ok};
 ghost use Rattle.sqlite.specs.State.{HasCleanDisk, Survives, Shows, Executes};
 ghost use Rattle.sqlite.specs.Values.{bound};
 ghost use Rattle.ftd_tables.specs.TextKinds.{IsRowText, IsReadText};
@@ -80,8 +81,8 @@ impl<'store, S: Alter> Tx<'store, S> {
         Err(fault)
     }
 
-    /// Gives up with this fault, or with `Failed` where a call has failed before. The transaction has
-    /// failed then, and no row has changed.
+    /// Gives up with this fault, or with `Failed` where a call has failed before. The transaction
+    /// has failed then, and no row has changed.
     pub fn give_up<A>(&mut self, fault: StoreFault) -> Result<A, StoreFault>
         ensures frame { Frame S.Store self.old self.new result }
         ensures fails { is_err result ≡ true }

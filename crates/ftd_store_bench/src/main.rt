@@ -1,7 +1,8 @@
-//! Fills a store with so many pay runs of one account in one transaction, adds a hundred more with a commit for
-//! each, reads the day sums of a month a hundred times, and counts the runs a hundred times. It prints what it read, and
-//! on standard error how long an addition, a reading and a count took. The first argument is a file, or `:memory:`, the second the number of runs, and
-//! the third, if it is `plain`, takes the indexes away first.
+//! Fills a store with so many pay runs of one account in one transaction, adds a hundred more with
+//! a commit for each, reads the day sums of a month a hundred times, and counts the runs a hundred
+//! times. It prints what it read, and on standard error how long an addition, a reading and a count
+//! took. The first argument is a file, or `:memory:`, the second the number of runs, and the third,
+//! if it is `plain`, takes the indexes away first.
 #![tactic(auto)]
 
 ghost use Rattle.std.specs.Prelude.{IfOk};

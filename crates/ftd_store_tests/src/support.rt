@@ -1,5 +1,5 @@
-//! Databases, texts and rows of the tests, and calls on them without a clause, so that the proof of a test does not carry
-//! the state of each call.
+//! Databases, texts and rows of the tests, and calls on them without a clause, so that the proof of
+//! a test does not carry the state of each call.
 
 ghost use Rattle.std.specs.Prelude.{IfOk};
 ghost use Rattle.ftd_rows.specs.Amounts.{HasStorableAmounts, IsStorable};

@@ -12,7 +12,14 @@ use Rattle.sqlite_value.specs.Keys.{plain}
 
 -- a column of a STRICT table, never NULL unless it may be
 abbrev pub column : Bool → List ℕ → Kind → Column
-column not_null name kind = record { name = name; kind = kind; is_strict = true; not_null = not_null; default = Null; collation = Binary }
+column not_null name kind = record {
+  name = name;
+  kind = kind;
+  is_strict = true;
+  not_null = not_null;
+  default = Null;
+  collation = Binary;
+}
 
 abbrev pub a_text : List ℕ → Column
 a_text name = column true name Text
@@ -25,7 +32,16 @@ maybe_number name = column false name Integer
 
 -- the first column refers to a column of another table
 abbrev pub refers : List ℕ → List ℕ → List ℕ → Reference
-refers columns parent name = record { columns = columns; parent = parent; parent_columns = name ∷ []; on_delete = NoAction; on_update = NoAction; is_deferred = false }
+refers columns parent name =
+    record {
+      columns = columns;
+      parent = parent;
+      parent_columns = name
+          ∷ [];
+      on_delete = NoAction;
+      on_update = NoAction;
+      is_deferred = false;
+    }
 
 -- a table with its key, at this tree
 abbrev pub a_table : List ℕ → List Column → List ℕ → List Reference → ℕ → Table

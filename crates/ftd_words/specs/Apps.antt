@@ -11,12 +11,14 @@ use Rattle.ftd_words.specs.Table.{all_names, is_option, name_text, takes_of, wor
 
 -- a whole number of seconds, from 1 to 3,600; so many if none is given
 abbrev pub seconds_or : Text → Rule → Rule
-seconds_or default rule = record rule { defaults = default ∷ []; parser = Some (parser.Signed (pos 1) (pos 3600)) }
+seconds_or default rule =
+    record rule { defaults = default ∷ []; parser = Some (parser.Signed (pos 1) (pos 3600)) }
 
 -- what a word takes, as `clap` says it
 abbrev pub taking : Takes → Rule → Rule
 taking takes.Text rule = record rule { required = true }
-taking (takes.Number low high) rule = record rule { required = true; parser = Some (parser.Signed low high) }
+taking (takes.Number low high) rule =
+    record rule { required = true; parser = Some (parser.Signed low high) }
 taking takes.Texts rule = record rule { action = Some Append }
 taking takes.Nothing rule = record rule { action = Some SetTrue }
 taking takes.Form rule = record rule { defaults = codes "941" ∷ [] }
@@ -26,7 +28,12 @@ taking takes.Duration rule = seconds_or (codes "60") rule
 -- the word
 abbrev pub rule_for : Word → Rule
 rule_for word =
-    taking (takes_of word) (record (new_rule (word_text word)) { long = if is_option word then Some (word_text word) else None; value_names = 1 })
+    taking (takes_of word)
+    (record (new_rule (word_text word)) {
+      long = if is_option word then Some (word_text word)
+          else None;
+      value_names = 1;
+    })
 
 -- a command with words more
 abbrev pub with_words : App → List Word → App
@@ -44,7 +51,9 @@ with_names app (name ∷ names) = with_names (with_subcommand app (app_for name)
 
 -- the program, of which a version is printed and a subcommand is asked
 abbrev pub program : App
-program = let app = new_app (codes "ftd") in record app { top = record app.top { subcommand_required = true; has_version = true } }
+program =
+    let app = new_app (codes "ftd") in
+    record app { top = record app.top { subcommand_required = true; has_version = true } }
 
 -- the whole command line
 unfoldable pub ftd_app : App

@@ -9,10 +9,12 @@ use Rattle.ftd_words.specs.declared.fault.WordFault.TheVariants as fault
 use Rattle.ftd_words.specs.declared.table.Name.{Name}
 use Rattle.ftd_words.specs.declared.table.Name.TheVariants as name
 use Rattle.ftd_words.specs.declared.table.Word.TheVariants as word
-use Rattle.ftd_words.specs.Values.{cents_in, day_in, days_in, form_in, is_given, port_in, quarter_in, text_in, whole_in}
+use Rattle.ftd_words.specs.Values.{cents_in, day_in, days_in, form_in, is_given, port_in}
+use Rattle.ftd_words.specs.Values.{quarter_in, text_in, whole_in}
 
 -- what follows from a value, or its fault
-abbrev pub then_with : {X Y : Type 0} → Result X WordFault → (X → Result Y WordFault) → Result Y WordFault
+abbrev pub then_with : {X Y : Type 0} → Result X WordFault → (X → Result Y WordFault)
+    → Result Y WordFault
 then_with (Err f) next = Err f
 then_with (Ok value) next = next value
 
@@ -116,8 +118,8 @@ schedule_b_of rows =
     then_with (quarter_in word.Quarter rows) (λ quarter.
     Ok (request.ScheduleB account quarter)))
 
--- ---- what a subcommand asks: the deposits of pay runs from standard input, a server, an import, or a request to the desk in a
--- database
+-- ---- what a subcommand asks: the deposits of pay runs from standard input, a server, an import,
+-- or a request to the desk in a database
 pub data Wanted : Type 0 where
   plain : Text → ℕ → List ℕ → Wanted
   serve : Text → ℕ → ℕ → ℕ → ℕ → Wanted
@@ -126,10 +128,15 @@ pub data Wanted : Type 0 where
 
 -- `plain` wants an account name, and a year of 2001 to 2098
 abbrev pub account_in : List Row → Result Text WordFault
-account_in rows = then_with (text_in word.Account rows) (λ text. if is_account_name text then Ok text else Err (fault.BadWord word.Account))
+account_in rows =
+    then_with (text_in word.Account rows)
+    (λ text. if is_account_name text then Ok text else Err (fault.BadWord word.Account))
 
 abbrev pub year_in : List Row → Result ℕ WordFault
-year_in rows = then_with (whole_in word.Year rows) (λ year. if nat_lt year 2001 || nat_lt 2098 year then Err (fault.BadWord word.Year) else Ok year)
+year_in rows =
+    then_with (whole_in word.Year rows)
+    (λ year. if nat_lt year 2001 || nat_lt 2098 year then Err (fault.BadWord word.Year)
+    else Ok year)
 
 unfoldable pub plain_of : List Row → Result Wanted WordFault
 plain_of rows =

@@ -37,7 +37,8 @@ words_of name.Calendar = word.Db ∷ word.Year ∷ word.Days ∷ []
 words_of name.Report = word.Db ∷ word.Account ∷ word.Quarter ∷ word.Amount ∷ []
 words_of name.ReportYear = word.Db ∷ word.Account ∷ word.Year ∷ word.Amount ∷ []
 words_of name.OpenYear = word.Db ∷ word.Account ∷ word.Year ∷ []
-words_of name.Post = word.Db ∷ word.Account ∷ word.Run ∷ word.Payday ∷ word.Fit ∷ word.Ss ∷ word.Medicare ∷ []
+words_of name.Post =
+    word.Db ∷ word.Account ∷ word.Run ∷ word.Payday ∷ word.Fit ∷ word.Ss ∷ word.Medicare ∷ []
 words_of name.Void = word.Db ∷ word.Account ∷ word.Run ∷ []
 words_of name.Pay = word.Db ∷ word.Account ∷ word.Payment ∷ word.Paid ∷ word.For ∷ word.Amount ∷ []
 words_of name.VoidPay = word.Db ∷ word.Account ∷ word.Payment ∷ []
@@ -133,5 +134,7 @@ takes_of word.AsOf = takes.Text
 -- the subcommands, in the order in which an employer needs them
 abbrev pub all_names : List Name
 all_names =
-    name.Calendar ∷ name.Enrol ∷ name.Report ∷ name.ReportYear ∷ name.OpenYear ∷ name.Post ∷ name.Import ∷ name.Due
-    ∷ name.Pay ∷ name.Status ∷ name.ScheduleB ∷ name.Void ∷ name.VoidPay ∷ name.AddHoliday ∷ name.Plain ∷ name.Serve ∷ []
+    name.Calendar ∷ name.Enrol ∷ name.Report ∷ name.ReportYear ∷ name.OpenYear ∷ name.Post
+    ∷ name.Import ∷ name.Due
+    ∷ name.Pay ∷ name.Status ∷ name.ScheduleB ∷ name.Void ∷ name.VoidPay ∷ name.AddHoliday
+    ∷ name.Plain ∷ name.Serve ∷ []

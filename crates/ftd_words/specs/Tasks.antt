@@ -57,7 +57,8 @@ job_view db (job.Ask request) = ask db request
 
 abbrev pub task_view : Task → Wanted
 task_view (task.Plain asked) = plain asked.account asked.year asked.holidays
-task_view (task.Serve asked) = serve (string_bytes asked.db) asked.port asked.connections asked.silence asked.duration
+task_view (task.Serve asked) =
+    serve (string_bytes asked.db) asked.port asked.connections asked.silence asked.duration
 task_view (task.Local local) = job_view (string_bytes local.db) local.job
 
 -- help or the version is asked for

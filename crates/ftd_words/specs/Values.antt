@@ -1,5 +1,6 @@
 -- The values that the words of a subcommand were given.
-use Rattle.std.specs.Prelude.{ℕ, ◌^◌, nat_lt, List, [], Option, Some, None, option_and_then, option_map, Bool, false, codes, if◌then◌else◌, Result, Ok, Err}
+use Rattle.std.specs.Prelude.{ℕ, ◌^◌, nat_lt, List, [], Option, Some, None, option_and_then}
+use Rattle.std.specs.Prelude.{option_map, Bool, false, codes, if◌then◌else◌, Result, Ok, Err}
 use Rattle.std.specs.Str.{bytes_eq}
 use Rattle.std.specs.Option.{option_map_or}
 use Rattle.clap.specs.Words.{Row, Text, all_of, first_of}
@@ -15,14 +16,16 @@ use Rattle.ftd_words.specs.Table.{word_text}
 
 -- the word is there
 abbrev pub is_given : Word → List Row → Bool
-is_given word rows = option_map_or (λ text. bytes_eq text (codes "true")) (first_of (word_text word) rows) false
+is_given word rows =
+    option_map_or (λ text. bytes_eq text (codes "true")) (first_of (word_text word) rows) false
 
 -- a value, or the word that has none
 abbrev pub needed : {X : Type 0} → Word → Option X → Result X WordFault
 needed word None = Err (fault.BadWord word)
 needed word (Some value) = Ok value
 
--- the value of a word: its text, and the day, the quarter, the amount or the number that the text spells
+-- the value of a word: its text, and the day, the quarter, the amount or the number that the text
+-- spells
 abbrev pub text_in : Word → List Row → Result Text WordFault
 text_in word rows = needed word (first_of (word_text word) rows)
 
@@ -46,7 +49,9 @@ whole_in word rows = spelled_in whole_number word rows
 
 -- a port: a number below 65,536
 abbrev pub port_of : Text → Option ℕ
-port_of text = option_and_then (λ number. if nat_lt number (2 ^ 16) then Some number else None) (whole_number text)
+port_of text =
+    option_and_then (λ number. if nat_lt number (2 ^ 16) then Some number else None)
+    (whole_number text)
 
 abbrev pub port_in : Word → List Row → Result ℕ WordFault
 port_in word rows = spelled_in port_of word rows
@@ -63,7 +68,8 @@ days_in word rows = needed word (days_of (texts_of (all_of (word_text word) rows
 abbrev pub form_of : Option Text → Result Form WordFault
 form_of None = Err fault.NoForm
 form_of (Some text) =
-    if bytes_eq text (codes "941") then Ok F941 else if bytes_eq text (codes "943") then Ok F943 else Err fault.NoForm
+    if bytes_eq text (codes "941") then Ok F941 else if bytes_eq text (codes "943") then Ok F943
+    else Err fault.NoForm
 
 abbrev pub form_in : List Row → Result Form WordFault
 form_in rows = form_of (first_of (word_text word.Form) rows)

@@ -2,7 +2,9 @@
 //! answers the first word that has none of its kind.
 
 ghost use Rattle.clap.specs.Words.{found_of, rows_of};
-ghost use Rattle.ftd_words.specs.Asking.{Tells, enrol_of, calendar_of, add_holiday_of, report_of, report_year_of, open_year_of, post_of, void_of, pay_of, void_pay_of, status_of, due_of, schedule_b_of};
+ghost use Rattle.ftd_words.specs.Asking.{Tells, enrol_of, calendar_of, add_holiday_of, report_of};
+ghost use Rattle.ftd_words.specs.Asking.{report_year_of, open_year_of, post_of, void_of, pay_of};
+ghost use Rattle.ftd_words.specs.Asking.{void_pay_of, status_of, due_of, schedule_b_of};
 ghost use Rattle.ftd_words.specs.Values.{text_in};
 
 use crate::fault::WordFault;

@@ -3,8 +3,10 @@
 ghost use Rattle.std.specs.Prelude.{◌≡◌, Err, Result, map};
 ghost use Rattle.std.specs.String.{string_bytes};
 ghost use Rattle.clap.specs.Words.{IsAmong, Kinds, found_of, kind_of, rows_of, subcommand_rows_of};
-ghost use Rattle.ftd_words.specs.Asking.{Tells, TellsAs, Wanted, account_in, asked, import_of, plain_of, serve_of, wanted_of, year_in};
-ghost use Rattle.ftd_words.specs.Tasks.{Fails, Gives, IsUsage, Refused, command_named, task_of, task_view, value, wanted_in, words};
+ghost use Rattle.ftd_words.specs.Asking.{Tells, TellsAs, Wanted, account_in, asked, import_of};
+ghost use Rattle.ftd_words.specs.Asking.{plain_of, serve_of, wanted_of, year_in};
+ghost use Rattle.ftd_words.specs.Tasks.{Fails, Gives, IsUsage, Refused, command_named, task_of};
+ghost use Rattle.ftd_words.specs.Tasks.{task_view, value, wanted_in, words};
 
 use crate::asking::{
     account_at, add_holiday, calendar, due, enrol, open_year, pay, post, report, report_year,

@@ -5,7 +5,8 @@ ghost use Rattle.std.specs.String.{string_bytes};
 ghost use Rattle.clap.specs.Words.{all_of, first_of, found_of, rows_of};
 ghost use Rattle.ftd_days.specs.Spelling.{days_of};
 ghost use Rattle.ftd_words.specs.Table.{word_text};
-ghost use Rattle.ftd_words.specs.Values.{cents_in, day_in, days_in, form_in, is_given, needed, port_in, quarter_in, text_in, whole_in};
+ghost use Rattle.ftd_words.specs.Values.{cents_in, day_in, days_in, form_in, is_given, needed};
+ghost use Rattle.ftd_words.specs.Values.{port_in, quarter_in, text_in, whole_in};
 ghost use Rattle.ftd_words.specs.Asking.{Tells, TellsAs};
 
 use crate::fault::WordFault;

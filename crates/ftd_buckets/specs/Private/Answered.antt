@@ -20,19 +20,23 @@ use Rattle.ftd_buckets.specs.Standing.{Stands, StandsIn, held}
 
 -- the answer is right for the histories
 abbrev pub Serves : Form → ℕ → List ℕ → History → History → Window → Next → Type 0
-Serves form day holidays before after asked (Done patch) = IsPatch form day before after holidays asked patch × NoneAfter form day before after asked
-Serves form day holidays before after asked (Need repair window) = Stands form day holidays before after repair × IsNext form day before after asked window
+Serves form day holidays before after asked (Done patch) =
+    IsPatch form day before after holidays asked patch × NoneAfter form day before after asked
+Serves form day holidays before after asked (Need repair window) =
+    Stands form day holidays before after repair × IsNext form day before after asked window
 
 -- what it holds and asks for, whatever the histories are
 abbrev pub Holds : Form → ℕ → Next → Type 0
 Holds form bound (Done patch) = Unit {0}
-Holds form bound (Need repair window) = (repair.asked ≡ window) × (held repair ≤ bound) × (repair.form ≡ form)
+Holds form bound (Need repair window) =
+    (repair.asked ≡ window) × (held repair ≤ bound) × (repair.form ≡ form)
 
 -- the answer to the day sums fed
 pub record Answers (r : Repairing) (sums : List DaySum) (next : Next) : Type 0 where
   pub holds : Holds r.form (held r + sum_by cents_of sums) next
   pub serves : (day : ℕ) (holidays : List ℕ) (before after : History)
-      → Stands r.form day holidays before after r → AreSumsOf after r.asked sums → Serves r.form day holidays before after r.asked next
+      → Stands r.form day holidays before after r → AreSumsOf after r.asked sums
+      → Serves r.form day holidays before after r.asked next
 
 -- a repair may go on from the end of the first line's year to the next year
 pub record IsAtYearEnd (lines : List YearLine) (to year : ℕ) : Type 0 where
@@ -45,7 +49,8 @@ pub record IsAtYearEnd (lines : List YearLine) (to year : ℕ) : Type 0 where
   pub same : year ≡ line.year
 
 -- all up to the end of that year is settled, and `new` is its line after the change, which differs
-pub record IsSettledYear (form : Form) (day : ℕ) (holidays : List ℕ) (before after : History) (s : Settled) (new : YearLine) : Type 0 where
+pub record IsSettledYear (form : Form) (day : ℕ) (holidays : List ℕ) (before after : History)
+    (s : Settled) (new : YearLine) : Type 0 where
   pub old : YearLine
   pub common : StandsIn form day holidays before after s.lines.now s.from s.years.items old new
   pub calendar : holidays_of s.holidays.now ≡ holidays

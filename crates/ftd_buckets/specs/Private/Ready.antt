@@ -10,7 +10,13 @@ use Rattle.ftd_buckets.specs.Ready.{Repairing}
 
 -- the line of a year under another turn
 abbrev pub with_turn : YearLine → Option ℕ → YearLine
-with_turn line turn = record { year = line.year; lookback = line.lookback; carried = line.carried; opening = line.opening; turn = turn }
+with_turn line turn = record {
+  year = line.year;
+  lookback = line.lookback;
+  carried = line.carried;
+  opening = line.opening;
+  turn = turn;
+}
 
 -- the days are whole deposit periods of the year
 pub record IsWhole (form : Form) (line : YearLine) (first last : ℕ) : Type 0 where

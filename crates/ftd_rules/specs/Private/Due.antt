@@ -1,4 +1,5 @@
--- Due dates, with the close of an interval by arithmetic, and the days that are counted toward them.
+-- Due dates, with the close of an interval by arithmetic, and the days that are counted toward
+-- them.
 use Rattle.std.specs.Prelude.{◌≡◌, ℕ, ◌+◌, ◌≤◌, true, List}
 use Rattle.ftd_days.specs.Private.Intervals.{interval_close}
 use Rattle.ftd_days.specs.Business.{is_business, IsOnOrAfter, IsNthAfter}
@@ -20,4 +21,5 @@ first_counted NextDay last = last + 1
 
 -- the day is a business day, not before the first day that is counted and not after the due date
 abbrev pub IsCountedBy : List ℕ → Rule → ℕ → ℕ → ℕ → Type 0
-IsCountedBy holidays rule last due day = (is_business holidays day ≡ true) × (first_counted rule last ≤ day) × (day ≤ due)
+IsCountedBy holidays rule last due day =
+    (is_business holidays day ≡ true) × (first_counted rule last ≤ day) × (day ≤ due)

@@ -7,4 +7,5 @@ use Rattle.ftd_rules.specs.Lookback.{Counts}
 abbrev pub CountTogether : List (ℕ × Cents) → ℕ → List ℕ → ℕ → Type 0
 CountTogether reported start [] total = total ≡ 0
 CountTogether reported start (quarter ∷ quarters) total =
-    (amount : Cents) × (rest : ℕ) × Counts reported start quarter amount × CountTogether reported start quarters rest × (total ≡ amount.0 + rest)
+    (amount : Cents) × (rest : ℕ) × Counts reported start quarter amount
+    × CountTogether reported start quarters rest × (total ≡ amount.0 + rest)

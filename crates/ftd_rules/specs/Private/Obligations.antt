@@ -14,7 +14,8 @@ use Rattle.ftd_rules.specs.Private.Periods.{rule_on, IsRun}
 
 -- o is owed for a piece of such a run, with its liability, which is
 -- positive, and its due date
-pub record IsOwedPiece (form : Form) (lines : List YearLine) (sums : List DaySum) (holidays : List ℕ) (o : Obligation) : Type 0 where
+pub record IsOwedPiece (form : Form) (lines : List YearLine) (sums : List DaySum)
+    (holidays : List ℕ) (o : Obligation) : Type 0 where
   pub line : YearLine
   pub open_year : Has lines line
   pub first : ℕ
@@ -22,12 +23,14 @@ pub record IsOwedPiece (form : Form) (lines : List YearLine) (sums : List DaySum
   pub period : IsRun form line first last
   pub stops : List ℕ
   pub are_stops : IsStops (liability sums) first last stops
-  pub piece : Has (pieces (rule_on (semiweekly_from line) first) first last stops) (o.first, o.last, o.rule)
+  pub piece : Has (pieces (rule_on (semiweekly_from line) first) first last stops)
+      (o.first, o.last, o.rule)
   pub amount : o.cents.0 ≡ liability sums o.first o.last
   pub positive : 0 < o.cents.0
   pub due : IsDueBy holidays o.rule o.last o.due
 
 -- the rows are the obligations, by first day
-pub record AreOwedPieces (form : Form) (lines : List YearLine) (sums : List DaySum) (holidays : List ℕ) (rows : List Obligation) : Type 0 where
+pub record AreOwedPieces (form : Form) (lines : List YearLine) (sums : List DaySum)
+    (holidays : List ℕ) (rows : List Obligation) : Type 0 where
   pub by_first_day : ByFirstDay rows
   pub all : (o : Obligation) → Has rows o ↔ IsOwedPiece form lines sums holidays o

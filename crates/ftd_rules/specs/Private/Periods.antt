@@ -16,8 +16,9 @@ use Rattle.ftd_rules.specs.Private.Years.{semiweekly_from}
 abbrev pub rule_on : ℕ → ℕ → Rule
 rule_on from day = if nat_lt day from then Monthly else Semiweekly
 
--- two days share a deposit period if they have the same return period, the same schedule and, if that is
--- monthly, the same month, if semiweekly, the same Wednesday to Friday or Saturday to Tuesday
+-- two days share a deposit period if they have the same return period, the same schedule and, if
+-- that is monthly, the same month, if semiweekly, the same Wednesday to Friday or Saturday to
+-- Tuesday
 abbrev pub ShareRun : Form → ℕ → ℕ → ℕ → Type 0
 ShareRun form from a b =
     (return_period_of form b ≡ return_period_of form a) × (rule_on from b ≡ rule_on from a)
@@ -27,9 +28,11 @@ ShareRun form from a b =
 abbrev pub IsRun : Form → YearLine → ℕ → ℕ → Type 0
 IsRun form line a b =
     (a ≤ b) × (year_start line.year ≤ a) × (b ≤ year_last line.year)
-    × ((day : ℕ) → year_start line.year ≤ day → day ≤ year_last line.year → ShareRun form (semiweekly_from line) a day ↔ ((a ≤ day) × (day ≤ b)))
+    × ((day : ℕ) → year_start line.year ≤ day → day ≤ year_last line.year
+    → ShareRun form (semiweekly_from line) a day ↔ ((a ≤ day) × (day ≤ b)))
 
 -- the status of a day of an open year, as the rule of what is left of its period
 abbrev pub HasRule : List YearLine → ℕ → Rule → Type 0
 HasRule lines day rule =
-    (line : YearLine) × Has lines line × (year_start line.year ≤ day) × (day ≤ year_last line.year) × (rule_on (semiweekly_from line) day ≡ rule)
+    (line : YearLine) × Has lines line × (year_start line.year ≤ day) × (day ≤ year_last line.year)
+    × (rule_on (semiweekly_from line) day ≡ rule)

@@ -12,4 +12,5 @@ counted_from first (s ∷ stops) t = if nat_lt s t then counted_from (s + 1) sto
 -- accumulated since the stop before. The count begins anew after each, and ends with the period.
 pub record IsStops (liability : ℕ → ℕ → ℕ) (first last : ℕ) (stops : List ℕ) : Type 0 where
   pub rise : Rise first last stops
-  pub exact : (t : ℕ) → first ≤ t → t ≤ last → Has stops t ↔ (next_day_amount ≤ liability (counted_from first stops t) t)
+  pub exact : (t : ℕ) → first ≤ t → t ≤ last
+      → Has stops t ↔ (next_day_amount ≤ liability (counted_from first stops t) t)

@@ -1,4 +1,5 @@
--- How a year opens, where a fact stands for the turn of the year before, and the first semiweekly day.
+-- How a year opens, where a fact stands for the turn of the year before, and the first semiweekly
+-- day.
 use Rattle.std.specs.Prelude.{◌≡◌, ℕ, ◌+◌, ◌<◌, ◌⊎◌, Option, None, Some, IsTrue}
 use Rattle.ftd_days.specs.Calendar.{year_start}
 use Rattle.ftd_rules.specs.declared.Kind.{Kind}

@@ -1,8 +1,8 @@
-use Rattle.std.proofs.Common.{◌≡◌, inl, inr, ◌++◌, ◌∷◌, Option, List, ℕ, refl, sym, ap, ◌∙◌, subst}
+use Rattle.std.proofs.Common.{◌≡◌, inl, inr, ◌++◌, ◌∷◌, refl, sym, ap, ◌∙◌, subst}
 use Rattle.ftd_reports.specs.LateTexts.{BreaksAt, TakesRow, writer_of}
 use Rattle.ftd_ports.specs.Writing.{WritesPrefix}
 use Rattle.ftd_reports.specs.DueLists.{due_text}
-use Rattle.ftd_program.specs.Performing.{PrintsDue, PrintsRefusal, broken, failed, refused, unbegun, whole}
+use Rattle.ftd_program.specs.Performing.{broken, failed, refused, unbegun, whole}
 use Rattle.ftd_program.proofs.DueFacts.{as_refused, as_sink, come_to, fault_status, has_broken, has_first, has_taken}
 use Rattle.ftd_program.proofs.performing.list_due.Goals as goal
 

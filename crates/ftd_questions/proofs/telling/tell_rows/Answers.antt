@@ -4,7 +4,7 @@ use Rattle.ftd_store.specs.Walking.{walked}
 use Rattle.ftd_questions.specs.DueRows.{IsRowBy}
 use Rattle.ftd_questions.specs.Telling.{Tells}
 use Rattle.ftd_questions.specs.Walks.{Stays}
-use Rattle.ftd_questions.proofs.Items.{pairs_more}
+use Rattle.ftd_store.proofs.Items.{pairs_more}
 use Rattle.ftd_questions.proofs.RowsTold.{taken_more, tells_all, store_failed, row_failed}
 use Rattle.ftd_questions.proofs.Walked.{clean_before, stays_none, stays_same, stays_then, settled_then, seen_before, stood, walks_none, more_walked, more_known, all_walked}
 use Rattle.ftd_questions.proofs.telling.tell_rows.Goals as goal

@@ -1,7 +1,7 @@
 use Rattle.std.proofs.Common.{rules, ◌≡◌, List, inl, inr, refl, sym, subst}
 use Rattle.ftd_rules.specs.declared.Obligation.{Obligation}
 use Rattle.ftd_rules.specs.Lists.{Has}
-use Rattle.ftd_repairs.proofs.Items.{has_at, has_more}
+use Rattle.ftd_store.proofs.Items.{has_at, has_more}
 use Rattle.ftd_repairs.proofs.comparing.is_among.Goals as goal
 
 pub returns-then-eq : goal.returns-then-eq

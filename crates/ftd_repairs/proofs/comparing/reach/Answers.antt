@@ -2,7 +2,7 @@ use Rattle.std.proofs.Common.{◌≡◌, ◌<◌, ℕ, List, length, take, inl, 
 use Rattle.ftd_rules.specs.declared.Obligation.{Obligation}
 use Rattle.ftd_rules.specs.Lists.{Has}
 use Rattle.ftd_store.proofs.Replaced.{all_taken}
-use Rattle.ftd_repairs.proofs.Items.{has_at, has_more}
+use Rattle.ftd_store.proofs.Items.{has_at, has_more}
 use Rattle.ftd_repairs.proofs.comparing.reach.Goals as goal
 
 pub loop-row-preserved : goal.loop-row-preserved

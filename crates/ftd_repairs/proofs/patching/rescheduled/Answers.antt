@@ -2,7 +2,7 @@ use Rattle.std.proofs.Common.{List, inl, inr, refl, sym, ap, ◌∙◌, subst, a
 use Rattle.ftd_rules.specs.declared.YearLine.{YearLine}
 use Rattle.ftd_rules.specs.Lists.{Has}
 use Rattle.ftd_store.proofs.Replaced.{all_taken}
-use Rattle.ftd_repairs.proofs.Items.{has_at, has_more}
+use Rattle.ftd_store.proofs.Items.{has_at, has_more}
 use Rattle.ftd_repairs.proofs.patching.rescheduled.Goals as goal
 
 pub returns-then-other-line : goal.returns-then-other-line

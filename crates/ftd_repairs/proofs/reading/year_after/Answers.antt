@@ -2,7 +2,7 @@ use Rattle.std.proofs.Common.{◌≡◌, List, inl, inr, sym, ap, subst, arith}
 use Rattle.ftd_rules.specs.declared.YearLine.{YearLine}
 use Rattle.ftd_rules.specs.Lists.{Has}
 use Rattle.ftd_store.proofs.Replaced.{all_taken}
-use Rattle.ftd_repairs.proofs.Items.{has_more}
+use Rattle.ftd_store.proofs.Items.{has_more}
 use Rattle.ftd_repairs.proofs.reading.year_after.Goals as goal
 use Rattle.ftd_repairs.proofs.reading.year_after.Goals.{then-end-line, else-end-line}
 

@@ -1,4 +1,4 @@
-use Rattle.std.proofs.Common.{Ok, Err, ap}
+use Rattle.std.proofs.Common.{Ok, Err}
 use Rattle.sqlite.specs.Held.{state}
 use Rattle.ftd_setup.specs.Ended.{held}
 use Rattle.ftd_setup.proofs.Answering.{opens_rows}

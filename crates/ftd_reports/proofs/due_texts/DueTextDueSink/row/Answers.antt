@@ -1,4 +1,4 @@
-use Rattle.std.proofs.Common.{[], refl, arith}
+use Rattle.std.proofs.Common.{[], refl}
 use Rattle.std.proofs.KnownBytes.{Appends-nil}
 use Rattle.ftd_reports.proofs.RowFacts.{row_broken, rows_more}
 use Rattle.ftd_reports.proofs.due_texts.DueTextDueSink.row.Goals as goal

@@ -2,7 +2,7 @@ use Rattle.std.proofs.Common.{[], ◌∷◌, ◌++◌, true, refl, sym, subst, i
 use Rattle.std.proofs.KnownBytes.{Appends-nil}
 use Rattle.ftd_ports.proofs.WritingFacts.{breaks_off, prefix_more}
 use Rattle.ftd_reports.specs.LateTexts.{HasRows}
-use Rattle.ftd_reports.proofs.LateFacts.{one_more, more_left, last_left}
+use Rattle.ftd_reports.proofs.LateFacts.{one_more, more_left}
 use Rattle.ftd_reports.proofs.late_due_texts.LateDueTextDueSink.row.Goals as goal
 
 pub returns-in_default-clause-broke : goal.returns-in_default-clause-broke

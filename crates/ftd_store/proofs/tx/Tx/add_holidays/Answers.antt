@@ -1,12 +1,23 @@
-use Rattle.std.proofs.Common.{◌≡◌, ℕ, List, subst}
+use Rattle.std.proofs.Common.{rules, ◌≡◌, ℕ, List, Option, None, Vec, Global, true, false, refl, subst}
 use Rattle.std.specs.Prelude.{All}
 use Rattle.ftd_days.specs.Calendar.{year_of}
 use Rattle.ftd_days.specs.Holidays.{holidays_of}
 use Rattle.ftd_store.specs.Finds.{FindsCalendar, ListsAdded}
-use Rattle.ftd_store.proofs.Telling.{then_reads}
-use Rattle.ftd_repairs.specs.Calendars.{AddsYear}
-use Rattle.ftd_repairs.proofs.Adding.{both_elsewhere}
-use Rattle.ftd_repairs.proofs.reading.add_year.Goals as goal
+use Rattle.ftd_store.specs.Holidays.{AddsIfGiven}
+use Rattle.ftd_store.proofs.AddedYears.{both_elsewhere}
+use Rattle.ftd_store.proofs.Telling.{reads_on, then_reads}
+use Rattle.ftd_store.proofs.tx.Tx.add_holidays.Goals as goal
+
+pub returns-in_default : goal.returns-in_default
+returns-in_default g c =
+    let year = c.args.year in
+    let old : List ℕ = holidays_of c.args.holidays.now in
+    let found = c.in_ok-given.field-0 in
+    let none : found ≡ None = search rules in
+    record {
+      call = reads_on g.S.Store c.args.self.now c.calendar.new.self found false (FindsCalendar {A = Global} year) (AddsIfGiven year old old)
+          (λ t finds. (subst (λ (f : Option (Vec ℕ Global)). FindsCalendar year f t) none finds, refl)) c.in_ok-given.ensures.call;
+    }
 
 pub returns-in-Ok : goal.returns-in-Ok
 returns-in-Ok g c =
@@ -19,8 +30,9 @@ returns-in-Ok g c =
     let of_given : All (λ d. year_of d ≡ year) given = subst (All (λ d. year_of d ≡ year)) c.deref.ensures.value made.given in
     let of_added : All (λ d. year_of d ≡ year) added = subst (All (λ d. year_of d ≡ year)) c.deref-2.ensures.value made.added in
     record {
-      call = then_reads g.S.Store c.args.tx.now c.calendar.new.self c.added.new.self c.in_ok-given.field-0 c.in_ok-added.added _ (FindsCalendar year) (ListsAdded year) (λ done. AddsYear year old new)
+      call = then_reads g.S.Store c.args.self.now c.calendar.new.self c.added.new.self c.in_ok-given.field-0 c.in_ok-added.added true (FindsCalendar year) (ListsAdded year) (AddsIfGiven year old new)
           (λ t finds lists. record {
+            to = made.year;
             given = c.in-Some.given;
             is_given = subst (λ found. FindsCalendar year found t) c.in-Some.is finds;
             added = c.in_ok-added.added;

@@ -5,14 +5,30 @@ use Rattle.ftd_rules.specs.Lists.{Has}
 use Rattle.ftd_rules.proofs.Owed.{has_append, has_left, has_right}
 use Rattle.ftd_rows.specs.Lists.{Pairs}
 
+-- one item more
+pub taken : {X : Type 0} (xs : List X) (i : ℕ) (x : X) → i < length xs → x ≡ get_or xs i x → take (i + 1) xs ≡ take i xs ++ x ∷ []
+taken {X = X} xs i x some is = take_more xs i x some ∙ ap (λ (y : X). take i xs ++ y ∷ []) (sym is)
+
+-- one pair more
+pub pairs_more : {X Y : Type 0} (R : X → Y → Type 0) (xs : List X) (ys : List Y) (x : X) (y : Y) → Pairs R xs ys → R x y → Pairs R (xs ++ x ∷ []) (ys ++ y ∷ [])
+pairs_more R [] [] x y h r = (r, tt)
+pairs_more R [] (b ∷ ys) x y h r = absurd h
+pairs_more R (a ∷ xs) [] x y h r = absurd h
+pairs_more R (a ∷ xs) (b ∷ ys) x y h r = (h.0, pairs_more R xs ys x y h.1 r)
+
+-- pairs have as many items on either side
+pub pairs_length : {X Y : Type 0} (R : X → Y → Type 0) (xs : List X) (ys : List Y) → Pairs R xs ys → length xs ≡ length ys
+pairs_length R [] [] h = refl
+pairs_length R [] (b ∷ ys) h = absurd h
+pairs_length R (a ∷ xs) [] h = absurd h
+pairs_length R (a ∷ xs) (b ∷ ys) h = let rest = pairs_length R xs ys h.1 in omega arith
+
+-- ---- what stands in a list
+
 pub has_at : {X : Type 0} (xs : List X) (i : ℕ) (x : X) → i < length xs → x ≡ get_or xs i x → Has xs x
 has_at [] i x some is = absurd (omega arith)
 has_at (y ∷ xs) zero x some is = inl is
 has_at (y ∷ xs) (suc i) x some is = inr (has_at xs i x (omega arith) is)
-
--- one item more
-pub taken : {X : Type 0} (xs : List X) (i : ℕ) (x : X) → i < length xs → x ≡ get_or xs i x → take (i + 1) xs ≡ take i xs ++ x ∷ []
-taken {X = X} xs i x some is = take_more xs i x some ∙ ap (λ (y : X). take i xs ++ y ∷ []) (sym is)
 
 pub has_more : {X : Type 0} (xs : List X) (i : ℕ) (x y : X) → i < length xs → x ≡ get_or xs i x → Has (take (i + 1) xs) y → Has (take i xs) y ⊎ (y ≡ x)
 has_more {X = X} xs i x y some is has =
@@ -32,17 +48,3 @@ has_now xs i x some is = rw (taken xs i x some is) (has_right (take i xs) (x ∷
 pub has_middle : {X : Type 0} (xs : List X) (x : X) (ys : List X) → Has (xs ++ x ∷ ys) x
 has_middle [] x ys = inl refl
 has_middle (z ∷ xs) x ys = inr (has_middle xs x ys)
-
--- one pair more
-pub pairs_more : {X Y : Type 0} (R : X → Y → Type 0) (xs : List X) (ys : List Y) (x : X) (y : Y) → Pairs R xs ys → R x y → Pairs R (xs ++ x ∷ []) (ys ++ y ∷ [])
-pairs_more R [] [] x y h r = (r, tt)
-pairs_more R [] (b ∷ ys) x y h r = absurd h
-pairs_more R (a ∷ xs) [] x y h r = absurd h
-pairs_more R (a ∷ xs) (b ∷ ys) x y h r = (h.0, pairs_more R xs ys x y h.1 r)
-
--- pairs have as many items on either side
-pub pairs_length : {X Y : Type 0} (R : X → Y → Type 0) (xs : List X) (ys : List Y) → Pairs R xs ys → length xs ≡ length ys
-pairs_length R [] [] h = refl
-pairs_length R [] (b ∷ ys) h = absurd h
-pairs_length R (a ∷ xs) [] h = absurd h
-pairs_length R (a ∷ xs) (b ∷ ys) h = let rest = pairs_length R xs ys h.1 in omega arith

@@ -5,8 +5,8 @@ use Rattle.ftd_days.specs.Business.{is_holiday}
 use Rattle.ftd_days.specs.Calendar.{year_of}
 use Rattle.ftd_days.specs.Holidays.{holidays_of}
 use Rattle.ftd_store.proofs.Replaced.{all_taken}
-use Rattle.ftd_questions.proofs.Adding.{year_added, day_added}
-use Rattle.ftd_questions.proofs.holidays.add_both.Goals as goal
+use Rattle.ftd_store.proofs.AddedYears.{year_added, day_added}
+use Rattle.ftd_store.proofs.holidays.add_both.Goals as goal
 
 pub loop-day-init : goal.loop-day-init
 loop-day-init c =
@@ -42,3 +42,6 @@ returns-clause-added c =
     let end = c.loop-day-test.false in
     let all = all_taken xs c.loop-day.day-index (omega arith) in
     subst (All (λ d. year_of d ≡ c.args.year)) all c.loop-day.invariant.years
+
+pub returns-clause-year : goal.returns-clause-year
+returns-clause-year c = c.in_ok-add_year.ensures.ok.0.is_year.to

@@ -1,5 +1,5 @@
--- The holidays of a year are added to those of the years before it.
-use Rattle.std.proofs.Common.{◌≡◌, ◌≢◌, ◌⊎◌, ℕ, ◌+◌, ◌<◌, ◌≤◌, ◌==◌, ◌||◌, Bool, true, false, inl, inr, List, [], ◌∷◌, ◌++◌, Vec, Global, take, length, get_or, refl, sym, ap, ◌∙◌, subst, arith}
+-- The holidays of years are added to those of the years before them.
+use Rattle.std.proofs.Common.{◌≡◌, ◌≢◌, ◌⊎◌, ℕ, ◌+◌, ◌<◌, ◌≤◌, ◌==◌, ◌||◌, Bool, true, false, inl, inr, List, [], ◌∷◌, ◌++◌, take, length, get_or, refl, sym, ap, ◌∙◌, subst, arith}
 use Rattle.std.specs.Prelude.{All}
 use Rattle.std.specs.List.{list_any}
 use Rattle.std.proofs.lemmas.Bool.{cases_Bool, eqb-true}
@@ -10,16 +10,13 @@ use Rattle.std.proofs.lemmas.List.Folds.{list_any-append}
 use Rattle.ftd_days.specs.Business.{is_holiday}
 use Rattle.ftd_days.specs.Calendar.{year_of}
 use Rattle.ftd_days.specs.Holidays.{YearDays, holidays_of}
-use Rattle.ftd_rules.specs.declared.YearLine.{YearLine}
-use Rattle.ftd_rules.specs.Lists.{Has}
 use Rattle.ftd_schema.specs.Standing.{Tables}
-use Rattle.ftd_store.specs.Finds.{ListsYears}
-use Rattle.ftd_repairs.specs.Calendars.{HasHolidays, HasHolidaysFrom, AddsYear}
-use Rattle.ftd_repairs.proofs.Items.{taken}
+use Rattle.ftd_store.specs.Holidays.{HasHolidays, HasYears, AddsYear}
+use Rattle.ftd_store.proofs.Items.{taken}
 
 -- ---- days that are added to a list
 
-or_false : (a : Bool) → (a || false) ≡ a
+pub or_false : (a : Bool) → (a || false) ≡ a
 or_false true = refl
 or_false false = refl
 
@@ -63,29 +60,29 @@ both_elsewhere year given added all_given all_added day other = ap (λ b. b || i
 
 -- ---- year by year
 
--- the holidays of the years before `year` from the first on are known, and no others
-pub record KnownSoFar (account : List ℕ) (lines : Vec YearLine Global) (from year : ℕ) (holidays : List ℕ) (t : Tables) : Type 0 where
-  pub listed : ListsYears account lines t
+-- the holidays of the years from the first on that are before `year` were read, and no others
+pub record ReadSoFar (first year : ℕ) (holidays : List ℕ) (t : Tables) : Type 0 where
+  pub early : year ≤ 2100
   pub none_yet : (day : ℕ) → year ≤ year_of day → is_holiday holidays day ≡ false
-  pub had : (earlier : ℕ) → from ≤ earlier → earlier < year → HasHolidays t holidays earlier
+  pub had : (earlier : ℕ) → first ≤ earlier → earlier < year → HasHolidays t holidays earlier
 
-pub known_none : (account : List ℕ) (lines : Vec YearLine Global) (from : ℕ) (holidays : List ℕ) (t : Tables) → holidays ≡ [] → ListsYears account lines t → KnownSoFar account lines from from holidays t
-known_none account lines from holidays t none listed = record {
-  listed = listed;
+pub none_read : (first : ℕ) (holidays : List ℕ) (t : Tables) → first ≤ 2100 → holidays ≡ [] → ReadSoFar first first holidays t
+none_read first holidays t early none = record {
+  early = early;
   none_yet = λ day late. ap (λ (hs : List ℕ). is_holiday hs day) none;
   had = λ earlier low high. absurd (omega arith);
 }
 
-pub known_more : (account : List ℕ) (lines : Vec YearLine Global) (from year : ℕ) (old new : List ℕ) (t : Tables) → KnownSoFar account lines from year old t → AddsYear year old new t → KnownSoFar account lines from (year + 1) new t
-known_more account lines from year old new t known adds = record {
-  listed = known.listed;
+pub one_more_read : (first year : ℕ) (old new : List ℕ) (t : Tables) → ReadSoFar first year old t → AddsYear year old new t → ReadSoFar first (year + 1) new t
+one_more_read first year old new t so_far adds = record {
+  early = let to = adds.to in omega arith;
   none_yet = λ day late.
-      (let before = known.none_yet day (omega arith) in
+      (let before = so_far.none_yet day (omega arith) in
       let here = adds.elsewhere day (λ same. absurd (omega arith)) in
       adds.same day ∙ (ap (λ b. b || (is_holiday adds.given.items day || is_holiday adds.added.items day)) before ∙ here));
   had = λ earlier low high. elim (cases_last earlier year (omega arith)) [
     | inl before ↦
-        (let k = known.had earlier low before in
+        (let k = so_far.had earlier low before in
         record {
           given = k.given;
           is_given = k.is_given;
@@ -101,7 +98,7 @@ known_more account lines from year old new t known adds = record {
       added = adds.added;
       are_added = adds.are_added;
       same = λ day in_year.
-          (let before = known.none_yet day (omega arith) in
+          (let before = so_far.none_yet day (omega arith) in
           adds.same day ∙ ap (λ b. b || (is_holiday adds.given.items day || is_holiday adds.added.items day)) before);
     })
   ];
@@ -111,8 +108,5 @@ known_more account lines from year old new t known adds = record {
     cases_last a b h = elim (cases_Bool (a == b)) [ inl same ↦ inr (eqb-true a b same) | inr apart ↦ inl (grind (arith, nat_tests)) ]
 
 -- all years are through
-pub known_all : (account : List ℕ) (lines : Vec YearLine Global) (day year : ℕ) (holidays : List ℕ) (t : Tables) → ((line : YearLine) → Has lines.items line → line.year + 1 < year)
-    → KnownSoFar account lines (year_of day) year holidays t → HasHolidaysFrom day lines.items holidays t
-known_all account lines day year holidays t end known line has late =
-    let early = end line has in
-    (known.had line.year late (omega arith), known.had (line.year + 1) (omega arith) (omega arith))
+pub all_read : (first last year : ℕ) (holidays : List ℕ) (t : Tables) → last < year → ReadSoFar first year holidays t → HasYears first last holidays t
+all_read first last year holidays t through so_far y low high = so_far.had y low (omega arith)
