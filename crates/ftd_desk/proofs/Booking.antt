@@ -23,7 +23,7 @@ use Rattle.ftd_machine.proofs.Others.{others, post_stays}
 use Rattle.ftd_days.specs.Business.{is_holiday}
 use Rattle.ftd_entries.specs.Standing.{StandsFor}
 use Rattle.ftd_entries.proofs.Kept.{counted_runs}
-use Rattle.ftd_posting.specs.Books.{HasNoYear, IsBook, PostsBy}
+use Rattle.ftd_posting.specs.Books.{HasNoYear, AreOwedSince, IsBook, PostsBy}
 use Rattle.ftd_posting.specs.declared.books.Book.{Book}
 use Rattle.ftd_desk.specs.Books.{AreBooks, ServesKnown}
 use Rattle.ftd_desk.specs.Counted.{AreCounted, Knows, ServesCounted}
@@ -47,6 +47,9 @@ module _ (s next : State) (account : List ℕ) (book : Book) where
   book_still own days is = record {
     account = ap (λ (e : Entries). e.account) own ∙ is.account;
     lines = subst (λ (e : Entries). AreLinesOf e book.ledger.years.lines.items) (sym own) is.lines;
+    since = is.since;
+    owed = subst (λ known. AreOwedSince book.ledger.since known (entries_of next account) book.ledger.rows.items) (sym days)
+        (subst (λ (e : Entries). AreOwedSince book.ledger.since (holidays s) e book.ledger.rows.items) (sym own) is.owed);
     holidays = λ line has from.
         let told = is.holidays line has from in
         (λ day within. ap (λ known. is_holiday known day) days ∙ told.0 day within, λ day within. ap (λ known. is_holiday known day) days ∙ told.1 day within);

@@ -1,5 +1,5 @@
 -- Runs that are posted by a book: what is answered, and what the book knows then.
-use Rattle.std.proofs.Common.{◌≡◌, ◌∙◌, inl, inr, refl, sym, ap, subst, ℕ, ◌+◌, ◌≤◌, Vec, Global, List, [], ◌∷◌, map, length, Option, None, Some, Ok, arith}
+use Rattle.std.proofs.Common.{◌≡◌, ◌∙◌, inl, inr, refl, sym, ap, subst, ℕ, ◌+◌, ◌≤◌, List, [], ◌∷◌, map, length, Option, None, Some, Ok, arith}
 use Rattle.std.specs.Prelude.{filter}
 use Rattle.std.specs.List.{list_any, sum_by}
 use Rattle.sqlite.specs.Store as store
@@ -12,6 +12,7 @@ use Rattle.ftd_days.specs.Holidays.{holidays_of}
 use Rattle.ftd_days.proofs.Months.{year_is, year_begins, year_long}
 use Rattle.ftd_rules.specs.declared.DaySum.{DaySum}
 use Rattle.ftd_rules.specs.declared.Form.{Form}
+use Rattle.ftd_rules.specs.declared.Obligation.{Obligation}
 use Rattle.ftd_rules.specs.declared.YearLine.{YearLine}
 use Rattle.ftd_rules.specs.declared.run.PayRun.{PayRun}
 use Rattle.ftd_rules.specs.declared.run.Voidable.{Voidable}
@@ -22,7 +23,7 @@ use Rattle.ftd_rules.proofs.Schedules.{year_facts, year_start-mono}
 use Rattle.ftd_schema.specs.declared.TableName.TheVariants.{Runs}
 use Rattle.ftd_schema.specs.Standing.{Tables, Stands}
 use Rattle.ftd_store.specs.Changes.{with_run}
-use Rattle.ftd_store.specs.Finds.{CountsRuns, FindsRun, ListsLiability}
+use Rattle.ftd_store.specs.Finds.{CountsRuns, FindsRun}
 use Rattle.ftd_store.specs.Frame.{Calls, Reads, Turns}
 use Rattle.ftd_store.specs.declared.tx.Tx.{Tx}
 use Rattle.ftd_store.proofs.Going.{goes_on, then_goes}
@@ -37,7 +38,7 @@ use Rattle.ftd_buckets.specs.Histories.{History, IsHistory}
 use Rattle.ftd_buckets.specs.Windows.{IsNeeded}
 use Rattle.ftd_machine.specs.declared.requests.Request.{Request}
 use Rattle.ftd_machine.specs.declared.requests.Request.TheVariants.{Post}
-use Rattle.ftd_machine.specs.State.{State, Entry, Entries, entries_of, is_of, kept_at, is_open}
+use Rattle.ftd_machine.specs.State.{State, Entry, Entries, entries_of, holidays, is_of, kept_at, is_open}
 use Rattle.ftd_machine.specs.declared.entries.Account.{Account}
 use Rattle.ftd_machine.specs.History.{form_of, is_live, value_of, live, live_sums, liability_of, AreLinesOf}
 use Rattle.ftd_machine.specs.Checks.{Answer, first_of}
@@ -46,7 +47,7 @@ use Rattle.ftd_machine.specs.Step.{Step, with_entry, taken}
 use Rattle.ftd_machine.specs.Sound.{IsSound}
 use Rattle.ftd_machine.proofs.Adding.{entry_own}
 use Rattle.ftd_machine.proofs.Deciding.{decided, passed}
-use Rattle.ftd_machine.proofs.Single.{lines_of_one}
+use Rattle.ftd_machine.proofs.Single.{lines_of_one, owed_one}
 use Rattle.ftd_machine.proofs.Soundness.{sound_once, step_sound}
 use Rattle.ftd_machine.specs.declared.replies.Reply.{Reply}
 use Rattle.ftd_machine.specs.declared.replies.Reply.TheVariants.{Posted}
@@ -58,16 +59,17 @@ use Rattle.ftd_entries.proofs.Kept.{kept_run, counted_runs}
 use Rattle.ftd_entries.proofs.KnownYears.{open_lines}
 use Rattle.ftd_entries.proofs.YearHolidays.{holiday_read}
 use Rattle.ftd_repairs.specs.declared.Difference.{Difference}
-use Rattle.ftd_repairs.specs.declared.reading.KnownYears.{KnownYears}
-use Rattle.ftd_repairs.specs.Calendars.{KnowsYears}
+use Rattle.ftd_repairs.specs.declared.ledgers.Ledger.{Ledger}
 use Rattle.ftd_repairs.specs.Repaired.{SumsAre, RepairsBy}
+use Rattle.ftd_repairs.specs.Replaced.{AreBetween, patched}
 use Rattle.ftd_repairs.specs.Rescheduled.{HasLines}
-use Rattle.ftd_repairs.specs.Reposted.{IsRepostedBy, AddsRun}
+use Rattle.ftd_repairs.specs.Reposted.{IsLedger, IsRepostedBy, AddsRun, KnowsLedger}
 use Rattle.ftd_posting.specs.declared.books.Book.{Book}
-use Rattle.ftd_posting.specs.Books.{IsBook, AreHolidaysIn, PostsBy}
+use Rattle.ftd_posting.specs.Books.{IsBook, AreHolidaysIn, AreOwedSince, PostsBy, begins_since}
 use Rattle.ftd_posting.proofs.LiveRuns.{sums_listed}
+use Rattle.ftd_posting.proofs.OwedSince.{owed_read, owed_between, patched_since}
 use Rattle.ftd_posting.proofs.PostedRuns.{told, run_added}
-use Rattle.ftd_posting.proofs.Reposting.{ChangesRuns, with_runs, lines_then, before, after, change, line_before, IsRightBy, AreKnown, placed_stands, placed_told, lines_put, are_lines}
+use Rattle.ftd_posting.proofs.Reposting.{ChangesRuns, with_runs, lines_then, before, after, change, line_before, IsRightBy, AreKnown, placed_stands, placed_told, lines_put, are_lines, since_year, come_later, owed_then, are_owed}
 
 -- a window that is needed begins in the day's year or later, and ends on a day that there is
 pub needed_within : (form : Form) (day : ℕ) (h k : History) (w : Window) → IsHistory h → IsNeeded form day h k w → (year_start (year_of day) ≤ w.from) × (w.to ≤ last_day)
@@ -119,21 +121,23 @@ pub first_of_year : (year day : ℕ) → 1900 ≤ year → year ≤ 2199 → day
 first_of_year year day low high is = let long = year_long year low in year_is year day low high (omega arith) (omega arith)
 
 -- what was read of an account makes a book that is right
-pub book_known : (name : List ℕ) (account : Account) (year first last : ℕ) (years : KnownYears) (sums : Vec DaySum Global) (t : Tables) → year_of first ≡ year → first ≡ year_start year → last ≡ last_day
-    → KnowsAccount name (Some account) t → KnowsYears name first years t → ListsLiability name first last sums t
-    → (s : State) → StandsFor t s → IsSound s → IsBook s name (record { account = account; from = year; ledger = record { years = years; sums = sums } })
-book_known name account year first last years sums t of_year starts ends knows read listed s stands sound =
-    let known = holidays_of years.holidays in
+pub book_known : (name : List ℕ) (account : Account) (year : ℕ) (days : Window) (ledger : Ledger) (t : Tables) → year_of days.from ≡ year → days.from ≡ year_start year → days.to ≡ last_day
+    → KnowsAccount name (Some account) t → KnowsLedger name days ledger t
+    → (s : State) → StandsFor t s → IsSound s → IsBook s name (record { account = account; from = year; ledger = ledger })
+book_known name account year days ledger t of_year starts ends knows knows_ledger s stands sound =
+    let known = holidays_of ledger.years.holidays in
     record {
       account = knows s stands;
-      lines = subst (AreLinesOf (entries_of s name)) (sym (lines_known name years.lines t s stands read.listed (stands.settled name))) (stands.settled name).are_lines;
+      lines = subst (AreLinesOf (entries_of s name)) (sym (lines_known name ledger.years.lines t s stands knows_ledger.years.listed (stands.settled name))) (stands.settled name).are_lines;
       holidays = λ line has from.
-          (let its = read.read line has (omega arith) in
+          (let its = knows_ledger.years.read line has (omega arith) in
           ((λ d is. holiday_read t s stands sound known line.year d its.0 is), (λ d is. holiday_read t s stands sound known (line.year + 1) d its.1 is)));
       sums = λ from to low high.
-          sums_listed name first last s.runs sums.items
-          (subst (λ (rows : List RunRow). ListsDaySums RunsRise name (filter (is_live_run_between name (day_number first) (day_number last)) rows) sums.items) stands.runs listed)
+          sums_listed name days.from days.to s.runs ledger.sums.items
+          (subst (λ (rows : List RunRow). ListsDaySums RunsRise name (filter (is_live_run_between name (day_number days.from) (day_number days.to)) rows) ledger.sums.items) stands.runs knows_ledger.sums)
           from to (omega arith) (omega arith);
+      since = knows_ledger.since ∙ starts;
+      owed = owed_read name ledger.since ledger.rows.items t s stands (subst (λ n. AreBetween name n last_day ledger.rows.items t) (sym knows_ledger.since) (subst (λ n. AreBetween name days.from n ledger.rows.items t) ends knows_ledger.rows));
     }
 
 module _ (name : List ℕ) (number : ℕ) (run : PayRun) (count : ℕ) (book : Book) where
@@ -165,10 +169,9 @@ module _ (name : List ℕ) (number : ℕ) (run : PayRun) (count : ℕ) (book : B
   -- ---- all checks pass
 
   module _ (later : Book) (difference : Difference) (t u : Tables) (s : State) (stands : StandsFor t s) (sound : IsSound s) (right : IsBook s name book) (since : book.from ≤ year_of run.payday)
-      (reposts : HasLines name book.ledger.years.lines.items t
-      → IsRepostedBy name book.account.form run.payday book.ledger.years.lines.items (holidays_of book.ledger.years.holidays) later.ledger.sums.items later.ledger.years.lines.items difference (with_run name number run t) u)
+      (reposts : IsLedger name book.ledger t → IsRepostedBy name book.account.form run.payday book.ledger later.ledger difference (with_run name number run t) u)
       (sums : AddsRun run book.ledger.sums.items later.ledger.sums.items) (holidays_stay : holidays_of later.ledger.years.holidays ≡ holidays_of book.ledger.years.holidays)
-      (account_stays : later.account ≡ book.account) (year_stays : later.from ≡ book.from) where
+      (account_stays : later.account ≡ book.account) (year_stays : later.from ≡ book.from) (since_stays : later.ledger.since ≡ book.ledger.since) where
     abbrev own : Entries
     own = entries_of s name
 
@@ -193,10 +196,13 @@ module _ (name : List ℕ) (number : ℕ) (run : PayRun) (count : ℕ) (book : B
     form_is : book.account.form ≡ form_of own.account
     form_is = ap form_of (sym right.account)
 
-    reposted : IsRepostedBy name (form_of own.account) run.payday book.ledger.years.lines.items known later.ledger.sums.items later.ledger.years.lines.items difference (with_run name number run t) u
+    reposted : IsRepostedBy name (form_of own.account) run.payday book.ledger later.ledger difference (with_run name number run t) u
     reposted =
-        subst (λ f. IsRepostedBy name f run.payday book.ledger.years.lines.items known later.ledger.sums.items later.ledger.years.lines.items difference (with_run name number run t) u) form_is
-        (reposts (subst (λ ls. HasLines name ls t) (sym lines_are) (was.line_rows, was.are_lines.schedules.years)))
+        subst (λ f. IsRepostedBy name f run.payday book.ledger later.ledger difference (with_run name number run t) u) form_is
+        (reposts (record {
+          lines = subst (λ ls. HasLines name ls t) (sym lines_are) (was.line_rows, was.are_lines.schedules.years);
+          rows = owed_between name book.ledger.since book.ledger.rows.items t s stands sound right.owed;
+        }))
 
     -- the runs that are live then
     sums_then : (from to : ℕ) → year_start book.from ≤ from → to ≤ last_day → liability (live_sums (entries_of next name)) from to ≡ liability later.ledger.sums.items from to
@@ -233,6 +239,34 @@ module _ (name : List ℕ) (number : ℕ) (run : PayRun) (count : ℕ) (book : B
     lines_later : later.ledger.years.lines.items ≡ lines_then t u s name run.payday _ runs stands sound changes
     lines_later = reposted.lines_are ∙ lines_put t u s name run.payday _ runs stands sound changes _ known IsRight difference reposted.repatches lines_are right_now known_now
 
+    -- the obligations from the first year on
+    abbrev patch : Patch
+    patch = reposted.repatches.patch
+
+    since_patch : book.ledger.since ≤ patch.from
+    since_patch =
+        let low = since_year t u s name run.payday _ runs stands sound changes _ known IsRight difference reposted.repatches lines_are right_now known_now in
+        let mono = year_start-mono book.from (year_of run.payday) since in
+        let starts = right.since in
+        omega arith
+
+    owed_now : AreOwedSince book.ledger.since (holidays s) (entries_of next name) later.ledger.rows.items
+    owed_now =
+        let then = owed_then t u s name run.payday _ runs stands sound changes _ known IsRight difference reposted.repatches lines_are right_now known_now in
+        let all : right.owed.0 ≡ was.owed = owed_one (holidays s) own right.owed.0 was.owed (sound_once s sound name) right.owed.1 (was.lines, was.are_lines, was.are_owed) in
+        let rows : book.ledger.rows.items ≡ filter (begins_since book.ledger.since) was.owed = right.owed.2 ∙ ap (filter (begins_since book.ledger.since)) all in (
+          then,
+          (
+            lines_then t u s name run.payday _ runs stands sound changes,
+            are_lines t u s name run.payday _ runs stands sound changes _ known IsRight difference reposted.repatches lines_are right_now known_now,
+            are_owed t u s name run.payday _ runs stands sound changes _ known IsRight difference reposted.repatches lines_are right_now known_now,
+          ),
+          reposted.rows_are
+              ∙ (ap (λ (os : List Obligation). patched patch.from patch.to os patch.rows) rows
+              ∙ sym (patched_since book.ledger.since patch.from patch.to was.owed patch.rows since_patch
+              (come_later t u s name run.payday _ runs stands sound changes _ known IsRight difference reposted.repatches lines_are right_now known_now))),
+        )
+
     right_then : IsBook next name later
     right_then = record {
       account = right.account ∙ ap Some (sym account_stays);
@@ -241,6 +275,8 @@ module _ (name : List ℕ) (number : ℕ) (run : PayRun) (count : ℕ) (book : B
           subst (λ hs. AreHolidaysIn s hs line.year × AreHolidaysIn s hs (line.year + 1)) (sym holidays_stay)
           (known_from line (subst (λ ls. Has ls line) lines_later has) (subst (λ n. n ≤ line.year) year_stays from));
       sums = λ from to low high. sums_then from to (subst (λ n. year_start n ≤ from) year_stays low) high;
+      since = since_stays ∙ (right.since ∙ sym (ap year_start year_stays));
+      owed = subst (λ n. AreOwedSince n (holidays s) (entries_of next name) later.ledger.rows.items) (sym since_stays) owed_now;
     }
 
     pub done_by : (kept : Option (Voidable PayRun)) → checks_by kept ≡ None → CountsRuns name count t → FindsRun name number kept t → (after : State) × Step s Asked (told difference) after × StandsFor u after × IsBook after name later
@@ -272,17 +308,16 @@ module _ {S : Type 0} (g : store.Ghosts S) (name : List ℕ) (number : ℕ) (run
   -- the run is added, and the account's rows are repaired
   pub added_by : (old mid new : Tx S) (later : Book) (difference : Difference) (reply : Reply) → checks_by name number run count book kept ≡ None → book.from ≤ year_of run.payday
       → reply ≡ Posted difference.from difference.to difference.removed difference.added
-      → AddsRun run book.ledger.sums.items later.ledger.sums.items → holidays_of later.ledger.years.holidays ≡ holidays_of book.ledger.years.holidays → later.account ≡ book.account → later.from ≡ book.from
+      → AddsRun run book.ledger.sums.items later.ledger.sums.items → holidays_of later.ledger.years.holidays ≡ holidays_of book.ledger.years.holidays → later.account ≡ book.account → later.from ≡ book.from → later.ledger.since ≡ book.ledger.since
       → Reads g old mid (Ok kept) (FindsRun name number)
-      → Turns g mid new (Ok difference) (λ d t u. HasLines name book.ledger.years.lines.items t
-      → IsRepostedBy name book.account.form run.payday book.ledger.years.lines.items (holidays_of book.ledger.years.holidays) later.ledger.sums.items later.ledger.years.lines.items d (with_run name number run t) u)
+      → Turns g mid new (Ok difference) (λ d t u. IsLedger name book.ledger t → IsRepostedBy name book.account.form run.payday book.ledger later.ledger d (with_run name number run t) u)
       → Calls g old new (Ok (Ok reply)) (PostsWhere name number run count book later)
-  added_by old mid new later difference reply is since tells sums holidays_stay account_stays year_stays r w = record {
+  added_by old mid new later difference reply is since tells sums holidays_stay account_stays year_stays since_stays r w = record {
     frame = then_goes g old mid new kept difference (Ok reply) r.frame w.frame;
     does = λ clean t stands counted s stands_for sound right.
         let read = r.does (omega (arith, w.frame.crash.clean)) t stands in
         let made = w.does clean t (subst (λ db. Stands db t) (sym read.1.0.now_is) stands) in
-        let step = done_by name number run count book later difference t made.0 s stands_for sound right since made.1 sums holidays_stay account_stays year_stays kept is counted read.0 in
+        let step = done_by name number run count book later difference t made.0 s stands_for sound right since made.1 sums holidays_stay account_stays year_stays since_stays kept is counted read.0 in
         let answered = subst (λ (a : Answer). Step s (Post name number run.payday run.fit run.ss run.medicare) a step.0) (ap Ok (sym tells)) step.1 in
         (step.0, answered, record { tables = made.0; stands = made.2.0; stands_for = step.2; sound = step_sound s (Post name number run.payday run.fit run.ss run.medicare) (Ok reply) step.0 answered sound }, step.3);
   }

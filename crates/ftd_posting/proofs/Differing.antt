@@ -9,7 +9,7 @@ use Rattle.ftd_rules.proofs.Owed.{has_append, has_left, has_right}
 use Rattle.ftd_machine.specs.Posting.{Differ}
 use Rattle.ftd_machine.proofs.Soundness.{has_filtered}
 use Rattle.ftd_store.proofs.Sifted.{keeps_has}
-use Rattle.ftd_posting.proofs.Patching.{begins_before, begins_after, patched}
+use Rattle.ftd_repairs.specs.Replaced.{begins_before, begins_after, patched}
 
 -- the first day is one of the days, or it is not
 abbrev pub BeginsWithin : ℕ → ℕ → Obligation → Type 0

@@ -5,6 +5,7 @@ pub mod RowsPlaced
 pub mod LiveRuns
 pub mod HolidaysRead
 pub mod RightByAll
+pub mod OwedSince
 pub mod LinesAfter
 pub mod Reposting
 pub mod PostedRuns

@@ -1,6 +1,6 @@
 -- Obligations of which a run of first days was replaced.
 use Rattle.std.proofs.Common.{◌⊎◌, ℕ, ◌+◌, ◌<◌, ◌≤◌, ◌↔◌, inl, inr, List, [], ◌∷◌, ◌++◌, Bool, refl, subst, sym, arith}
-use Rattle.std.specs.Prelude.{filter, nat_lt}
+use Rattle.std.specs.Prelude.{filter}
 use Rattle.std.proofs.lemmas.Bool.{cases_Bool, lt-ltb, ltb-true}
 use Rattle.ftd_rules.specs.declared.Obligation.{Obligation}
 use Rattle.ftd_rules.specs.Lists.{Has}
@@ -9,18 +9,9 @@ use Rattle.ftd_rules.proofs.Cuts.{lt_or_le}
 use Rattle.ftd_rules.proofs.Owed.{has_append, has_left, has_right}
 use Rattle.ftd_machine.proofs.Soundness.{has_filtered}
 use Rattle.ftd_store.proofs.Sifted.{filter_in, filter_out, keeps_has}
+use Rattle.ftd_repairs.specs.Replaced.{begins_before, begins_after, patched}
 
--- the rows that begin before the days, the new ones, and those that begin after them
-abbrev pub begins_before : ℕ → Obligation → Bool
-begins_before from o = nat_lt o.first from
-
-abbrev pub begins_after : ℕ → Obligation → Bool
-begins_after to o = nat_lt to o.first
-
-abbrev pub patched : ℕ → ℕ → List Obligation → List Obligation → List Obligation
-patched from to rows patch = filter (begins_before from) rows ++ (patch ++ filter (begins_after to) rows)
-
-kept_rise : (p : Obligation → Bool) (rows : List Obligation) → ByFirstDay rows → ByFirstDay (filter p rows)
+pub kept_rise : (p : Obligation → Bool) (rows : List Obligation) → ByFirstDay rows → ByFirstDay (filter p rows)
 kept_rise p [] h = tt
 kept_rise p (x ∷ rows) h =
     elim (cases_Bool (p x)) [

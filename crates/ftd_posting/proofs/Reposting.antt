@@ -45,9 +45,10 @@ use Rattle.ftd_entries.proofs.Lines.{lines_known}
 use Rattle.ftd_entries.proofs.YearHolidays.{holiday_read}
 use Rattle.ftd_repairs.specs.declared.Difference.{Difference}
 use Rattle.ftd_repairs.specs.Repaired.{RunsAre, Repairs}
+use Rattle.ftd_repairs.specs.Replaced.{patched}
 use Rattle.ftd_repairs.specs.Rescheduled.{AreAfter}
 use Rattle.ftd_repairs.specs.Reposted.{Repatches, IsReposted}
-use Rattle.ftd_posting.proofs.Patching.{patched, patched_are}
+use Rattle.ftd_posting.proofs.Patching.{patched_are}
 use Rattle.ftd_posting.proofs.Differing.{differ_whole}
 use Rattle.ftd_posting.proofs.RowsPlaced.{stays, placed_rows, gone_are, others_placed}
 use Rattle.ftd_posting.proofs.LiveRuns.{sums_listed}
@@ -116,8 +117,8 @@ module _ (old new : Tables) (s : State) (name : List ℕ) (day : ℕ) (rows : Li
   module _ (lines : List YearLine) (known : List ℕ) (IsRight : Patch → Type 0) (difference : Difference) (repatches : Repatches name day lines IsRight difference (with_rows Runs rows old) new)
       (lines_are : lines ≡ was.lines) (right : IsRightBy known repatches.patch) (read_of : AreKnown known) where
     -- the first day of the patch is one of the day's year
-    begins : (o : Obligation) → repatches.patch.from ≤ o.first → year_start (year_of day) ≤ o.first
-    begins o l =
+    pub since_year : year_start (year_of day) ≤ repatches.patch.from
+    since_year =
         let p = right.1 in
         let its = p.is_period in
         let line = its.0 in
@@ -128,7 +129,10 @@ module _ (old new : Tables) (s : State) (name : List ℕ) (day : ℕ) (rows : Li
         let from = p.from in
         let p1 = its.2.0.1 in let p2 = its.2.0.2 in let p3 = its.2.1 in let p4 = its.2.2 in
         let year = year_is line.year day (omega arith) (omega arith) (omega arith) (omega arith) in
-        subst (λ n. year_start n ≤ o.first) (sym year) (omega arith)
+        subst (λ n. year_start n ≤ repatches.patch.from) (sym year) (omega arith)
+
+    begins : (o : Obligation) → repatches.patch.from ≤ o.first → year_start (year_of day) ≤ o.first
+    begins o l = let low = since_year in omega arith
 
     right_by_all : IsPatch (form_of own.account) day before after (holidays s) right.0 repatches.patch
     right_by_all =
@@ -137,7 +141,7 @@ module _ (old new : Tables) (s : State) (name : List ℕ) (day : ℕ) (rows : Li
 
     -- ---- the obligations after
 
-    abbrev owed_then : List Obligation
+    abbrev pub owed_then : List Obligation
     owed_then = patched repatches.patch.from repatches.patch.to was.owed repatches.patch.rows
 
     some_days : repatches.patch.from ≤ repatches.patch.to + 1
@@ -147,12 +151,16 @@ module _ (old new : Tables) (s : State) (name : List ℕ) (day : ℕ) (rows : Li
         let from = p.from in let to = p.to in
         omega arith
 
-    are_owed : AreObligations (form_of own.account) lines_then (live_sums own_after) (holidays s) owed_then
+    pub are_owed : AreObligations (form_of own.account) lines_then (live_sums own_after) (holidays s) owed_then
     are_owed =
         let p = right_by_all in
         let k = patched_are (IsOwed (form_of own.account) before (holidays s)) (IsOwed (form_of own.account) after (holidays s)) repatches.patch.from repatches.patch.to was.owed
         repatches.patch.rows some_days was.are_owed.by_first_day was.are_owed.all (record { rise = p.rows.by_first_day; all = p.rows.all; elsewhere = p.elsewhere }) in
         record { by_first_day = k.0; all = k.1 }
+
+    -- the rows of the patch begin on its first day or later
+    pub come_later : (o : Obligation) → Has repatches.patch.rows o → repatches.patch.from ≤ o.first
+    come_later o has = ((right_by_all.rows.all o).0 has).1
 
     pub are_lines : AreLinesOf own_after lines_then
     are_lines = lines_of_runs own (filter (is_of name) runs) was.lines lines_then was.are_lines found_after.1 found_after.2

@@ -36,7 +36,7 @@ with_due form h some all o due is owed = record {
 }
 
 -- the last day of an obligation is a day
-last_is_day : (form : Form) (h : History) (holidays : List ℕ) (o : Obligation) → IsHistory h → IsOwed form h holidays o → o.last ≤ last_day
+pub last_is_day : (form : Form) (h : History) (holidays : List ℕ) (o : Obligation) → IsHistory h → IsOwed form h holidays o → o.last ≤ last_day
 last_is_day form h holidays o are owed =
     let is = piece_owed form h.lines h.sums holidays o owed in
     let y = line_is h.lines h.sums is.line are is.open_year in

@@ -22,8 +22,21 @@ use Rattle.ftd_entries.specs.Standing.{is_obligation_of}
 use Rattle.ftd_entries.proofs.Giving.{mapped_has}
 use Rattle.ftd_entries.proofs.OwedRows.{obligation_is}
 use Rattle.ftd_entries.proofs.DayCells.{day_le}
-use Rattle.ftd_posting.proofs.Patching.{begins_before, begins_after, patched}
+use Rattle.ftd_repairs.specs.Replaced.{begins_before, begins_on, begins_after, patched}
 use Rattle.ftd_posting.proofs.Differing.{BeginsWithin}
+
+-- what passes a test is among what passes a wider one
+pub filter_within : {X : Type 0} (p q : X → Bool) → ((x : X) → p x ≡ true → q x ≡ true) → (xs : List X) → filter p (filter q xs) ≡ filter p xs
+filter_within p q wider [] = refl
+filter_within {X = X} p q wider (x ∷ xs) =
+    let rest = filter_within p q wider xs in
+    elim (cases_Bool (p x)) [
+      | inl its ↦ ap (filter p) (filter_in q x xs (wider x its)) ∙ (filter_in p x (filter q xs) its ∙ (ap (λ (l : List X). x ∷ l) rest ∙ sym (filter_in p x xs its)))
+      | inr off ↦ elim (cases_Bool (q x)) [
+        | inl kept ↦ ap (filter p) (filter_in q x xs kept) ∙ (filter_out p x (filter q xs) off ∙ (rest ∙ sym (filter_out p x xs off)))
+        | inr left ↦ ap (filter p) (filter_out q x xs left) ∙ (rest ∙ sym (filter_out p x xs off))
+      ]
+    ]
 
 module _ (account : List ℕ) (from to : ℕ) where
   abbrev pub goes : ObligationRow → Bool
@@ -146,6 +159,23 @@ module _ (account : List ℕ) (from to : ℕ) where
         subst (Has gone) (sym (obligation_is account o its.0 its.2)) its.1)),
   )
 
+  -- the account's rows that begin on the days are those of the obligations that do
+  on_rows : (os : List Obligation) → filter goes (map row os) ≡ map row (filter (begins_on from to) os)
+  on_rows [] = refl
+  on_rows (o ∷ os) =
+      elim (cases_Bool (begins_on from to o)) [
+        | inl on ↦ filter_in goes (row o) (map row os) (goes_is o ∙ on) ∙ (ap (λ l. row o ∷ l) (on_rows os) ∙ sym (ap (map row) (filter_in (begins_on from to) o os on)))
+        | inr off ↦ filter_out goes (row o) (map row os) (goes_is o ∙ off) ∙ (on_rows os ∙ sym (ap (map row) (filter_out (begins_on from to) o os off)))
+      ]
+
+  goes_own : (r : ObligationRow) → goes r ≡ true → own r ≡ true
+  goes_own r its = (both (bytes_eq r.account account) (int_le (day_number from) r.first && int_le r.first (day_number to)) its).0
+
+  pub rows_between : (rows : List ObligationRow) (os : List Obligation) → IsPermutation (filter own rows) (map row os) → IsPermutation (filter goes rows) (map row (filter (begins_on from to) os))
+  rows_between rows os had =
+      both_are (filter goes rows) (map row (filter (begins_on from to) os)) (filter goes (filter own rows)) (filter goes (map row os))
+      (sym (filter_within goes own goes_own rows)) (sym (on_rows os)) (sifted goes (filter own rows) (map row os) had)
+
   -- ---- the rows of other accounts
 
   none_of : (other : List ℕ) → other ≢ account → (os : List Obligation) → filter (is_obligation_of other) (map row os) ≡ []
@@ -158,17 +188,7 @@ module _ (account : List ℕ) (from to : ℕ) where
       rw off refl
 
   others_stay : (other : List ℕ) → other ≢ account → (rows : List ObligationRow) → filter (is_obligation_of other) (filter stays rows) ≡ filter (is_obligation_of other) rows
-  others_stay other apart [] = refl
-  others_stay other apart (r ∷ rows) =
-      let test : ObligationRow → Bool = is_obligation_of other in
-      let rest = others_stay other apart rows in
-      elim (cases_Bool (test r)) [
-        | inl its ↦ ap (filter test) (filter_in stays r rows (other_stays other apart r its)) ∙ (filter_in test r (filter stays rows) its ∙ (ap (λ l. r ∷ l) rest ∙ sym (filter_in test r rows its)))
-        | inr off ↦ elim (cases_Bool (stays r)) [
-          | inl kept ↦ ap (filter test) (filter_in stays r rows kept) ∙ (filter_out test r (filter stays rows) off ∙ (rest ∙ sym (filter_out test r rows off)))
-          | inr left ↦ ap (filter test) (filter_out stays r rows left) ∙ (rest ∙ sym (filter_out test r rows off))
-        ]
-      ]
+  others_stay other apart rows = filter_within (is_obligation_of other) stays (other_stays other apart) rows
 
   -- stay as they are
   pub others_placed : (other : List ℕ) → other ≢ account → (rows : List ObligationRow) (patch : List Obligation)

@@ -1,16 +1,17 @@
 -- What is known of an account while several of its runs are posted.
-use Rattle.std.specs.Prelude.{◌≡◌, ◌⊎◌, false, ℕ, ◌+◌, ◌≤◌, List, Some, None}
+use Rattle.std.specs.Prelude.{◌≡◌, ◌⊎◌, Bool, false, ℕ, ◌+◌, ◌≤◌, nat_le, List, filter, Some, None}
 use Rattle.sqlite.specs.State as database
 use Rattle.ftd_days.specs.Business.{is_holiday}
 use Rattle.ftd_days.specs.Calendar.{year_of, year_start, last_day}
 use Rattle.ftd_days.specs.Holidays.{holidays_of}
 use Rattle.ftd_rules.specs.Liability.{liability}
 use Rattle.ftd_rules.specs.Lists.{Has}
+use Rattle.ftd_rules.specs.declared.Obligation.{Obligation}
 use Rattle.ftd_rules.specs.declared.YearLine.{YearLine}
 use Rattle.ftd_rules.specs.declared.run.PayRun.{PayRun}
 use Rattle.ftd_schema.specs.Standing.{Tables}
-use Rattle.ftd_machine.specs.State.{State, entries_of, holidays, is_open}
-use Rattle.ftd_machine.specs.History.{AreLinesOf, live_sums}
+use Rattle.ftd_machine.specs.State.{State, Entries, entries_of, holidays, is_open}
+use Rattle.ftd_machine.specs.History.{AreLinesOf, AreOwed, live_sums}
 use Rattle.ftd_machine.specs.Checks.{Answer}
 use Rattle.ftd_machine.specs.Step.{Step}
 use Rattle.ftd_machine.specs.Sound.{IsSound}
@@ -28,12 +29,23 @@ abbrev pub AreHolidaysIn : State → List ℕ → ℕ → Type 0
 AreHolidaysIn s known year =
     (day : ℕ) → year_of day ≡ year → is_holiday (holidays s) day ≡ is_holiday known day
 
+-- the obligation begins on the day or later
+abbrev pub begins_since : ℕ → Obligation → Bool
+begins_since since o = nat_le since o.first
+
+-- these are the account's obligations that begin on the day or later, with these legal holidays
+abbrev pub AreOwedSince : ℕ → List ℕ → Entries → List Obligation → Type 0
+AreOwedSince since holidays own rows =
+    (all : List Obligation) × AreOwed holidays own all × (rows ≡ filter (begins_since since) all)
+
 -- the book is right of the account that the state keeps under the name: what it was enrolled as,
 -- its open years, the holidays of those from the first year on and of the years after them, and the
--- liability of its live runs from that year on
+-- liability of its live runs and its obligations from that year on
 pub record IsBook (s : State) (name : List ℕ) (book : Book) : Type 0 where
   pub account : (entries_of s name).account ≡ Some book.account
   pub lines : AreLinesOf (entries_of s name) book.ledger.years.lines.items
+  pub since : book.ledger.since ≡ year_start book.from
+  pub owed : AreOwedSince book.ledger.since (holidays s) (entries_of s name) book.ledger.rows.items
   pub holidays : (line : YearLine) → Has book.ledger.years.lines.items line → book.from ≤ line.year
       → AreHolidaysIn s (holidays_of book.ledger.years.holidays) line.year
       × AreHolidaysIn s (holidays_of book.ledger.years.holidays) (line.year + 1)

@@ -15,7 +15,7 @@ use ftd_buckets::Window;
 use ftd_days::Day;
 use ftd_entries::{has_year, is_open, known};
 use ftd_machine::{Account, Answer, post_check};
-use ftd_repairs::{Ledger, add_by_ledger, known_years};
+use ftd_repairs::Ledger;
 use ftd_rules::PayRun;
 use ftd_store::{StoreFault, Tx};
 use sqlite::Alter;
@@ -70,9 +70,7 @@ impl Book {
         let Some(days) = days_from(year) else {
             return tx.give_up(StoreFault::Failed);
         };
-        let years = known_years(tx, alloc, name, days.from)?;
-        let sums = tx.day_sums(alloc, name, days.from, days.to)?;
-        let ledger = Ledger { years, sums };
+        let ledger = Ledger::read(tx, alloc, name, days)?;
         Ok(Some(Book {
             account,
             from: year,
@@ -113,7 +111,7 @@ impl Book {
             return Ok(answer);
         }
         let form = self.account.form;
-        let difference = add_by_ledger(tx, alloc, name, form, number, run, &mut self.ledger)?;
+        let difference = self.ledger.add(tx, alloc, name, form, number, run)?;
         Ok(Ok(told(difference)))
     }
 }

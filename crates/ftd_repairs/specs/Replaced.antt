@@ -1,5 +1,5 @@
 -- How the rows of a patch differ from those that they replace.
-use Rattle.std.specs.Prelude.{ℕ, List, map, filter}
+use Rattle.std.specs.Prelude.{ℕ, ◌≤◌, List, ◌++◌, Bool, ◌&&◌, nat_lt, nat_le, map, filter}
 use Rattle.std.specs.List.Sorted.{IsPermutation}
 use Rattle.ftd_rules.specs.declared.Obligation.{Obligation}
 use Rattle.ftd_rules.specs.Obligations.{ByFirstDay}
@@ -27,3 +27,24 @@ pub record ComparesRows (account : List ℕ) (day from to : ℕ) (rows : List Ob
   pub are_gone : AreBetween account from to gone old
   pub differ : ByFirstDay rows
       → Differ gone rows day difference.from difference.to difference.removed difference.added
+
+-- the row begins before the days, on one of them, or after them
+abbrev pub begins_before : ℕ → Obligation → Bool
+begins_before from o = nat_lt o.first from
+
+abbrev pub begins_on : ℕ → ℕ → Obligation → Bool
+begins_on from to o = nat_le from o.first && nat_le o.first to
+
+abbrev pub begins_after : ℕ → Obligation → Bool
+begins_after to o = nat_lt to o.first
+
+-- the rows that begin before the days, the new ones, and those that begin after them
+abbrev pub patched : ℕ → ℕ → List Obligation → List Obligation → List Obligation
+patched from to rows patch =
+    filter (begins_before from) rows ++ (patch ++ filter (begins_after to) rows)
+
+-- these are the account's obligations that begin on this day or later: on whatever days from it on,
+-- those of these that begin on them
+abbrev pub HasObligations : List ℕ → ℕ → List Obligation → Tables → Type 0
+HasObligations account since rows t =
+    (from to : ℕ) → since ≤ from → AreBetween account from to (filter (begins_on from to) rows) t

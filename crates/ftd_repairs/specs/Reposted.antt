@@ -8,14 +8,16 @@ use Rattle.ftd_rules.specs.declared.Form.{Form}
 use Rattle.ftd_rules.specs.declared.run.PayRun.{PayRun}
 use Rattle.ftd_rules.specs.declared.YearLine.{YearLine}
 use Rattle.ftd_buckets.specs.declared.Patch.{Patch}
+use Rattle.ftd_buckets.specs.declared.Window.{Window}
 use Rattle.ftd_schema.specs.Standing.{Tables}
-use Rattle.ftd_store.specs.Finds.{ListsYears}
+use Rattle.ftd_store.specs.Finds.{ListsYears, ListsLiability}
 use Rattle.ftd_machine.specs.History.{liability_of}
 use Rattle.ftd_repairs.specs.declared.Difference.{Difference}
+use Rattle.ftd_repairs.specs.declared.ledgers.Ledger.{Ledger}
 use Rattle.ftd_repairs.specs.declared.reading.KnownYears.{KnownYears}
 use Rattle.ftd_repairs.specs.Repaired.{Repairs, RepairsBy}
-use Rattle.ftd_repairs.specs.Calendars.{HasHolidaysFrom}
-use Rattle.ftd_repairs.specs.Replaced.{ComparesRows}
+use Rattle.ftd_repairs.specs.Calendars.{HasHolidaysFrom, KnowsYears}
+use Rattle.ftd_repairs.specs.Replaced.{AreBetween, ComparesRows, HasObligations, patched}
 use Rattle.ftd_repairs.specs.Rescheduled.{HasLines, PutsPatch, PutsInto}
 
 -- the patch was put in place, by which these are the account's lines now, and it is told how the
@@ -53,14 +55,33 @@ pub record IsReposted (account : List ℕ) (form : Form) (day : ℕ) (old change
   pub repatches : Repatches account day lines.items
       (λ patch. Repairs account form day lines.items holidays patch changed) difference changed new
 
--- the account's rows were repaired by these lines, holidays and day sums, and those are its lines
--- now
-pub record IsRepostedBy (account : List ℕ) (form : Form) (day : ℕ) (lines : List YearLine)
-    (holidays : List ℕ) (sums : List DaySum) (lines_after : List YearLine)
+-- the ledger was read of the account: its open years and the holidays, and its liability and its
+-- obligations of these days
+pub record KnowsLedger (account : List ℕ) (days : Window) (ledger : Ledger) (t : Tables)
+    : Type 0 where
+  pub years : KnowsYears account days.from ledger.years t
+  pub since : ledger.since ≡ days.from
+  pub sums : ListsLiability account days.from days.to ledger.sums t
+  pub rows : AreBetween account days.from days.to ledger.rows.items t
+
+-- the ledger is the account's: it has the rows of its open years, and its obligations
+pub record IsLedger (account : List ℕ) (ledger : Ledger) (t : Tables) : Type 0 where
+  pub lines : HasLines account ledger.years.lines.items t
+  pub rows : HasObligations account ledger.since ledger.rows.items t
+
+-- the patch is right by the lines and the holidays of the ledger before, and the sums of that after
+abbrev pub IsRightBy : Form → ℕ → Ledger → Ledger → Patch → Type 0
+IsRightBy form day before after =
+    RepairsBy form day after.sums.items before.years.lines.items (holidays_of before.years.holidays)
+
+-- the account's rows were repaired by its ledger, which has its lines and its obligations now
+pub record IsRepostedBy (account : List ℕ) (form : Form) (day : ℕ) (before after : Ledger)
     (difference : Difference) (changed new : Tables) : Type 0 where
-  pub repatches : Repatches account day lines (RepairsBy form day sums lines holidays)
+  pub repatches : Repatches account day before.years.lines.items (IsRightBy form day before after)
       difference changed new
-  pub lines_are : lines_after ≡ repatches.put.after
+  pub lines_are : after.years.lines.items ≡ repatches.put.after
+  pub rows_are : after.rows.items ≡ patched repatches.patch.from repatches.patch.to
+      before.rows.items repatches.patch.rows
 
 -- the run is among those of which these are the day sums, and was not among those before
 abbrev pub AddsRun : PayRun → List DaySum → List DaySum → Type 0

@@ -3,16 +3,12 @@
 ghost use Rattle.std.specs.Prelude.{◌≡◌, ◌≤◌, ◌⊎◌, ◌↔◌, [], length, IsTrue, IfOk};
 ghost use Rattle.ftd_rules.specs.Lists.{Has};
 ghost use Rattle.ftd_rules.specs.Obligations.{ByFirstDay};
-ghost use Rattle.ftd_store.specs.Frame.{Reads};
 ghost use Rattle.ftd_machine.specs.Posting.{AreOnlyIn, Spans, Differ};
-ghost use Rattle.ftd_repairs.specs.Replaced.{AreBetween};
 
 use crate::Difference;
-use ftd_buckets::Patch;
 use ftd_days::Day;
 use ftd_rules::Obligation;
-use ftd_store::{StoreFault, Tx};
-use sqlite::Alter;
+use ftd_store::StoreFault;
 use std::alloc::{AllocError, Global};
 
 /// Whether the row is one of these.
@@ -110,32 +106,4 @@ pub(crate) fn difference(
         removed,
         added,
     })
-}
-
-/// Whether each row begins before the next.
-fn rise(rows: &[Obligation]) -> bool
-    ensures { IsTrue result → ByFirstDay rows.now }
-{
-    match rows {
-        [] => true,
-        [_] => true,
-        [row, later @ ..] => row.first < later[0].first && rise(later),
-    }
-}
-
-/// The account's obligations that the rows of the patch are to replace, by first day.
-pub(crate) fn gone_rows<S: Alter>(
-    tx: &mut Tx<'_, S>,
-    alloc: Global,
-    account: &str,
-    patch: &Patch,
-) -> Result<Vec<Obligation>, StoreFault>
-    ensures call { Reads S.Store tx.old tx.new result (λ gone.
-        AreBetween account.now patch.now.from patch.now.to gone.items) }
-{
-    let gone = tx.obligations(alloc, account, patch.from, patch.to)?;
-    if !rise(&gone) {
-        return tx.give_up(StoreFault::Failed);
-    }
-    Ok(gone)
 }

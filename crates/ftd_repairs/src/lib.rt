@@ -9,15 +9,16 @@ use ftd_days::Day;
 mod comparing;
 mod ledgers;
 mod patching;
+mod placing;
 mod posting;
 mod reading;
 mod repairing;
 mod summing;
 mod windows;
 
-pub use crate::ledgers::{Ledger, add_by_ledger};
+pub use crate::ledgers::Ledger;
 pub use crate::posting::{add_repaired, void_repaired};
-pub use crate::reading::{KnownYears, known_years};
+pub use crate::reading::KnownYears;
 
 /// How an account's obligations differ before and after a change of its runs.
 #[derive(Clone, Copy, Debug, PartialEq, Eq)]

@@ -13,8 +13,8 @@ ghost use Rattle.ftd_repairs.specs.Reposted.{Places, RepairsRows};
 ghost use Rattle.ftd_store.specs.Frame.{Turns};
 
 use crate::Difference;
-use crate::comparing::{difference, gone_rows};
-use crate::reading::KnownYears;
+use crate::comparing::difference;
+use crate::reading::{KnownYears, known_obligations};
 use crate::repairing::repaired;
 use ftd_buckets::{Patch, may_begin};
 use ftd_days::{Cents, Day};
@@ -147,30 +147,31 @@ fn put_patch<S: Alter>(
     Ok(())
 }
 
-/// Puts the patch in the place of the account's rows, and answers how the obligations that come
-/// differ from those that go. The lines become what they are then. `Failed` also where an amount is
-/// 2^63 cents or more.
+/// Puts the patch in the place of the account's obligations that begin on its days, which are
+/// given, and answers how the obligations that come differ from these. The lines become what they
+/// are then. `Failed` also where an amount is 2^63 cents or more.
 pub(crate) fn place_patch<S: Alter>(
     tx: &mut Tx<'_, S>,
     alloc: Global,
     account: &str,
     day: Day,
     lines: &mut [YearLine],
+    gone: &[Obligation],
     patch: &Patch,
 ) -> Result<Difference, StoreFault>
     ensures call { Turns S.Store tx.old tx.new result (λ difference old new.
-        HasLines account.now lines.old old
+        AreBetween account.now patch.now.from patch.now.to gone.now old
+        → HasLines account.now lines.old old
         → Places account.now day lines.old patch.now lines.new difference old new) }
 {
     if !hold_lookbacks(lines) || !hold_amounts(patch.rows.as_slice()) {
         return tx.give_up(StoreFault::Failed);
     }
-    let gone = gone_rows(tx, alloc, account, patch)?;
-    let difference = match difference(alloc, day, &gone, patch.rows.as_slice()) {
+    let difference = match difference(alloc, day, gone, patch.rows.as_slice()) {
         Ok(difference) => difference,
         Err(fault) => return tx.give_up(fault),
     };
-    put_patch(tx, account, lines, &gone, patch)?;
+    put_patch(tx, account, lines, gone, patch)?;
     Ok(difference)
 }
 
@@ -194,6 +195,7 @@ pub(crate) fn repair_rows<S: Alter>(
         return tx.give_up(StoreFault::Failed);
     };
     let patch = repaired(tx, alloc, account, form, rest, &holidays, day)?;
-    let difference = place_patch(tx, alloc, account, day, &mut lines, &patch)?;
+    let gone = known_obligations(tx, alloc, account, patch.from, patch.to)?;
+    let difference = place_patch(tx, alloc, account, day, &mut lines, &gone, &patch)?;
     Ok(difference)
 }

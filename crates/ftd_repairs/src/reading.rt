@@ -1,13 +1,16 @@
-//! What is read of an account before its runs change: its open years, and the holidays.
+//! What is read of an account before its runs change: its open years, the holidays, and its
+//! obligations.
 
-ghost use Rattle.std.specs.Prelude.{◌<◌, ◌≤◌};
+ghost use Rattle.std.specs.Prelude.{◌<◌, ◌≤◌, IsTrue};
 ghost use Rattle.ftd_rules.specs.Lists.{Has};
+ghost use Rattle.ftd_rules.specs.Obligations.{ByFirstDay};
 ghost use Rattle.ftd_rules.specs.declared.YearLine.{YearLine};
 ghost use Rattle.ftd_store.specs.Frame.{Reads};
 ghost use Rattle.ftd_repairs.specs.Calendars.{KnowsYears};
+ghost use Rattle.ftd_repairs.specs.Replaced.{AreBetween};
 
 use ftd_days::{Day, Holidays};
-use ftd_rules::YearLine;
+use ftd_rules::{Obligation, YearLine};
 use ftd_store::{StoreFault, Tx};
 use sqlite::Alter;
 use std::alloc::Global;
@@ -36,7 +39,7 @@ fn year_after(lines: &[YearLine]) -> u32
 
 /// The account's open years, and the holidays of those from the day's on and of the year after.
 /// `Failed` also where the calendar of one of these years is not given.
-pub fn known_years<S: Alter>(
+pub(crate) fn known_years<S: Alter>(
     tx: &mut Tx<'_, S>,
     alloc: Global,
     account: &str,
@@ -47,4 +50,34 @@ pub fn known_years<S: Alter>(
     let lines = tx.years(alloc, account)?;
     let holidays = tx.holidays(alloc, day.year(), year_after(&lines))?;
     Ok(KnownYears { lines, holidays })
+}
+
+/// Whether each row begins before the next.
+fn rise(rows: &[Obligation]) -> bool
+    ensures { IsTrue result → ByFirstDay rows.now }
+{
+    match rows {
+        [] => true,
+        [_] => true,
+        [row, later @ ..] => row.first < later[0].first && rise(later),
+    }
+}
+
+/// The account's obligations that begin on the days from one to another, by first day. `Failed`
+/// also where two begin on one day.
+pub(crate) fn known_obligations<S: Alter>(
+    tx: &mut Tx<'_, S>,
+    alloc: Global,
+    account: &str,
+    from: Day,
+    to: Day,
+) -> Result<Vec<Obligation>, StoreFault>
+    ensures call { Reads S.Store tx.old tx.new result
+        (λ rows. AreBetween account.now from to rows.items) }
+{
+    let rows = tx.obligations(alloc, account, from, to)?;
+    if !rise(&rows) {
+        return tx.give_up(StoreFault::Failed);
+    }
+    Ok(rows)
 }

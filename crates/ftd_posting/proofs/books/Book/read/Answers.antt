@@ -1,9 +1,8 @@
 use Rattle.std.proofs.Common.{◌∙◌, None, Some, Ok, inr, sym}
 use Rattle.ftd_store.specs.Frame.{Reads}
-use Rattle.ftd_store.specs.Finds.{ListsLiability}
 use Rattle.ftd_store.proofs.Telling.{then_reads}
 use Rattle.ftd_entries.specs.Known.{KnowsAccount, KnowsYear}
-use Rattle.ftd_repairs.specs.Calendars.{KnowsYears}
+use Rattle.ftd_repairs.specs.Reposted.{KnowsLedger}
 use Rattle.ftd_posting.proofs.Booking.{book_known}
 use Rattle.ftd_posting.proofs.books.Book.read.Goals as goal
 
@@ -15,16 +14,13 @@ returns-then-not-there-clause-call g c =
 pub returns-clause-call : goal.returns-clause-call
 returns-clause-call g c =
     let name = c.args.name.now in
-    let first = c.in-Some-days_from.days.from in
-    let last = c.in-Some-days_from.days.to in
+    let days = c.in-Some-days_from.days in
     let account = c.in-Some.account in
-    let years = c.in_ok-years.years in
-    let sums = c.in_ok-sums.sums in
-    let days = c.in-Some-days_from.ensures in
+    let ledger = c.in_ok-ledger.ledger in
+    let told = c.in-Some-days_from.ensures in
     let found : Reads g.S.Store c.args.tx.now c.known.new.tx (Ok (Some account)) (KnowsAccount name) = rw (sym c.in-Some.is) c.in_ok-account.ensures.call in
     let opened : Reads g.S.Store c.args.tx.now c.is_open.new.tx (Ok (Some account)) (KnowsAccount name) =
     then_reads g.S.Store c.args.tx.now c.known.new.tx c.is_open.new.tx (Some account) c.in_ok-there.there (Some account) (KnowsAccount name) (KnowsYear name c.args.year) (KnowsAccount name) (λ t one two. one) found c.in_ok-there.ensures.call in
-    then_reads g.S.Store c.args.tx.now c.known_years.new.tx c.day_sums.new.self years sums _ (λ k t. KnowsAccount name (Some account) t × KnowsYears name first k t) (ListsLiability name first last) _
-    (λ t told listed s stands sound. book_known name account c.args.year first last years sums t days.of_year days.first days.last told.0 told.1 listed s stands sound)
-    (then_reads g.S.Store c.args.tx.now c.is_open.new.tx c.known_years.new.tx (Some account) years years (KnowsAccount name) (KnowsYears name first) (λ k t. KnowsAccount name (Some account) t × KnowsYears name first k t)
-    (λ t one two. (one, two)) opened c.in_ok-years.ensures.call) c.in_ok-sums.ensures.call
+    then_reads g.S.Store c.args.tx.now c.is_open.new.tx c.read.new.tx (Some account) ledger _ (KnowsAccount name) (KnowsLedger name days) _
+    (λ t knows knows_ledger s stands sound. book_known name account c.args.year days ledger t told.of_year told.first told.last knows knows_ledger s stands sound)
+    opened c.in_ok-ledger.ensures.call
