@@ -14,36 +14,54 @@ use Rattle.ftd_buckets.specs.Standing.{Stands, IfDone, IfNeed, held}
 use Rattle.ftd_buckets.specs.Private.Answered.{Answers}
 use Rattle.ftd_buckets.proofs.Needed.{fed_needed}
 
-pub answer_asked : {E : Type 0} (r : Repairing) (sums : List DaySum) (answer : Result Next E) → IfOk answer (Answers r sums)
+pub answer_asked : {E : Type 0} (r : Repairing) (sums : List DaySum) (answer : Result Next E)
+    → IfOk answer (Answers r sums)
     → IfOk answer (λ next. IfNeed next (λ repair window. repair.asked ≡ window))
 answer_asked r sums (Ok (Done patch)) h = tt
 answer_asked r sums (Ok (Need repair window)) h = h.holds.0
 answer_asked r sums (Err e) h = tt
 
-pub answer_form : {E : Type 0} (r : Repairing) (sums : List DaySum) (answer : Result Next E) → IfOk answer (Answers r sums)
+pub answer_form : {E : Type 0} (r : Repairing) (sums : List DaySum) (answer : Result Next E)
+    → IfOk answer (Answers r sums)
     → IfOk answer (λ next. IfNeed next (λ repair window. repair.form ≡ r.form))
 answer_form r sums (Ok (Done patch)) h = tt
 answer_form r sums (Ok (Need repair window)) h = h.holds.2
 answer_form r sums (Err e) h = tt
 
-pub answer_held : {E : Type 0} (r : Repairing) (sums : List DaySum) (answer : Result Next E) → IfOk answer (Answers r sums)
-    → IfOk answer (λ next. IfNeed next (λ repair window. held repair ≤ held r + sum_by cents_of sums))
+pub answer_held : {E : Type 0} (r : Repairing) (sums : List DaySum) (answer : Result Next E)
+    → IfOk answer (Answers r sums)
+    → IfOk answer
+    (λ next. IfNeed next (λ repair window. held repair ≤ held r + sum_by cents_of sums))
 answer_held r sums (Ok (Done patch)) h = tt
 answer_held r sums (Ok (Need repair window)) h = h.holds.1
 answer_held r sums (Err e) h = tt
 
-pub answer_need : {E : Type 0} (r : Repairing) (sums : List DaySum) (answer : Result Next E) → IfOk answer (Answers r sums)
-    → IfOk answer (λ next. IfNeed next (λ repair window. (day : ℕ) (holidays : List ℕ) (before after : History) → Stands r.form day holidays before after r → AreSumsOf after r.asked sums
-    → Stands r.form day holidays before after repair × IsNext r.form day before after r.asked window))
+pub answer_need : {E : Type 0} (r : Repairing) (sums : List DaySum) (answer : Result Next E)
+    → IfOk answer (Answers r sums)
+    → IfOk answer
+    (λ next. IfNeed next (λ repair window. (day : ℕ) (holidays : List ℕ) (before after : History)
+    → Stands r.form day holidays before after r → AreSumsOf after r.asked sums
+    → Stands r.form day holidays before after repair × IsNext r.form day before after r.asked
+    window))
 answer_need r sums (Ok (Done patch)) h = tt
 answer_need r sums (Ok (Need repair window)) h = h.serves
 answer_need r sums (Err e) h = tt
 
-pub answer_done : {E : Type 0} (r : Repairing) (sums : List DaySum) (answer : Result Next E) → IfOk answer (Answers r sums)
-    → IfOk answer (λ next. IfDone next (λ patch. (day : ℕ) (holidays : List ℕ) (before after : History) → Stands r.form day holidays before after r → AreSumsOf after r.asked sums
-    → IsPatch r.form day before after holidays r.asked patch × IsLastNeeded r.form day before after r.asked))
+pub answer_done : {E : Type 0} (r : Repairing) (sums : List DaySum) (answer : Result Next E)
+    → IfOk answer (Answers r sums)
+    → IfOk answer
+    (λ next. IfDone next (λ patch. (day : ℕ) (holidays : List ℕ) (before after : History)
+    → Stands r.form day holidays before after r → AreSumsOf after r.asked sums
+    → IsPatch r.form day before after holidays r.asked patch × IsLastNeeded r.form day before after
+    r.asked))
 answer_done r sums (Ok (Done patch)) h = λ day holidays before after st agree.
-    (let right = h.serves day holidays before after st agree in
-    (right.0, record { needed = fed_needed r.form day holidays before after r st; none_after = right.1 }))
+    (let right = h.serves day holidays before after st agree in (
+      right.0,
+      record {
+        needed = fed_needed r.form day holidays before after r st;
+        none_after =
+            right.1;
+      },
+    ))
 answer_done r sums (Ok (Need repair window)) h = tt
 answer_done r sums (Err e) h = tt

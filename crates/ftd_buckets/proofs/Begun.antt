@@ -1,6 +1,7 @@
 -- How a repair stands to the histories when it begins.
 use Rattle.ftd_rules.specs.declared.Form.{Form}
-use Rattle.std.proofs.Common.{get_or, length, drop, ◌≡◌, ℕ, ◌+◌, ◌<◌, ◌≤◌, inl, List, [], ◌∷◌, Bool, refl, sym, ap, subst, arith}
+use Rattle.std.proofs.Common.{get_or, length, drop, ◌≡◌, ℕ, ◌+◌, ◌<◌, ◌≤◌, inl, List, [], ◌∷◌, Bool}
+use Rattle.std.proofs.Common.{refl, sym, ap, subst, arith}
 use Rattle.std.specs.Prelude.{IfSome}
 use Rattle.std.specs.List.{All}
 use Rattle.std.proofs.lemmas.List.Elements.{All-head}
@@ -30,25 +31,43 @@ use Rattle.ftd_buckets.proofs.Chain.{change_back, early_same}
 use Rattle.ftd_buckets.proofs.Elsewhere.{owed_earlier, owed_earlier_back}
 
 -- the day's deposit period, in closed form
-pub day_period : (form : Form) → (line : YearLine) (day : ℕ) → IsYear line → year_start line.year ≤ day → day ≤ year_last line.year
-    → IsPeriod form line (period_first form (semiweekly_from line) day) (period_last form (semiweekly_from line) day)
-    × (period_first form (semiweekly_from line) day ≤ day) × (day ≤ period_last form (semiweekly_from line) day)
+pub day_period : (form : Form) → (line : YearLine) (day : ℕ) → IsYear line
+    → year_start line.year ≤ day → day ≤ year_last line.year
+    → IsPeriod form line (period_first form (semiweekly_from line) day)
+    (period_last form (semiweekly_from line) day)
+    × (period_first form (semiweekly_from line) day ≤ day)
+    × (day ≤ period_last form (semiweekly_from line) day)
 day_period form line day y from to =
     let f = year_facts line.year y.0 y.1 in
     let f2 = f.2 in
     let divides = year_divides form line y.0 y.1 y.2 in
-    let x = divides day from to in
-    (run_period form line (period_first form (semiweekly_from line) day) (period_last form (semiweekly_from line) day) (period_is form line day f.0 (omega arith) divides from to), x.1, x.2)
+    let x = divides day from to in (
+      run_period form line (period_first form (semiweekly_from line) day)
+          (period_last form (semiweekly_from line) day)
+          (period_is form line day f.0 (omega arith) divides from to),
+      x.1,
+      x.2,
+    )
 
-pub last_has : (g : History) (line : YearLine) (later : List YearLine) → AreLast g (line ∷ later) → Has g.lines line
-last_has g line later last = subst (λ (z : List YearLine). Has z line) (sym last.1) (has_right last.0 (line ∷ later) line (inl refl))
+pub last_has : (g : History) (line : YearLine) (later : List YearLine) → AreLast g (line ∷ later)
+    → Has g.lines line
+last_has g line later last = subst (λ (z : List YearLine). Has z line) (sym last.1)
+    (has_right last.0 (line ∷ later) line (inl refl))
 
-pub stands_first : (form : Form) → (day : ℕ) (before after : History) (r : Repairing) (line : YearLine) (later : List YearLine)
-    → All (λ d. d < holidays_end) r.holidays → IsChange day before after → r.lines ≡ line ∷ later → AreLast before (line ∷ later)
+pub stands_first : (form : Form) → (day : ℕ) (before after : History) (r : Repairing)
+    (line : YearLine) (later : List YearLine)
+    → All (λ d. d < holidays_end) r.holidays → IsChange day before after → r.lines ≡ line ∷ later
+    → AreLast before (line ∷ later)
     → year_start line.year ≤ day → day ≤ year_last line.year
-    → r.from ≡ period_first form (semiweekly_from line) day → r.asked ≡ record { from = period_first form (semiweekly_from line) day; to = period_last form (semiweekly_from line) day }
-    → r.rows ≡ [] → r.years ≡ [] → r.stage ≡ stage.Period → Stands form day r.holidays before after r
-stands_first form day before after r line later known c lines last from to first asked rows years at =
+    → r.from ≡ period_first form (semiweekly_from line) day
+    → r.asked ≡ record {
+      from = period_first form (semiweekly_from line) day;
+      to = period_last form (semiweekly_from line) day;
+    }
+    → r.rows ≡ [] → r.years ≡ [] → r.stage ≡ stage.Period
+    → Stands form day r.holidays before after r
+stands_first form day before after r line later known c lines last from to first asked rows years
+    at =
     let has = last_has before line later last in
     let y = line_is before.lines before.sums line c.is_before has in
     let f = year_facts line.year y.0 y.1 in
@@ -56,8 +75,12 @@ stands_first form day before after r line later known c lines last from to first
     let p = day_period form line day y from to in
     let k = counterpart before.lines after.lines line c.same_years has in
     let year : line.year ≡ k.0.year = ap (λ (z : ℕ × ℕ × Bool). z.0) k.2 in
-    let window : Window = record { from = period_first form (semiweekly_from line) day; to = period_last form (semiweekly_from line) day } in
-    let common : StandsIn form day r.holidays before after r.lines r.from r.years line k.0 = record {
+    let window : Window = record {
+      from = period_first form (semiweekly_from line) day;
+      to = period_last form (semiweekly_from line) day;
+    } in
+    let common : StandsIn form day r.holidays before after r.lines r.from r.years line k.0 =
+    record {
       change = c;
       later = later;
       lines_are = lines;
@@ -66,10 +89,14 @@ stands_first form day before after r line later known c lines last from to first
       period = window;
       is_period = (line, has, p);
       begins = first;
-      earlier = λ o l. (let less : o.first < period_first form (semiweekly_from line) day = omega arith in (
-        owed_earlier form day before after r.holidays known c line k.0 has k.1 year from to o less,
-        owed_earlier_back form day before after r.holidays known c line k.0 has k.1 year from to o less,
-      ));
+      earlier = λ o l. (let less : o.first < period_first form (semiweekly_from line) day =
+          omega arith in (
+            owed_earlier form day before after r.holidays known c line k.0 has k.1 year from to o
+                less,
+            owed_earlier_back form day before after r.holidays known c line k.0 has k.1 year from to
+                o
+                less,
+          ));
       changed = record {
         by_year = rw years tt;
         all = λ other. (
@@ -80,7 +107,8 @@ stands_first form day before after r line later known c lines last from to first
               let fz3 = fz.3 in
               let less = m.2 in
               let mono = year_start-mono (other.year + 1) line.year (omega arith) in
-              absurd (m.1 (early_same day after before (change_back day before after c) other m.0 (omega arith)))),
+              absurd (m.1 (early_same day after before (change_back day before after c) other m.0
+              (omega arith)))),
         );
       };
     } in
@@ -107,29 +135,42 @@ pub record FirstLine (lines : List YearLine) (x : YearLine) : Type 0 where
   pub top : semiweekly_from x ≤ year_last x.year + 1
   pub early : IfSome x.turn (λ t. t < years_end)
 
-pub first_line : (lines : List YearLine) (x : YearLine) → 0 < length lines → x ≡ get_or lines 0 x → AreOpenYears lines → All TurnsWithin lines → FirstLine lines x
+pub first_line : (lines : List YearLine) (x : YearLine) → 0 < length lines → x ≡ get_or lines 0 x
+    → AreOpenYears lines → All TurnsWithin lines → FirstLine lines x
 first_line lines x some is years turns =
     let e : lines ≡ x ∷ drop 1 lines = head_item lines x some is in
     let h = years_head years.0 lines x (drop 1 lines) e years.2 in
     let h0 = h.0 in let h1 = h.1 in let y1 = years.1 in
-    let t : All TurnsWithin (x ∷ drop 1 lines) = subst (λ (z : List YearLine). All TurnsWithin z) e turns in
+    let t : All TurnsWithin (x ∷ drop 1 lines) = subst (λ (z : List YearLine). All TurnsWithin z) e
+    turns in
     let t0 : TurnsWithin x = All-head TurnsWithin x (drop 1 lines) t in
     let y = line_year x (omega arith) (omega arith) t0 in
-    record { are = e; begin = omega arith; end = omega arith; turn = t0; year = y.0; top = y.1; early = y.2 }
+    record {
+      are = e;
+      begin = omega arith;
+      end = omega arith;
+      turn = t0;
+      year = y.0;
+      top = y.1;
+      early = y.2;
+    }
 
 pub begin_some : (day : ℕ) (lines : List YearLine) → BeginWith day lines → 0 < length lines
 begin_some day [] h = absurd h
 begin_some day (x ∷ lines) h = omega arith
 
-pub begin_with : (day : ℕ) (lines : List YearLine) (x : YearLine) → BeginWith day lines → lines ≡ x ∷ drop 1 lines → (year_start x.year ≤ day) × (day ≤ year_last x.year)
+pub begin_with : (day : ℕ) (lines : List YearLine) (x : YearLine) → BeginWith day lines
+    → lines ≡ x ∷ drop 1 lines → (year_start x.year ≤ day) × (day ≤ year_last x.year)
 begin_with day lines x h e = rw e at h
 
 -- the line of the year that is read
-pub ready_line : (r : Repairing) → (h : IsReady r) → (2001 ≤ h.line.year) × (h.line.year ≤ 2098) × TurnsWithin h.line
+pub ready_line : (r : Repairing) → (h : IsReady r) → (2001 ≤ h.line.year) × (h.line.year ≤ 2098)
+    × TurnsWithin h.line
 ready_line r h =
     let y = h.years in
     let y1 = y.1 in
     let k = years_head y.0 r.lines h.line h.later h.lines_are y.2 in
     let k0 = k.0 in let k1 = k.1 in
-    let t : All TurnsWithin (h.line ∷ h.later) = subst (λ (z : List YearLine). All TurnsWithin z) h.lines_are h.turns in
+    let t : All TurnsWithin (h.line ∷ h.later) = subst (λ (z : List YearLine). All TurnsWithin z)
+    h.lines_are h.turns in
     (omega arith, omega arith, All-head TurnsWithin h.line h.later t)

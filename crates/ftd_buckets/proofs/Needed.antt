@@ -1,6 +1,7 @@
 -- What a repair asks for is needed, and a patch that changes no line is that of one deposit period.
 use Rattle.ftd_rules.specs.declared.Form.{Form}
-use Rattle.std.proofs.Common.{◌≡◌, ℕ, ◌+◌, ◌<◌, ◌≤◌, inl, inr, List, [], length, Bool, sym, ap, ◌∙◌, subst, arith}
+use Rattle.std.proofs.Common.{◌≡◌, ℕ, ◌+◌, ◌<◌, ◌≤◌, inl, inr, List, [], length, Bool, sym, ap, ◌∙◌}
+use Rattle.std.proofs.Common.{subst, arith}
 use Rattle.ftd_days.specs.Calendar.{year_start}
 use Rattle.ftd_rules.specs.declared.YearLine.{YearLine}
 use Rattle.ftd_rules.specs.Lists.{Has}
@@ -23,40 +24,49 @@ use Rattle.ftd_buckets.specs.Standing.{Stands, StandsIn, StandsAt}
 use Rattle.ftd_buckets.proofs.Chain.{later_same}
 use Rattle.ftd_buckets.proofs.Few.{four_rows, one_row}
 
-needed_at : (form : Form) (day : ℕ) (holidays : List ℕ) (before after : History) (r : Repairing) (old new : YearLine) (at : Stage)
-    → StandsIn form day holidays before after r.lines r.from r.years old new → StandsAt form day holidays after r old new at
+needed_at : (form : Form) (day : ℕ) (holidays : List ℕ) (before after : History) (r : Repairing)
+    (old new : YearLine) (at : Stage)
+    → StandsIn form day holidays before after r.lines r.from r.years old new
+    → StandsAt form day holidays after r old new at
     → IsNeeded form day before after r.asked
-needed_at form day holidays before after r old new stage.Period in_all at = inl (old, in_all.year.is_old, at.asked)
-needed_at form day holidays before after r old new (stage.Rest first turn) in_all at = inr (inl (record {
-  period = at.period;
-  is_period = (old, in_all.year.is_old, at.is_period);
-  old = old;
-  new = new;
-  year = in_all.year;
-  of_day = at.of_day;
-  differs = at.differs;
-  from = at.from;
-  to = at.to;
-  some = at.some;
-}))
-needed_at form day holidays before after r old new (stage.Year turned) in_all at = inr (inr (record {
-  old = old;
-  new = new;
-  year = in_all.year;
-  later = at.later;
-  differs = at.differs;
-  from = at.from;
-  to = at.to;
-}))
+needed_at form day holidays before after r old new stage.Period in_all at =
+    inl (old, in_all.year.is_old, at.asked)
+needed_at form day holidays before after r old new (stage.Rest first turn) in_all at =
+    inr (inl (record {
+      period = at.period;
+      is_period = (old, in_all.year.is_old, at.is_period);
+      old = old;
+      new = new;
+      year = in_all.year;
+      of_day = at.of_day;
+      differs = at.differs;
+      from = at.from;
+      to = at.to;
+      some = at.some;
+    }))
+needed_at form day holidays before after r old new (stage.Year turned) in_all at =
+    inr (inr (record {
+      old = old;
+      new = new;
+      year = in_all.year;
+      later = at.later;
+      differs = at.differs;
+      from = at.from;
+      to = at.to;
+    }))
 
 -- the window that a repair asks for is one of those needed
-pub fed_needed : (form : Form) (day : ℕ) (holidays : List ℕ) (before after : History) (r : Repairing) → Stands form day holidays before after r
+pub fed_needed : (form : Form) (day : ℕ) (holidays : List ℕ) (before after : History)
+    (r : Repairing) → Stands form day holidays before after r
     → IsNeeded form day before after r.asked
-fed_needed form day holidays before after r st = needed_at form day holidays before after r st.old st.new r.stage st.common st.at
+fed_needed form day holidays before after r st = needed_at form day holidays before after r st.old
+    st.new r.stage st.common st.at
 
 -- where the line of the day's year stays, its deposit period is the only window
-only_period : (form : Form) (day : ℕ) (before after : History) (fed period : Window) (line : YearLine) → IsChange day before after
-    → Has before.lines line → Has after.lines line → IsPeriodOf form line day period → IsNeeded form day before after fed
+only_period : (form : Form) (day : ℕ) (before after : History) (fed period : Window)
+    (line : YearLine) → IsChange day before after
+    → Has before.lines line → Has after.lines line → IsPeriodOf form line day period
+    → IsNeeded form day before after fed
     → (fed.from ≡ period.from) × (fed.to ≡ period.to)
 only_period form day before after fed period line c m n of_day (inl first) =
     let y = line_is before.lines before.sums line c.is_before m in
@@ -64,11 +74,15 @@ only_period form day before after fed period line c m n of_day (inl first) =
     let years = c.is_before.years in
     let p1 = of_day.0.1 in let p2 = of_day.0.2 in let p3 = of_day.1 in let p4 = of_day.2 in
     let q1 = first.2.0.1 in let q2 = first.2.0.2 in let q3 = first.2.1 in let q4 = first.2.2 in
-    let same_year = year_only first.0.year line.year day z.0 z.1 y.0 y.1 (omega arith) (omega arith) (omega arith) (omega arith) in
-    let one : first.0 ≡ line = line_one years.0 before.lines first.0 line years.2 first.1 m same_year in
+    let same_year = year_only first.0.year line.year day z.0 z.1 y.0 y.1 (omega arith) (omega arith)
+    (omega arith) (omega arith) in
+    let one : first.0 ≡ line = line_one years.0 before.lines first.0 line years.2 first.1 m
+    same_year in
     let its = subst (λ (v : YearLine). IsPeriodOf form v day fed) one first.2 in
-    let a = period_same form before.lines before.sums line day period.from period.to c.is_before m (period_run form line period.from period.to of_day.0) p3 p4 in
-    let b = period_same form before.lines before.sums line day fed.from fed.to c.is_before m (period_run form line fed.from fed.to its.0) its.1 its.2 in
+    let a = period_same form before.lines before.sums line day period.from period.to c.is_before m
+    (period_run form line period.from period.to of_day.0) p3 p4 in
+    let b = period_same form before.lines before.sums line day fed.from fed.to c.is_before m
+    (period_run form line fed.from fed.to its.0) its.1 its.2 in
     (b.0 ∙ sym a.0, b.1 ∙ sym a.1)
 only_period form day before after fed period line c m n of_day (inr (inl rest)) =
     let y = line_is before.lines before.sums line c.is_before m in
@@ -76,9 +90,12 @@ only_period form day before after fed period line c m n of_day (inr (inl rest)) 
     let years = c.is_before.years in
     let afters = c.is_after.years in
     let p1 = of_day.0.1 in let p2 = of_day.0.2 in let p3 = of_day.1 in let p4 = of_day.2 in
-    let same_year = year_only rest.old.year line.year day z.0 z.1 y.0 y.1 rest.of_day.0 rest.of_day.1 (omega arith) (omega arith) in
-    let one : rest.old ≡ line = line_one years.0 before.lines rest.old line years.2 rest.year.is_old m same_year in
-    let other : rest.new ≡ line = line_one afters.0 after.lines rest.new line afters.2 rest.year.is_new n (sym rest.year.same ∙ same_year) in
+    let same_year = year_only rest.old.year line.year day z.0 z.1 y.0 y.1 rest.of_day.0
+    rest.of_day.1 (omega arith) (omega arith) in
+    let one : rest.old ≡ line = line_one years.0 before.lines rest.old line years.2 rest.year.is_old
+    m same_year in
+    let other : rest.new ≡ line = line_one afters.0 after.lines rest.new line afters.2
+    rest.year.is_new n (sym rest.year.same ∙ same_year) in
     absurd (rest.differs (ap (λ (v : YearLine). v.turn) (one ∙ sym other)))
 only_period form day before after fed period line c m n of_day (inr (inr later)) =
     let y = line_is before.lines before.sums line c.is_before m in
@@ -90,14 +107,22 @@ only_period form day before after fed period line c m n of_day (inr (inr later))
     let p1 = of_day.0.1 in let p2 = of_day.0.2 in let p3 = of_day.1 in let p4 = of_day.2 in
     let begins = later.later in
     let more : line.year ≤ later.old.year =
-    elim (lt_or_le later.old.year line.year) [ inr fine ↦ fine | inl less ↦ absurd (let mono = year_start-mono later.old.year line.year (omega arith) in omega arith) ] in
-    let has = later_same day before after c line m n (omega arith) later.old later.year.is_old more in
-    let one : later.old ≡ later.new = line_one afters.0 after.lines later.old later.new afters.2 has later.year.is_new later.year.same in
+    elim (lt_or_le later.old.year line.year) [
+      | inr fine ↦ fine
+      | inl less ↦ absurd (let mono = year_start-mono later.old.year line.year (omega arith) in
+          omega arith)
+    ] in
+    let has = later_same day before after c line m n (omega arith) later.old later.year.is_old
+    more in
+    let one : later.old ≡ later.new = line_one afters.0 after.lines later.old later.new afters.2 has
+    later.year.is_new later.year.same in
     absurd (later.differs (ap (λ (v : YearLine). v.opening) one))
 
 -- a patch without lines keeps each line of the history before
-pub kept_line : (form : Form) (day : ℕ) (before after : History) (holidays : List ℕ) (fed : Window) (patch : Patch) (line : YearLine)
-    → IsChange day before after → IsPatch form day before after holidays fed patch → patch.years ≡ [] → Has before.lines line
+pub kept_line : (form : Form) (day : ℕ) (before after : History) (holidays : List ℕ) (fed : Window)
+    (patch : Patch) (line : YearLine)
+    → IsChange day before after → IsPatch form day before after holidays fed patch
+    → patch.years ≡ [] → Has before.lines line
     → (Has after.lines line → ⊥) → ⊥
 kept_line form day before after holidays fed patch line c is none m differs =
     let k = counterpart before.lines after.lines line c.same_years m in
@@ -112,16 +137,21 @@ kept_line form day before after holidays fed patch line c is none m differs =
     ))
 
 -- so its rows are those of one deposit period
-rows_of_period : (form : Form) (day : ℕ) (before after : History) (holidays : List ℕ) (fed : Window) (patch : Patch) (line : YearLine) (period : Window)
-    → IsPatch form day before after holidays fed patch → patch.from ≡ period.from → fed.to ≡ period.to
+rows_of_period : (form : Form) (day : ℕ) (before after : History) (holidays : List ℕ) (fed : Window)
+    (patch : Patch) (line : YearLine) (period : Window)
+    → IsPatch form day before after holidays fed patch → patch.from ≡ period.from
+    → fed.to ≡ period.to
     → AreRows form after holidays period.from (period.to + 1) patch.rows
 rows_of_period form day before after holidays fed patch line period is from to =
     let last : patch.to + 1 ≡ period.to + 1 = ap (λ z. z + 1) (is.to ∙ to) in
     rw (from, last) at is.rows
 
-pub one_at_most : (form : Form) (day : ℕ) (before after : History) (holidays : List ℕ) (fed : Window) (patch : Patch) (line : YearLine)
-    → IsChange day before after → IsPatch form day before after holidays fed patch → IsLastNeeded form day before after fed → patch.years ≡ []
-    → Has before.lines line → year_start line.year ≤ day → day ≤ year_last line.year → (IsSemiweeklyOn line patch.from → ⊥) → length patch.rows ≤ 1
+pub one_at_most : (form : Form) (day : ℕ) (before after : History) (holidays : List ℕ)
+    (fed : Window) (patch : Patch) (line : YearLine)
+    → IsChange day before after → IsPatch form day before after holidays fed patch
+    → IsLastNeeded form day before after fed → patch.years ≡ []
+    → Has before.lines line → year_start line.year ≤ day → day ≤ year_last line.year
+    → (IsSemiweeklyOn line patch.from → ⊥) → length patch.rows ≤ 1
 one_at_most form day before after holidays fed patch line c is last none m from to monthly =
     elim (lt_or_le 1 (length patch.rows)) [
       | inr fine ↦ fine
@@ -132,24 +162,32 @@ one_at_most form day before after holidays fed patch line c is last none m from 
           let z = line_is before.lines before.sums its.0 c.is_before its.1 in
           let years = c.is_before.years in
           let p1 = its.2.0.1 in let p2 = its.2.0.2 in let p3 = its.2.1 in let p4 = its.2.2 in
-          let same_year = year_only its.0.year line.year day z.0 z.1 y.0 y.1 (omega arith) (omega arith) from to in
-          let one : its.0 ≡ line = line_one years.0 before.lines its.0 line years.2 its.1 m same_year in
+          let same_year = year_only its.0.year line.year day z.0 z.1 y.0 y.1 (omega arith)
+          (omega arith) from to in
+          let one : its.0 ≡ line = line_one years.0 before.lines its.0 line years.2 its.1 m
+          same_year in
           let of_day = subst (λ (v : YearLine). IsPeriodOf form v day period) one its.2 in
           let same = only_period form day before after fed period line c m n of_day last.needed in
           let begins : patch.from ≡ period.from = is.from in
-          let rows = rows_of_period form day before after holidays fed patch line period is is.from same.1 in
+          let rows = rows_of_period form day before after holidays fed patch line period is is.from
+          same.1 in
           let some = of_day.0.0 in let low = of_day.0.1 in let high = of_day.0.2 in
           let early : period.from < semiweekly_from line =
           elim (lt_or_le period.from (semiweekly_from line)) [
             | inl first ↦ first
-            | inr late ↦ absurd (monthly ((semiweekly_is line patch.from (omega arith) (omega arith)).1 (omega arith)))
+            | inr late ↦
+                absurd (monthly ((semiweekly_is line patch.from (omega arith) (omega arith)).1
+                (omega arith)))
           ] in
-          let few = one_row form after holidays line period.from period.to patch.rows c.is_after n of_day.0 early rows in
+          let few = one_row form after holidays line period.from period.to patch.rows c.is_after n
+          of_day.0 early rows in
           omega arith))
     ]
 
-pub four_at_most : (form : Form) (day : ℕ) (before after : History) (holidays : List ℕ) (fed : Window) (patch : Patch)
-    → IsChange day before after → IsPatch form day before after holidays fed patch → IsLastNeeded form day before after fed → patch.years ≡ [] → length patch.rows ≤ 4
+pub four_at_most : (form : Form) (day : ℕ) (before after : History) (holidays : List ℕ)
+    (fed : Window) (patch : Patch)
+    → IsChange day before after → IsPatch form day before after holidays fed patch
+    → IsLastNeeded form day before after fed → patch.years ≡ [] → length patch.rows ≤ 4
 four_at_most form day before after holidays fed patch c is last none =
     let its = is.is_period in
     let period = is.period in
@@ -158,11 +196,18 @@ four_at_most form day before after holidays fed patch c is last none =
     let begins : patch.from ≡ period.from = is.from in
     elim (lt_or_le 4 (length patch.rows)) [
       | inr fine ↦ fine
-      | inl many ↦ absurd (kept_line form day before after holidays fed patch line c is none its.1 (λ n.
-          let same = only_period form day before after fed period line c its.1 n its.2 last.needed in
-          let rows = rows_of_period form day before after holidays fed patch line period is is.from same.1 in
+      | inl many ↦ absurd (kept_line form day before after holidays fed patch line c is none its.1
+          (λ n.
+          let same = only_period form day before after fed period line c its.1 n its.2
+          last.needed in
+          let rows = rows_of_period form day before after holidays fed patch line period is is.from
+          same.1 in
           elim (lt_or_le period.from (semiweekly_from line)) [
-            | inl monthly ↦ (let few = one_row form after holidays line period.from period.to patch.rows c.is_after n its.2.0 monthly rows in omega arith)
-            | inr semi ↦ (let few = four_rows form after holidays line period.from period.to patch.rows c.is_after n its.2.0 semi rows in omega arith)
+            | inl monthly ↦
+                (let few = one_row form after holidays line period.from period.to patch.rows
+                c.is_after n its.2.0 monthly rows in omega arith)
+            | inr semi ↦
+                (let few = four_rows form after holidays line period.from period.to patch.rows
+                c.is_after n its.2.0 semi rows in omega arith)
           ]))
     ]

@@ -1,6 +1,7 @@
 -- The rest of a year whose turn differs.
 use Rattle.ftd_rules.specs.declared.Form.{Form}
-use Rattle.std.proofs.Common.{◌≡◌, ℕ, ◌+◌, ◌-◌, ◌<◌, ◌≤◌, inl, inr, List, ◌++◌, refl, sym, ap, ◌∙◌, subst, arith}
+use Rattle.std.proofs.Common.{◌≡◌, ℕ, ◌+◌, ◌-◌, ◌<◌, ◌≤◌, inl, inr, List, ◌++◌, refl, sym, ap, ◌∙◌}
+use Rattle.std.proofs.Common.{subst, arith}
 use Rattle.std.specs.Prelude.{Option, Some, MatchOption}
 use Rattle.std.specs.List.{All}
 use Rattle.std.proofs.lemmas.Bool.{cases_order, lt-ltb}
@@ -18,7 +19,8 @@ use Rattle.ftd_rules.specs.Years.{HasTurn, year_last}
 use Rattle.ftd_rules.specs.Private.Years.{semiweekly_from}
 use Rattle.ftd_rules.specs.Private.Walk.{due_date, AreOwed, Divides, periods, period_first}
 use Rattle.ftd_rules.proofs.Status.{month_at_least}
-use Rattle.ftd_rules.proofs.Schedules.{year_facts, year_divides, month_in_year, cases_turn, turn_is, from_turn, from_none}
+use Rattle.ftd_rules.proofs.Schedules.{year_facts, year_divides, month_in_year, cases_turn, turn_is}
+use Rattle.ftd_rules.proofs.Schedules.{from_turn, from_none}
 use Rattle.ftd_buckets.specs.declared.Window.{Window}
 use Rattle.ftd_buckets.specs.declared.state.Settled.{Settled}
 use Rattle.ftd_buckets.specs.declared.state.Stage.TheVariants as stage
@@ -36,14 +38,17 @@ use Rattle.ftd_buckets.proofs.Years.{rows_append}
 use Rattle.ftd_buckets.proofs.Joined.{sums_append, divides_from, first_first, joined_same}
 
 -- what is known of the rest: where its open period begins, and the turn that is found
-pub record Found (form : Form) (line : YearLine) (asked : Window) (held : List DaySum) (first : ℕ) (turn : Option ℕ) (all : List DaySum) (now : Option ℕ) : Type 0 where
+pub record Found (form : Form) (line : YearLine) (asked : Window) (held : List DaySum) (first : ℕ)
+    (turn : Option ℕ) (all : List DaySum) (now : Option ℕ) : Type 0 where
   pub begin : 2001 ≤ line.year
   pub end : line.year ≤ 2098
   pub ready : ReadyRest form line asked held first turn
   pub now_is : MatchOption turn (IsFirstTurn (liability all) first asked.to now) (λ t. now ≡ Some t)
 
 -- the first day of the open period lies in the year, before the rest
-pub open_within : (form : Form) → (line : YearLine) (asked : Window) (held : List DaySum) (first : ℕ) (turn : Option ℕ) → 2001 ≤ line.year → line.year ≤ 2098 → ReadyRest form line asked held first turn
+pub open_within : (form : Form) → (line : YearLine) (asked : Window) (held : List DaySum)
+    (first : ℕ) (turn : Option ℕ) → 2001 ≤ line.year → line.year ≤ 2098
+    → ReadyRest form line asked held first turn
     → (year_start line.year ≤ first) × (first < asked.from)
 open_within form line asked held first turn l m h =
     let f = year_facts line.year l m in
@@ -70,7 +75,9 @@ open_within form line asked held first turn l m h =
     ]
 
 -- the sums that are held with those of the rest
-pub all_rise : (form : Form) → (line : YearLine) (asked : Window) (held : List DaySum) (first : ℕ) (turn : Option ℕ) (sums : List DaySum) → 2001 ≤ line.year → line.year ≤ 2098 → ReadyRest form line asked held first turn
+pub all_rise : (form : Form) → (line : YearLine) (asked : Window) (held : List DaySum) (first : ℕ)
+    (turn : Option ℕ) (sums : List DaySum) → 2001 ≤ line.year → line.year ≤ 2098
+    → ReadyRest form line asked held first turn
     → SumsRise asked.from asked.to sums → SumsRise first asked.to (held ++ sums)
 all_rise form line asked held first turn sums l m h rise =
     let w = open_within form line asked held first turn l m h in
@@ -80,7 +87,9 @@ all_rise form line asked held first turn sums l m h rise =
     let e : asked.from ≡ b + 1 = omega arith in
     sums_append first b asked.to held sums (omega arith) (omega arith) h.rise (rw e at rise)
 
-pub rest_turn : (form : Form) → (line : YearLine) (asked : Window) (held : List DaySum) (first : ℕ) (turn : Option ℕ) (all : List DaySum) (now : Option ℕ) → Found form line asked held first turn all now → TurnsWithin (with_turn line now)
+pub rest_turn : (form : Form) → (line : YearLine) (asked : Window) (held : List DaySum) (first : ℕ)
+    (turn : Option ℕ) (all : List DaySum) (now : Option ℕ)
+    → Found form line asked held first turn all now → TurnsWithin (with_turn line now)
 rest_turn form line asked held first turn all now h =
     let w = open_within form line asked held first turn h.begin h.end h.ready in
     let w0 = w.0 in
@@ -90,7 +99,8 @@ rest_turn form line asked held first turn all now h =
           let found = rw none at h.now_is in
           elim (cases_turn now) [
             | inl never ↦ rw never tt
-            | inr is ↦ (let its = rw is.1 at found in let i0 = its.0 in let i1 = its.1 in rw is.1 (h.ready.monthly, omega arith, omega arith))
+            | inr is ↦ (let its = rw is.1 at found in let i0 = its.0 in let i1 = its.1 in
+                rw is.1 (h.ready.monthly, omega arith, omega arith))
           ]
       | inr is ↦
           let e = rw is.1 at h.now_is in
@@ -100,7 +110,10 @@ rest_turn form line asked held first turn all now h =
     ]
 
 -- the rest is whole deposit periods under the turn that is found
-pub rest_whole : (form : Form) → (line : YearLine) (asked : Window) (held : List DaySum) (first : ℕ) (turn : Option ℕ) (all : List DaySum) (now : Option ℕ) → Found form line asked held first turn all now → IsWhole form (with_turn line now) first asked.to
+pub rest_whole : (form : Form) → (line : YearLine) (asked : Window) (held : List DaySum) (first : ℕ)
+    (turn : Option ℕ) (all : List DaySum) (now : Option ℕ)
+    → Found form line asked held first turn all now
+    → IsWhole form (with_turn line now) first asked.to
 rest_whole form line asked held first turn all now h =
     let n : YearLine = with_turn line now in
     let w = open_within form line asked held first turn h.begin h.end h.ready in
@@ -119,7 +132,8 @@ rest_whole form line asked held first turn all now h =
           let monthly : first < semiweekly_from n =
           elim (cases_turn now) [
             | inl never ↦ (let e = from_none n h.ready.monthly never in omega arith)
-            | inr is ↦ (let its = rw is.1 at found in let i0 = its.0 in let e = from_turn n is.0 h.ready.monthly is.1 in omega arith)
+            | inr is ↦ (let its = rw is.1 at found in let i0 = its.0 in
+                let e = from_turn n is.0 h.ready.monthly is.1 in omega arith)
           ] in
           let end = month_start-end in
           let in_b = month_of_is b (omega arith) in
@@ -128,14 +142,17 @@ rest_whole form line asked held first turn all now h =
           let i0 = in_f.0 in
           let at_least = month_at_least first (month_of b) (omega arith) (omega arith) in
           let mono = month_start-mono (month_of b) (month_of first) at_least in
-          let e : period_first form (semiweekly_from n) first ≡ month_start (month_of first) = rw (lt-ltb first (semiweekly_from n) monthly) refl in
+          let e : period_first form (semiweekly_from n) first ≡ month_start (month_of first) =
+          rw (lt-ltb first (semiweekly_from n) monthly) refl in
           omega arith
       | inr is ↦
           let e = rw is.1 at h.now_is in
           let first_is : first ≡ period_first form (is.0 + 1) b = rw is.1 at h.ready.is_first in
           let s : semiweekly_from n ≡ is.0 + 1 = from_turn n is.0 h.ready.monthly e in
-          let same : first ≡ period_first form (semiweekly_from n) b = first_is ∙ ap (λ z. period_first form z b) (sym s) in
-          let k = first_first (periods form (semiweekly_from n)) (year_start line.year) (year_last line.year) b divides (omega arith) (omega arith) in
+          let same : first ≡ period_first form (semiweekly_from n) b = first_is
+          ∙ ap (λ z. period_first form z b) (sym s) in
+          let k = first_first (periods form (semiweekly_from n)) (year_start line.year)
+          (year_last line.year) b divides (omega arith) (omega arith) in
           ap (λ z. period_first form (semiweekly_from n) z) same ∙ (k ∙ sym same)
     ] in
     let D : ℕ → Type 0 = λ z. Divides (periods form (semiweekly_from n)) first z in
@@ -143,12 +160,16 @@ rest_whole form line asked held first turn all now h =
       from = w0;
       to = omega arith;
       some = omega arith;
-      divides = subst D (sym to) (divides_from (periods form (semiweekly_from n)) (year_start line.year) (year_last line.year) first divides w0 starts);
+      divides = subst D (sym to) (divides_from (periods form (semiweekly_from n))
+          (year_start line.year) (year_last line.year) first divides w0 starts);
     }
 
 -- the first turn from a month's first day on is the turn of the year, if that is not before it
-pub turn_found : (M F : ℕ → ℕ → ℕ) (line : YearLine) (first : ℕ) (now : Option ℕ) → year_last line.year ≤ last_day → HasTurn M line → IsMonthStart first → year_start line.year ≤ first
-    → ((t : ℕ) → line.turn ≡ Some t → first ≤ t) → ((u t : ℕ) → first ≤ u → t ≤ year_last line.year → M u t ≡ F u t) → IsFirstTurn F first (year_last line.year) now → line.turn ≡ now
+pub turn_found : (M F : ℕ → ℕ → ℕ) (line : YearLine) (first : ℕ) (now : Option ℕ)
+    → year_last line.year ≤ last_day → HasTurn M line → IsMonthStart first
+    → year_start line.year ≤ first
+    → ((t : ℕ) → line.turn ≡ Some t → first ≤ t) → ((u t : ℕ) → first ≤ u → t ≤ year_last line.year
+    → M u t ≡ F u t) → IsFirstTurn F first (year_last line.year) now → line.turn ≡ now
 turn_found M F line first now top h begins from late agree found =
     let total : (v : ℕ) → first ≤ v → v ≤ year_last line.year → month_total M v ≡ month_total F v =
     λ v l m. (let k = month_at_least v begins.0 (omega arith) (omega arith) in
@@ -160,7 +181,9 @@ turn_found M F line first now top h begins from late agree found =
           let calm = rw none at h in
           elim (cases_turn now) [
             | inl never ↦ none ∙ sym never
-            | inr is ↦ absurd (let its = rw is.1 at found in let i0 = its.0 in let i1 = its.1 in let i2 = its.2 in let e = total is.0 i0 i1 in let small = calm is.0 (omega arith) i1 in omega arith)
+            | inr is ↦ absurd (let its = rw is.1 at found in let i0 = its.0 in let i1 = its.1 in
+                let i2 = its.2 in let e = total is.0 i0 i1 in
+                let small = calm is.0 (omega arith) i1 in omega arith)
           ]
       | inr some ↦
           let at = turn_is M line some.0 some.1 h in
@@ -168,7 +191,8 @@ turn_found M F line first now top h begins from late agree found =
           let l = late some.0 some.1 in
           let e = total some.0 l a1 in
           elim (cases_turn now) [
-            | inl never ↦ absurd (let calm = rw never at found in let small = calm some.0 l a1 in omega arith)
+            | inl never ↦ absurd (let calm = rw never at found in let small = calm some.0 l a1 in
+                omega arith)
             | inr is ↦
                 let its = rw is.1 at found in
                 let i0 = its.0 in let i1 = its.1 in let i2 = its.2 in
@@ -176,40 +200,52 @@ turn_found M F line first now top h begins from late agree found =
                 elim (cases_order some.0 is.0) [
                   | inl same ↦ some.1 ∙ (ap Some same ∙ sym is.1)
                   | inr (inl less) ↦ absurd (let small = its.3 some.0 l less in omega arith)
-                  | inr (inr more) ↦ absurd (let small = at.3 is.0 (omega arith) more in omega arith)
+                  | inr (inr more) ↦ absurd (let small = at.3 is.0 (omega arith) more in
+                      omega arith)
                 ]
           ]
     ]
 
 -- once the rest is fed, the year is settled
-pub rest_settled : (form : Form) → (day : ℕ) (holidays : List ℕ) (before after : History) (s t : Settled) (first : ℕ) (turn now : Option ℕ) (sums : List DaySum) (added : List Obligation)
-    → All (λ d. d < holidays_end) (holidays_of s.holidays.now) → (st : Stands form day holidays before after (repairing s (stage.Rest first turn))) → AreSumsOf after s.asked sums
+pub rest_settled : (form : Form) → (day : ℕ) (holidays : List ℕ) (before after : History)
+    (s t : Settled) (first : ℕ) (turn now : Option ℕ) (sums : List DaySum) (added : List Obligation)
+    → All (λ d. d < holidays_end) (holidays_of s.holidays.now)
+    → (st : Stands form day holidays before after (repairing s (stage.Rest first turn)))
+    → AreSumsOf after s.asked sums
     → SumsRise s.asked.from s.asked.to sums
     → Found form st.old s.asked s.held.items first turn (s.held.items ++ sums) now
-    → AreOwed (due_date (holidays_of s.holidays.now)) (liability (s.held.items ++ sums)) (periods form (semiweekly_from (with_turn st.old now))) first (s.asked.to + 1) added
-    → t.lines.now ≡ s.lines.now → holidays_of t.holidays.now ≡ holidays_of s.holidays.now → t.from ≡ s.from → t.years.items ≡ s.years.items → t.rows.items ≡ s.rows.items ++ added
+    → AreOwed (due_date (holidays_of s.holidays.now)) (liability (s.held.items ++ sums))
+    (periods form (semiweekly_from (with_turn st.old now))) first (s.asked.to + 1) added
+    → t.lines.now ≡ s.lines.now → holidays_of t.holidays.now ≡ holidays_of s.holidays.now
+    → t.from ≡ s.from → t.years.items ≡ s.years.items → t.rows.items ≡ s.rows.items ++ added
     → IsSettledYear form day holidays before after t (with_turn st.old now)
-rest_settled form day holidays before after s t first turn now sums added known0 st agree0 rise found owed0 lines calendar from years rows =
+rest_settled form day holidays before after s t first turn now sums added known0 st agree0 rise
+    found owed0 lines calendar from years rows =
     let c = st.common.change in
     let old = st.old in
     let M = liability after.sums in
     let all : List DaySum = s.held.items ++ sums in
     let n : YearLine = with_turn old now in
-    let known : All (λ d. d < holidays_end) holidays = subst (λ (z : List ℕ). All (λ d. d < holidays_end) z) st.calendar known0 in
+    let known : All (λ d. d < holidays_end) holidays =
+    subst (λ (z : List ℕ). All (λ d. d < holidays_end) z) st.calendar known0 in
     let f = year_facts old.year found.begin found.end in
     let f2 = f.2 in
-    let w = open_within form old s.asked s.held.items first turn found.begin found.end found.ready in
+    let w = open_within form old s.asked s.held.items first turn found.begin found.end
+    found.ready in
     let w0 = w.0 in let w1 = w.1 in
     let a_from = st.at.from in
     let a_to = st.at.to in
     let some = st.at.some in
     let b : ℕ = st.at.period.to in
-    let held_rise : SumsRise first b s.held.items = (let e : s.asked.from - 1 ≡ b = omega arith in rw e at found.ready.rise) in
+    let held_rise : SumsRise first b s.held.items = (let e : s.asked.from - 1 ≡ b = omega arith in
+    rw e at found.ready.rise) in
     let sums_rise : SumsRise (b + 1) (year_last old.year) sums = rw (a_from, a_to) at rise in
     let agree : (u v : ℕ) → first ≤ u → v ≤ year_last old.year → M u v ≡ liability all u v =
-    joined_same after.sums first b (year_last old.year) s.held.items sums (omega arith) (omega arith) held_rise sums_rise st.at.sums
+    joined_same after.sums first b (year_last old.year) s.held.items sums (omega arith)
+    (omega arith) held_rise sums_rise st.at.sums
     (λ u v k m. agree0 u v (omega arith) (omega arith)) in
-    let change = year_change day before after c old st.new st.common.year.is_old st.common.year.is_new st.common.year.same st.at.of_day.0 st.at.of_day.1 in
+    let change = year_change day before after c old st.new st.common.year.is_old
+    st.common.year.is_new st.common.year.same st.at.of_day.0 st.at.of_day.1 in
     let same = st.common.year.same in
     let opening : st.new.opening ≡ kind.Monthly = sym change.opening ∙ found.ready.monthly in
     let has_turn : HasTurn M st.new =
@@ -223,25 +259,37 @@ rest_settled form day holidays before after s t first turn now sums added known0
           let is = rw none at found.now_is in
           let after_it = rw none at st.at.is_turn in
           let first_is = rw none at found.ready.is_first in
-          let late : (v : ℕ) → st.new.turn ≡ Some v → first ≤ v = λ v e. (let k = rw e at after_it in omega arith) in
+          let late : (v : ℕ) → st.new.turn ≡ Some v → first ≤ v =
+          λ v e. (let k = rw e at after_it in omega arith) in
           let F = liability all in
           let ends : ℕ → Type 0 = λ z. (u v : ℕ) → first ≤ u → v ≤ year_last z → M u v ≡ F u v in
           let Q : ℕ → Type 0 = λ z. IsFirstTurn F first z now in
-          let found_now : IsFirstTurn F first (year_last st.new.year) now = subst Q (a_to ∙ ap year_last same) is in
+          let found_now : IsFirstTurn F first (year_last st.new.year) now =
+          subst Q (a_to ∙ ap year_last same) is in
           let T : ℕ → Type 0 = λ z. year_last z ≤ last_day in
           let S : ℕ → Type 0 = λ z. year_start z ≤ first in
           let top : year_last old.year ≤ last_day = omega arith in
-          turn_found M F st.new first now (subst T same top) has_turn (month_of (s.asked.from - 1), first_is) (subst S same w0) late (subst ends same agree) found_now
+          turn_found M F st.new first now (subst T same top) has_turn (
+            month_of (s.asked.from - 1),
+            first_is,
+          ) (subst S same w0) late (subst ends same agree) found_now
       | inr is ↦ (let e = rw is.1 at found.now_is in let g = rw is.1 at st.at.is_turn in g ∙ sym e)
     ] in
     let one : st.new ≡ n = line_same n st.new change.same change.opening turn_is_now in
-    let has : Has after.lines n = subst (λ (z : YearLine). Has after.lines z) one st.common.year.is_new in
-    let common = subst (λ (z : YearLine). StandsIn form day holidays before after s.lines.now s.from s.years.items old z) one st.common in
+    let has : Has after.lines n = subst (λ (z : YearLine). Has after.lines z) one
+    st.common.year.is_new in
+    let common = subst (λ (z : YearLine). StandsIn form day holidays before after s.lines.now s.from
+    s.years.items old z) one st.common in
     let whole = rest_whole form old s.asked s.held.items first turn all now found in
-    let agree_to : (u v : ℕ) → first ≤ u → v ≤ s.asked.to → M u v ≡ liability all u v = λ u v k m. agree u v k (omega arith) in
-    let owed = subst (λ (v : List ℕ). AreOwed (due_date v) (liability all) (periods form (semiweekly_from n)) first (s.asked.to + 1) added) st.calendar owed0 in
-    let here0 = rows_are form after holidays n all first s.asked.to added known c.is_after has whole.from whole.to whole.divides agree_to owed in
-    let here : AreRows form after holidays first (year_last old.year + 1) added = rw a_to at here0 in
+    let agree_to : (u v : ℕ) → first ≤ u → v ≤ s.asked.to → M u v ≡ liability all u v =
+    λ u v k m. agree u v k (omega arith) in
+    let owed =
+    subst (λ (v : List ℕ). AreOwed (due_date v) (liability all) (periods form (semiweekly_from n))
+    first (s.asked.to + 1) added) st.calendar owed0 in
+    let here0 = rows_are form after holidays n all first s.asked.to added known c.is_after has
+    whole.from whole.to whole.divides agree_to owed in
+    let here : AreRows form after holidays first (year_last old.year + 1) added =
+    rw a_to at here0 in
     record {
       old = old;
       common = rw (lines, from, years) common;
@@ -249,5 +297,6 @@ rest_settled form day holidays before after s t first turn now sums added known0
       known = known;
       differs = λ e. st.at.differs (ap (λ (v : YearLine). v.turn) (sym (one ∙ e)));
       day_before = st.at.of_day.1;
-      rows = rw (from, rows) (rows_append form after holidays s.from first (year_last old.year + 1) s.rows.items added st.at.reached (omega arith) st.at.rows here);
+      rows = rw (from, rows) (rows_append form after holidays s.from first (year_last old.year + 1)
+          s.rows.items added st.at.reached (omega arith) st.at.rows here);
     }

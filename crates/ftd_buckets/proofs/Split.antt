@@ -1,6 +1,7 @@
 -- The deposit period of the changed day, cut where its year turns after the change.
 use Rattle.ftd_rules.specs.declared.Form.{Form}
-use Rattle.std.proofs.Common.{◌≡◌, ℕ, ◌+◌, ◌-◌, ◌<◌, ◌≤◌, inl, inr, List, ◌++◌, refl, sym, ap, ◌∙◌, subst, arith, take, drop}
+use Rattle.std.proofs.Common.{◌≡◌, ℕ, ◌+◌, ◌-◌, ◌<◌, ◌≤◌, inl, inr, List, ◌++◌, refl, sym, ap, ◌∙◌}
+use Rattle.std.proofs.Common.{subst, arith, take, drop}
 use Rattle.std.specs.Prelude.{Option, None, Some}
 use Rattle.std.specs.List.{All}
 use Rattle.std.proofs.lemmas.Bool.{lt-ltb}
@@ -19,10 +20,12 @@ use Rattle.ftd_rules.specs.Lists.{Has}
 use Rattle.ftd_rules.specs.Years.{year_last}
 use Rattle.ftd_rules.specs.Private.Years.{semiweekly_from}
 use Rattle.ftd_rules.specs.Periods.{IsPeriod}
-use Rattle.ftd_rules.specs.Private.Walk.{due_date, Periods, AreOwed, Divides, periods, period_first, period_last}
+use Rattle.ftd_rules.specs.Private.Walk.{due_date, Periods, AreOwed, Divides, periods, period_first}
+use Rattle.ftd_rules.specs.Private.Walk.{period_last}
 use Rattle.ftd_rules.proofs.Walk.{liability_none}
 use Rattle.ftd_rules.proofs.Along.{upto, cut_here, cut_later, liability-append, liability_over}
-use Rattle.ftd_rules.proofs.Schedules.{year_facts, year_divides, cases_turn, turn_is, from_turn, from_none}
+use Rattle.ftd_rules.proofs.Schedules.{year_facts, year_divides, cases_turn, turn_is, from_turn}
+use Rattle.ftd_rules.proofs.Schedules.{from_none}
 use Rattle.ftd_rules.proofs.Pieces.{IsYear, by_first_day}
 use Rattle.ftd_rules.proofs.Covering.{line_is}
 use Rattle.ftd_buckets.specs.declared.Window.{Window}
@@ -44,7 +47,8 @@ use Rattle.ftd_buckets.proofs.Places.{rise_within, rows_are}
 use Rattle.ftd_buckets.proofs.Joined.{divides_from, divides_before, first_first}
 
 -- a deposit period is whole
-pub whole_period : (form : Form) → (line : YearLine) (a b : ℕ) → IsYear line → IsPeriod form line a b → IsWhole form line a b
+pub whole_period : (form : Form) → (line : YearLine) (a b : ℕ) → IsYear line
+    → IsPeriod form line a b → IsWhole form line a b
 whole_period form line a b y p =
     let k = period_facts form line a b y p in
     let k2 = k.2 in let k3 = k.3 in let k4 = k.4 in
@@ -68,13 +72,15 @@ pub record Split (form : Form) (line : YearLine) (a b : ℕ) (turn : Option ℕ)
   pub period : IsPeriod form line a b
   pub within : IsWithin line a b (now.Changed turn)
 
-pub split_turn : (form : Form) → (line : YearLine) (a b : ℕ) (turn : Option ℕ) → Split form line a b turn → TurnsWithin (with_turn line turn)
+pub split_turn : (form : Form) → (line : YearLine) (a b : ℕ) (turn : Option ℕ)
+    → Split form line a b turn → TurnsWithin (with_turn line turn)
 split_turn form line a b turn h =
     let k = period_facts form line a b h.year h.period in
     let k3 = k.3 in let k4 = k.4 in
     elim (cases_turn turn) [
       | inl none ↦ rw none tt
-      | inr is ↦ (let w = rw is.1 at h.within.2 in let w0 = w.0 in let w1 = w.1 in rw is.1 (h.within.0, omega arith, omega arith))
+      | inr is ↦ (let w = rw is.1 at h.within.2 in let w0 = w.0 in let w1 = w.1 in
+          rw is.1 (h.within.0, omega arith, omega arith))
     ]
 
 -- under the new turn too, it begins a period
@@ -87,9 +93,11 @@ pub record Cut (form : Form) (line : YearLine) (a b : ℕ) (turn : Option ℕ) :
   pub month : a ≡ month_start (month_of a)
   pub month_ends : b < month_start (month_of a + 1)
   pub starts : period_first form (semiweekly_from (with_turn line turn)) a ≡ a
-  pub divides : Divides (periods form (semiweekly_from (with_turn line turn))) a (year_last line.year)
+  pub divides : Divides (periods form (semiweekly_from (with_turn line turn))) a
+      (year_last line.year)
 
-pub cut_of : (form : Form) → (line : YearLine) (a b : ℕ) (turn : Option ℕ) → Split form line a b turn → Cut form line a b turn
+pub cut_of : (form : Form) → (line : YearLine) (a b : ℕ) (turn : Option ℕ)
+    → Split form line a b turn → Cut form line a b turn
 cut_of form line a b turn h =
     let n : YearLine = with_turn line turn in
     let k = period_facts form line a b h.year h.period in
@@ -99,9 +107,11 @@ cut_of form line a b turn h =
     let monthly : a < semiweekly_from n =
     elim (cases_turn turn) [
       | inl none ↦ (let e = from_none n h.within.0 none in omega arith)
-      | inr is ↦ (let w = rw is.1 at h.within.2 in let w0 = w.0 in let e = from_turn n is.0 h.within.0 is.1 in omega arith)
+      | inr is ↦ (let w = rw is.1 at h.within.2 in let w0 = w.0 in
+          let e = from_turn n is.0 h.within.0 is.1 in omega arith)
     ] in
-    let first : period_first form (semiweekly_from n) a ≡ month_start (month_of a) = rw (lt-ltb a (semiweekly_from n) monthly) refl in
+    let first : period_first form (semiweekly_from n) a ≡ month_start (month_of a) =
+    rw (lt-ltb a (semiweekly_from n) monthly) refl in
     let starts : period_first form (semiweekly_from n) a ≡ a = first ∙ sym m.0 in
     record {
       from = k3;
@@ -112,35 +122,45 @@ cut_of form line a b turn h =
       month = m.0;
       month_ends = m.1;
       starts = starts;
-      divides = divides_from (periods form (semiweekly_from n)) (year_start line.year) (year_last line.year) a (year_divides form n y.0 y.1 y.2) k3 starts;
+      divides = divides_from (periods form (semiweekly_from n)) (year_start line.year)
+          (year_last line.year) a (year_divides form n y.0 y.1 y.2) k3 starts;
     }
 
-pub whole_last : (form : Form) → (line : YearLine) (a b : ℕ) (turn : Option ℕ) → Cut form line a b turn → b ≡ year_last line.year → IsWhole form (with_turn line turn) a b
+pub whole_last : (form : Form) → (line : YearLine) (a b : ℕ) (turn : Option ℕ)
+    → Cut form line a b turn → b ≡ year_last line.year → IsWhole form (with_turn line turn) a b
 whole_last form line a b turn h e =
     let some = h.some in
     let D : ℕ → Type 0 = λ z. Divides (periods form (semiweekly_from (with_turn line turn))) a z in
     record { from = h.from; to = h.to; some = omega arith; divides = subst D (sym e) h.divides }
 
 -- the first day of the period that goes on
-pub open_first : (form : Form) → (line : YearLine) (a b : ℕ) (turn : Option ℕ) → Cut form line a b turn
-    → (a ≤ period_first form (semiweekly_from (with_turn line turn)) b) × (period_first form (semiweekly_from (with_turn line turn)) b ≤ b)
+pub open_first : (form : Form) → (line : YearLine) (a b : ℕ) (turn : Option ℕ)
+    → Cut form line a b turn
+    → (a ≤ period_first form (semiweekly_from (with_turn line turn)) b)
+    × (period_first form (semiweekly_from (with_turn line turn)) b ≤ b)
 open_first form line a b turn h = (let x = h.divides b h.some h.to in (x.0, x.1))
 
-pub whole_before : (form : Form) → (line : YearLine) (a b first : ℕ) (turn : Option ℕ) → Cut form line a b turn → 0 < a → first ≡ period_first form (semiweekly_from (with_turn line turn)) b → IsWhole form (with_turn line turn) a (first - 1)
+pub whole_before : (form : Form) → (line : YearLine) (a b first : ℕ) (turn : Option ℕ)
+    → Cut form line a b turn → 0 < a → first ≡ period_first form
+    (semiweekly_from (with_turn line turn)) b → IsWhole form (with_turn line turn) a (first - 1)
 whole_before form line a b first turn h some e =
     let p = periods form (semiweekly_from (with_turn line turn)) in
     let w = open_first form line a b turn h in
     let w0 = w.0 in let w1 = w.1 in let to = h.to in
-    let own : p.first first ≡ first = ap p.first e ∙ (first_first p a (year_last line.year) b h.divides h.some to ∙ sym e) in
+    let own : p.first first ≡ first = ap p.first e
+    ∙ (first_first p a (year_last line.year) b h.divides h.some to ∙ sym e) in
     record {
       from = h.from;
       to = omega arith;
       some = omega arith;
-      divides = divides_before p a (year_last line.year) first h.divides (omega arith) (omega arith) own;
+      divides = divides_before p a (year_last line.year) first h.divides (omega arith)
+          (omega arith) own;
     }
 
 -- where the turn has not come, that period is the month
-pub open_is : (form : Form) → (line : YearLine) (a b : ℕ) (turn : Option ℕ) → Split form line a b turn → Cut form line a b turn → period_first form (semiweekly_from (with_turn line turn)) b ≡ open_from form turn b
+pub open_is : (form : Form) → (line : YearLine) (a b : ℕ) (turn : Option ℕ)
+    → Split form line a b turn → Cut form line a b turn
+    → period_first form (semiweekly_from (with_turn line turn)) b ≡ open_from form turn b
 open_is form line a b turn h k =
     let n : YearLine = with_turn line turn in
     let to = k.to in
@@ -148,13 +168,18 @@ open_is form line a b turn h k =
       | inl none ↦
           (let e = from_none n h.within.0 none in
           let monthly : b < semiweekly_from n = omega arith in
-          let first : period_first form (semiweekly_from n) b ≡ month_start (month_of b) = rw (lt-ltb b (semiweekly_from n) monthly) refl in
+          let first : period_first form (semiweekly_from n) b ≡ month_start (month_of b) =
+          rw (lt-ltb b (semiweekly_from n) monthly) refl in
           first ∙ rw none refl)
-      | inr is ↦ (let e = from_turn n is.0 h.within.0 is.1 in ap (λ z. period_first form z b) e ∙ rw is.1 refl)
+      | inr is ↦ (let e = from_turn n is.0 h.within.0 is.1 in
+          ap (λ z. period_first form z b) e ∙ rw is.1 refl)
     ]
 
-pub rest_ready : (form : Form) → (line : YearLine) (a b first : ℕ) (turn : Option ℕ) (asked : Window) (sums : List DaySum) → Split form line a b turn → Cut form line a b turn → 0 < a → b < year_last line.year
-    → first ≡ period_first form (semiweekly_from (with_turn line turn)) b → asked.from ≡ b + 1 → asked.to ≡ year_last line.year → SumsRise a b sums
+pub rest_ready : (form : Form) → (line : YearLine) (a b first : ℕ) (turn : Option ℕ)
+    (asked : Window) (sums : List DaySum) → Split form line a b turn → Cut form line a b turn
+    → 0 < a → b < year_last line.year
+    → first ≡ period_first form (semiweekly_from (with_turn line turn)) b → asked.from ≡ b + 1
+    → asked.to ≡ year_last line.year → SumsRise a b sums
     → ReadyRest form line asked (drop (upto (first - 1) sums) sums) first turn
 rest_ready form line a b first turn asked sums h k pos on e from to rise =
     let w = open_first form line a b turn k in
@@ -171,33 +196,45 @@ rest_ready form line a b first turn asked sums h k pos on e from to rise =
       to = to;
       within = elim (cases_turn turn) [
         | inl none ↦ rw none tt
-        | inr is ↦ (let v = rw is.1 at h.within.2 in let v0 = v.0 in let v1 = v.1 in rw is.1 (omega arith, omega arith))
+        | inr is ↦ (let v = rw is.1 at h.within.2 in let v0 = v.0 in let v1 = v.1 in
+            rw is.1 (omega arith, omega arith))
       ];
       is_first = rw back (e ∙ open_is form line a b turn h k);
       rise = rw back later2;
     }
 
 -- the lines of the day's year after the change, where the turn that was told is the turn
-turn_told : (form : Form) → (day : ℕ) (before after : History) (holidays : List ℕ) (s : Settled) (turn : Option ℕ) → (st : Stands form day holidays before after (repairing s stage.Period))
+turn_told : (form : Form) → (day : ℕ) (before after : History) (holidays : List ℕ) (s : Settled)
+    (turn : Option ℕ) → (st : Stands form day holidays before after (repairing s stage.Period))
     → st.new.turn ≡ turn → st.new ≡ with_turn st.old turn
 turn_told form day before after holidays s turn st e =
     let c = st.common.change in
-    let change = year_change day before after c st.old st.new st.common.year.is_old st.common.year.is_new st.common.year.same st.at.of_day.0 st.at.of_day.1 in
+    let change = year_change day before after c st.old st.new st.common.year.is_old
+    st.common.year.is_new st.common.year.same st.at.of_day.0 st.at.of_day.1 in
     line_same (with_turn st.old turn) st.new change.same change.opening e
 
 -- the period ends the year: the year is settled
-pub last_settled : (form : Form) → (day : ℕ) (holidays : List ℕ) (before after : History) (s t : Settled) (turn : Option ℕ) (sums : List DaySum) (added : List Obligation)
-    → All (λ d. d < holidays_end) (holidays_of s.holidays.now) → (st : Stands form day holidays before after (repairing s stage.Period)) → AreSumsOf after s.asked sums
-    → s.asked.to ≡ year_last st.old.year → IsWhole form (with_turn st.old turn) s.asked.from s.asked.to → IsTurnNow st.old st.new s.asked.to (now.Changed turn)
-    → AreOwed (due_date (holidays_of s.holidays.now)) (liability sums) (periods form (semiweekly_from (with_turn st.old turn))) s.asked.from (s.asked.to + 1) added
-    → t.lines.now ≡ s.lines.now → holidays_of t.holidays.now ≡ holidays_of s.holidays.now → t.from ≡ s.from → t.years.items ≡ s.years.items → t.rows.items ≡ s.rows.items ++ added
+pub last_settled : (form : Form) → (day : ℕ) (holidays : List ℕ) (before after : History)
+    (s t : Settled) (turn : Option ℕ) (sums : List DaySum) (added : List Obligation)
+    → All (λ d. d < holidays_end) (holidays_of s.holidays.now)
+    → (st : Stands form day holidays before after (repairing s stage.Period))
+    → AreSumsOf after s.asked sums
+    → s.asked.to ≡ year_last st.old.year → IsWhole form (with_turn st.old turn) s.asked.from
+    s.asked.to → IsTurnNow st.old st.new s.asked.to (now.Changed turn)
+    → AreOwed (due_date (holidays_of s.holidays.now)) (liability sums)
+    (periods form (semiweekly_from (with_turn st.old turn))) s.asked.from (s.asked.to + 1) added
+    → t.lines.now ≡ s.lines.now → holidays_of t.holidays.now ≡ holidays_of s.holidays.now
+    → t.from ≡ s.from → t.years.items ≡ s.years.items → t.rows.items ≡ s.rows.items ++ added
     → IsSettledYear form day holidays before after t (with_turn st.old turn)
-last_settled form day holidays before after s t turn sums added known0 st agree ends whole told owed0 lines calendar from years rows =
+last_settled form day holidays before after s t turn sums added known0 st agree ends whole told
+    owed0 lines calendar from years rows =
     let c = st.common.change in
     let old = st.old in
     let n : YearLine = with_turn old turn in
-    let known : All (λ d. d < holidays_end) holidays = subst (λ (z : List ℕ). All (λ d. d < holidays_end) z) st.calendar known0 in
-    let change = year_change day before after c old st.new st.common.year.is_old st.common.year.is_new st.common.year.same st.at.of_day.0 st.at.of_day.1 in
+    let known : All (λ d. d < holidays_end) holidays =
+    subst (λ (z : List ℕ). All (λ d. d < holidays_end) z) st.calendar known0 in
+    let change = year_change day before after c old st.new st.common.year.is_old
+    st.common.year.is_new st.common.year.same st.at.of_day.0 st.at.of_day.1 in
     let same = st.common.year.same in
     let turn_is_now : st.new.turn ≡ turn =
     elim (cases_turn turn) [
@@ -209,16 +246,24 @@ last_settled form day holidays before after s t turn sums added known0 st agree 
             | inr some ↦
                 let late = rw some.1 at after_it in
                 absurd (elim change.is_new [
-                  | inl semi ↦ (let z : ◌≡◌ {A = Option ℕ} None (Some some.0) = sym semi.1 ∙ some.1 in cc)
-                  | inr m ↦ (let at = turn_is (liability after.sums) st.new some.0 some.1 m.1 in let a1 = at.1 in let P : year_last st.new.year ≡ year_last old.year = ap year_last (sym same) in omega arith)
+                  | inl semi ↦ (let z : ◌≡◌ {A = Option ℕ} None (Some some.0) = sym semi.1
+                      ∙ some.1 in cc)
+                  | inr m ↦ (let at = turn_is (liability after.sums) st.new some.0 some.1 m.1 in
+                      let a1 = at.1 in
+                      let P : year_last st.new.year ≡ year_last old.year =
+                      ap year_last (sym same) in omega arith)
                 ])
           ]
     ] in
     let one : st.new ≡ n = turn_told form day before after holidays s turn st turn_is_now in
-    let has : Has after.lines n = subst (λ (z : YearLine). Has after.lines z) one st.common.year.is_new in
-    let common = subst (λ (z : YearLine). StandsIn form day holidays before after s.lines.now s.from s.years.items old z) one st.common in
-    let owed = subst (λ (v : List ℕ). AreOwed (due_date v) (liability sums) (periods form (semiweekly_from n)) s.asked.from (s.asked.to + 1) added) st.calendar owed0 in
-    let here0 = rows_are form after holidays n sums s.asked.from s.asked.to added known c.is_after has whole.from whole.to whole.divides agree owed in
+    let has : Has after.lines n = subst (λ (z : YearLine). Has after.lines z) one
+    st.common.year.is_new in
+    let common = subst (λ (z : YearLine). StandsIn form day holidays before after s.lines.now s.from
+    s.years.items old z) one st.common in
+    let owed = subst (λ (v : List ℕ). AreOwed (due_date v) (liability sums)
+    (periods form (semiweekly_from n)) s.asked.from (s.asked.to + 1) added) st.calendar owed0 in
+    let here0 = rows_are form after holidays n sums s.asked.from s.asked.to added known c.is_after
+    has whole.from whole.to whole.divides agree owed in
     let R : ℕ → Type 0 = λ z. AreRows form after holidays s.asked.from (z + 1) added in
     let here = subst R ends here0 in
     let empty : s.rows.items ++ added ≡ added = ap (λ z. z ++ added) st.at.rows in
@@ -233,32 +278,46 @@ last_settled form day holidays before after s t turn sums added known0 st agree 
     }
 
 -- no row begins in a run of no days
-none_here : (form : Form) → (h : History) (holidays : List ℕ) (due : Rule → ℕ → ℕ) (L : ℕ → ℕ → ℕ) (p : Periods) (a : ℕ) (rows : List Obligation) → AreOwed due L p a a rows → AreRows form h holidays a a rows
+none_here : (form : Form) → (h : History) (holidays : List ℕ) (due : Rule → ℕ → ℕ) (L : ℕ → ℕ → ℕ)
+    (p : Periods) (a : ℕ) (rows : List Obligation) → AreOwed due L p a a rows
+    → AreRows form h holidays a a rows
 none_here form h holidays due L p a rows owed = record {
   by_first_day = by_first_day a a rows owed.rise;
   all = λ o. (
-    (λ k. absurd (let w = rise_within a a rows o owed.rise k in let w0 = w.0 in let w1 = w.1 in let w2 = w.2 in omega arith)),
+    (λ k. absurd (let w = rise_within a a rows o owed.rise k in let w0 = w.0 in let w1 = w.1 in
+        let w2 = w.2 in omega arith)),
     (λ w. absurd (let w1 = w.1 in let w2 = w.2 in omega arith)),
   );
 }
 
 -- the year goes on after the period: its rest is the next window
-pub turned_next : (form : Form) → (day : ℕ) (holidays : List ℕ) (before after : History) (s : Settled) (turn : Option ℕ) (sums : List DaySum) (added : List Obligation) (first : ℕ) (r : Repairing)
-    → All (λ d. d < holidays_end) (holidays_of s.holidays.now) → (st : Stands form day holidays before after (repairing s stage.Period)) → AreSumsOf after s.asked sums → SumsRise s.asked.from s.asked.to sums
-    → Split form st.old s.asked.from s.asked.to turn → 0 < s.asked.from → s.asked.to < year_last st.old.year → IsTurnNow st.old st.new s.asked.to (now.Changed turn)
+pub turned_next : (form : Form) → (day : ℕ) (holidays : List ℕ) (before after : History)
+    (s : Settled) (turn : Option ℕ) (sums : List DaySum) (added : List Obligation) (first : ℕ)
+    (r : Repairing)
+    → All (λ d. d < holidays_end) (holidays_of s.holidays.now)
+    → (st : Stands form day holidays before after (repairing s stage.Period))
+    → AreSumsOf after s.asked sums → SumsRise s.asked.from s.asked.to sums
+    → Split form st.old s.asked.from s.asked.to turn → 0 < s.asked.from
+    → s.asked.to < year_last st.old.year → IsTurnNow st.old st.new s.asked.to (now.Changed turn)
     → first ≡ period_first form (semiweekly_from (with_turn st.old turn)) s.asked.to
-    → AreOwed (due_date (holidays_of s.holidays.now)) (liability (take (upto (first - 1) sums) sums)) (periods form (semiweekly_from (with_turn st.old turn))) s.asked.from (first - 1 + 1) added
-    → r.lines ≡ s.lines.now → r.holidays ≡ holidays → r.from ≡ s.from → r.asked ≡ record { from = s.asked.to + 1; to = year_last st.old.year }
-    → r.rows ≡ s.rows.items ++ added → r.years ≡ s.years.items → r.held ≡ drop (upto (first - 1) sums) sums → r.stage ≡ stage.Rest first turn
+    → AreOwed (due_date (holidays_of s.holidays.now))
+    (liability (take (upto (first - 1) sums) sums))
+    (periods form (semiweekly_from (with_turn st.old turn))) s.asked.from (first - 1 + 1) added
+    → r.lines ≡ s.lines.now → r.holidays ≡ holidays → r.from ≡ s.from
+    → r.asked ≡ record { from = s.asked.to + 1; to = year_last st.old.year }
+    → r.rows ≡ s.rows.items ++ added → r.years ≡ s.years.items
+    → r.held ≡ drop (upto (first - 1) sums) sums → r.stage ≡ stage.Rest first turn
     → Stands form day holidays before after r × IsNext form day before after s.asked r.asked
-turned_next form day holidays before after s turn sums added first r known0 st agree rise split pos on told first_is owed0 lines calendar from window rows years held at =
+turned_next form day holidays before after s turn sums added first r known0 st agree rise split pos
+    on told first_is owed0 lines calendar from window rows years held at =
     let c = st.common.change in
     let old = st.old in
     let n : YearLine = with_turn old turn in
     let a : ℕ = s.asked.from in
     let b : ℕ = s.asked.to in
     let M = liability after.sums in
-    let known : All (λ d. d < holidays_end) holidays = subst (λ (z : List ℕ). All (λ d. d < holidays_end) z) st.calendar known0 in
+    let known : All (λ d. d < holidays_end) holidays =
+    subst (λ (z : List ℕ). All (λ d. d < holidays_end) z) st.calendar known0 in
     let cut = cut_of form old a b turn split in
     let k0 = cut.from in let k1 = cut.some in let k2 = cut.to in
     let whole = whole_before form old a b first turn cut pos first_is in
@@ -267,61 +326,78 @@ turned_next form day holidays before after s turn sums added first r known0 st a
     let one_more : first - 1 + 1 ≡ first = omega arith in
     let f = year_facts old.year split.year.0 split.year.1 in
     let f2 = f.2 in
-    let change = year_change day before after c old st.new st.common.year.is_old st.common.year.is_new st.common.year.same st.at.of_day.0 st.at.of_day.1 in
+    let change = year_change day before after c old st.new st.common.year.is_old
+    st.common.year.is_new st.common.year.same st.at.of_day.0 st.at.of_day.1 in
     let same = st.common.year.same in
     let opening : st.new.opening ≡ kind.Monthly = sym change.opening ∙ split.within.0 in
     let front : List DaySum = take (upto (first - 1) sums) sums in
     let back : List DaySum = drop (upto (first - 1) sums) sums in
     let joined : front ++ back ≡ sums = take-append-drop (upto (first - 1) sums) sums in
-    let parts : (u v : ℕ) → liability sums u v ≡ liability front u v + liability back u v = λ u v. ap (λ z. liability z u v) (sym joined) ∙ liability-append front back u v in
+    let parts : (u v : ℕ) → liability sums u v ≡ liability front u v + liability back u v =
+    λ u v. ap (λ z. liability z u v) (sym joined) ∙ liability-append front back u v in
     let front_rise = cut_here (first - 1) a b sums rise in
     let back_rise = cut_later (first - 1) a b sums (omega arith) rise in
     let agree_back : AreSumsOf after (record { from = first; to = b }) back =
-    λ u v l m. (let e = agree u v (omega arith) m in let q = parts u v in let none = liability_over a (first - 1) front u v front_rise (omega arith) in omega arith) in
+    λ u v l m. (let e = agree u v (omega arith) m in let q = parts u v in
+    let none = liability_over a (first - 1) front u v front_rise (omega arith) in omega arith) in
     let agree_front : (u v : ℕ) → a ≤ u → v ≤ first - 1 → M u v ≡ liability front u v =
-    λ u v l m. (let e = agree u v l (omega arith) in let q = parts u v in let none = liability_none (first - 1 + 1) b back u v back_rise (omega arith) in omega arith) in
-    let owed = subst (λ (v : List ℕ). AreOwed (due_date v) (liability front) (periods form (semiweekly_from n)) a (first - 1 + 1) added) st.calendar owed0 in
+    λ u v l m. (let e = agree u v l (omega arith) in let q = parts u v in
+    let none = liability_none (first - 1 + 1) b back u v back_rise (omega arith) in omega arith) in
+    let owed = subst (λ (v : List ℕ). AreOwed (due_date v) (liability front)
+    (periods form (semiweekly_from n)) a (first - 1 + 1) added) st.calendar owed0 in
     let here : AreRows form after holidays a first added =
     elim (cases_turn turn) [
       | inl none ↦
-          let open_at : first ≡ month_start (month_of b) = first_is ∙ (open_is form old a b turn split cut ∙ rw none refl) in
+          let open_at : first ≡ month_start (month_of b) = first_is
+          ∙ (open_is form old a b turn split cut ∙ rw none refl) in
           let month = cut.month in let month_ends = cut.month_ends in
           let end = month_start-end in
-          let in_month : month_start (month_of b) ≡ month_start (month_of a) = ap month_start (month_of_only b (month_of a) (omega arith) (omega arith) (omega arith)) in
+          let in_month : month_start (month_of b) ≡ month_start (month_of a) =
+          ap month_start (month_of_only b (month_of a) (omega arith) (omega arith) (omega arith)) in
           let is_a : first ≡ a = omega arith in
           let empty : first - 1 + 1 ≡ a = omega arith in
-          let O : ℕ → Type 0 = λ z. AreOwed (due_date holidays) (liability front) (periods form (semiweekly_from n)) a z added in
+          let O : ℕ → Type 0 = λ z. AreOwed (due_date holidays) (liability front)
+          (periods form (semiweekly_from n)) a z added in
           let R : ℕ → Type 0 = λ z. AreRows form after holidays a z added in
-          subst R (sym is_a) (none_here form after holidays (due_date holidays) (liability front) (periods form (semiweekly_from n)) a added (subst O empty owed))
+          subst R (sym is_a) (none_here form after holidays (due_date holidays) (liability front)
+          (periods form (semiweekly_from n)) a added (subst O empty owed))
       | inr is ↦
           let g = rw is.1 at told.1 in
-          let one : st.new ≡ n = turn_told form day before after holidays s turn st (g ∙ sym is.1) in
-          let has : Has after.lines n = subst (λ (z : YearLine). Has after.lines z) one st.common.year.is_new in
+          let one : st.new ≡ n = turn_told form day before after holidays s turn st
+          (g ∙ sym is.1) in
+          let has : Has after.lines n = subst (λ (z : YearLine). Has after.lines z) one
+          st.common.year.is_new in
           let R : ℕ → Type 0 = λ z. AreRows form after holidays a z added in
-          subst R one_more (rows_are form after holidays n front a (first - 1) added known c.is_after has whole.from whole.to whole.divides agree_front owed)
+          subst R one_more (rows_are form after holidays n front a (first - 1) added known
+          c.is_after has whole.from whole.to whole.divides agree_front owed)
     ] in
     let first_new : first ≡ period_first form (semiweekly_from st.new) b =
     elim (cases_turn turn) [
       | inr is ↦
           let g = rw is.1 at told.1 in
-          let one : st.new ≡ n = turn_told form day before after holidays s turn st (g ∙ sym is.1) in
+          let one : st.new ≡ n = turn_told form day before after holidays s turn st
+          (g ∙ sym is.1) in
           first_is ∙ ap (λ (z : YearLine). period_first form (semiweekly_from z) b) (sym one)
       | inl none ↦
-          let open_at : first ≡ month_start (month_of b) = first_is ∙ (open_is form old a b turn split cut ∙ rw none refl) in
+          let open_at : first ≡ month_start (month_of b) = first_is
+          ∙ (open_is form old a b turn split cut ∙ rw none refl) in
           let after_it = rw none at told.1 in
           let year_end : year_last st.new.year ≡ year_last old.year = ap year_last (sym same) in
           let monthly : b < semiweekly_from st.new =
           elim (cases_turn st.new.turn) [
             | inl never ↦ (let e = from_none st.new opening never in omega arith)
-            | inr some ↦ (let late = rw some.1 at after_it in let e = from_turn st.new some.0 opening some.1 in omega arith)
+            | inr some ↦ (let late = rw some.1 at after_it in
+                let e = from_turn st.new some.0 opening some.1 in omega arith)
           ] in
           open_at ∙ sym (rw (lt-ltb b (semiweekly_from st.new) monthly) refl)
     ] in
     let new_year = line_is after.lines after.sums st.new c.is_after st.common.year.is_new in
     let starts : year_start st.new.year ≡ year_start old.year = ap year_start (sym same) in
     let ends : year_last st.new.year ≡ year_last old.year = ap year_last (sym same) in
-    let open_now : IsPeriodOf form st.new b (record { from = first; to = period_last form (semiweekly_from st.new) b }) =
-    subst (λ (z : ℕ). IsPeriodOf form st.new b (record { from = z; to = period_last form (semiweekly_from st.new) b })) (sym first_new)
+    let open_now : IsPeriodOf form st.new b
+    (record { from = first; to = period_last form (semiweekly_from st.new) b }) =
+    subst (λ (z : ℕ). IsPeriodOf form st.new b
+    (record { from = z; to = period_last form (semiweekly_from st.new) b })) (sym first_new)
     (day_period form st.new b new_year (omega arith) (omega arith)) in
     let w_from : r.asked.from ≡ b + 1 = ap (λ (v : Window). v.from) window in
     let w_to : r.asked.to ≡ year_last old.year = ap (λ (v : Window). v.to) window in

@@ -1,6 +1,8 @@
--- What a change of one day's runs does to the turn of its year, as the day's deposit period tells it.
+-- What a change of one day's runs does to the turn of its year, as the day's deposit period tells
+-- it.
 use Rattle.ftd_rules.specs.declared.Form.{Form}
-use Rattle.std.proofs.Common.{◌≡◌, ℕ, ◌+◌, ◌-◌, ◌<◌, ◌≤◌, ◌⊎◌, inl, inr, Bool, refl, sym, ap, ◌∙◌, subst, arith}
+use Rattle.std.proofs.Common.{◌≡◌, ℕ, ◌+◌, ◌-◌, ◌<◌, ◌≤◌, ◌⊎◌, inl, inr, Bool, refl, sym, ap, ◌∙◌}
+use Rattle.std.proofs.Common.{subst, arith}
 use Rattle.std.specs.Prelude.{Option, None, Some, IfSome, min, true, false}
 use Rattle.std.specs.Option.{option_eq}
 use Rattle.std.proofs.lemmas.Bool.{cases_order, lt-ltb, false≢true}
@@ -19,7 +21,8 @@ use Rattle.ftd_rules.proofs.Cuts.{lt_or_le}
 use Rattle.ftd_rules.proofs.Status.{month_at_least}
 use Rattle.ftd_rules.proofs.Bridge.{period_only}
 use Rattle.ftd_rules.proofs.Pieces.{IsYear}
-use Rattle.ftd_rules.proofs.Schedules.{year_facts, year_divides, cases_turn, turn_is, from_semiweekly, from_turn, from_none}
+use Rattle.ftd_rules.proofs.Schedules.{year_facts, year_divides, cases_turn, turn_is}
+use Rattle.ftd_rules.proofs.Schedules.{from_semiweekly, from_turn, from_none}
 use Rattle.ftd_buckets.specs.Histories.{TurnsWithin}
 use Rattle.ftd_buckets.specs.Private.Turned.{IsYearChange}
 
@@ -35,7 +38,8 @@ cases_opening : (line : YearLine) → (line.opening ≡ kind.Semiweekly) ⊎ (li
 cases_opening line = cases_kind line.opening
 
 -- a year has one turn
-pub turn_one : (M : ℕ → ℕ → ℕ) (line : YearLine) (t : ℕ) → HasTurn M line → IsTurn M (year_start line.year) (year_last line.year) t → line.turn ≡ Some t
+pub turn_one : (M : ℕ → ℕ → ℕ) (line : YearLine) (t : ℕ) → HasTurn M line
+    → IsTurn M (year_start line.year) (year_last line.year) t → line.turn ≡ Some t
 turn_one M line t h its =
     let i0 = its.0 in let i1 = its.1 in let i2 = its.2 in
     elim (cases_turn line.turn) [
@@ -51,31 +55,44 @@ turn_one M line t h its =
     ]
 
 -- and none where no day is one
-pub turn_none : (M : ℕ → ℕ → ℕ) (line : YearLine) → HasTurn M line → ((v : ℕ) → year_start line.year ≤ v → v ≤ year_last line.year → month_total M v < next_day_amount) → line.turn ≡ None
+pub turn_none : (M : ℕ → ℕ → ℕ) (line : YearLine) → HasTurn M line
+    → ((v : ℕ) → year_start line.year ≤ v → v ≤ year_last line.year
+    → month_total M v < next_day_amount) → line.turn ≡ None
 turn_none M line h quiet =
     elim (cases_turn line.turn) [
       | inl none ↦ none
-      | inr some ↦ absurd (let at = turn_is M line some.0 some.1 h in let a2 = at.2 in let small = quiet some.0 at.0 at.1 in omega arith)
+      | inr some ↦ absurd (let at = turn_is M line some.0 some.1 h in let a2 = at.2 in
+          let small = quiet some.0 at.0 at.1 in omega arith)
     ]
 
-pub line_same : (old new : YearLine) → given old ≡ given new → old.opening ≡ new.opening → new.turn ≡ old.turn → new ≡ old
+pub line_same : (old new : YearLine) → given old ≡ given new → old.opening ≡ new.opening
+    → new.turn ≡ old.turn → new ≡ old
 line_same old new e opening turn =
     let year : new.year ≡ old.year = sym (ap (λ (z : ℕ × ℕ × Bool). z.0) e) in
     let lookback : new.lookback.0 ≡ old.lookback.0 = sym (ap (λ (z : ℕ × ℕ × Bool). z.1) e) in
     let carried : new.carried ≡ old.carried = sym (ap (λ (z : ℕ × ℕ × Bool). z.2) e) in
     let open_same : new.opening ≡ old.opening = sym opening in
-    λ i. record { year = year i; lookback = record { 0 = lookback i }; carried = carried i; opening = open_same i; turn = turn i }
+    λ i. record {
+      year = year i;
+      lookback = record { 0 = lookback i };
+      carried = carried i;
+      opening = open_same i;
+      turn = turn i;
+    }
 
 -- what a line's own fields say
 pub line_year : (line : YearLine) → 2001 ≤ line.year → line.year ≤ 2098 → TurnsWithin line
-    → IsYear line × (semiweekly_from line ≤ year_last line.year + 1) × IfSome line.turn (λ t. t < years_end)
+    → IsYear line × (semiweekly_from line ≤ year_last line.year + 1) × IfSome line.turn
+    (λ t. t < years_end)
 line_year line l m h =
     let f = year_facts line.year l m in
     let f1 = f.1 in let f2 = f.2 in
     elim (cases_turn line.turn) [
       | inl none ↦ elim (cases_opening line) [
-        | inl semi ↦ let e = from_semiweekly line semi in ((l, m, omega arith), omega arith, rw none tt)
-        | inr monthly ↦ let e = from_none line monthly none in ((l, m, omega arith), omega arith, rw none tt)
+        | inl semi ↦ let e = from_semiweekly line semi in
+            ((l, m, omega arith), omega arith, rw none tt)
+        | inr monthly ↦ let e = from_none line monthly none in
+            ((l, m, omega arith), omega arith, rw none tt)
       ]
       | inr some ↦
           let k = rw some.1 at h in
@@ -86,17 +103,23 @@ line_year line l m h =
     ]
 
 -- a deposit period in closed form
-pub period_facts : (form : Form) → (line : YearLine) (a b : ℕ) → IsYear line → IsPeriod form line a b
-    → (period_first form (semiweekly_from line) a ≡ a) × (period_last form (semiweekly_from line) a ≡ b) × (a ≤ b) × (year_start line.year ≤ a) × (b ≤ year_last line.year)
+pub period_facts : (form : Form) → (line : YearLine) (a b : ℕ) → IsYear line
+    → IsPeriod form line a b
+    → (period_first form (semiweekly_from line) a ≡ a)
+    × (period_last form (semiweekly_from line) a ≡ b) × (a ≤ b) × (year_start line.year ≤ a)
+    × (b ≤ year_last line.year)
 period_facts form line a b y p =
     let f = year_facts line.year y.0 y.1 in
     let f2 = f.2 in
-    let only = period_only form line a b f.0 (omega arith) (year_divides form line y.0 y.1 y.2) (period_run form line a b p) in
+    let only = period_only form line a b f.0 (omega arith) (year_divides form line y.0 y.1 y.2)
+    (period_run form line a b p) in
     (only.0, only.1, p.0, p.1, p.2)
 
 -- a monthly one begins with its month and ends before the next
-pub monthly_facts : (form : Form) → (line : YearLine) (a b : ℕ) → IsYear line → IsPeriod form line a b → a < semiweekly_from line
-    → (a ≡ month_start (month_of a)) × (b < month_start (month_of a + 1)) × (b ≡ min (semiweekly_from line - 1) (month_start (month_of a + 1) - 1))
+pub monthly_facts : (form : Form) → (line : YearLine) (a b : ℕ) → IsYear line
+    → IsPeriod form line a b → a < semiweekly_from line
+    → (a ≡ month_start (month_of a)) × (b < month_start (month_of a + 1))
+    × (b ≡ min (semiweekly_from line - 1) (month_start (month_of a + 1) - 1))
 monthly_facts form line a b y p monthly =
     let s = semiweekly_from line in
     let f = year_facts line.year y.0 y.1 in
@@ -107,11 +130,13 @@ monthly_facts form line a b y p monthly =
     let is = month_of_is a (omega arith) in
     let is0 = is.0 in let is1 = is.1 in
     let first : month_start (month_of a) ≡ a = rw (lt-ltb a s monthly) at k.0 in
-    let last : min (s - 1) (month_start (month_of a + 1) - 1) ≡ b = rw (lt-ltb a s monthly) at k.1 in
+    let last : min (s - 1) (month_start (month_of a + 1) - 1) ≡ b =
+    rw (lt-ltb a s monthly) at k.1 in
     (sym first, omega arith, sym last)
 
 -- the change of a day, as the sums of its deposit period show it
-pub record Shown (form : Form) (L M F : ℕ → ℕ → ℕ) (day : ℕ) (old new : YearLine) (a b : ℕ) : Type 0 where
+pub record Shown (form : Form) (L M F : ℕ → ℕ → ℕ) (day : ℕ) (old new : YearLine)
+    (a b : ℕ) : Type 0 where
   pub change : IsYearChange L M day old new
   pub year : IsYear old
   pub period : IsPeriod form old a b
@@ -120,7 +145,9 @@ pub record Shown (form : Form) (L M F : ℕ → ℕ → ℕ) (day : ℕ) (old ne
   pub agree : (u t : ℕ) → a ≤ u → t ≤ b → M u t ≡ F u t
 
 -- an old line that is monthly on the day opens so, and has no turn before the period
-pub old_monthly : (form : Form) → (L M F : ℕ → ℕ → ℕ) (day : ℕ) (old new : YearLine) (a b : ℕ) → Shown form L M F day old new a b → a < semiweekly_from old → (old.opening ≡ kind.Monthly) × HasTurn L old
+pub old_monthly : (form : Form) → (L M F : ℕ → ℕ → ℕ) (day : ℕ) (old new : YearLine) (a b : ℕ)
+    → Shown form L M F day old new a b → a < semiweekly_from old → (old.opening ≡ kind.Monthly)
+    × HasTurn L old
 old_monthly form L M F day old new a b c monthly =
     let k = period_facts form old a b c.year c.period in
     let k3 = k.3 in
@@ -129,7 +156,8 @@ old_monthly form L M F day old new a b c monthly =
       | inr m ↦ m
     ]
 
-pub new_monthly : (form : Form) → (L M F : ℕ → ℕ → ℕ) (day : ℕ) (old new : YearLine) (a b : ℕ) → Shown form L M F day old new a b → a < semiweekly_from old → HasTurn M new
+pub new_monthly : (form : Form) → (L M F : ℕ → ℕ → ℕ) (day : ℕ) (old new : YearLine) (a b : ℕ)
+    → Shown form L M F day old new a b → a < semiweekly_from old → HasTurn M new
 new_monthly form L M F day old new a b c monthly =
     let m = old_monthly form L M F day old new a b c monthly in
     let opening : new.opening ≡ kind.Monthly = sym c.change.opening ∙ m.0 in
@@ -139,7 +167,8 @@ new_monthly form L M F day old new a b c monthly =
     ]
 
 -- nothing turns before the period
-quiet_before : (form : Form) → (L M F : ℕ → ℕ → ℕ) (day : ℕ) (old new : YearLine) (a b : ℕ) → Shown form L M F day old new a b → a < semiweekly_from old
+quiet_before : (form : Form) → (L M F : ℕ → ℕ → ℕ) (day : ℕ) (old new : YearLine) (a b : ℕ)
+    → Shown form L M F day old new a b → a < semiweekly_from old
     → (v : ℕ) → year_start old.year ≤ v → v < a → month_total M v < next_day_amount
 quiet_before form L M F day old new a b c monthly v l m =
     let h = old_monthly form L M F day old new a b c monthly in
@@ -156,7 +185,8 @@ quiet_before form L M F day old new a b c monthly v l m =
     ]
 
 -- within it, the month's total is that of the sums
-pub total_within : (form : Form) → (L M F : ℕ → ℕ → ℕ) (day : ℕ) (old new : YearLine) (a b : ℕ) → Shown form L M F day old new a b → a < semiweekly_from old
+pub total_within : (form : Form) → (L M F : ℕ → ℕ → ℕ) (day : ℕ) (old new : YearLine) (a b : ℕ)
+    → Shown form L M F day old new a b → a < semiweekly_from old
     → (v : ℕ) → a ≤ v → v ≤ b → month_total M v ≡ month_total F v
 total_within form L M F day old new a b c monthly v l m =
     let f = year_facts old.year c.year.0 c.year.1 in
@@ -166,11 +196,13 @@ total_within form L M F day old new a b c monthly v l m =
     let n = monthly_facts form old a b c.year c.period monthly in
     let n0 = n.0 in let n1 = n.1 in
     let end = month_start-end in
-    let same : month_start (month_of v) ≡ month_start (month_of a) = ap month_start (month_of_only v (month_of a) (omega arith) (omega arith) (omega arith)) in
+    let same : month_start (month_of v) ≡ month_start (month_of a) =
+    ap month_start (month_of_only v (month_of a) (omega arith) (omega arith) (omega arith)) in
     c.agree (month_start (month_of v)) v (omega arith) m
 
 -- a turn that the sums show is the turn of the year
-pub turn_shown : (form : Form) → (L M F : ℕ → ℕ → ℕ) (day : ℕ) (old new : YearLine) (a b t : ℕ) → Shown form L M F day old new a b → a < semiweekly_from old
+pub turn_shown : (form : Form) → (L M F : ℕ → ℕ → ℕ) (day : ℕ) (old new : YearLine) (a b t : ℕ)
+    → Shown form L M F day old new a b → a < semiweekly_from old
     → IsTurn F a b t → new.turn ≡ Some t
 turn_shown form L M F day old new a b t c monthly its =
     let k = period_facts form old a b c.year c.period in
@@ -184,7 +216,9 @@ turn_shown form L M F day old new a b t c monthly its =
       omega arith,
       λ v l m. elim (lt_or_le v a) [
         | inl before ↦ quiet_before form L M F day old new a b c monthly v l before
-        | inr within ↦ let small = its.3 v within m in let e = total_within form L M F day old new a b c monthly v within (omega arith) in omega arith
+        | inr within ↦ let small = its.3 v within m in
+            let e = total_within form L M F day old new a b c monthly v within (omega arith) in
+            omega arith
       ],
     ) in
     let P : ℕ → Type 0 = λ y. IsTurn M (year_start y) (year_last y) t in
@@ -194,7 +228,8 @@ abbrev pub Quiet : (ℕ → ℕ → ℕ) → ℕ → ℕ → Type 0
 Quiet F a b = (v : ℕ) → a ≤ v → v ≤ b → month_total F v < next_day_amount
 
 -- where they show none, it comes after the period
-pub turn_after : (form : Form) → (L M F : ℕ → ℕ → ℕ) (day : ℕ) (old new : YearLine) (a b : ℕ) → Shown form L M F day old new a b → a < semiweekly_from old
+pub turn_after : (form : Form) → (L M F : ℕ → ℕ → ℕ) (day : ℕ) (old new : YearLine) (a b : ℕ)
+    → Shown form L M F day old new a b → a < semiweekly_from old
     → Quiet F a b → (t : ℕ) → new.turn ≡ Some t → b < t
 turn_after form L M F day old new a b c monthly quiet t e =
     let year : old.year ≡ new.year = ap (λ (z : ℕ × ℕ × Bool). z.0) c.change.same in
@@ -205,13 +240,16 @@ turn_after form L M F day old new a b c monthly quiet t e =
     elim (lt_or_le b t) [
       | inl less ↦ less
       | inr more ↦ absurd (elim (lt_or_le t a) [
-        | inl before ↦ let small = quiet_before form L M F day old new a b c monthly t a0 before in omega arith
-        | inr within ↦ let small = quiet t within more in let q = total_within form L M F day old new a b c monthly t within more in omega arith
+        | inl before ↦ let small = quiet_before form L M F day old new a b c monthly t a0 before in
+            omega arith
+        | inr within ↦ let small = quiet t within more in
+            let q = total_within form L M F day old new a b c monthly t within more in omega arith
       ])
     ]
 
 -- and where the old turn was not the last day of the period, it stays
-pub turn_stays : (form : Form) → (L M F : ℕ → ℕ → ℕ) (day : ℕ) (old new : YearLine) (a b : ℕ) → Shown form L M F day old new a b → a < semiweekly_from old
+pub turn_stays : (form : Form) → (L M F : ℕ → ℕ → ℕ) (day : ℕ) (old new : YearLine) (a b : ℕ)
+    → Shown form L M F day old new a b → a < semiweekly_from old
     → Quiet F a b → (old.turn ≡ Some b → ⊥) → new.turn ≡ old.turn
 turn_stays form L M F day old new a b c monthly quiet other =
     let f = year_facts old.year c.year.0 c.year.1 in
@@ -226,32 +264,42 @@ turn_stays form L M F day old new a b c monthly quiet other =
     let h = old_monthly form L M F day old new a b c monthly in
     let g = new_monthly form L M F day old new a b c monthly in
     -- in later months nothing has changed
-    let later : (v : ℕ) → b < v → v ≤ year_last old.year → month_start (month_of a + 1) ≤ b + 1 → month_total M v ≡ month_total L v =
+    let later : (v : ℕ) → b < v → v ≤ year_last old.year → month_start (month_of a + 1) ≤ b + 1
+    → month_total M v ≡ month_total L v =
     λ v l m whole. (let q = month_at_least v (month_of a + 1) (omega arith) (omega arith) in
     let r = month_start-mono (month_of a + 1) (month_of v) q in
     c.change.apart (month_start (month_of v)) v (inr (omega arith))) in
-    let small : (v : ℕ) → year_start old.year ≤ v → v ≤ year_last old.year → (b < v → month_start (month_of a + 1) ≤ b + 1) → (b < v → month_total L v < next_day_amount) → month_total M v < next_day_amount =
+    let small : (v : ℕ) → year_start old.year ≤ v → v ≤ year_last old.year
+    → (b < v → month_start (month_of a + 1) ≤ b + 1) → (b < v → month_total L v < next_day_amount)
+    → month_total M v < next_day_amount =
     λ v l m whole less. elim (lt_or_le v a) [
       | inl before ↦ quiet_before form L M F day old new a b c monthly v l before
       | inr from ↦ elim (lt_or_le b v) [
         | inl past ↦ let e = later v past m (whole past) in let z = less past in omega arith
-        | inr within ↦ let e = total_within form L M F day old new a b c monthly v from within in let z = quiet v from within in omega arith
+        | inr within ↦ let e = total_within form L M F day old new a b c monthly v from within in
+            let z = quiet v from within in omega arith
       ]
     ] in
     elim (cases_turn old.turn) [
       | inl none ↦
           let e = from_none old h.0 none in
           let calm = rw none at h.1 in
-          let all : (v : ℕ) → year_start old.year ≤ v → v ≤ year_last old.year → month_total M v < next_day_amount =
+          let all : (v : ℕ) → year_start old.year ≤ v → v ≤ year_last old.year
+          → month_total M v < next_day_amount =
           λ v l m. small v l m (λ past. omega arith) (λ past. calm v l m) in
-          let P : ℕ → Type 0 = λ y. (v : ℕ) → year_start y ≤ v → v ≤ year_last y → month_total M v < next_day_amount in
+          let P : ℕ → Type 0 = λ y. (v : ℕ) → year_start y ≤ v → v ≤ year_last y
+          → month_total M v < next_day_amount in
           turn_none M new g (subst P year all) ∙ sym none
       | inr some ↦
           let t = some.0 in
           let e = from_turn old t h.0 some.1 in
           let its = turn_is L old t some.1 h.1 in
           let i0 = its.0 in let i1 = its.1 in let i2 = its.2 in
-          let past : b < t = elim (lt_or_le b t) [ inl less ↦ less | inr more ↦ absurd (let same : b ≡ t = omega arith in other (some.1 ∙ ap Some (sym same))) ] in
+          let past : b < t = elim (lt_or_le b t) [
+            | inl less ↦ less
+            | inr more ↦ absurd (let same : b ≡ t = omega arith in
+                other (some.1 ∙ ap Some (sym same)))
+          ] in
           let whole : month_start (month_of a + 1) ≤ b + 1 = omega arith in
           let at = later t past i1 whole in
           let turn : IsTurn M (year_start old.year) (year_last old.year) t =
@@ -261,7 +309,8 @@ turn_stays form L M F day old new a b c monthly quiet other =
     ]
 
 -- a year that is semiweekly in the period keeps its turn
-pub turn_earlier : (form : Form) → (L M F : ℕ → ℕ → ℕ) (day : ℕ) (old new : YearLine) (a b : ℕ) → Shown form L M F day old new a b → semiweekly_from old ≤ a → new.turn ≡ old.turn
+pub turn_earlier : (form : Form) → (L M F : ℕ → ℕ → ℕ) (day : ℕ) (old new : YearLine) (a b : ℕ)
+    → Shown form L M F day old new a b → semiweekly_from old ≤ a → new.turn ≡ old.turn
 turn_earlier form L M F day old new a b c semi =
     let k = period_facts form old a b c.year c.period in
     let k2 = k.2 in let k4 = k.4 in
@@ -270,10 +319,12 @@ turn_earlier form L M F day old new a b c semi =
     elim c.change.is_old [
       | inl s ↦ elim c.change.is_new [
         | inl s2 ↦ s2.1 ∙ sym s.1
-        | inr m ↦ absurd (let z : ◌≡◌ kind.Semiweekly kind.Monthly = sym s.0 ∙ (c.change.opening ∙ m.0) in cc)
+        | inr m ↦ absurd (let z : ◌≡◌ kind.Semiweekly kind.Monthly = sym s.0
+            ∙ (c.change.opening ∙ m.0) in cc)
       ]
       | inr m ↦ elim c.change.is_new [
-        | inl s2 ↦ absurd (let z : ◌≡◌ kind.Monthly kind.Semiweekly = sym m.0 ∙ (c.change.opening ∙ s2.0) in cc)
+        | inl s2 ↦ absurd (let z : ◌≡◌ kind.Monthly kind.Semiweekly = sym m.0
+            ∙ (c.change.opening ∙ s2.0) in cc)
         | inr m2 ↦ elim (cases_turn old.turn) [
           | inl none ↦ absurd (let e = from_none old m.0 none in omega arith)
           | inr some ↦
@@ -282,8 +333,14 @@ turn_earlier form L M F day old new a b c semi =
               let its = turn_is L old t some.1 m.1 in
               let i0 = its.0 in let i1 = its.1 in let i2 = its.2 in
               let at = c.change.apart (month_start (month_of t)) t (inl (omega arith)) in
-              let turn : IsTurn M (year_start old.year) (year_last old.year) t =
-              (i0, i1, omega arith, λ v l n. (let small = its.3 v l n in let q = c.change.apart (month_start (month_of v)) v (inl (omega arith)) in omega arith)) in
+              let turn : IsTurn M (year_start old.year) (year_last old.year) t = (
+                i0,
+                i1,
+                omega arith,
+                λ v l n. (let small = its.3 v l n in
+                    let q = c.change.apart (month_start (month_of v)) v (inl (omega arith)) in
+                    omega arith),
+              ) in
               let P : ℕ → Type 0 = λ y. IsTurn M (year_start y) (year_last y) t in
               turn_one M new t m2.1 (subst P year turn) ∙ sym some.1
         ]
@@ -291,9 +348,11 @@ turn_earlier form L M F day old new a b c semi =
     ]
 
 -- a test of an option against a value
-pub option_is : (E : ℕ → ℕ → Bool) → ((a b : ℕ) → E a b ≡ true → a ≡ b) → (o : Option ℕ) (t : ℕ) → option_eq E o (Some t) ≡ true → o ≡ Some t
+pub option_is : (E : ℕ → ℕ → Bool) → ((a b : ℕ) → E a b ≡ true → a ≡ b) → (o : Option ℕ) (t : ℕ)
+    → option_eq E o (Some t) ≡ true → o ≡ Some t
 option_is E is None t h = absurd (false≢true h)
 option_is E is (Some u) t h = ap Some (is u t h)
 
-pub option_not : (E : ℕ → ℕ → Bool) → ((a : ℕ) → E a a ≡ true) → (o : Option ℕ) (t : ℕ) → option_eq E o (Some t) ≡ false → o ≡ Some t → ⊥
+pub option_not : (E : ℕ → ℕ → Bool) → ((a : ℕ) → E a a ≡ true) → (o : Option ℕ) (t : ℕ)
+    → option_eq E o (Some t) ≡ false → o ≡ Some t → ⊥
 option_not E same o t h e = let k = rw e at h in false≢true (sym k ∙ same t)

@@ -1,6 +1,7 @@
 -- The years after a year whose line differs, and the windows that are needed for them.
 use Rattle.ftd_rules.specs.declared.Form.{Form}
-use Rattle.std.proofs.Common.{◌≡◌, ℕ, ◌+◌, ◌<◌, ◌≤◌, inl, inr, List, [], ◌∷◌, ◌++◌, refl, sym, ap, subst, arith}
+use Rattle.std.proofs.Common.{◌≡◌, ℕ, ◌+◌, ◌<◌, ◌≤◌, inl, inr, List, [], ◌∷◌, ◌++◌, refl, sym, ap}
+use Rattle.std.proofs.Common.{subst, arith}
 use Rattle.std.specs.List.{All}
 use Rattle.ftd_days.specs.Calendar.{year_start}
 use Rattle.ftd_days.specs.Business.{holidays_end}
@@ -11,7 +12,8 @@ use Rattle.ftd_rules.specs.Obligations.{ByFirstDay}
 use Rattle.ftd_rules.specs.Years.{YearsFrom, year_last}
 use Rattle.ftd_rules.proofs.Cuts.{lt_or_le}
 use Rattle.ftd_rules.proofs.Owed.{has_append, has_left, has_right}
-use Rattle.ftd_rules.proofs.Schedules.{year_facts, year_start-mono, year_divides, years_within, line_one}
+use Rattle.ftd_rules.proofs.Schedules.{year_facts, year_start-mono, year_divides, years_within}
+use Rattle.ftd_rules.proofs.Schedules.{line_one}
 use Rattle.ftd_rules.proofs.Covering.{line_is}
 use Rattle.ftd_buckets.specs.declared.Window.{Window}
 use Rattle.ftd_buckets.specs.Histories.{History, IsHistory, IsChange, AreLast}
@@ -20,7 +22,9 @@ use Rattle.ftd_buckets.specs.Patches.{IsOwed, AreRows, ByYear, AreChanged}
 use Rattle.ftd_buckets.specs.Standing.{AreChangedBefore}
 use Rattle.ftd_buckets.proofs.Elsewhere.{owed_later}
 
-by_first_append : (c : ℕ) (xs ys : List Obligation) → ByFirstDay xs → ByFirstDay ys → ((o : Obligation) → Has xs o → o.first < c) → ((o : Obligation) → Has ys o → c ≤ o.first) → ByFirstDay (xs ++ ys)
+by_first_append : (c : ℕ) (xs ys : List Obligation) → ByFirstDay xs → ByFirstDay ys
+    → ((o : Obligation) → Has xs o → o.first < c) → ((o : Obligation) → Has ys o → c ≤ o.first)
+    → ByFirstDay (xs ++ ys)
 by_first_append c [] ys x y f g = y
 by_first_append c (z ∷ xs) ys x y f g = (
   (λ o k. elim (has_append xs ys o k) [
@@ -31,7 +35,9 @@ by_first_append c (z ∷ xs) ys x y f g = (
 )
 
 -- rows of days before c, and rows from c on
-pub rows_append : (form : Form) → (h : History) (holidays : List ℕ) (a c b : ℕ) (xs ys : List Obligation) → a ≤ c → c ≤ b → AreRows form h holidays a c xs → AreRows form h holidays c b ys → AreRows form h holidays a b (xs ++ ys)
+pub rows_append : (form : Form) → (h : History) (holidays : List ℕ) (a c b : ℕ)
+    (xs ys : List Obligation) → a ≤ c → c ≤ b → AreRows form h holidays a c xs
+    → AreRows form h holidays c b ys → AreRows form h holidays a b (xs ++ ys)
 rows_append form h holidays a c b xs ys l m x y = record {
   by_first_day = by_first_append c xs ys x.by_first_day y.by_first_day
       (λ o k. let w = (x.all o).0 k in w.2) (λ o k. let w = (y.all o).0 k in w.1);
@@ -48,20 +54,24 @@ rows_append form h holidays a c b xs ys l m x y = record {
 }
 
 -- one line more, of a later year
-pub by_year_push : (xs : List YearLine) (x : YearLine) → ByYear xs → ((y : YearLine) → Has xs y → y.year < x.year) → ByYear (xs ++ (x ∷ []))
+pub by_year_push : (xs : List YearLine) (x : YearLine) → ByYear xs
+    → ((y : YearLine) → Has xs y → y.year < x.year) → ByYear (xs ++ (x ∷ []))
 by_year_push [] x h f = ((λ o k. absurd k), tt)
 by_year_push (z ∷ xs) x h f = (
   (λ o k. elim (has_append xs (x ∷ []) o k) [
     | inl old ↦ h.0 o old
-    | inr (inl e) ↦ (let y : o.year ≡ x.year = ap (λ (v : YearLine). v.year) e in let a = f z (inl refl) in omega arith)
+    | inr (inl e) ↦ (let y : o.year ≡ x.year = ap (λ (v : YearLine). v.year) e in
+        let a = f z (inl refl) in omega arith)
     | inr (inr never) ↦ absurd never
   ]),
   by_year_push xs x h.1 (λ o k. f o (inr k)),
 )
 
 -- the years of a list: the last one, and the one after a line
-pub last_year : (y : ℕ) (xs : List YearLine) (x : YearLine) → YearsFrom y (xs ++ (x ∷ [])) → (other : YearLine) → Has (xs ++ (x ∷ [])) other → other.year ≤ x.year
-last_year y [] x h other (inl e) = (let k : other.year ≡ x.year = ap (λ (v : YearLine). v.year) e in omega arith)
+pub last_year : (y : ℕ) (xs : List YearLine) (x : YearLine) → YearsFrom y (xs ++ (x ∷ []))
+    → (other : YearLine) → Has (xs ++ (x ∷ [])) other → other.year ≤ x.year
+last_year y [] x h other (inl e) = (let k : other.year ≡ x.year = ap (λ (v : YearLine). v.year) e in
+    omega arith)
 last_year y [] x h other (inr never) = absurd never
 last_year y (z ∷ xs) x h other (inl e) =
     let k : other.year ≡ z.year = ap (λ (v : YearLine). v.year) e in
@@ -71,7 +81,8 @@ last_year y (z ∷ xs) x h other (inl e) =
     omega arith
 last_year y (z ∷ xs) x h other (inr k) = last_year (y + 1) xs x h.1 other k
 
-pub next_year : (y : ℕ) (xs : List YearLine) (x z : YearLine) (zs : List YearLine) → YearsFrom y (xs ++ (x ∷ z ∷ zs)) → z.year ≡ x.year + 1
+pub next_year : (y : ℕ) (xs : List YearLine) (x z : YearLine) (zs : List YearLine)
+    → YearsFrom y (xs ++ (x ∷ z ∷ zs)) → z.year ≡ x.year + 1
 next_year y [] x z zs h = (let h0 = h.0 in let h1 = h.1.0 in omega arith)
 next_year y (w ∷ xs) x z zs h = next_year (y + 1) xs x z zs h.1
 
@@ -80,7 +91,8 @@ abbrev pub SameAfter : History → History → ℕ → Type 0
 SameAfter g h year = (line : YearLine) → Has g.lines line → year < line.year → Has h.lines line
 
 -- where the year is the last one
-pub none_after : (g h : History) (old : YearLine) → IsHistory g → AreLast g (old ∷ []) → SameAfter g h old.year
+pub none_after : (g h : History) (old : YearLine) → IsHistory g → AreLast g (old ∷ [])
+    → SameAfter g h old.year
 none_after g h old is last line has later =
     let years = is.years in
     let y = subst (λ (z : List YearLine). YearsFrom years.0 z) last.1 years.2 in
@@ -88,8 +100,11 @@ none_after g h old is last line has later =
     absurd (let k = last_year years.0 last.0 old y line m in omega arith)
 
 -- an obligation that begins after the year stays
-pub owed_after : (form : Form) → (day : ℕ) (g h : History) (holidays : List ℕ) (year : ℕ) → All (λ d. d < holidays_end) holidays → IsChange day g h → 2001 ≤ year → year ≤ 2098 → day ≤ year_last year
-    → SameAfter g h year → (o : Obligation) → year_last year < o.first → IsOwed form g holidays o → IsOwed form h holidays o
+pub owed_after : (form : Form) → (day : ℕ) (g h : History) (holidays : List ℕ) (year : ℕ)
+    → All (λ d. d < holidays_end) holidays → IsChange day g h → 2001 ≤ year → year ≤ 2098
+    → day ≤ year_last year
+    → SameAfter g h year → (o : Obligation) → year_last year < o.first → IsOwed form g holidays o
+    → IsOwed form h holidays o
 owed_after form day g h holidays year known c l m to same o past owed =
     owed_later form day g h holidays known c o
     (λ line has from in_year.
@@ -98,17 +113,24 @@ owed_after form day g h holidays year known c l m to same o past owed =
     let f3 = f.3 in
     let fw = year_facts line.year y.0 y.1 in
     let fw3 = fw.3 in
-    let later : year < line.year = elim (lt_or_le year line.year) [ inl less ↦ less | inr more ↦ absurd (let mono = year_start-mono (line.year + 1) (year + 1) (omega arith) in omega arith) ] in
+    let later : year < line.year = elim (lt_or_le year line.year) [
+      | inl less ↦ less
+      | inr more ↦ absurd (let mono = year_start-mono (line.year + 1) (year + 1) (omega arith) in
+          omega arith)
+    ] in
     let mono = year_start-mono (year + 1) line.year (omega arith) in
     let x = year_divides form line y.0 y.1 y.2 o.first from in_year in
     let x0 = x.0 in
     (same line has later, omega arith)) owed
 
 -- a window that is needed after the end of a year is that of a later year whose opening differs
-pub needed_after : (form : Form) → (day : ℕ) (g h : History) (year : ℕ) → IsChange day g h → 2001 ≤ year → year ≤ 2098 → day ≤ year_last year
+pub needed_after : (form : Form) → (day : ℕ) (g h : History) (year : ℕ) → IsChange day g h
+    → 2001 ≤ year → year ≤ 2098 → day ≤ year_last year
     → (w : Window) → IsNeeded form day g h w → year_last year < w.from
-    → (old : YearLine) × (new : YearLine) × IsYearOf g h old new × (year < old.year) × (old.opening ≡ new.opening → ⊥) × (w.from ≡ year_start old.year)
-needed_after form day g h year c l m to w (inl first) past = absurd (let k = first.2.1 in omega arith)
+    → (old : YearLine) × (new : YearLine) × IsYearOf g h old new × (year < old.year)
+    × (old.opening ≡ new.opening → ⊥) × (w.from ≡ year_start old.year)
+needed_after form day g h year c l m to w (inl first) past = absurd (let k = first.2.1 in
+    omega arith)
 needed_after form day g h year c l m to w (inr (inl rest)) past =
     let old = rest.old in
     let y = line_is g.lines g.sums old c.is_before rest.year.is_old in
@@ -127,11 +149,15 @@ needed_after form day g h year c l m to w (inr (inr later)) past =
     let from = later.from in
     let f = year_facts year l m in
     let f1 = f.1 in
-    let less : year < old.year = elim (lt_or_le year old.year) [ inl less ↦ less | inr more ↦ absurd (let mono = year_start-mono old.year year more in omega arith) ] in
+    let less : year < old.year = elim (lt_or_le year old.year) [
+      | inl less ↦ less
+      | inr more ↦ absurd (let mono = year_start-mono old.year year more in omega arith)
+    ] in
     (old, later.new, later.year, less, later.differs, later.from)
 
 -- so there is none where the lines of later years stay
-pub none_needed : (form : Form) → (day : ℕ) (g h : History) (year : ℕ) → IsChange day g h → 2001 ≤ year → year ≤ 2098 → day ≤ year_last year → SameAfter g h year
+pub none_needed : (form : Form) → (day : ℕ) (g h : History) (year : ℕ) → IsChange day g h
+    → 2001 ≤ year → year ≤ 2098 → day ≤ year_last year → SameAfter g h year
     → (w : Window) → IsNeeded form day g h w → w.from ≤ year_last year
 none_needed form day g h year c l m to same w needed =
     elim (lt_or_le (year_last year) w.from) [
@@ -145,24 +171,35 @@ none_needed form day g h year c l m to same w needed =
     ]
 
 -- the lines that differ, once no later one does
-pub all_changed : (day : ℕ) (g h : History) (year : ℕ) (lines : List YearLine) → AreChangedBefore g h (year + 1) lines → SameAfter h g year → AreChanged g h lines
+pub all_changed : (day : ℕ) (g h : History) (year : ℕ) (lines : List YearLine)
+    → AreChangedBefore g h (year + 1) lines → SameAfter h g year → AreChanged g h lines
 all_changed day g h year lines k same = record {
   by_year = k.by_year;
   all = λ line. (
     (λ m. let w = (k.all line).0 m in (w.0, w.1)),
-    (λ w. (k.all line).1 (w.0, w.1, elim (lt_or_le year line.year) [ inl later ↦ absurd (w.1 (same line w.0 later)) | inr fine ↦ omega arith ])),
+    (λ w. (k.all line).1 (
+      w.0,
+      w.1,
+      elim (lt_or_le year line.year) [
+        | inl later ↦ absurd (w.1 (same line w.0 later))
+        | inr fine ↦ omega arith
+      ],
+    )),
   );
 }
 
 -- and with the year's own line, which differs
-pub one_changed : (day : ℕ) (g h : History) (old new : YearLine) (lines : List YearLine) → IsChange day g h → IsYearOf g h old new → (new ≡ old → ⊥)
-    → AreChangedBefore g h old.year lines → AreChangedBefore g h (old.year + 1) (lines ++ (new ∷ []))
+pub one_changed : (day : ℕ) (g h : History) (old new : YearLine) (lines : List YearLine)
+    → IsChange day g h → IsYearOf g h old new → (new ≡ old → ⊥)
+    → AreChangedBefore g h old.year lines → AreChangedBefore g h (old.year + 1)
+    (lines ++ (new ∷ []))
 one_changed day g h old new lines c year differs k =
     let years = c.is_before.years in
     let afters = c.is_after.years in
     let same = year.same in
     record {
-      by_year = by_year_push lines new k.by_year (λ y m. let w = (k.all y).0 m in let w2 = w.2 in omega arith);
+      by_year = by_year_push lines new k.by_year (λ y m. let w = (k.all y).0 m in let w2 = w.2 in
+          omega arith);
       all = λ line. (
         (λ m. elim (has_append lines (new ∷ []) line m) [
           | inl before ↦ let w = (k.all line).0 before in let w2 = w.2 in (w.0, w.1, omega arith)
@@ -179,7 +216,8 @@ one_changed day g h old new lines c year differs k =
           | inl less ↦ has_left lines (new ∷ []) line ((k.all line).1 (w.0, w.1, less))
           | inr more ↦
               let w2 = w.2 in
-              let e : line ≡ new = line_one afters.0 h.lines line new afters.2 w.0 year.is_new (omega arith) in
+              let e : line ≡ new = line_one afters.0 h.lines line new afters.2 w.0 year.is_new
+              (omega arith) in
               has_right lines (new ∷ []) line (inl e)
         ]),
       );

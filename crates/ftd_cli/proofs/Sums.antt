@@ -1,5 +1,7 @@
 -- The sums of the runs that count.
-use Rattle.std.proofs.Common.{◌≡◌, ◌⊎◌, inl, inr, ℕ, ◌+◌, ◌-◌, ◌*◌, ◌<◌, ◌≤◌, List, [], ◌∷◌, length, map, get_or, Option, Some, None, Bool, true, false, cond, refl, sym, ap, ◌∙◌, arith}
+use Rattle.std.proofs.Common.{◌≡◌, ◌⊎◌, inl, inr, ℕ, ◌+◌, ◌-◌, ◌*◌, ◌<◌, ◌≤◌, List, [], ◌∷◌, length}
+use Rattle.std.proofs.Common.{map, get_or, Option, Some, None, Bool, true, false, cond, refl, sym}
+use Rattle.std.proofs.Common.{ap, ◌∙◌, arith}
 use Rattle.std.specs.Prelude.{All, ◌&&◌, ◌==◌, if◌then◌else◌}
 use Rattle.std.specs.List.{cons_option, sum_by}
 use Rattle.std.specs.Map.{values_of}
@@ -22,22 +24,27 @@ use Rattle.ftd_cli.specs.Faults.{text_fault}
 use Rattle.ftd_csv.specs.Fields.{run_number_of}
 use Rattle.ftd_rules.specs.Accounts.{is_account_name}
 use Rattle.ftd_days.specs.Spelling.{day_of, cents_of as amount_of}
-use Rattle.ftd_cli.specs.Plain.{AtFault, FirstFault, IsCalendar, IsLookedAt, PlainFails, day_sum, is_taken, most_runs, taken, taken_run}
+use Rattle.ftd_cli.specs.Plain.{AtFault, FirstFault, IsCalendar, IsLookedAt, PlainFails, day_sum}
+use Rattle.ftd_cli.specs.Plain.{is_taken, most_runs, taken, taken_run}
 use Rattle.ftd_cli.specs.declared.fault.PlainFault.{PlainFault}
 use Rattle.ftd_cli.specs.declared.fault.PlainFault.TheVariants as fault
-use Rattle.ftd_csv.specs.Records.{Run, Said, pay_run, malformed, said_of, six_of, field, under_first, records_of}
+use Rattle.ftd_csv.specs.Records.{Run, Said, pay_run, malformed, said_of, six_of, field}
+use Rattle.ftd_csv.specs.Records.{under_first, records_of}
 use Rattle.ftd_cli.specs.Taking.{CalendarFails, IsSmall, TakesAll, Stops, run_of, runs_of, sum_of}
 use Rattle.ftd_rules.specs.declared.run.PayRun.{PayRun}
-use Rattle.ftd_cli.proofs.Members.{contains_from_has, has_from_contains, has_map, map_has, some_same}
+use Rattle.ftd_cli.proofs.Members.{contains_from_has, has_from_contains, has_map, map_has}
+use Rattle.ftd_cli.proofs.Members.{some_same}
 use Rattle.ftd_days.proofs.Spelling.{cents_small}
 
 -- ---- the sums are those of the runs
-pub same_sums : (account : List ℕ) (entries : List (ℕ × PayRun)) → map sum_of (values_of entries) ≡ map day_sum (runs_of account entries)
+pub same_sums : (account : List ℕ) (entries : List (ℕ × PayRun)) → map sum_of (values_of entries)
+    ≡ map day_sum (runs_of account entries)
 same_sums account [] = refl
 same_sums account (e ∷ entries) = ap (λ sums. sum_of e.1 ∷ sums) (same_sums account entries)
 
 -- ---- a year with a day in it
-pub days_in_year : (year day : ℕ) → year ≤ 2098 → year_of day ≡ year → (year_start year ≤ day) × (day ≤ year_last year)
+pub days_in_year : (year day : ℕ) → year ≤ 2098 → year_of day ≡ year → (year_start year ≤ day)
+    × (day ≤ year_last year)
 days_in_year year day late e =
     let early = early_year day (omega arith) in
     let is = in_month day (omega arith) in
@@ -56,11 +63,13 @@ pub record SmallRun (run : Run) : Type 0 where
 run_same : (a b : Run) → pay_run a ≡ pay_run b → a ≡ b
 run_same a b e = cc
 
-field_some : (o : Option ℕ) (place : ℕ) (next : ℕ → Said) (run : Run) → field o place next ≡ pay_run run → (value : ℕ) × (o ≡ Some value) × (next value ≡ pay_run run)
+field_some : (o : Option ℕ) (place : ℕ) (next : ℕ → Said) (run : Run)
+    → field o place next ≡ pay_run run → (value : ℕ) × (o ≡ Some value) × (next value ≡ pay_run run)
 field_some None place next run e = cc e
 field_some (Some value) place next run e = (value, refl, e)
 
-six_small : (employer number payday fit ss medicare : List ℕ) (run : Run) → six_of employer number payday fit ss medicare ≡ pay_run run → SmallRun run
+six_small : (employer number payday fit ss medicare : List ℕ) (run : Run)
+    → six_of employer number payday fit ss medicare ≡ pay_run run → SmallRun run
 six_small employer number payday fit ss medicare run e =
     let (_, _, e1) = field_some (if is_account_name employer then Some 0 else None) 1 _ run e in
     let (n, _, e2) = field_some (run_number_of number) 2 _ run e1 in
@@ -86,85 +95,116 @@ said_small (a ∷ b ∷ c ∷ d ∷ f ∷ g ∷ []) run e = six_small a b c d f 
 said_small (a ∷ b ∷ c ∷ d ∷ f ∷ g ∷ h ∷ rest) run e = cc e
 
 -- ---- a run that is taken
-taken_of : (account : List ℕ) (year : ℕ) (said : Said) (run : Run) → taken_run account year said ≡ Some run → (said ≡ pay_run run) × (is_taken account year run ≡ true)
+taken_of : (account : List ℕ) (year : ℕ) (said : Said) (run : Run)
+    → taken_run account year said ≡ Some run → (said ≡ pay_run run)
+    × (is_taken account year run ≡ true)
 taken_of account year (malformed place) run e = cc e
 taken_of account year (pay_run r) run e = go (is_taken account year r) refl e
   where
-    go : (b : Bool) → is_taken account year r ≡ b → cond b (Some r) None ≡ Some run → (pay_run r ≡ pay_run run) × (is_taken account year run ≡ true)
+    go : (b : Bool) → is_taken account year r ≡ b → cond b (Some r) None ≡ Some run
+        → (pay_run r ≡ pay_run run) × (is_taken account year run ≡ true)
     go true is f = let same = some_same r run f in (ap (λ (z : Run). pay_run z) same, rw same at is)
     go false is f = cc f
 
-one_taken : (account : List ℕ) (year : ℕ) (said : Said) (o : Option Run) (run : Run) (rest : List Run) → taken_run account year said ≡ o → Has (cons_option o rest) run
+one_taken : (account : List ℕ) (year : ℕ) (said : Said) (o : Option Run) (run : Run)
+    (rest : List Run) → taken_run account year said ≡ o → Has (cons_option o rest) run
     → ((said ≡ pay_run run) × (is_taken account year run ≡ true)) ⊎ Has rest run
 one_taken account year said None run rest e h = inr h
-one_taken account year said (Some r) run rest e (inl same) = inl (taken_of account year said run (e ∙ ap Some (sym same)))
+one_taken account year said (Some r) run rest e (inl same) =
+    inl (taken_of account year said run (e ∙ ap Some (sym same)))
 one_taken account year said (Some r) run rest e (inr h) = inr h
 
-taken_said : (account : List ℕ) (year : ℕ) (records : List Said) (run : Run) → Has (taken account year records) run → (said : Said) × Has records said × (said ≡ pay_run run) × (is_taken account year run ≡ true)
+taken_said : (account : List ℕ) (year : ℕ) (records : List Said) (run : Run)
+    → Has (taken account year records) run → (said : Said) × Has records said × (said ≡ pay_run run)
+    × (is_taken account year run ≡ true)
 taken_said account year [] run h = absurd h
 taken_said account year (said ∷ records) run h =
-    elim (one_taken account year said (taken_run account year said) run (taken account year records) refl h) [
+    elim (one_taken account year said (taken_run account year said) run (taken account year records)
+    refl h) [
       | inl here ↦ (said, inl refl, here.0, here.1)
-      | inr later ↦ (let (s, there, is, mine) = taken_said account year records run later in (s, inr there, is, mine))
+      | inr later ↦ (let (s, there, is, mine) = taken_said account year records run later in
+          (s, inr there, is, mine))
     ]
 
 and_right : (a b : Bool) → (a && b) ≡ true → b ≡ true
 and_right true b e = e
 and_right false b e = absurd (cc e)
 
-year_is : (account : List ℕ) (year : ℕ) (run : Run) → is_taken account year run ≡ true → year_of run.payday ≡ year
+year_is : (account : List ℕ) (year : ℕ) (run : Run) → is_taken account year run ≡ true
+    → year_of run.payday ≡ year
 year_is account year run e =
     let test = and_right (bytes_eq run.employer account) (year_of run.payday == year) e in
     grind (arith, nat_tests)
 
 -- ---- what is kept
 all_from_has : {X : Type 0} (P : X → Type 0) (xs : List X) → ((x : X) → Has xs x → P x) → All P xs
-all_from_has P xs each k d within = each (get_or xs k d) (has_from_contains xs (get_or xs k d) (Contains-get_or xs k d within))
+all_from_has P xs each k d within = each (get_or xs k d)
+    (has_from_contains xs (get_or xs k d) (Contains-get_or xs k d within))
 
-values_has : (entries : List (ℕ × PayRun)) (kept : PayRun) → Has (values_of entries) kept → (e : ℕ × PayRun) × Has entries e × (kept ≡ e.1)
+values_has : (entries : List (ℕ × PayRun)) (kept : PayRun) → Has (values_of entries) kept
+    → (e : ℕ × PayRun) × Has entries e × (kept ≡ e.1)
 values_has [] kept h = absurd h
 values_has (e ∷ entries) kept (inl same) = (e, inl refl, same)
-values_has (e ∷ entries) kept (inr h) = let (x, there, is) = values_has entries kept h in (x, inr there, is)
+values_has (e ∷ entries) kept (inr h) = let (x, there, is) = values_has entries kept h in
+    (x, inr there, is)
 
-said_row : (rows : List (List (List ℕ))) (said : Said) → Has (under_first rows) said → (row : List (List ℕ)) × (said ≡ said_of row)
+said_row : (rows : List (List (List ℕ))) (said : Said) → Has (under_first rows) said
+    → (row : List (List ℕ)) × (said ≡ said_of row)
 said_row [] said h = absurd h
 said_row (first ∷ rows) said h = let (row, there, is) = map_has said_of rows said h in (row, is)
 
-kept_run : (account : List ℕ) (year : ℕ) (rows : List (List (List ℕ))) (entries : List (ℕ × PayRun)) (e : ℕ × PayRun) → TakesAll account year (under_first rows) entries → Has entries e
+kept_run : (account : List ℕ) (year : ℕ) (rows : List (List (List ℕ))) (entries : List (ℕ × PayRun))
+    (e : ℕ × PayRun) → TakesAll account year (under_first rows) entries → Has entries e
     → SmallRun (run_of account e) × (year_of e.1.payday ≡ year)
 kept_run account year rows entries e all there =
     let run = run_of account e in
-    let mine = has_from_contains (taken account year (under_first rows)) run ((all.same run).0 (contains_from_has (runs_of account entries) run (has_map (run_of account) entries e there))) in
+    let mine = has_from_contains (taken account year (under_first rows)) run
+    ((all.same run).0 (contains_from_has (runs_of account entries) run
+    (has_map (run_of account) entries e there))) in
     let (said, at, is, taken_it) = taken_said account year (under_first rows) run mine in
     let (row, says) = said_row rows said at in
     (said_small row run (sym says ∙ is), year_is account year run taken_it)
 
-pub kept_small : (account : List ℕ) (year : ℕ) (rows : List (List (List ℕ))) (entries : List (ℕ × PayRun)) → TakesAll account year (under_first rows) entries → All IsSmall (values_of entries)
+pub kept_small : (account : List ℕ) (year : ℕ) (rows : List (List (List ℕ)))
+    (entries : List (ℕ × PayRun)) → TakesAll account year (under_first rows) entries
+    → All IsSmall (values_of entries)
 kept_small account year rows entries all =
     all_from_has IsSmall (values_of entries) (λ kept h.
     let (e, there, is) = values_has entries kept h in
     let small = (kept_run account year rows entries e all there).0 in
     rw is (record { fit = small.fit; ss = small.ss; medicare = small.medicare }))
 
-kept_year : (account : List ℕ) (year : ℕ) (rows : List (List (List ℕ))) (entries : List (ℕ × PayRun)) → TakesAll account year (under_first rows) entries → All (λ (kept : PayRun). year_of kept.payday ≡ year) (values_of entries)
+kept_year : (account : List ℕ) (year : ℕ) (rows : List (List (List ℕ)))
+    (entries : List (ℕ × PayRun)) → TakesAll account year (under_first rows) entries
+    → All (λ (kept : PayRun). year_of kept.payday ≡ year) (values_of entries)
 kept_year account year rows entries all =
     all_from_has (λ (kept : PayRun). year_of kept.payday ≡ year) (values_of entries) (λ kept h.
     let (e, there, is) = values_has entries kept h in
     ap (λ (k : PayRun). year_of k.payday) is ∙ (kept_run account year rows entries e all there).1)
 
-pub sums_in_year : (account : List ℕ) (year : ℕ) (rows : List (List (List ℕ))) (entries : List (ℕ × PayRun)) (sums : List DaySum) → TakesAll account year (under_first rows) entries → sums ≡ map sum_of (values_of entries)
+pub sums_in_year : (account : List ℕ) (year : ℕ) (rows : List (List (List ℕ)))
+    (entries : List (ℕ × PayRun)) (sums : List DaySum)
+    → TakesAll account year (under_first rows) entries → sums ≡ map sum_of (values_of entries)
     → All (λ (sum : DaySum). year_of sum.day ≡ year) sums
-sums_in_year account year rows entries sums all e = rw e (All-map (λ (sum : DaySum). year_of sum.day ≡ year) sum_of (values_of entries) (kept_year account year rows entries all))
+sums_in_year account year rows entries sums all e =
+    rw e (All-map (λ (sum : DaySum). year_of sum.day ≡ year) sum_of (values_of entries)
+    (kept_year account year rows entries all))
 
 sum_small : (kept : PayRun) → IsSmall kept → (sum_of kept).cents.0 ≤ 299_999_999_997
-sum_small kept small = let a = small.fit in let b = small.ss in let c = small.medicare in omega arith
+sum_small kept small = let a = small.fit in let b = small.ss in let c = small.medicare in
+    omega arith
 
-pub sums_small : (account : List ℕ) (year : ℕ) (rows : List (List (List ℕ))) (entries : List (ℕ × PayRun)) (sums : List DaySum) → TakesAll account year (under_first rows) entries → sums ≡ map sum_of (values_of entries)
+pub sums_small : (account : List ℕ) (year : ℕ) (rows : List (List (List ℕ)))
+    (entries : List (ℕ × PayRun)) (sums : List DaySum)
+    → TakesAll account year (under_first rows) entries → sums ≡ map sum_of (values_of entries)
     → All (λ (sum : DaySum). sum.cents.0 ≤ 299_999_999_997) sums
 sums_small account year rows entries sums all e =
-    rw e (All-map (λ (sum : DaySum). sum.cents.0 ≤ 299_999_999_997) sum_of (values_of entries) (All-weaker IsSmall (λ (kept : PayRun). (sum_of kept).cents.0 ≤ 299_999_999_997) sum_small (values_of entries) (kept_small account year rows entries all)))
+    rw e (All-map (λ (sum : DaySum). sum.cents.0 ≤ 299_999_999_997) sum_of (values_of entries)
+    (All-weaker IsSmall (λ (kept : PayRun). (sum_of kept).cents.0 ≤ 299_999_999_997) sum_small
+    (values_of entries) (kept_small account year rows entries all)))
 
-pub sums_few : (entries : List (ℕ × PayRun)) (sums : List DaySum) → length entries ≤ most_runs → sums ≡ map sum_of (values_of entries) → length sums ≤ most_runs
+pub sums_few : (entries : List (ℕ × PayRun)) (sums : List DaySum) → length entries ≤ most_runs
+    → sums ≡ map sum_of (values_of entries) → length sums ≤ most_runs
 sums_few entries sums few e =
     let long = ap length e in
     let a = length-map (values_of entries) sum_of in
@@ -172,55 +212,83 @@ sums_few entries sums few e =
     omega arith
 
 -- ---- what is asked of them
-pub lies_in : (line : YearLine) (sums : List DaySum) → line.year ≤ 2098 → All (λ (sum : DaySum). year_of sum.day ≡ line.year) sums → All (λ (sum : DaySum). LiesInYears (line ∷ []) sum.day) sums
+pub lies_in : (line : YearLine) (sums : List DaySum) → line.year ≤ 2098
+    → All (λ (sum : DaySum). year_of sum.day ≡ line.year) sums
+    → All (λ (sum : DaySum). LiesInYears (line ∷ []) sum.day) sums
 lies_in line sums late all =
-    All-weaker (λ (sum : DaySum). year_of sum.day ≡ line.year) (λ (sum : DaySum). LiesInYears (line ∷ []) sum.day)
-    (λ sum e. let within = days_in_year line.year sum.day late e in (line, inl refl, within.0, within.1)) sums all
+    All-weaker (λ (sum : DaySum). year_of sum.day ≡ line.year)
+    (λ (sum : DaySum). LiesInYears (line ∷ []) sum.day)
+    (λ sum e. let within = days_in_year line.year sum.day late e in
+    (line, inl refl, within.0, within.1)) sums all
 
-pub whole_sum : (sums : List DaySum) → length sums ≤ most_runs → All (λ (sum : DaySum). sum.cents.0 ≤ 299_999_999_997) sums → sum_by cents_of sums < 6_000_000_000_000_000
+pub whole_sum : (sums : List DaySum) → length sums ≤ most_runs
+    → All (λ (sum : DaySum). sum.cents.0 ≤ 299_999_999_997) sums
+    → sum_by cents_of sums < 6_000_000_000_000_000
 whole_sum sums few small = let bound = sum_by-le cents_of 299_999_999_997 sums small in omega arith
 
-pub only_line : (lines : List YearLine) (year lookback : ℕ) (carried : Bool) → map given lines ≡ (year, lookback, carried) ∷ [] → (one : YearLine) × (lines ≡ one ∷ []) × (one.year ≡ year) × (one.lookback.0 ≡ lookback) × (one.carried ≡ carried)
+pub only_line : (lines : List YearLine) (year lookback : ℕ) (carried : Bool)
+    → map given lines ≡ (year, lookback, carried) ∷ [] → (one : YearLine) × (lines ≡ one ∷ [])
+    × (one.year ≡ year) × (one.lookback.0 ≡ lookback) × (one.carried ≡ carried)
 only_line [] year lookback carried e = cc e
 only_line (one ∷ []) year lookback carried e =
-    let same : given one ≡ (year, lookback, carried) = cc in
-    (one, refl, ap (λ (g : ℕ × ℕ × Bool). g.0) same, ap (λ (g : ℕ × ℕ × Bool). g.1) same, ap (λ (g : ℕ × ℕ × Bool). g.2) same)
+    let same : given one ≡ (year, lookback, carried) = cc in (
+      one,
+      refl,
+      ap (λ (g : ℕ × ℕ × Bool). g.0) same,
+      ap (λ (g : ℕ × ℕ × Bool). g.1) same,
+      ap (λ (g : ℕ × ℕ × Bool). g.2) same,
+    )
 only_line (one ∷ other ∷ lines) year lookback carried e = cc e
 
 -- ---- the faults of a text that is short enough, and whose holidays are a calendar
-never_length : (account : List ℕ) (year : ℕ) (before : List Said) (said : Said) → AtFault account year before said fault.TooLong → ⊥
+never_length : (account : List ℕ) (year : ℕ) (before : List Said) (said : Said)
+    → AtFault account year before said fault.TooLong → ⊥
 never_length account year before (malformed place) h = cc h
 never_length account year before (pay_run run) h = h.1
 
-never_calendar : (account : List ℕ) (year : ℕ) (before : List Said) (said : Said) → AtFault account year before said fault.BadCalendar → ⊥
+never_calendar : (account : List ℕ) (year : ℕ) (before : List Said) (said : Said)
+    → AtFault account year before said fault.BadCalendar → ⊥
 never_calendar account year before (malformed place) h = cc h
 never_calendar account year before (pay_run run) h = h.1
 
-never_header : (account : List ℕ) (year : ℕ) (before : List Said) (said : Said) → AtFault account year before said fault.BadHeader → ⊥
+never_header : (account : List ℕ) (year : ℕ) (before : List Said) (said : Said)
+    → AtFault account year before said fault.BadHeader → ⊥
 never_header account year before (malformed place) h = cc h
 never_header account year before (pay_run run) h = h.1
 
-record_fault : (csv account : List ℕ) (year : ℕ) (holidays : List ℕ) (f : PlainFault) → IsLookedAt csv year holidays → FirstFault account year (records_of csv) f → PlainFails csv account year holidays f
-record_fault csv account year holidays fault.BadHeader at h = absurd (never_header account year h.before h.record_at h.at_fault)
-record_fault csv account year holidays fault.TooLong at h = absurd (never_length account year h.before h.record_at h.at_fault)
+record_fault : (csv account : List ℕ) (year : ℕ) (holidays : List ℕ) (f : PlainFault)
+    → IsLookedAt csv year holidays → FirstFault account year (records_of csv) f
+    → PlainFails csv account year holidays f
+record_fault csv account year holidays fault.BadHeader at h =
+    absurd (never_header account year h.before h.record_at h.at_fault)
+record_fault csv account year holidays fault.TooLong at h =
+    absurd (never_length account year h.before h.record_at h.at_fault)
 record_fault csv account year holidays (fault.Malformed number place) at h = (at, h)
 record_fault csv account year holidays (fault.RunDiffers number) at h = (at, h)
 record_fault csv account year holidays fault.TooManyRuns at h = (at, h)
-record_fault csv account year holidays fault.BadCalendar at h = absurd (never_calendar account year h.before h.record_at h.at_fault)
+record_fault csv account year holidays fault.BadCalendar at h =
+    absurd (never_calendar account year h.before h.record_at h.at_fault)
 record_fault csv account year holidays fault.Memory at h = tt
 
 -- why the text has no records
-pub text_fails : (csv account : List ℕ) (year : ℕ) (holidays : List ℕ) (f : RecordFault) → length csv ≤ most_bytes → IsCalendar year holidays → RecordsFail csv f
+pub text_fails : (csv account : List ℕ) (year : ℕ) (holidays : List ℕ) (f : RecordFault)
+    → length csv ≤ most_bytes → IsCalendar year holidays → RecordsFail csv f
     → PlainFails csv account year holidays (text_fault f)
-text_fails csv account year holidays records.BadHeader short calendar (_, header) = (short, calendar, header)
+text_fails csv account year holidays records.BadHeader short calendar (_, header) =
+    (short, calendar, header)
 text_fails csv account year holidays records.TooLong short calendar long = long
 text_fails csv account year holidays records.Memory short calendar h = tt
 
 -- why the runs are not taken
-pub stops_fault : (csv account : List ℕ) (year : ℕ) (holidays : List ℕ) (f : PlainFault) → IsLookedAt csv year holidays → Stops account year (records_of csv) f → PlainFails csv account year holidays f
+pub stops_fault : (csv account : List ℕ) (year : ℕ) (holidays : List ℕ) (f : PlainFault)
+    → IsLookedAt csv year holidays → Stops account year (records_of csv) f
+    → PlainFails csv account year holidays f
 stops_fault csv account year holidays f at (inl memory) = rw memory tt
-stops_fault csv account year holidays f at (inr first) = record_fault csv account year holidays f at first
+stops_fault csv account year holidays f at (inr first) = record_fault csv account year holidays f at
+    first
 
-pub calendar_fault_of : (csv account : List ℕ) (year : ℕ) (holidays : List ℕ) (f : PlainFault) → length csv ≤ most_bytes → CalendarFails year holidays f → PlainFails csv account year holidays f
+pub calendar_fault_of : (csv account : List ℕ) (year : ℕ) (holidays : List ℕ) (f : PlainFault)
+    → length csv ≤ most_bytes → CalendarFails year holidays f
+    → PlainFails csv account year holidays f
 calendar_fault_of csv account year holidays f short (inl memory) = rw memory tt
 calendar_fault_of csv account year holidays f short (inr (bad, wrong)) = rw bad (short, wrong)

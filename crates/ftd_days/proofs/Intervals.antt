@@ -6,14 +6,16 @@ use Rattle.ftd_days.specs.Private.Intervals.{interval_start, interval_close}
 use Rattle.ftd_days.proofs.Numerals.{lt_or_le}
 
 -- the close, by the weekday
-close_value : (d : ℕ) → (((d + 5) % 7 < 3) × (interval_close d + (d + 5) % 7 ≡ d + 2)) ⊎ ((3 ≤ (d + 5) % 7) × (interval_close d + (d + 5) % 7 ≡ d + 6))
+close_value : (d : ℕ) → (((d + 5) % 7 < 3) × (interval_close d + (d + 5) % 7 ≡ d + 2))
+    ⊎ ((3 ≤ (d + 5) % 7) × (interval_close d + (d + 5) % 7 ≡ d + 6))
 close_value d =
     elim (lt_or_le ((d + 5) % 7) 3) [
       | inl l ↦ inl (l, rw (lt-ltb ((d + 5) % 7) 3 l) (omega arith))
       | inr m ↦ inr (m, rw (le-ltb ((d + 5) % 7) 3 m) (omega arith))
     ]
 
-start_value : (d : ℕ) → (((d + 5) % 7 < 3) × (interval_start d ≡ d - (d + 5) % 7)) ⊎ ((3 ≤ (d + 5) % 7) × (interval_start d ≡ d - ((d + 5) % 7 - 3)))
+start_value : (d : ℕ) → (((d + 5) % 7 < 3) × (interval_start d ≡ d - (d + 5) % 7))
+    ⊎ ((3 ≤ (d + 5) % 7) × (interval_start d ≡ d - ((d + 5) % 7 - 3)))
 start_value d =
     elim (lt_or_le ((d + 5) % 7) 3) [
       | inl l ↦ inl (l, rw (lt-ltb ((d + 5) % 7) 3 l) (omega arith))
@@ -23,8 +25,18 @@ start_value d =
 pub close_is : (d : ℕ) → IsClose d (interval_close d)
 close_is d =
     elim (close_value d) [
-      | inl v ↦ (let v0 = v.0 in let v1 = v.1 in record { not_before = omega arith; holds = inr (omega arith); first = λ e l m h. elim h [ inl a ↦ omega arith | inr b ↦ omega arith ] })
-      | inr v ↦ (let v0 = v.0 in let v1 = v.1 in record { not_before = omega arith; holds = inl (omega arith); first = λ e l m h. elim h [ inl a ↦ omega arith | inr b ↦ omega arith ] })
+      | inl v ↦ (let v0 = v.0 in let v1 = v.1 in
+          record {
+            not_before = omega arith;
+            holds = inr (omega arith);
+            first = λ e l m h. elim h [ inl a ↦ omega arith | inr b ↦ omega arith ];
+          })
+      | inr v ↦ (let v0 = v.0 in let v1 = v.1 in
+          record {
+            not_before = omega arith;
+            holds = inl (omega arith);
+            first = λ e l m h. elim h [ inl a ↦ omega arith | inr b ↦ omega arith ];
+          })
     ]
 
 pub close_only : (d close : ℕ) → IsClose d close → close ≡ interval_close d
@@ -39,8 +51,18 @@ close_only d close h =
 pub start_is : (d : ℕ) → 7 ≤ d → IsIntervalStart d (interval_start d)
 start_is d l =
     elim (start_value d) [
-      | inl v ↦ (let v0 = v.0 in let v1 = v.1 in record { not_after = omega arith; holds = inl (omega arith); last = λ e a b h. elim h [ inl x ↦ omega arith | inr y ↦ omega arith ] })
-      | inr v ↦ (let v0 = v.0 in let v1 = v.1 in record { not_after = omega arith; holds = inr (omega arith); last = λ e a b h. elim h [ inl x ↦ omega arith | inr y ↦ omega arith ] })
+      | inl v ↦ (let v0 = v.0 in let v1 = v.1 in
+          record {
+            not_after = omega arith;
+            holds = inl (omega arith);
+            last = λ e a b h. elim h [ inl x ↦ omega arith | inr y ↦ omega arith ];
+          })
+      | inr v ↦ (let v0 = v.0 in let v1 = v.1 in
+          record {
+            not_after = omega arith;
+            holds = inr (omega arith);
+            last = λ e a b h. elim h [ inl x ↦ omega arith | inr y ↦ omega arith ];
+          })
     ]
 
 pub start_only : (d start : ℕ) → 7 ≤ d → IsIntervalStart d start → start ≡ interval_start d
@@ -54,7 +76,8 @@ start_only d start l h =
 
 -- how the first day and the close of an interval go together
 abbrev Ends : ℕ → ℕ → Type 0
-Ends start close = ((start % 7 ≡ 2) × (close ≡ start + 2)) ⊎ (((start % 7 ≡ 5) × (close ≡ start + 3)) ⊎ ((start ≡ 0) × (close ≡ 1)))
+Ends start close = ((start % 7 ≡ 2) × (close ≡ start + 2))
+    ⊎ (((start % 7 ≡ 5) × (close ≡ start + 3)) ⊎ ((start ≡ 0) × (close ≡ 1)))
 
 ends : (d : ℕ) → Ends (interval_start d) (interval_close d)
 ends d =
@@ -67,15 +90,20 @@ ends d =
         | inl w ↦ absurd (let v0 = v.0 in let w0 = w.0 in omega arith)
         | inr w ↦
             let v0 = v.0 in let v1 = v.1 in let w1 = w.1 in
-            elim (lt_or_le d 2) [ inl early ↦ inr (inr (omega arith, omega arith)) | inr later ↦ inr (inl (omega arith, omega arith)) ]
+            elim (lt_or_le d 2) [
+              | inl early ↦ inr (inr (omega arith, omega arith))
+              | inr later ↦ inr (inl (omega arith, omega arith))
+            ]
       ]
     ]
 
 same_start : (s c t k : ℕ) → Ends s c → Ends t k → k ≡ c → t ≡ s
 same_start s c t k (inl v) (inl w) e = let a = v.1 in let b = w.1 in omega arith
-same_start s c t k (inl v) (inr (inl w)) e = let a = v.1 in let b = w.1 in let f = v.0 in let g = w.0 in omega arith
+same_start s c t k (inl v) (inr (inl w)) e = let a = v.1 in let b = w.1 in let f = v.0 in
+    let g = w.0 in omega arith
 same_start s c t k (inl v) (inr (inr w)) e = let a = v.1 in let b = w.1 in omega arith
-same_start s c t k (inr (inl v)) (inl w) e = let a = v.1 in let b = w.1 in let f = v.0 in let g = w.0 in omega arith
+same_start s c t k (inr (inl v)) (inl w) e = let a = v.1 in let b = w.1 in let f = v.0 in
+    let g = w.0 in omega arith
 same_start s c t k (inr (inl v)) (inr (inl w)) e = let a = v.1 in let b = w.1 in omega arith
 same_start s c t k (inr (inl v)) (inr (inr w)) e = let a = v.1 in let b = w.1 in omega arith
 same_start s c t k (inr (inr v)) (inl w) e = let a = v.1 in let b = w.1 in omega arith
@@ -94,8 +122,11 @@ same_close s c t k (inr (inr v)) (inr (inl w)) e = let f = v.0 in let g = w.0 in
 same_close s c t k (inr (inr v)) (inr (inr w)) e = let a = v.1 in let b = w.1 in omega arith
 
 -- two days have one interval exactly where it begins, or closes, on one day
-pub interval_ends : (d e : ℕ) → interval_close e ≡ interval_close d ↔ interval_start e ≡ interval_start d
+pub interval_ends : (d e : ℕ) → interval_close e ≡ interval_close d ↔ interval_start e
+    ≡ interval_start d
 interval_ends d e = (
-  same_start (interval_start d) (interval_close d) (interval_start e) (interval_close e) (ends d) (ends e),
-  same_close (interval_start d) (interval_close d) (interval_start e) (interval_close e) (ends d) (ends e),
+  same_start (interval_start d) (interval_close d) (interval_start e) (interval_close e) (ends d)
+      (ends e),
+  same_close (interval_start d) (interval_close d) (interval_start e) (interval_close e) (ends d)
+      (ends e),
 )

@@ -1,5 +1,6 @@
 -- What a request of a list does where books of accounts are kept.
-use Rattle.std.proofs.Common.{◌≡◌, ◌∙◌, refl, sym, ap, subst, arith, ℕ, ◌+◌, List, [], Bool, true, false, Option, Some, Result, Ok, Err}
+use Rattle.std.proofs.Common.{◌≡◌, ◌∙◌, refl, sym, ap, subst, arith, ℕ, ◌+◌, List, [], Bool, true}
+use Rattle.std.proofs.Common.{false, Option, Some, Result, Ok, Err}
 use Rattle.std.specs.Prelude.{if◌then◌else◌, MatchOption}
 use Rattle.sqlite.specs.Store as store
 use Rattle.ftd_rows.specs.declared.faults.StoreFault.{StoreFault}
@@ -43,33 +44,45 @@ no_books books s none account = rw none tt
 
 -- what a book says follows from the account's entries and from the holidays
 module _ (s next : State) (account : List ℕ) (book : Book) where
-  book_still : entries_of next account ≡ entries_of s account → holidays next ≡ holidays s → IsBook s account book → IsBook next account book
+  book_still : entries_of next account ≡ entries_of s account → holidays next ≡ holidays s
+      → IsBook s account book → IsBook next account book
   book_still own days is = record {
     account = ap (λ (e : Entries). e.account) own ∙ is.account;
     lines = subst (λ (e : Entries). AreLinesOf e book.ledger.years.lines.items) (sym own) is.lines;
     since = is.since;
-    owed = subst (λ known. AreOwedSince book.ledger.since known (entries_of next account) book.ledger.rows.items) (sym days)
-        (subst (λ (e : Entries). AreOwedSince book.ledger.since (holidays s) e book.ledger.rows.items) (sym own) is.owed);
+    owed = subst (λ known. AreOwedSince book.ledger.since known (entries_of next account)
+        book.ledger.rows.items) (sym days)
+        (subst (λ (e : Entries). AreOwedSince book.ledger.since
+        (holidays s) e book.ledger.rows.items) (sym own) is.owed);
     holidays = λ line has from.
-        let told = is.holidays line has from in
-        (λ day within. ap (λ known. is_holiday known day) days ∙ told.0 day within, λ day within. ap (λ known. is_holiday known day) days ∙ told.1 day within);
-    sums = λ from to first last. ap (λ (e : Entries). liability (live_sums e) from to) own ∙ is.sums from to first last;
+        let told = is.holidays line has from in (
+          λ day within. ap (λ known. is_holiday known day) days ∙ told.0 day within,
+          λ day within. ap (λ known. is_holiday known day) days ∙ told.1 day within,
+        );
+    sums = λ from to first last. ap (λ (e : Entries). liability (live_sums e) from to) own
+        ∙ is.sums from to first last;
   }
 
 -- a run that is posted
-module _ (s : State) (answer : Answer) (next : State) (name : List ℕ) (number : ℕ) (run : PayRun) (step : Step s (Post name number run.payday run.fit run.ss run.medicare) answer next) where
+module _ (s : State) (answer : Answer) (next : State) (name : List ℕ) (number : ℕ) (run : PayRun)
+    (step : Step s (Post name number run.payday run.fit run.ss run.medicare) answer next) where
   -- leaves the holidays
   posted_holidays : holidays next ≡ holidays s
   posted_holidays = post_stays (λ x. holidays x) s answer next _ _ _ _ _ _ step refl
 
   -- and the books of other accounts
-  posted_books : (old new : Kept Book) (now : Book) → Takes (kept_of old) (kept_of new) name now → IsBook next name now → AreBooks old s → AreBooks new next
+  posted_books : (old new : Kept Book) (now : Book) → Takes (kept_of old) (kept_of new) name now
+      → IsBook next name now → AreBooks old s → AreBooks new next
   posted_books old new now takes own =
       right_after (kept_of old) (kept_of new) name now (IsBook s) (IsBook next) takes own
-      (λ other apart book was. book_still s next other book (others s (Post name number run.payday run.fit run.ss run.medicare) answer next other step apart) posted_holidays was)
+      (λ other apart book was. book_still s next other book
+      (others s (Post name number run.payday run.fit run.ss run.medicare) answer next other step
+      apart) posted_holidays was)
 
 -- the books that are kept past a request
-passed_books : (books later : Kept Book) (change : Bool) (s next : State) → later.entries.items ≡ (if change then [] else books.entries.items) → (change ≡ false → next ≡ s) → AreBooks books s → AreBooks later next
+passed_books : (books later : Kept Book) (change : Bool) (s next : State)
+    → later.entries.items ≡ (if change then [] else books.entries.items)
+    → (change ≡ false → next ≡ s) → AreBooks books s → AreBooks later next
 passed_books books later true s next none same are account = no_books later next none account
 passed_books books later false s next is same are account = rw (is, same refl) (are account)
 
@@ -77,8 +90,11 @@ passed_books books later false s next is same are account = rw (is, same refl) (
 
 module _ {S : Type 0} (g : store.Ghosts S) where
   -- a request that was answered by no book
-  pub serves_past : (old new : Tx S) (known : Known) (request : Request) (served : Served) (past : Answered) → past.answer ≡ served.answer → past.known.counts ≡ served.counts
-      → past.known.books.entries.items ≡ (if is_change served.answer then [] else known.books.entries.items) → Calls g old new (Ok served) (ServesCounted known.counts request)
+  pub serves_past : (old new : Tx S) (known : Known) (request : Request) (served : Served)
+      (past : Answered) → past.answer ≡ served.answer → past.known.counts ≡ served.counts
+      → past.known.books.entries.items
+      ≡ (if is_change served.answer then [] else known.books.entries.items)
+      → Calls g old new (Ok served) (ServesCounted known.counts request)
       → Calls g old new (Ok past) (ServesKnown known request)
   serves_past old new known request served past answer counts books c = record {
     frame = goes_on g old new served past c.frame;
@@ -89,39 +105,58 @@ module _ {S : Type 0} (g : store.Ghosts S) where
           done.2,
           record {
             counts = subst (λ x. AreCounted x done.0) (sym counts) done.3;
-            books = passed_books known.books past.known.books (is_change served.answer) s done.0 books (leaves s request served.answer done.0 done.1) right.books;
+            books = passed_books known.books past.known.books (is_change served.answer) s done.0
+                books (leaves s request served.answer done.0 done.1) right.books;
           },
         );
   }
 
   -- a run that is posted by the account's book
-  pub serves_post_at : (old mid new : Tx S) (count : ℕ) (answer : Answer) (known later : Known) (name : List ℕ) (number : ℕ) (run : PayRun) (was now : Book)
-      → later.counts.payments ≡ known.counts.payments → Takes (kept_of known.counts.runs) (kept_of later.counts.runs) name (if is_change answer then count + 1 else count)
-      → kept_of known.books name ≡ Some was → Takes (kept_of known.books) (kept_of later.books) name now → Knows g old mid (Ok count) (kept_of known.counts.runs name) (CountsRuns name)
-      → Calls g mid new (Ok answer) (λ told before after t. CountsRuns name count t → PostsBy name number run was now told before after t)
-      → Calls {A = Answered} g old new (Ok (record { answer = answer; known = later })) (ServesKnown known (Post name number run.payday run.fit run.ss run.medicare))
-  serves_post_at old mid new count answer known later name number run was now payments takes found taken knows c =
+  pub serves_post_at : (old mid new : Tx S) (count : ℕ) (answer : Answer) (known later : Known)
+      (name : List ℕ) (number : ℕ) (run : PayRun) (was now : Book)
+      → later.counts.payments ≡ known.counts.payments → Takes (kept_of known.counts.runs)
+      (kept_of later.counts.runs) name (if is_change answer then count + 1 else count)
+      → kept_of known.books name ≡ Some was → Takes (kept_of known.books) (kept_of later.books) name
+      now → Knows g old mid (Ok count) (kept_of known.counts.runs name) (CountsRuns name)
+      → Calls g mid new (Ok answer) (λ told before after t. CountsRuns name count t
+      → PostsBy name number run was now told before after t)
+      → Calls {A = Answered} g old new (Ok (record { answer = answer; known = later }))
+      (ServesKnown known (Post name number run.payday run.fit run.ss run.medicare))
+  serves_post_at old mid new count answer known later name number run was now payments takes found
+      taken knows c =
       let request = Post name number run.payday run.fit run.ss run.medicare in
-      known_then g old mid (kept_of known.counts.runs name) (CountsRuns name) new count answer (record { answer = answer; known = later })
-      (λ told after t. CountsRuns name count t → PostsBy name number run was now told after after t) (λ served after. ServesKnown known request served after after)
+      known_then g old mid (kept_of known.counts.runs name) (CountsRuns name) new count answer
+      (record { answer = answer; known = later })
+      (λ told after t. CountsRuns name count t → PostsBy name number run was now told after after t)
+      (λ served after. ServesKnown known request served after after)
       (λ after t is told s stands sound right.
       (let counted_as = runs_counted known.counts name count t s stands right.counts is in
-      let done = told counted_as s stands sound (kept_is (kept_of known.books) (IsBook s) name was right.books found) in (
+      let done = told counted_as s stands sound
+      (kept_is (kept_of known.books) (IsBook s) name was right.books found) in (
         done.0,
         done.1,
         done.2,
         record {
-          counts = subst (λ (x : Kept ℕ). AreCounted (record { runs = later.counts.runs; payments = x }) done.0) (sym payments)
-              (posted_counted known.counts later.counts.runs name number run count s answer done.0 done.1 (counted_runs name t s stands count counted_as) takes right.counts);
-          books = posted_books s answer done.0 name number run done.1 known.books later.books now taken done.3 right.books;
+          counts = subst
+              (λ (x : Kept ℕ). AreCounted (record { runs = later.counts.runs; payments = x })
+              done.0) (sym payments)
+              (posted_counted known.counts later.counts.runs name number run count s answer done.0
+              done.1 (counted_runs name t s stands count counted_as) takes right.counts);
+          books = posted_books s answer done.0 name number run done.1 known.books later.books now
+              taken done.3 right.books;
         },
       )))
       knows c
 
   -- a request before which the account's book was read
-  pub serves_read : (old mid new : Tx S) (found : Option Book) (result : Result Answered StoreFault) (known later : Known) (name : List ℕ) (year : ℕ) (request : Request) → later.counts ≡ known.counts
-      → TakesFound (kept_of known.books) (kept_of later.books) name found → Reads g old mid (Ok found) (λ told t. (s : State) → StandsFor t s → IsSound s → MatchOption told (HasNoYear s name year) (IsBook s name))
-      → Calls g mid new result (ServesKnown later request) → Calls g old new result (ServesKnown known request)
+  pub serves_read : (old mid new : Tx S) (found : Option Book) (result : Result Answered StoreFault)
+      (known later : Known) (name : List ℕ) (year : ℕ) (request : Request)
+      → later.counts ≡ known.counts
+      → TakesFound (kept_of known.books) (kept_of later.books) name found
+      → Reads g old mid (Ok found) (λ told t. (s : State) → StandsFor t s → IsSound s
+      → MatchOption told (HasNoYear s name year) (IsBook s name))
+      → Calls g mid new result (ServesKnown later request)
+      → Calls g old new result (ServesKnown known request)
   serves_read old mid new found (Ok served) known later name year request same takes r c = record {
     frame = then_call g old mid new found (Ok served) r.frame c.frame;
     does = λ clean t stands s stands_for sound right.
@@ -129,7 +164,12 @@ module _ {S : Type 0} (g : store.Ghosts S) where
         c.does clean t (subst (λ db. Stands db t) (sym told.1.0.now_is) stands) s stands_for sound
         (record {
           counts = subst (λ x. AreCounted x s) (sym same) right.counts;
-          books = right_found (HasNoYear s name year) (kept_of known.books) (kept_of later.books) name found (IsBook s) takes (told.0 s stands_for sound) right.books;
+          books = right_found (HasNoYear s name year) (kept_of known.books) (kept_of later.books)
+              name found (IsBook s) takes (told.0 s stands_for sound) right.books;
         });
   }
-  serves_read old mid new found (Err fault) known later name year request same takes r c = record { frame = then_call g old mid new found (Err fault) r.frame c.frame; does = λ clean. tt }
+  serves_read old mid new found (Err fault) known later name year request same takes r c =
+      record {
+        frame = then_call g old mid new found (Err fault) r.frame c.frame;
+        does = λ clean. tt;
+      }

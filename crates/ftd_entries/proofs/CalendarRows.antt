@@ -1,5 +1,7 @@
 -- What the rows of the calendars tell of a year.
-use Rattle.std.proofs.Common.{◌≡◌, ℕ, ℤ, Bool, true, false, pos, negsuc, ◌<◌, ◌≤◌, ◌==◌, List, [], ◌∷◌, ◌++◌, map, Option, None, Some, Vec, inl, inr, refl, sym, ap, subst, ◌∙◌, arith}
+use Rattle.std.proofs.Common.{◌≡◌, ℕ, ℤ, Bool, true, false, pos, negsuc, ◌<◌, ◌≤◌, ◌==◌, List, []}
+use Rattle.std.proofs.Common.{◌∷◌, ◌++◌, map, Option, None, Some, Vec, inl, inr, refl, sym, ap}
+use Rattle.std.proofs.Common.{subst, ◌∙◌, arith}
 use Rattle.std.proofs.lemmas.Bool.{true≢false, eqb-true, ltb-true}
 use Rattle.std.proofs.lemmas.Bool.Decides.{Decides-int_eq}
 use Rattle.std.proofs.lemmas.Int.{ints}
@@ -7,7 +9,8 @@ use Rattle.std.proofs.lemmas.List.{append-nil}
 use Rattle.std.proofs.lemmas.List.Elements.{filter-append}
 use Rattle.std.proofs.lemmas.List.Concat.{flat_map-cons}
 use Rattle.std.proofs.Math.IntN.{◌+ℤ◌, -ℤ-+ℤ_cancel}
-use Rattle.std.specs.Prelude.{filter, find, option_map, flat_map, is_some, nat_le, nat_lt, if◌then◌else◌, ◌&&◌, ◌≤ℤ◌}
+use Rattle.std.specs.Prelude.{filter, find, option_map, flat_map, is_some, nat_le, nat_lt}
+use Rattle.std.specs.Prelude.{if◌then◌else◌, ◌&&◌, ◌≤ℤ◌}
 use Rattle.std.specs.Ordering.{int_eq}
 use Rattle.std.specs.List.{list_all}
 use Rattle.ftd_days.specs.Calendar.{year_of}
@@ -38,7 +41,8 @@ year_cell a b = test (a == b) refl (int_eq (pos a) (pos b)) refl
   where
     test : (x : Bool) → (a == b) ≡ x → (y : Bool) → int_eq (pos a) (pos b) ≡ y → y ≡ x
     test true e true is = refl
-    test true e false is = let same : a ≡ b = eqb-true a b e in absurd (true≢false (sym ((Decides-int_eq (pos a) (pos b)).1 (ap pos same)) ∙ is))
+    test true e false is = let same : a ≡ b = eqb-true a b e in
+        absurd (true≢false (sym ((Decides-int_eq (pos a) (pos b)).1 (ap pos same)) ∙ is))
     test false e true is =
         let cells : pos a ≡ pos b = (Decides-int_eq (pos a) (pos b)).0 is in
         let same : a ≡ b = cc in
@@ -47,24 +51,39 @@ year_cell a b = test (a == b) refl (int_eq (pos a) (pos b)) refl
 
 -- ---- whether a calendar is given
 
-absent : (year : ℕ) (cs : List YearDays) → filter (is_calendar_year (pos year)) (map calendar_entry cs) ≡ [] → option_map days_of (find (is_year year) cs) ≡ None
+absent : (year : ℕ) (cs : List YearDays) → filter (is_calendar_year (pos year))
+    (map calendar_entry cs) ≡ [] → option_map days_of (find (is_year year) cs) ≡ None
 absent year [] h = refl
 absent year (c ∷ cs) h =
-    step (c.year == year) (subst (λ b. (if b then calendar_entry c ∷ filter (is_calendar_year (pos year)) (map calendar_entry cs) else filter (is_calendar_year (pos year)) (map calendar_entry cs)) ≡ []) (year_cell c.year year) h) (absent year cs)
+    step (c.year == year)
+    (subst (λ b. (if b then calendar_entry c ∷ filter (is_calendar_year (pos year))
+    (map calendar_entry cs) else filter (is_calendar_year (pos year)) (map calendar_entry cs)) ≡ [])
+    (year_cell c.year year) h) (absent year cs)
   where
-    step : (b : Bool) → (if b then calendar_entry c ∷ filter (is_calendar_year (pos year)) (map calendar_entry cs) else filter (is_calendar_year (pos year)) (map calendar_entry cs)) ≡ []
-        → (filter (is_calendar_year (pos year)) (map calendar_entry cs) ≡ [] → option_map days_of (find (is_year year) cs) ≡ None)
+    step : (b : Bool) → (if b then calendar_entry c ∷ filter (is_calendar_year (pos year))
+        (map calendar_entry cs) else filter (is_calendar_year (pos year)) (map calendar_entry cs))
+        ≡ []
+        → (filter (is_calendar_year (pos year)) (map calendar_entry cs) ≡ []
+        → option_map days_of (find (is_year year) cs) ≡ None)
         → option_map days_of (if b then Some c else find (is_year year) cs) ≡ None
     step true h more = absurd cc
     step false h more = more h
 
-present : (year : ℕ) (cs : List YearDays) (row : CalendarYearRow) → filter (is_calendar_year (pos year)) (map calendar_entry cs) ≡ row ∷ [] → is_some (find (is_year year) cs) ≡ true
+present : (year : ℕ) (cs : List YearDays) (row : CalendarYearRow)
+    → filter (is_calendar_year (pos year)) (map calendar_entry cs) ≡ row ∷ []
+    → is_some (find (is_year year) cs) ≡ true
 present year [] row h = absurd cc
 present year (c ∷ cs) row h =
-    step (c.year == year) (subst (λ b. (if b then calendar_entry c ∷ filter (is_calendar_year (pos year)) (map calendar_entry cs) else filter (is_calendar_year (pos year)) (map calendar_entry cs)) ≡ row ∷ []) (year_cell c.year year) h) (present year cs row)
+    step (c.year == year)
+    (subst (λ b. (if b then calendar_entry c ∷ filter (is_calendar_year (pos year))
+    (map calendar_entry cs) else filter (is_calendar_year (pos year)) (map calendar_entry cs)) ≡ row
+    ∷ []) (year_cell c.year year) h) (present year cs row)
   where
-    step : (b : Bool) → (if b then calendar_entry c ∷ filter (is_calendar_year (pos year)) (map calendar_entry cs) else filter (is_calendar_year (pos year)) (map calendar_entry cs)) ≡ row ∷ []
-        → (filter (is_calendar_year (pos year)) (map calendar_entry cs) ≡ row ∷ [] → is_some (find (is_year year) cs) ≡ true)
+    step : (b : Bool) → (if b then calendar_entry c ∷ filter (is_calendar_year (pos year))
+        (map calendar_entry cs) else filter (is_calendar_year (pos year)) (map calendar_entry cs))
+        ≡ row ∷ []
+        → (filter (is_calendar_year (pos year)) (map calendar_entry cs) ≡ row ∷ []
+        → is_some (find (is_year year) cs) ≡ true)
         → is_some (if b then Some c else find (is_year year) cs) ≡ true
     step true h more = refl
     step false h more = more h
@@ -72,20 +91,25 @@ present year (c ∷ cs) row h =
 -- ---- the holidays of a year
 
 one_calendar : (year other : ℕ) (days : List ℕ) (b : Bool) → int_eq (pos other) (pos year) ≡ b
-    → filter (is_holiday_of (pos year)) (map (holiday_row other) days) ≡ (if b then map (holiday_row other) days else [])
+    → filter (is_holiday_of (pos year)) (map (holiday_row other) days)
+    ≡ (if b then map (holiday_row other) days else [])
 one_calendar year other [] true e = refl
 one_calendar year other [] false e = refl
-one_calendar year other (d ∷ days) true e = rw e (ap (λ rows. holiday_row other d ∷ rows) (one_calendar year other days true e))
+one_calendar year other (d ∷ days) true e =
+    rw e (ap (λ rows. holiday_row other d ∷ rows) (one_calendar year other days true e))
 one_calendar year other (d ∷ days) false e = rw e (one_calendar year other days false e)
 
 -- where no calendar is of the year
-no_holidays : (year : ℕ) (cs : List YearDays) → ((c : YearDays) → Has cs c → c.year ≡ year → ⊥) → filter (is_holiday_of (pos year)) (flat_map holiday_entries cs) ≡ []
+no_holidays : (year : ℕ) (cs : List YearDays) → ((c : YearDays) → Has cs c → c.year ≡ year → ⊥)
+    → filter (is_holiday_of (pos year)) (flat_map holiday_entries cs) ≡ []
 no_holidays year [] other = refl
 no_holidays year (c ∷ cs) other =
-    let off : int_eq (pos c.year) (pos year) ≡ false = year_cell c.year year ∙ apart (c.year == year) refl in
+    let off : int_eq (pos c.year) (pos year) ≡ false = year_cell c.year year
+    ∙ apart (c.year == year) refl in
     ap (filter (is_holiday_of (pos year))) (flat_map-cons holiday_entries c cs)
     ∙ filter-append (is_holiday_of (pos year)) (holiday_entries c) (flat_map holiday_entries cs)
-    ∙ ap (λ rows. rows ++ filter (is_holiday_of (pos year)) (flat_map holiday_entries cs)) (one_calendar year c.year c.days false off)
+    ∙ ap (λ rows. rows ++ filter (is_holiday_of (pos year)) (flat_map holiday_entries cs))
+    (one_calendar year c.year c.days false off)
     ∙ no_holidays year cs (λ g has. other g (inr has))
   where
     apart : (b : Bool) → (c.year == year) ≡ b → b ≡ false
@@ -97,15 +121,18 @@ days_rows year None = []
 days_rows year (Some days) = map (holiday_row year) days
 
 year_holidays : (year : ℕ) (cs : List YearDays) → AreDistinct year_of_calendar cs
-    → filter (is_holiday_of (pos year)) (flat_map holiday_entries cs) ≡ days_rows year (option_map days_of (find (is_year year) cs))
+    → filter (is_holiday_of (pos year)) (flat_map holiday_entries cs) ≡ days_rows year
+    (option_map days_of (find (is_year year) cs))
 year_holidays year [] apart = refl
 year_holidays year (c ∷ cs) apart =
     ap (filter (is_holiday_of (pos year))) (flat_map-cons holiday_entries c cs)
     ∙ filter-append (is_holiday_of (pos year)) (holiday_entries c) (flat_map holiday_entries cs)
     ∙ step (c.year == year) refl (year_holidays year cs apart.1)
   where
-    step : (b : Bool) → (c.year == year) ≡ b → filter (is_holiday_of (pos year)) (flat_map holiday_entries cs) ≡ days_rows year (option_map days_of (find (is_year year) cs))
-        → filter (is_holiday_of (pos year)) (holiday_entries c) ++ filter (is_holiday_of (pos year)) (flat_map holiday_entries cs)
+    step : (b : Bool) → (c.year == year) ≡ b → filter (is_holiday_of (pos year))
+        (flat_map holiday_entries cs) ≡ days_rows year (option_map days_of (find (is_year year) cs))
+        → filter (is_holiday_of (pos year)) (holiday_entries c) ++ filter (is_holiday_of (pos year))
+        (flat_map holiday_entries cs)
         ≡ days_rows year (option_map days_of (if b then Some c else find (is_year year) cs))
     step true e more =
         let its : c.year ≡ year = eqb-true c.year year e in
@@ -116,7 +143,8 @@ year_holidays year (c ∷ cs) apart =
         ∙ append-nil (map (holiday_row c.year) c.days)
         ∙ ap (λ y. map (holiday_row y) c.days) its
     step false e more =
-        ap (λ rows. rows ++ filter (is_holiday_of (pos year)) (flat_map holiday_entries cs)) (one_calendar year c.year c.days false (year_cell c.year year ∙ e)) ∙ more
+        ap (λ rows. rows ++ filter (is_holiday_of (pos year)) (flat_map holiday_entries cs))
+        (one_calendar year c.year c.days false (year_cell c.year year ∙ e)) ∙ more
 
 -- ---- days in their order
 
@@ -147,10 +175,17 @@ rising (x ∷ []) e = ((λ later has. absurd has), tt)
 rising (x ∷ y ∷ days) e =
     let parts = both (nat_lt x y) (are_rising (y ∷ days)) e in
     let first : x < y = ltb-true x y parts.0 in
-    let rest : KeysRise itself (y ∷ days) = rising (y ∷ days) parts.1 in
-    ((λ later has. elim has [ inl is ↦ omega arith | inr after ↦ let more = rest.0 later after in omega arith ]), rest)
+    let rest : KeysRise itself (y ∷ days) = rising (y ∷ days) parts.1 in (
+      (λ later has. elim has [
+        | inl is ↦ omega arith
+        | inr after ↦ let more = rest.0 later after in
+            omega arith
+      ]),
+      rest,
+    )
 
-rows_rise : (year : ℕ) (days : List ℕ) → KeysRise itself days → KeysRise day_key (map (holiday_row year) days)
+rows_rise : (year : ℕ) (days : List ℕ) → KeysRise itself days
+    → KeysRise day_key (map (holiday_row year) days)
 rows_rise year [] rise = tt
 rows_rise year (d ∷ days) rise = (
   (λ later has.
@@ -164,20 +199,26 @@ rows_rise year (d ∷ days) rise = (
 
 back : (year : ℕ) (days : List ℕ) → map day_key (map (holiday_row year) days) ≡ days
 back year [] = refl
-back year (d ∷ days) = ap (λ n. n ∷ map day_key (map (holiday_row year) days)) (day_key_is year d) ∙ ap (λ ns. d ∷ ns) (back year days)
+back year (d ∷ days) = ap (λ n. n ∷ map day_key (map (holiday_row year) days)) (day_key_is year d)
+    ∙ ap (λ ns. d ∷ ns) (back year days)
 
-paired : (year : ℕ) (rows : List HolidayRow) (days : List ℕ) → Pairs (IsHoliday year) rows days → rows ≡ map (holiday_row year) days
+paired : (year : ℕ) (rows : List HolidayRow) (days : List ℕ) → Pairs (IsHoliday year) rows days
+    → rows ≡ map (holiday_row year) days
 paired year [] [] pairs = refl
 paired year [] (d ∷ days) pairs = absurd pairs
 paired year (row ∷ rows) [] pairs = absurd pairs
-paired year (row ∷ rows) (d ∷ days) pairs = ap (λ r. r ∷ rows) pairs.0 ∙ ap (λ rs. holiday_row year d ∷ rs) (paired year rows days pairs.1)
+paired year (row ∷ rows) (d ∷ days) pairs = ap (λ r. r ∷ rows) pairs.0
+    ∙ ap (λ rs. holiday_row year d ∷ rs) (paired year rows days pairs.1)
 
 -- the rows of rising days list these days
-pub days_listed : (year : ℕ) (days listed : List ℕ) → KeysRise itself days → Lists HolidaysRise (IsHoliday year) (map (holiday_row year) days) listed → listed ≡ days
+pub days_listed : (year : ℕ) (days listed : List ℕ) → KeysRise itself days
+    → Lists HolidaysRise (IsHoliday year) (map (holiday_row year) days) listed → listed ≡ days
 days_listed year days listed rise l =
     let sorted : l.ordered ≡ map (holiday_row year) days =
-    sorted_is day_key (map (holiday_row year) days) l.ordered (rows_rise year days rise) (next_do_not_fall day_key l.ordered (λ k d less. key_rises _ _ (l.rise k d less))) l.same in
-    sym (back year listed) ∙ ap (map day_key) (sym (paired year l.ordered listed l.pairs) ∙ sorted) ∙ back year days
+    sorted_is day_key (map (holiday_row year) days) l.ordered (rows_rise year days rise)
+    (next_do_not_fall day_key l.ordered (λ k d less. key_rises _ _ (l.rise k d less))) l.same in
+    sym (back year listed) ∙ ap (map day_key) (sym (paired year l.ordered listed l.pairs) ∙ sorted)
+    ∙ back year days
 
 -- ---- the calendar of a year
 
@@ -185,32 +226,49 @@ found_in : {X : Type 0} (test : X → Bool) (xs : List X) (x : X) → find test 
 found_in test [] x e = absurd cc
 found_in test (z ∷ xs) x e = step (test z) e (found_in test xs x)
   where
-    step : (b : Bool) → (if b then Some z else find test xs) ≡ Some x → (find test xs ≡ Some x → Has xs x) → Has (z ∷ xs) x
+    step : (b : Bool) → (if b then Some z else find test xs) ≡ Some x
+        → (find test xs ≡ Some x → Has xs x) → Has (z ∷ xs) x
     step true e more = let same : z ≡ x = cc in inl (sym same)
     step false e more = inr (more e)
 
-calendar_rises : (s : State) → IsSound s → (c : YearDays) → Has s.calendars c → KeysRise itself c.days
+calendar_rises : (s : State) → IsSound s → (c : YearDays) → Has s.calendars c
+    → KeysRise itself c.days
 calendar_rises s sound c has =
     let fits = (sound.are_calendars c has).1 in
-    let rest = (both (nat_le _ 60) (list_all (λ day. year_of day == c.year) c.days && are_rising c.days) fits).1 in
+    let rest =
+    (both (nat_le _ 60) (list_all (λ day. year_of day == c.year) c.days && are_rising c.days)
+    fits).1 in
     rising c.days (both (list_all (λ day. year_of day == c.year) c.days) (are_rising c.days) rest).1
 
 abbrev pub days_found : {A : Type 0} → Vec ℕ A → List ℕ
 days_found days = days.items
 
 -- the calendar that was found is the one that the state keeps
-pub calendar_known : {A : Type 0} (year : ℕ) (found : Option (Vec ℕ A)) (t : Tables) (s : State) → StandsFor t s → IsSound s → FindsCalendar year found t
+pub calendar_known : {A : Type 0} (year : ℕ) (found : Option (Vec ℕ A)) (t : Tables) (s : State)
+    → StandsFor t s → IsSound s → FindsCalendar year found t
     → calendar_at s year ≡ option_map days_found found
-calendar_known year None t s stands sound finds = absent year s.calendars (ap (filter (is_calendar_year (pos year))) (sym stands.calendars) ∙ finds)
-calendar_known {A = A} year (Some days) t s stands sound finds = step (find (is_year year) s.calendars) refl
+calendar_known year None t s stands sound finds = absent year s.calendars
+    (ap (filter (is_calendar_year (pos year))) (sym stands.calendars) ∙ finds)
+calendar_known {A = A} year (Some days) t s stands sound finds =
+    step (find (is_year year) s.calendars) refl
   where
-    rows : filter (is_holiday_of (pos year)) (t Holidays) ≡ days_rows year (option_map days_of (find (is_year year) s.calendars))
-    rows = ap (filter (is_holiday_of (pos year))) stands.calendar_days ∙ year_holidays year s.calendars sound.calendars
+    rows : filter (is_holiday_of (pos year)) (t Holidays) ≡ days_rows year
+        (option_map days_of (find (is_year year) s.calendars))
+    rows = ap (filter (is_holiday_of (pos year))) stands.calendar_days
+        ∙ year_holidays year s.calendars sound.calendars
 
-    step : (o : Option YearDays) → find (is_year year) s.calendars ≡ o → option_map days_of o ≡ Some days.items
+    step : (o : Option YearDays) → find (is_year year) s.calendars ≡ o
+        → option_map days_of o ≡ Some days.items
     step None is =
-        absurd (true≢false (sym (present year s.calendars (calendar_year_row year) (ap (filter (is_calendar_year (pos year))) (sym stands.calendars) ∙ finds.0)) ∙ ap is_some is))
+        absurd (true≢false
+        (sym (present year s.calendars (calendar_year_row year)
+        (ap (filter (is_calendar_year (pos year))) (sym stands.calendars) ∙ finds.0))
+        ∙ ap is_some is))
     step (Some c) is =
-        let its : filter (is_holiday_of (pos year)) (t Holidays) ≡ map (holiday_row year) c.days = rows ∙ ap (λ o. days_rows year (option_map days_of o)) is in
-        let listed : Lists HolidaysRise (IsHoliday year) (map (holiday_row year) c.days) days.items = subst (λ rs. Lists HolidaysRise (IsHoliday year) rs days.items) its finds.1 in
-        ap Some (sym (days_listed year c.days days.items (calendar_rises s sound c (found_in (is_year year) s.calendars c is)) listed))
+        let its : filter (is_holiday_of (pos year)) (t Holidays) ≡ map (holiday_row year) c.days =
+        rows ∙ ap (λ o. days_rows year (option_map days_of o)) is in
+        let listed : Lists HolidaysRise (IsHoliday year) (map (holiday_row year) c.days)
+        days.items = subst (λ rs. Lists HolidaysRise (IsHoliday year) rs days.items) its finds.1 in
+        ap Some (sym
+        (days_listed year c.days days.items
+        (calendar_rises s sound c (found_in (is_year year) s.calendars c is)) listed))

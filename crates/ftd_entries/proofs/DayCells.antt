@@ -1,12 +1,14 @@
 -- Days as cells.
-use Rattle.std.proofs.Common.{◌≡◌, ℕ, ℤ, inl, inr, Bool, true, false, refl, sym, ap, ◌∙◌, subst, arith}
+use Rattle.std.proofs.Common.{◌≡◌, ℕ, ℤ, inl, inr, Bool, true, false, refl, sym, ap, ◌∙◌, subst}
+use Rattle.std.proofs.Common.{arith}
 use Rattle.std.specs.Prelude.{◌==◌, nat_le, nat_lt, int_le, int_lt}
 use Rattle.std.specs.Int.Signed.{◌≤ℤ◌, ◌<ℤ◌, le_z_yes, lt_z_yes}
 use Rattle.std.specs.Ordering.{int_eq}
 use Rattle.std.proofs.Math.Dec.{T}
 use Rattle.std.proofs.lemmas.Int.{ints}
 use Rattle.std.proofs.lemmas.Bool.{le-leb, lt-leb, lt-ltb, le-ltb}
-use Rattle.std.proofs.lemmas.Bool.Decides.{Decides-int_eq, Decides-eqb, Decides-like, same_from_decides}
+use Rattle.std.proofs.lemmas.Bool.Decides.{Decides-int_eq, Decides-eqb, Decides-like}
+use Rattle.std.proofs.lemmas.Bool.Decides.{same_from_decides}
 use Rattle.ftd_rules.proofs.Cuts.{lt_or_le}
 use Rattle.ftd_rows.specs.Cells.{day_number}
 use Rattle.ftd_entries.proofs.Found.{day_is}
@@ -30,7 +32,9 @@ pub day_le : (a b : ℕ) → int_le (day_number a) (day_number b) ≡ nat_le a b
 day_le a b =
     elim (lt_or_le b a) [
       | inl less ↦
-          failed (int_le (day_number a) (day_number b)) (λ e. let h = le_from (day_number a) (day_number b) e in omega (arith, ints)) ∙ sym (lt-leb a b less)
+          failed (int_le (day_number a) (day_number b))
+          (λ e. let h = le_from (day_number a) (day_number b) e in
+          omega (arith, ints)) ∙ sym (lt-leb a b less)
       | inr some ↦
           (let h : day_number a ≤ℤ day_number b = omega (arith, ints) in
           passed (int_le (day_number a) (day_number b)) h.le ∙ sym (le-leb a b some))
@@ -43,11 +47,14 @@ day_lt a b =
           (let h : day_number a <ℤ day_number b = omega (arith, ints) in
           passed (int_lt (day_number a) (day_number b)) h.lt ∙ sym (lt-ltb a b less))
       | inr some ↦
-          failed (int_lt (day_number a) (day_number b)) (λ e. let h = lt_from (day_number a) (day_number b) e in omega (arith, ints)) ∙ sym (le-ltb a b some)
+          failed (int_lt (day_number a) (day_number b))
+          (λ e. let h = lt_from (day_number a) (day_number b) e in
+          omega (arith, ints)) ∙ sym (le-ltb a b some)
     ]
 
 -- and equal where the days are
 pub same_day : (a b : ℕ) → int_eq (day_number a) (day_number b) ≡ (a == b)
 same_day a b =
     same_from_decides (int_eq (day_number a) (day_number b)) (a == b)
-    (Decides-like (int_eq (day_number a) (day_number b)) (day_is a b) (λ is. ap day_number is) (Decides-int_eq (day_number a) (day_number b))) (Decides-eqb a b)
+    (Decides-like (int_eq (day_number a) (day_number b)) (day_is a b) (λ is. ap day_number is)
+    (Decides-int_eq (day_number a) (day_number b))) (Decides-eqb a b)

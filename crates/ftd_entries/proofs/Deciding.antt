@@ -1,5 +1,6 @@
 -- What is answered to a year that is to be opened, by what was read.
-use Rattle.std.proofs.Common.{◌≡◌, ℕ, ◌-◌, ◌==◌, ◌||◌, Bool, true, false, List, [], ◌∷◌, length, map, Option, None, Some, Result, Ok, Err, sym, ap, subst, ◌∙◌}
+use Rattle.std.proofs.Common.{◌≡◌, ℕ, ◌-◌, ◌==◌, ◌||◌, Bool, true, false, List, [], ◌∷◌, length}
+use Rattle.std.proofs.Common.{map, Option, None, Some, Result, Ok, Err, sym, ap, subst, ◌∙◌}
 use Rattle.std.specs.List.{list_any}
 use Rattle.std.proofs.lemmas.List.{length-map}
 use Rattle.ftd_days.specs.declared.cents.Cents.{Cents}
@@ -24,19 +25,27 @@ use Rattle.ftd_entries.specs.declared.open_years.KnownYear.{KnownYear}
 use Rattle.ftd_entries.proofs.KnownYears.{open_lines}
 use Rattle.ftd_entries.proofs.Opening.{open_decided, open_lacks, open_waits, open_done}
 
-module _ (name : List ℕ) (year : ℕ) (known : KnownYear) (there : Bool) (is_there : there ≡ list_any (is_line_of year) known.lines.items) where
+module _ (name : List ℕ) (year : ℕ) (known : KnownYear) (there : Bool)
+    (is_there : there ≡ list_any (is_line_of year) known.lines.items) where
   abbrev pub checks : Option Answer
   checks = first_of (open_year_checks name year known.account there known.given known.next)
 
   -- what each state keeps for which the tables stand
-  keeps : (t : Tables) (s : State) → StandsFor t s → IsSound s → KnowsToOpen name year known t → KeepsYear name year known.account there known.given known.next s
-  keeps t s stands sound knows = subst (λ b. KeepsYear name year known.account b known.given known.next s) (sym is_there) (knows s stands sound).0
+  keeps : (t : Tables) (s : State) → StandsFor t s → IsSound s → KnowsToOpen name year known t
+      → KeepsYear name year known.account there known.given known.next s
+  keeps t s stands sound knows =
+      subst (λ b. KeepsYear name year known.account b known.given known.next s) (sym is_there)
+      (knows s stands sound).0
 
   -- a check decides
-  pub year_decided : (answer : Answer) → checks ≡ Some answer → (t : Tables) (s : State) → StandsFor t s → IsSound s → KnowsToOpen name year known t → Step s (OpenYear name year) answer s
-  year_decided answer is t s stands sound knows = open_decided name year known.account there known.given known.next s (keeps t s stands sound knows) answer is
+  pub year_decided : (answer : Answer) → checks ≡ Some answer → (t : Tables) (s : State)
+      → StandsFor t s → IsSound s → KnowsToOpen name year known t
+      → Step s (OpenYear name year) answer s
+  year_decided answer is t s stands sound knows = open_decided name year known.account there
+      known.given known.next s (keeps t s stands sound knows) answer is
 
-  module _ (account : Account) (found : known.account ≡ Some account) (all_passed : checks ≡ None) where
+  module _ (account : Account) (found : known.account ≡ Some account)
+      (all_passed : checks ≡ None) where
     -- what was read of the year, and of its lookback period
     abbrev pub Knows : Result Cents Refusal → Tables → Type 0
     Knows total t = KnowsToOpen name year known t × KnowsTotal name account year total t
@@ -46,33 +55,50 @@ module _ (name : List ℕ) (year : ℕ) (known : KnownYear) (there : Bool) (is_t
       account_is knows = (keeps t s stands sound knows).account_is ∙ found
 
       -- a figure is missing
-      pub year_lacks : (refusal : Refusal) → Knows (Err refusal) t → Step s (OpenYear name year) (Err refusal) s
+      pub year_lacks : (refusal : Refusal) → Knows (Err refusal) t → Step s (OpenYear name year)
+          (Err refusal) s
       year_lacks refusal knows =
-          open_lacks name year known.account there known.given known.next s (keeps t s stands sound knows.0) all_passed refusal
+          open_lacks name year known.account there known.given known.next s
+          (keeps t s stands sound knows.0) all_passed refusal
           (knows.1 s stands sound (account_is knows.0))
 
       -- whether the year before lets it be opened
       may_is : KnowsToOpen name year known t
-          → ((length (entries_of s name).open_years == 0) || is_open (entries_of s name) (year - 1)) ≡ ((length known.lines.items == 0) || list_any (is_line_of (year - 1)) known.lines.items)
+          → ((length (entries_of s name).open_years == 0) || is_open (entries_of s name) (year - 1))
+          ≡ ((length known.lines.items == 0) || list_any (is_line_of (year - 1)) known.lines.items)
       may_is knows =
           let own = entries_of s name in
-          let years : map year_of_line known.lines.items ≡ map year_of_entry own.open_years = ap (map year_of_line) (knows s stands sound).1 ∙ (stands.settled name).are_lines.years in
-          let lengths : length own.open_years ≡ length known.lines.items = sym (length-map own.open_years year_of_entry) ∙ sym (ap length years) ∙ length-map known.lines.items year_of_line in
-          ap (λ n. (n == 0) || is_open own (year - 1)) lengths ∙ ap (λ b. (length known.lines.items == 0) || b) (open_lines (year - 1) known.lines.items own.open_years years)
+          let years : map year_of_line known.lines.items ≡ map year_of_entry own.open_years =
+          ap (map year_of_line) (knows s stands sound).1 ∙ (stands.settled name).are_lines.years in
+          let lengths : length own.open_years ≡ length known.lines.items =
+          sym (length-map own.open_years year_of_entry) ∙ sym (ap length years)
+          ∙ length-map known.lines.items year_of_line in
+          ap (λ n. (n == 0) || is_open own (year - 1)) lengths
+          ∙ ap (λ b. (length known.lines.items == 0) || b)
+          (open_lines (year - 1) known.lines.items own.open_years years)
 
-      pub year_waits : (total : Cents) → ((length known.lines.items == 0) || list_any (is_line_of (year - 1)) known.lines.items) ≡ false → Knows (Ok total) t
+      pub year_waits : (total : Cents)
+          → ((length known.lines.items == 0) || list_any (is_line_of (year - 1)) known.lines.items)
+          ≡ false → Knows (Ok total) t
           → Step s (OpenYear name year) (Err (YearNotOpen (year - 1))) s
       year_waits total may_not knows =
-          open_waits name year known.account there known.given known.next s (keeps t s stands sound knows.0) all_passed total (Err (YearNotOpen (year - 1)))
+          open_waits name year known.account there known.given known.next s
+          (keeps t s stands sound knows.0) all_passed total (Err (YearNotOpen (year - 1)))
           (knows.1 s stands sound (account_is knows.0))
           (ap (λ b. first_of (needs b (YearNotOpen (year - 1)) ∷ [])) (may_is knows.0 ∙ may_not))
 
-      pub year_done : (total : Cents) (line : YearLine) → ((length known.lines.items == 0) || list_any (is_line_of (year - 1)) known.lines.items) ≡ true
+      pub year_done : (total : Cents) (line : YearLine)
+          → ((length known.lines.items == 0) || list_any (is_line_of (year - 1)) known.lines.items)
+          ≡ true
           → IsNextLine account.carried known.lines.items year total line → Knows (Ok total) t
-          → (next : State) × Step s (OpenYear name year) (Ok Done) next × StandsFor (with_year name line t) next
+          → (next : State) × Step s (OpenYear name year) (Ok Done) next
+          × StandsFor (with_year name line t) next
       year_done total line may is_next knows =
-          open_done name year known.account there known.given known.next s (keeps t s stands sound knows.0) all_passed t stands sound total
+          open_done name year known.account there known.given known.next s
+          (keeps t s stands sound knows.0) all_passed t stands sound total
           (knows.1 s stands sound (account_is knows.0))
           (ap (λ b. first_of (needs b (YearNotOpen (year - 1)) ∷ [])) (may_is knows.0 ∙ may)) line
-          (subst (λ carried. IsNextLine carried (stands.settled name).lines year total line) (sym (ap is_carried (account_is knows.0)))
-          (subst (λ lines. IsNextLine account.carried lines year total line) (knows.0 s stands sound).1 is_next))
+          (subst (λ carried. IsNextLine carried (stands.settled name).lines year total line)
+          (sym (ap is_carried (account_is knows.0)))
+          (subst (λ lines. IsNextLine account.carried lines year total line)
+          (knows.0 s stands sound).1 is_next))

@@ -1,5 +1,6 @@
 -- An account that is enrolled: what is answered, and the tables stand for the machine's next state.
-use Rattle.std.proofs.Common.{◌≡◌, ℕ, Bool, true, false, List, [], ◌∷◌, ◌++◌, map, Option, None, Some, Ok, refl, sym, ap, subst, ◌∙◌, inl}
+use Rattle.std.proofs.Common.{◌≡◌, ℕ, Bool, true, false, List, [], ◌∷◌, ◌++◌, map, Option, None}
+use Rattle.std.proofs.Common.{Some, Ok, refl, sym, ap, subst, ◌∙◌, inl}
 use Rattle.std.proofs.lemmas.Bool.{true≢false}
 use Rattle.std.proofs.lemmas.List.{map-append}
 use Rattle.std.specs.Prelude.{filter, bytes_eq, is_some, IsPermutation}
@@ -32,22 +33,28 @@ use Rattle.ftd_entries.specs.Standing.{StandsFor, IsSettled, enrolled_row, enrol
 use Rattle.ftd_entries.specs.Known.{KnowsAccount, with_enrolled}
 
 -- where no year is open, the form and the account make no difference to what is owed
-owed_none : (form other : Form) (sums others : List DaySum) (holidays : List ℕ) (rows : List Obligation) → AreObligations form [] sums holidays rows → AreObligations other [] others holidays rows
+owed_none : (form other : Form) (sums others : List DaySum) (holidays : List ℕ)
+    (rows : List Obligation) → AreObligations form [] sums holidays rows
+    → AreObligations other [] others holidays rows
 owed_none form other sums others holidays rows are = record {
   by_first_day = are.by_first_day;
   all = λ o. (λ has. absurd ((are.all o).0 has).open_year, λ is. absurd is.open_year);
 }
 
-no_entry : (name : List ℕ) (s : State) → IsSound s → (entries_of s name).account ≡ None → filter (is_of name) s.open_years ≡ []
+no_entry : (name : List ℕ) (s : State) → IsSound s → (entries_of s name).account ≡ None
+    → filter (is_of name) s.open_years ≡ []
 no_entry name s sound none = go (filter (is_of name) s.open_years) refl
   where
-    go : (xs : List (Entry (Unit {0}))) → filter (is_of name) s.open_years ≡ xs → filter (is_of name) s.open_years ≡ []
+    go : (xs : List (Entry (Unit {0}))) → filter (is_of name) s.open_years ≡ xs
+        → filter (is_of name) s.open_years ≡ []
     go [] is = is
     go (e ∷ xs) is =
-        let from = has_filtered (is_of name) s.open_years e (subst (λ ys. Has ys e) (sym is) (inl refl)) in
+        let from = has_filtered (is_of name) s.open_years e
+        (subst (λ ys. Has ys e) (sym is) (inl refl)) in
         let there = sound.enrolled e from.0 in
         let own : e.name ≡ name = same_name e.name name from.1 in
-        absurd (true≢false (sym (subst (λ n. is_some (entries_of s n).account ≡ true) own there) ∙ ap is_some none))
+        absurd (true≢false (sym (subst (λ n. is_some (entries_of s n).account ≡ true) own there)
+        ∙ ap is_some none))
 
 -- the lines of an account with no open year are none
 lines_none : (lines : List YearLine) → map year_of_line lines ≡ [] → lines ≡ []
@@ -59,59 +66,80 @@ module _ (name : List ℕ) (account : Account) where
   Asked = Enrol name account.start account.carried account.form
 
   -- a check decides
-  pub enrol_decided : (known : Option Account) (answer : Answer) → first_of (enrol_checks name account known) ≡ Some answer
-      → (t : Tables) (s : State) → StandsFor t s → IsSound s → KnowsAccount name known t → Step s Asked answer s
+  pub enrol_decided : (known : Option Account) (answer : Answer)
+      → first_of (enrol_checks name account known) ≡ Some answer
+      → (t : Tables) (s : State) → StandsFor t s → IsSound s → KnowsAccount name known t
+      → Step s Asked answer s
   enrol_decided known answer decided t s stands sound knows =
-      subst (λ k. Decides (first_of (enrol_checks name account k)) s answer s ((answer ≡ Ok Done) × (s ≡ record s { accounts = with_account s.accounts name account }))) (sym (knows s stands))
-      (subst (λ o. Decides o s answer s ((answer ≡ Ok Done) × (s ≡ record s { accounts = with_account s.accounts name account }))) (sym decided) (refl, refl))
+      subst (λ k. Decides (first_of (enrol_checks name account k)) s answer s
+      ((answer ≡ Ok Done) × (s ≡ record s { accounts = with_account s.accounts name account })))
+      (sym (knows s stands))
+      (subst (λ o. Decides o s answer s
+      ((answer ≡ Ok Done) × (s ≡ record s { accounts = with_account s.accounts name account })))
+      (sym decided) (refl, refl))
 
   abbrev Next : State → State
   Next s = record s { accounts = with_account s.accounts name account }
 
-  settled_new : (t : Tables) (s : State) → IsSound s → (entries_of s name).account ≡ None → IsSettled t s name → IsSettled (with_enrolled name account t) (Next s) name
+  settled_new : (t : Tables) (s : State) → IsSound s → (entries_of s name).account ≡ None
+      → IsSettled t s name → IsSettled (with_enrolled name account t) (Next s) name
   settled_new t s sound none was =
       let own = no_entry name s sound none in
-      let lines : was.lines ≡ [] = lines_none was.lines (was.are_lines.years ∙ ap (map year_of_entry) own) in
+      let lines : was.lines ≡ [] = lines_none was.lines (was.are_lines.years
+      ∙ ap (map year_of_entry) own) in
       record {
         lines = [];
         are_lines = record {
           years = sym (ap (map year_of_entry) own);
           lookbacks = λ line has. absurd has;
           carried = tt;
-          schedules = subst (AreLines (live_sums (entries_of s name))) lines was.are_lines.schedules;
+          schedules = subst (AreLines (live_sums (entries_of s name))) lines
+              was.are_lines.schedules;
         };
         owed = was.owed;
-        are_owed = owed_none _ _ _ _ _ _ (subst (λ ls. AreObligations (form_of (entries_of s name).account) ls (live_sums (entries_of s name)) (holidays s) was.owed) lines was.are_owed);
-        line_rows = subst (λ ls. IsPermutation (filter (is_year_of name) (t Years)) (map (year_row name) ls)) lines was.line_rows;
+        are_owed = owed_none _ _ _ _ _ _
+            (subst (λ ls. AreObligations (form_of (entries_of s name).account) ls
+            (live_sums (entries_of s name)) (holidays s) was.owed) lines was.are_owed);
+        line_rows = subst (λ ls. IsPermutation (filter (is_year_of name) (t Years))
+            (map (year_row name) ls)) lines was.line_rows;
         owed_rows = was.owed_rows;
       }
 
-  settled_other : (t : Tables) (s : State) (other : List ℕ) → entries_of (Next s) other ≡ entries_of s other → IsSettled t s other → IsSettled (with_enrolled name account t) (Next s) other
+  settled_other : (t : Tables) (s : State) (other : List ℕ)
+      → entries_of (Next s) other ≡ entries_of s other → IsSettled t s other
+      → IsSettled (with_enrolled name account t) (Next s) other
   settled_other t s other same was = record {
     lines = was.lines;
     are_lines = subst (λ own. AreLinesOf own was.lines) (sym same) was.are_lines;
     owed = was.owed;
-    are_owed = subst (λ own. AreObligations (form_of own.account) was.lines (live_sums own) (holidays s) was.owed) (sym same) was.are_owed;
+    are_owed = subst (λ own. AreObligations (form_of own.account) was.lines (live_sums own)
+        (holidays s) was.owed) (sym same) was.are_owed;
     line_rows = was.line_rows;
     owed_rows = was.owed_rows;
   }
 
   -- all checks pass
   pub enrol_done : (known : Option Account) → first_of (enrol_checks name account known) ≡ None
-      → (t : Tables) (s : State) → StandsFor t s → IsSound s → KnowsAccount name known t → (next : State) × Step s Asked (Ok Done) next × StandsFor (with_enrolled name account t) next
+      → (t : Tables) (s : State) → StandsFor t s → IsSound s → KnowsAccount name known t
+      → (next : State) × Step s Asked (Ok Done) next × StandsFor (with_enrolled name account t) next
   enrol_done known passed t s stands sound knows =
       let answer : Answer = Ok Done in
       let new_one : Enrolled = record { name = name; account = account } in
       let step : Step s Asked answer (Next s) =
-      subst (λ k. Decides (first_of (enrol_checks name account k)) s answer (Next s) ((answer ≡ Ok Done) × (Next s ≡ Next s))) (sym (knows s stands))
-      (subst (λ o. Decides o s answer (Next s) ((answer ≡ Ok Done) × (Next s ≡ Next s))) (sym passed) (refl, refl)) in
-      let new : Gives (enrol_checks name account known) (known ≡ None) = skip_needs _ _ _ _ (skip_needs _ _ _ _ (gives_new _ _ _ _)) in
+      subst (λ k. Decides (first_of (enrol_checks name account k)) s answer (Next s)
+      ((answer ≡ Ok Done) × (Next s ≡ Next s))) (sym (knows s stands))
+      (subst (λ o. Decides o s answer (Next s) ((answer ≡ Ok Done) × (Next s ≡ Next s)))
+      (sym passed) (refl, refl)) in
+      let new : Gives (enrol_checks name account known) (known ≡ None) =
+      skip_needs _ _ _ _ (skip_needs _ _ _ _ (gives_new _ _ _ _)) in
       let none : (entries_of s name).account ≡ None = knows s stands ∙ new.fact passed in (
         Next s,
         step,
         record {
-          accounts = ap (λ rows. rows ++ enrolled_row new_one ∷ []) stands.accounts ∙ sym (map-append enrolled_row s.accounts (new_one ∷ []));
-          forms = ap (λ rows. rows ++ enrolled_form new_one ∷ []) stands.forms ∙ sym (map-append enrolled_form s.accounts (new_one ∷ []));
+          accounts = ap (λ rows. rows ++ enrolled_row new_one ∷ []) stands.accounts
+              ∙ sym (map-append enrolled_row s.accounts (new_one ∷ []));
+          forms = ap (λ rows. rows ++ enrolled_form new_one ∷ []) stands.forms
+              ∙ sym (map-append enrolled_form s.accounts (new_one ∷ []));
           reported = stands.reported;
           reported_years = stands.reported_years;
           calendars = stands.calendars;
@@ -123,9 +151,14 @@ module _ (name : List ℕ) (account : Account) where
         },
       )
     where
-      by_name : (t : Tables) (s : State) → IsSound s → (entries_of s name).account ≡ None → StandsFor t s → Step s Asked (Ok Done) (Next s) → (other : List ℕ) (b : Bool) → bytes_eq name other ≡ b
+      by_name : (t : Tables) (s : State) → IsSound s → (entries_of s name).account ≡ None
+          → StandsFor t s → Step s Asked (Ok Done) (Next s) → (other : List ℕ) (b : Bool)
+          → bytes_eq name other ≡ b
           → IsSettled (with_enrolled name account t) (Next s) other
       by_name t s sound none stands step other true is =
-          subst (IsSettled (with_enrolled name account t) (Next s)) (same_name name other is) (settled_new t s sound none (stands.settled name))
+          subst (IsSettled (with_enrolled name account t) (Next s)) (same_name name other is)
+          (settled_new t s sound none (stands.settled name))
       by_name t s sound none stands step other false is =
-          settled_other t s other (others s Asked (Ok Done) (Next s) other step (λ same. true≢false (sym (subst (λ n. bytes_eq name n ≡ true) same (own_name name)) ∙ is))) (stands.settled other)
+          settled_other t s other (others s Asked (Ok Done) (Next s) other step
+          (λ same. true≢false (sym (subst (λ n. bytes_eq name n ≡ true) same (own_name name))
+          ∙ is))) (stands.settled other)

@@ -1,5 +1,6 @@
 -- What the rows of an account tell of its entry.
-use Rattle.std.proofs.Common.{◌≡◌, ℕ, Bool, true, false, pos, List, [], ◌∷◌, map, Option, None, Some, refl, sym, ap, subst, ◌∙◌}
+use Rattle.std.proofs.Common.{◌≡◌, ℕ, Bool, true, false, pos, List, [], ◌∷◌, map, Option, None}
+use Rattle.std.proofs.Common.{Some, refl, sym, ap, subst, ◌∙◌}
 use Rattle.std.proofs.Math.IntN.{◌+ℤ◌, -ℤ-+ℤ_cancel}
 use Rattle.std.specs.Prelude.{filter, find, bytes_eq, option_map, unwrap_or, if◌then◌else◌}
 use Rattle.ftd_rules.specs.declared.Form.{Form}
@@ -35,7 +36,8 @@ form_is F941 F943 h = absurd cc
 form_is F943 F941 h = absurd cc
 form_is F943 F943 h = refl
 
-same_account : (name : List ℕ) (x : Enrolled) (a : StoredAccount) (f : Form) → enrolled_row x ≡ account_row name a → enrolled_form x ≡ form_row name f
+same_account : (name : List ℕ) (x : Enrolled) (a : StoredAccount) (f : Form)
+    → enrolled_row x ≡ account_row name a → enrolled_form x ≡ form_row name f
     → x.account ≡ record { start = a.start; carried = a.carried; form = f }
 same_account name x a f row form =
     let start = day_is x.account.start a.start (ap (λ (r : AccountRow). r.start) row) in
@@ -44,17 +46,24 @@ same_account name x a f row form =
     rw (sym start, sym carried, sym kind) refl
 
 -- the first account of the name, by the rows of the two tables
-account_is : (name : List ℕ) (found : Option StoredAccount) (form : Option Form) (xs : List Enrolled)
-    → filter (is_account name) (map enrolled_row xs) ≡ rows_of (account_row name) found → filter (is_form_of name) (map enrolled_form xs) ≡ rows_of (form_row name) form
+account_is : (name : List ℕ) (found : Option StoredAccount) (form : Option Form)
+    (xs : List Enrolled)
+    → filter (is_account name) (map enrolled_row xs) ≡ rows_of (account_row name) found
+    → filter (is_form_of name) (map enrolled_form xs) ≡ rows_of (form_row name) form
     → option_map account_of (find (is_named name) xs) ≡ joined found form
 account_is name None form [] h k = refl
 account_is name (Some a) form [] h k = absurd cc
-account_is name found form (x ∷ xs) h k = step (bytes_eq x.name name) found form (account_is name found form xs) h k
+account_is name found form (x ∷ xs) h k = step (bytes_eq x.name name) found form
+    (account_is name found form xs) h k
   where
     step : (b : Bool) (found : Option StoredAccount) (form : Option Form)
-        → (filter (is_account name) (map enrolled_row xs) ≡ rows_of (account_row name) found → filter (is_form_of name) (map enrolled_form xs) ≡ rows_of (form_row name) form → option_map account_of (find (is_named name) xs) ≡ joined found form)
-        → (if b then enrolled_row x ∷ filter (is_account name) (map enrolled_row xs) else filter (is_account name) (map enrolled_row xs)) ≡ rows_of (account_row name) found
-        → (if b then enrolled_form x ∷ filter (is_form_of name) (map enrolled_form xs) else filter (is_form_of name) (map enrolled_form xs)) ≡ rows_of (form_row name) form
+        → (filter (is_account name) (map enrolled_row xs) ≡ rows_of (account_row name) found
+        → filter (is_form_of name) (map enrolled_form xs) ≡ rows_of (form_row name) form
+        → option_map account_of (find (is_named name) xs) ≡ joined found form)
+        → (if b then enrolled_row x ∷ filter (is_account name) (map enrolled_row xs) else filter
+        (is_account name) (map enrolled_row xs)) ≡ rows_of (account_row name) found
+        → (if b then enrolled_form x ∷ filter (is_form_of name) (map enrolled_form xs) else filter
+        (is_form_of name) (map enrolled_form xs)) ≡ rows_of (form_row name) form
         → option_map account_of (if b then Some x else find (is_named name) xs) ≡ joined found form
     step false found form more h k = more h k
     step true None form more h k = absurd cc
@@ -64,12 +73,15 @@ account_is name found form (x ∷ xs) h k = step (bytes_eq x.name name) found fo
         let kind : enrolled_form x ≡ form_row name f = cc in
         ap Some (same_account name x a f row kind)
 
-pub knows_account : (name : List ℕ) (found : Option StoredAccount) (form : Option Form) (t : Tables) → FindsAccount name found t → FindsForm name form t → KnowsAccount name (joined found form) t
+pub knows_account : (name : List ℕ) (found : Option StoredAccount) (form : Option Form) (t : Tables)
+    → FindsAccount name found t → FindsForm name form t → KnowsAccount name (joined found form) t
 knows_account name found form t account kind s stands =
-    account_is name found form s.accounts (ap (filter (is_account name)) (sym stands.accounts) ∙ account) (ap (filter (is_form_of name)) (sym stands.forms) ∙ kind)
+    account_is name found form s.accounts (ap (filter (is_account name)) (sym stands.accounts)
+    ∙ account) (ap (filter (is_form_of name)) (sym stands.forms) ∙ kind)
 
 -- and its form is that of its row
-pub has_form : (name : List ℕ) (found : Option StoredAccount) (form : Option Form) (t : Tables) → FindsForm name form t → HasForm name (joined found form) t
+pub has_form : (name : List ℕ) (found : Option StoredAccount) (form : Option Form) (t : Tables)
+    → FindsForm name form t → HasForm name (joined found form) t
 has_form name None form t finds a is = absurd cc
 has_form name (Some x) None t finds a is = absurd cc
 has_form name (Some x) (Some f) t finds a is =

@@ -1,5 +1,6 @@
 -- A calendar that is given: what is answered, and the tables stand for the machine's next state.
-use Rattle.std.proofs.Common.{◌≡◌, ◌≢◌, ℕ, ◌+◌, ◌==◌, Bool, true, false, List, [], ◌∷◌, ◌++◌, map, Option, None, Some, Ok, inl, inr, refl, sym, ap, subst, ◌∙◌}
+use Rattle.std.proofs.Common.{◌≡◌, ◌≢◌, ℕ, ◌+◌, ◌==◌, Bool, true, false, List, [], ◌∷◌, ◌++◌, map}
+use Rattle.std.proofs.Common.{Option, None, Some, Ok, inl, inr, refl, sym, ap, subst, ◌∙◌}
 use Rattle.std.specs.Prelude.{filter, flat_map, is_some, nat_le, ◌||◌, ◌&&◌}
 use Rattle.std.specs.List.{All, list_all}
 use Rattle.std.proofs.lemmas.Bool.{true≢false, eqb-true}
@@ -40,26 +41,32 @@ mapped_has f (z ∷ xs) x (inl is) = inl (ap f is)
 mapped_has f (z ∷ xs) x (inr has) = inr (mapped_has f xs x has)
 
 -- each line is of an open year of the account
-pub line_opened : (s : State) (name : List ℕ) (lines : List YearLine) → IsSound s → AreLinesOf (entries_of s name) lines → (line : YearLine) → Has lines line
+pub line_opened : (s : State) (name : List ℕ) (lines : List YearLine) → IsSound s
+    → AreLinesOf (entries_of s name) lines → (line : YearLine) → Has lines line
     → (is_given s line.year ≡ true) × (is_given s (line.year + 1) ≡ true)
 line_opened s name lines sound are line has =
-    let year : Has (map year_of_entry (filter (is_of name) s.open_years)) line.year = subst (λ years. Has years line.year) are.years (mapped_has year_of_line lines line has) in
+    let year : Has (map year_of_entry (filter (is_of name) s.open_years)) line.year =
+    subst (λ years. Has years line.year) are.years (mapped_has year_of_line lines line has) in
     let from = has_mapped year_of_entry (filter (is_of name) s.open_years) line.year year in
     let its = has_filtered (is_of name) s.open_years from.0 from.1 in
     let known = sound.opened from.0 its.0 in
     (ap (is_given s) from.2 ∙ known.1, ap (λ y. is_given s (y + 1)) from.2 ∙ known.2)
 
-passes : (test : ℕ → Bool) (xs : List ℕ) → list_all test xs ≡ true → (x : ℕ) → Has xs x → test x ≡ true
+passes : (test : ℕ → Bool) (xs : List ℕ) → list_all test xs ≡ true → (x : ℕ) → Has xs x
+    → test x ≡ true
 passes test [] e x has = absurd has
 passes test (z ∷ xs) e x (inl is) = ap test is ∙ (both (test z) (list_all test xs) e).0
 passes test (z ∷ xs) e x (inr has) = passes test xs (both (test z) (list_all test xs) e).1 x has
 
 -- the days of a calendar are days of its year
-days_of_its_year : (year : ℕ) (days : List ℕ) → is_calendar year days ≡ true → All (λ day. year_of day ≡ year) days
+days_of_its_year : (year : ℕ) (days : List ℕ) → is_calendar year days ≡ true
+    → All (λ day. year_of day ≡ year) days
 days_of_its_year year days fits =
-    let rest = (both (nat_le _ 60) (list_all (λ day. year_of day == year) days && are_rising days) fits).1 in
+    let rest = (both (nat_le _ 60) (list_all (λ day. year_of day == year) days && are_rising days)
+    fits).1 in
     let all = (both (list_all (λ day. year_of day == year) days) (are_rising days) rest).0 in
-    all_has (λ day. year_of day ≡ year) days (λ day has. eqb-true (year_of day) year (passes (λ d. year_of d == year) days all day has))
+    all_has (λ day. year_of day ≡ year) days
+    (λ day has. eqb-true (year_of day) year (passes (λ d. year_of d == year) days all day has))
 
 or_swap : (a b c : Bool) → ((a || c) || b) ≡ ((a || b) || c)
 or_swap true b c = refl
@@ -82,42 +89,60 @@ module _ (year : ℕ) (days : List ℕ) where
   abbrev Together : State → List YearDays
   Together s = s.calendars ++ record { year = 0; days = s.added_days } ∷ []
 
-  last_days : (given : List YearDays) (c : YearDays) → holidays_of (given ++ c ∷ []) ≡ holidays_of given ++ c.days
-  last_days given c = flat_map-append (λ (g : YearDays). g.days) given (c ∷ []) ∙ ap (λ ds. holidays_of given ++ ds) (append-nil c.days)
+  last_days : (given : List YearDays) (c : YearDays) → holidays_of (given ++ c ∷ [])
+      ≡ holidays_of given ++ c.days
+  last_days given c = flat_map-append (λ (g : YearDays). g.days) given (c ∷ [])
+      ∙ ap (λ ds. holidays_of given ++ ds) (append-nil c.days)
 
-  any_last : (day : ℕ) (given : List YearDays) (c : YearDays) → is_holiday (holidays_of (given ++ c ∷ [])) day ≡ (is_holiday (holidays_of given) day || is_holiday c.days day)
-  any_last day given c = ap (λ ds. is_holiday ds day) (last_days given c) ∙ list_any-append (λ h. h == day) (holidays_of given) c.days
+  any_last : (day : ℕ) (given : List YearDays) (c : YearDays)
+      → is_holiday (holidays_of (given ++ c ∷ [])) day
+      ≡ (is_holiday (holidays_of given) day || is_holiday c.days day)
+  any_last day given c = ap (λ ds. is_holiday ds day) (last_days given c)
+      ∙ list_any-append (λ h. h == day) (holidays_of given) c.days
 
   -- the same days are holidays, in whatever order they stand
-  same_holidays : (s : State) (day : ℕ) → is_holiday (holidays (Next s)) day ≡ is_holiday (holidays_of (Together s ++ Given ∷ [])) day
+  same_holidays : (s : State) (day : ℕ) → is_holiday (holidays (Next s)) day ≡ is_holiday
+      (holidays_of (Together s ++ Given ∷ [])) day
   same_holidays s day =
       let added : YearDays = record { year = 0; days = s.added_days } in
-      let first = list_any-append (λ h. h == day) (holidays_of (s.calendars ++ Given ∷ [])) s.added_days
+      let first = list_any-append (λ h. h == day) (holidays_of (s.calendars ++ Given ∷ []))
+      s.added_days
       ∙ ap (λ b. b || is_holiday s.added_days day) (any_last day s.calendars Given) in
-      let second = any_last day (Together s) Given ∙ ap (λ b. b || is_holiday days day) (any_last day s.calendars added) in
-      first ∙ or_swap (is_holiday (holidays_of s.calendars) day) (is_holiday s.added_days day) (is_holiday days day) ∙ sym second
+      let second = any_last day (Together s) Given ∙ ap (λ b. b || is_holiday days day)
+      (any_last day s.calendars added) in
+      first ∙ or_swap (is_holiday (holidays_of s.calendars) day) (is_holiday s.added_days day)
+      (is_holiday days day) ∙ sym second
 
   -- the calendar of a year that is neither open nor follows an open one changes no obligation
-  owed_still : (s : State) (name : List ℕ) (lines : List YearLine) (owed : List Obligation) → IsSound s → calendar_at s year ≡ None → is_calendar year days ≡ true
-      → AreLinesOf (entries_of s name) lines → AreObligations (form_of (entries_of s name).account) lines (live_sums (entries_of s name)) (holidays s) owed
-      → AreObligations (form_of (entries_of s name).account) lines (live_sums (entries_of s name)) (holidays (Next s)) owed
+  owed_still : (s : State) (name : List ℕ) (lines : List YearLine) (owed : List Obligation)
+      → IsSound s → calendar_at s year ≡ None → is_calendar year days ≡ true
+      → AreLinesOf (entries_of s name) lines → AreObligations (form_of (entries_of s name).account)
+      lines (live_sums (entries_of s name)) (holidays s) owed
+      → AreObligations (form_of (entries_of s name).account) lines (live_sums (entries_of s name))
+      (holidays (Next s)) owed
   owed_still s name lines owed sound none fits are were =
       let form = form_of (entries_of s name).account in
       let sums = live_sums (entries_of s name) in
-      let all : holidays_of (Together s) ≡ holidays s = last_days s.calendars (record { year = 0; days = s.added_days }) in
+      let all : holidays_of (Together s) ≡ holidays s = last_days s.calendars
+      (record { year = 0; days = s.added_days }) in
       let few : AreFew (holidays_of (Together s)) = subst AreFew (sym all) sound.few in
-      let before : AreObligations form lines sums (holidays_of (Together s)) owed = subst (λ hs. AreObligations form lines sums hs owed) (sym all) were in
+      let before : AreObligations form lines sums (holidays_of (Together s)) owed =
+      subst (λ hs. AreObligations form lines sums hs owed) (sym all) were in
       let apart : (line : YearLine) → Has lines line → (line.year ≢ year) × (line.year + 1 ≢ year) =
       λ line has. (let known = line_opened s name lines sound are line has in (
         (λ is. true≢false (sym known.0 ∙ ap (is_given s) is ∙ ap is_some none)),
         (λ is. true≢false (sym known.1 ∙ ap (is_given s) is ∙ ap is_some none)),
       )) in
-      let later = obligations_later form lines sums (Together s) Given owed are.schedules.years few (days_of_its_year year days fits) apart
+      let later = obligations_later form lines sums (Together s) Given owed are.schedules.years few
+      (days_of_its_year year days fits) apart
       (rows_owed form lines sums (holidays_of (Together s)) owed before) in
       rows_stated form lines sums (holidays (Next s)) owed
-      (obligations_same form lines sums sums (holidays_of (Together s ++ Given ∷ [])) (holidays (Next s)) owed are.schedules.years (λ day lies. refl) (λ o has day from to. same_holidays s day) later)
+      (obligations_same form lines sums sums (holidays_of (Together s ++ Given ∷ []))
+      (holidays (Next s)) owed are.schedules.years (λ day lies. refl)
+      (λ o has day from to. same_holidays s day) later)
 
-  settled_still : (t : Tables) (s : State) (name : List ℕ) → IsSound s → calendar_at s year ≡ None → is_calendar year days ≡ true → IsSettled t s name
+  settled_still : (t : Tables) (s : State) (name : List ℕ) → IsSound s → calendar_at s year ≡ None
+      → is_calendar year days ≡ true → IsSettled t s name
       → IsSettled (with_calendar year days t) (Next s) name
   settled_still t s name sound none fits was = record {
     lines = was.lines;
@@ -129,22 +154,30 @@ module _ (year : ℕ) (days : List ℕ) where
   }
 
   -- a check decides
-  pub calendar_decided : (known : Option (List ℕ)) (answer : Answer) → first_of (calendar_checks year days known) ≡ Some answer
+  pub calendar_decided : (known : Option (List ℕ)) (answer : Answer)
+      → first_of (calendar_checks year days known) ≡ Some answer
       → (s : State) → calendar_at s year ≡ known → Step s Asked answer s
   calendar_decided known answer decided s is =
-      subst (λ k. Decides (first_of (calendar_checks year days k)) s answer s ((answer ≡ Ok Done) × (s ≡ Next s))) (sym is)
-      (subst (λ o. Decides o s answer s ((answer ≡ Ok Done) × (s ≡ Next s))) (sym decided) (refl, refl))
+      subst (λ k. Decides (first_of (calendar_checks year days k)) s answer s
+      ((answer ≡ Ok Done) × (s ≡ Next s))) (sym is)
+      (subst (λ o. Decides o s answer s ((answer ≡ Ok Done) × (s ≡ Next s))) (sym decided)
+      (refl, refl))
 
   -- all checks pass
   pub calendar_done : (known : Option (List ℕ)) → first_of (calendar_checks year days known) ≡ None
-      → (t : Tables) (s : State) → StandsFor t s → IsSound s → calendar_at s year ≡ known → (next : State) × Step s Asked (Ok Done) next × StandsFor (with_calendar year days t) next
+      → (t : Tables) (s : State) → StandsFor t s → IsSound s → calendar_at s year ≡ known
+      → (next : State) × Step s Asked (Ok Done) next × StandsFor (with_calendar year days t) next
   calendar_done known passed t s stands sound is =
       let answer : Answer = Ok Done in
       let step : Step s Asked answer (Next s) =
-      subst (λ k. Decides (first_of (calendar_checks year days k)) s answer (Next s) ((answer ≡ Ok Done) × (Next s ≡ Next s))) (sym is)
-      (subst (λ o. Decides o s answer (Next s) ((answer ≡ Ok Done) × (Next s ≡ Next s))) (sym passed) (refl, refl)) in
-      let new : Gives (calendar_checks year days known) (known ≡ None) = skip_needs _ _ _ _ (skip_needs _ _ _ _ (gives_new _ _ _ _)) in
-      let fits : Gives (calendar_checks year days known) (is_calendar year days ≡ true) = skip_needs _ _ _ _ (gives_needs _ _ _) in
+      subst (λ k. Decides (first_of (calendar_checks year days k)) s answer (Next s)
+      ((answer ≡ Ok Done) × (Next s ≡ Next s))) (sym is)
+      (subst (λ o. Decides o s answer (Next s) ((answer ≡ Ok Done) × (Next s ≡ Next s)))
+      (sym passed) (refl, refl)) in
+      let new : Gives (calendar_checks year days known) (known ≡ None) =
+      skip_needs _ _ _ _ (skip_needs _ _ _ _ (gives_new _ _ _ _)) in
+      let fits : Gives (calendar_checks year days known) (is_calendar year days ≡ true) =
+      skip_needs _ _ _ _ (gives_needs _ _ _) in
       let none : calendar_at s year ≡ None = is ∙ new.fact passed in (
         Next s,
         step,
@@ -153,14 +186,17 @@ module _ (year : ℕ) (days : List ℕ) where
           forms = stands.forms;
           reported = stands.reported;
           reported_years = stands.reported_years;
-          calendars = ap (λ rows. rows ++ calendar_entry Given ∷ []) stands.calendars ∙ sym (map-append calendar_entry s.calendars (Given ∷ []));
+          calendars = ap (λ rows. rows ++ calendar_entry Given ∷ []) stands.calendars
+              ∙ sym (map-append calendar_entry s.calendars (Given ∷ []));
           calendar_days =
               ap (λ rows. rows ++ map (holiday_row year) days) stands.calendar_days
-              ∙ ap (λ rows. flat_map holiday_entries s.calendars ++ rows) (sym (append-nil (map (holiday_row year) days)))
+              ∙ ap (λ rows. flat_map holiday_entries s.calendars ++ rows)
+              (sym (append-nil (map (holiday_row year) days)))
               ∙ sym (flat_map-append holiday_entries s.calendars (Given ∷ []));
           added_days = stands.added_days;
           runs = stands.runs;
           payments = stands.payments;
-          settled = λ name. settled_still t s name sound none (fits.fact passed) (stands.settled name);
+          settled = λ name. settled_still t s name sound none (fits.fact passed)
+              (stands.settled name);
         },
       )

@@ -1,4 +1,5 @@
--- What is settled stays so where an account's open years and runs stay, and no figure is taken back.
+-- What is settled stays so where an account's open years and runs stay, and no figure is taken
+-- back.
 use Rattle.std.proofs.Common.{◌≡◌, ◌∙◌, inl, inr, sym, ap, subst, ℕ, Bool, List, ◌++◌, map}
 use Rattle.std.specs.Prelude.{filter}
 use Rattle.std.proofs.lemmas.List.{map-append}
@@ -15,7 +16,9 @@ use Rattle.ftd_rules.proofs.Owed.{has_left}
 use Rattle.ftd_schema.specs.declared.TableName.TheVariants.{Years, Obligations}
 use Rattle.ftd_schema.specs.Standing.{Tables}
 use Rattle.ftd_machine.specs.State.{State, Entry, Entries, entries_of, holidays}
-use Rattle.ftd_machine.specs.History.{start_of, form_of, is_carried, figure_of, figures, live, liability_of, live_sums, year_of_entry, IsLookbackOn, AreCarried, AreLinesOf}
+use Rattle.ftd_machine.specs.History.{start_of, form_of, is_carried, figure_of, figures, live}
+use Rattle.ftd_machine.specs.History.{liability_of, live_sums, year_of_entry, IsLookbackOn}
+use Rattle.ftd_machine.specs.History.{AreCarried, AreLinesOf}
 use Rattle.ftd_entries.specs.Standing.{IsSettled}
 
 -- each figure of the first list is in the second
@@ -31,18 +34,24 @@ pub record Grows (own more : Entries) : Type 0 where
   pub reported_years : AreAmong (figures own.reported_years) (figures more.reported_years)
 
 -- the figures of an account stay where entries are added
-pub figures_more : (test : Entry Cents → Bool) (xs ys : List (Entry Cents)) → AreAmong (figures (filter test xs)) (figures (filter test (xs ++ ys)))
+pub figures_more : (test : Entry Cents → Bool) (xs ys : List (Entry Cents))
+    → AreAmong (figures (filter test xs)) (figures (filter test (xs ++ ys)))
 figures_more test xs ys figure has =
-    subst (λ all. Has all figure) (sym (ap figures (filter-append test xs ys) ∙ map-append figure_of (filter test xs) (filter test ys)))
+    subst (λ all. Has all figure)
+    (sym (ap figures (filter-append test xs ys) ∙ map-append figure_of (filter test xs)
+    (filter test ys)))
     (has_left (figures (filter test xs)) (figures (filter test ys)) figure has)
 
 -- ---- the lookback total of a year
 
-counts_more : (few many : List (ℕ × Cents)) (start quarter : ℕ) (amount : Cents) → AreAmong few many → Counts few start quarter amount → Counts many start quarter amount
+counts_more : (few many : List (ℕ × Cents)) (start quarter : ℕ) (amount : Cents) → AreAmong few many
+    → Counts few start quarter amount → Counts many start quarter amount
 counts_more few many start quarter amount among (inl before) = inl before
-counts_more few many start quarter amount among (inr has) = inr (has.0, among (quarter, amount) has.1)
+counts_more few many start quarter amount among (inr has) =
+    inr (has.0, among (quarter, amount) has.1)
 
-lookback_more : (few many : List (ℕ × Cents)) (start year total : ℕ) → AreAmong few many → IsLookback few start year total → IsLookback many start year total
+lookback_more : (few many : List (ℕ × Cents)) (start year total : ℕ) → AreAmong few many
+    → IsLookback few start year total → IsLookback many start year total
 lookback_more few many start year total among is = record {
   first = is.first;
   second = is.second;
@@ -57,18 +66,23 @@ lookback_more few many start year total among is = record {
   adds_up = is.adds_up;
 }
 
-year_more : (few many : List (ℕ × Cents)) (start year : ℕ) (total : Cents) → AreAmong few many → IsYearLookback few start year total → IsYearLookback many start year total
+year_more : (few many : List (ℕ × Cents)) (start year : ℕ) (total : Cents) → AreAmong few many
+    → IsYearLookback few start year total → IsYearLookback many start year total
 year_more few many start year total among (inl before) = inl before
 year_more few many start year total among (inr has) = inr (has.0, among _ has.1)
 
 module _ (own more : Entries) (grows : Grows own more) where
-  lookback_on : (form : Form) (year : ℕ) (total : Cents) → IsLookbackOn form own year total → IsLookbackOn form more year total
+  lookback_on : (form : Form) (year : ℕ) (total : Cents) → IsLookbackOn form own year total
+      → IsLookbackOn form more year total
   lookback_on F941 year total is =
       subst (λ a. IsLookback (figures more.reported) (start_of a) year total.0) (sym grows.account)
-      (lookback_more (figures own.reported) (figures more.reported) (start_of own.account) year total.0 grows.reported is)
+      (lookback_more (figures own.reported) (figures more.reported) (start_of own.account) year
+      total.0 grows.reported is)
   lookback_on F943 year total is =
-      subst (λ a. IsYearLookback (figures more.reported_years) (start_of a) year total) (sym grows.account)
-      (year_more (figures own.reported_years) (figures more.reported_years) (start_of own.account) year total grows.reported_years is)
+      subst (λ a. IsYearLookback (figures more.reported_years) (start_of a) year total)
+      (sym grows.account)
+      (year_more (figures own.reported_years) (figures more.reported_years) (start_of own.account)
+      year total grows.reported_years is)
 
   pub lines_grow : (lines : List YearLine) → AreLinesOf own lines → AreLinesOf more lines
   lines_grow lines are = record {
@@ -77,11 +91,14 @@ module _ (own more : Entries) (grows : Grows own more) where
         subst (λ a. IsLookbackOn (form_of a) more line.year line.lookback) (sym grows.account)
         (lookback_on (form_of own.account) line.year line.lookback (are.lookbacks line has));
     carried = subst (λ a. AreCarried (is_carried a) lines) (sym grows.account) are.carried;
-    schedules = subst (λ runs. AreLines (map liability_of (live runs)) lines) (sym grows.runs) are.schedules;
+    schedules = subst (λ runs. AreLines (map liability_of (live runs)) lines)
+        (sym grows.runs) are.schedules;
   }
 
-pub settled_grows : (t after : Tables) (s next : State) (name : List ℕ) → after Years ≡ t Years → after Obligations ≡ t Obligations → holidays next ≡ holidays s
-    → Grows (entries_of s name) (entries_of next name) → IsSettled t s name → IsSettled after next name
+pub settled_grows : (t after : Tables) (s next : State) (name : List ℕ) → after Years ≡ t Years
+    → after Obligations ≡ t Obligations → holidays next ≡ holidays s
+    → Grows (entries_of s name) (entries_of next name) → IsSettled t s name
+    → IsSettled after next name
 settled_grows t after s next name years obligations same grows was =
     let own = entries_of s name in
     let more = entries_of next name in
@@ -90,9 +107,12 @@ settled_grows t after s next name years obligations same grows was =
       are_lines = lines_grow own more grows was.lines was.are_lines;
       owed = was.owed;
       are_owed =
-          subst (λ days. AreObligations (form_of more.account) was.lines (live_sums more) days was.owed) (sym same)
-          (subst (λ a. AreObligations (form_of a) was.lines (live_sums more) (holidays s) was.owed) (sym grows.account)
-          (subst (λ runs. AreObligations (form_of own.account) was.lines (map liability_of (live runs)) (holidays s) was.owed) (sym grows.runs) was.are_owed));
+          subst (λ days. AreObligations (form_of more.account) was.lines (live_sums more) days
+          was.owed) (sym same)
+          (subst (λ a. AreObligations (form_of a) was.lines (live_sums more) (holidays s) was.owed)
+          (sym grows.account)
+          (subst (λ runs. AreObligations (form_of own.account) was.lines
+          (map liability_of (live runs)) (holidays s) was.owed) (sym grows.runs) was.are_owed));
       line_rows = rw years was.line_rows;
       owed_rows = rw obligations was.owed_rows;
     }

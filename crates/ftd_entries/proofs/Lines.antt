@@ -1,5 +1,6 @@
 -- What the rows of an account's open years tell of its lines.
-use Rattle.std.proofs.Common.{◌≡◌, ℕ, Bool, true, false, pos, ◌+◌, List, [], ◌∷◌, map, Option, None, Some, Vec, inl, inr, refl, sym, ap, subst, ◌∙◌, arith}
+use Rattle.std.proofs.Common.{◌≡◌, ℕ, Bool, true, false, pos, ◌+◌, List, [], ◌∷◌, map, Option, None}
+use Rattle.std.proofs.Common.{Some, Vec, inl, inr, refl, sym, ap, subst, ◌∙◌, arith}
 use Rattle.std.specs.Prelude.{filter, find, option_map, bytes_eq, if◌then◌else◌, IsTrue}
 use Rattle.std.proofs.lemmas.List.Sorted.{IsPermutation-trans, IsPermutation-sym}
 use Rattle.ftd_rules.specs.declared.Kind.{Kind}
@@ -37,9 +38,11 @@ turn_is : (a b : Option ℕ) → option_map day_number a ≡ option_map day_numb
 turn_is None None h = refl
 turn_is None (Some b) h = absurd cc
 turn_is (Some a) None h = absurd cc
-turn_is (Some a) (Some b) h = let same : day_number a ≡ day_number b = cc in ap Some (day_is a b same)
+turn_is (Some a) (Some b) h = let same : day_number a ≡ day_number b = cc in
+    ap Some (day_is a b same)
 
-line_is : (name : List ℕ) (x y : YearLine) → year_row name x ≡ year_row name y → x.carried ≡ y.carried → x ≡ y
+line_is : (name : List ℕ) (x y : YearLine) → year_row name x ≡ year_row name y
+    → x.carried ≡ y.carried → x ≡ y
 line_is name x y rows carried =
     let years : pos x.year ≡ pos y.year = ap (λ (r : YearRow). r.year) rows in
     let year : x.year ≡ y.year = cc in
@@ -47,9 +50,16 @@ line_is name x y rows carried =
     let total : x.lookback.0 ≡ y.lookback.0 = cc in
     let opening = schedule_is x.opening y.opening (ap (λ (r : YearRow). r.opening) rows) in
     let turn = turn_is x.turn y.turn (ap (λ (r : YearRow). r.turn) rows) in
-    λ i. record { year = year i; lookback = record { 0 = total i }; carried = carried i; opening = opening i; turn = turn i }
+    λ i. record {
+      year = year i;
+      lookback = record { 0 = total i };
+      carried = carried i;
+      opening = opening i;
+      turn = turn i;
+    }
 
-lines_are : (name : List ℕ) (carried : Bool) (xs ys : List YearLine) → map (year_row name) xs ≡ map (year_row name) ys → AreCarried carried xs → AreCarried carried ys → xs ≡ ys
+lines_are : (name : List ℕ) (carried : Bool) (xs ys : List YearLine) → map (year_row name) xs ≡ map
+    (year_row name) ys → AreCarried carried xs → AreCarried carried ys → xs ≡ ys
 lines_are name carried [] [] rows a b = refl
 lines_are name carried [] (y ∷ ys) rows a b = absurd cc
 lines_are name carried (x ∷ xs) [] rows a b = absurd cc
@@ -66,34 +76,47 @@ not_true : (b : Bool) → (IsTrue b → ⊥) → b ≡ false
 not_true true off = absurd (off refl)
 not_true false off = refl
 
-none_carried : (lines : List YearLine) → ((other : YearLine) → Has lines other → IsTrue other.carried → ⊥) → AreCarried false lines
+none_carried : (lines : List YearLine)
+    → ((other : YearLine) → Has lines other → IsTrue other.carried → ⊥) → AreCarried false lines
 none_carried [] off = tt
-none_carried (line ∷ lines) off = (not_true line.carried (off line (inl refl)), none_carried lines (λ other has. off other (inr has)))
+none_carried (line ∷ lines) off = (
+  not_true line.carried (off line (inl refl)),
+  none_carried lines (λ other has. off other (inr has)),
+)
 
-carried_is : (name : List ℕ) (a : StoredAccount) (xs : List Enrolled) → filter (is_account name) (map enrolled_row xs) ≡ account_row name a ∷ []
+carried_is : (name : List ℕ) (a : StoredAccount) (xs : List Enrolled) → filter (is_account name)
+    (map enrolled_row xs) ≡ account_row name a ∷ []
     → is_carried (option_map account_of (find (is_named name) xs)) ≡ a.carried
 carried_is name a [] h = absurd cc
 carried_is name a (x ∷ xs) h = step (bytes_eq x.name name) h (carried_is name a xs)
   where
-    step : (b : Bool) → (if b then enrolled_row x ∷ filter (is_account name) (map enrolled_row xs) else filter (is_account name) (map enrolled_row xs)) ≡ account_row name a ∷ []
-        → (filter (is_account name) (map enrolled_row xs) ≡ account_row name a ∷ [] → is_carried (option_map account_of (find (is_named name) xs)) ≡ a.carried)
-        → is_carried (option_map account_of (if b then Some x else find (is_named name) xs)) ≡ a.carried
+    step : (b : Bool)
+        → (if b then enrolled_row x ∷ filter (is_account name) (map enrolled_row xs) else filter
+        (is_account name) (map enrolled_row xs)) ≡ account_row name a ∷ []
+        → (filter (is_account name) (map enrolled_row xs) ≡ account_row name a ∷ []
+        → is_carried (option_map account_of (find (is_named name) xs)) ≡ a.carried)
+        → is_carried (option_map account_of (if b then Some x else find (is_named name) xs))
+        ≡ a.carried
     step true h more =
         let row : enrolled_row x ≡ account_row name a = cc in
         flag_is x.account.carried a.carried (ap (λ (r : AccountRow). r.carried) row)
     step false h more = more h
 
-listed_carried : (name : List ℕ) (s : State) (lines : List YearLine) → FirstCarriedAs name (filter (is_account name) (map enrolled_row s.accounts)) lines → OnlyFirstCarried lines
+listed_carried : (name : List ℕ) (s : State) (lines : List YearLine)
+    → FirstCarriedAs name (filter (is_account name) (map enrolled_row s.accounts)) lines
+    → OnlyFirstCarried lines
     → AreCarried (is_carried (entries_of s name).account) lines
 listed_carried name s [] first others = tt
-listed_carried name s (line ∷ lines) first others = (first.2 ∙ sym (carried_is name first.0 s.accounts first.1), none_carried lines others)
+listed_carried name s (line ∷ lines) first others =
+    (first.2 ∙ sym (carried_is name first.0 s.accounts first.1), none_carried lines others)
 
 -- ---- lines in their order
 
 abbrev line_key : YearRow → ℕ
 line_key row = whole row.year
 
-lines_rise : (name : List ℕ) (year : ℕ) (lines : List YearLine) → YearsFrom year lines → KeysRise line_key (map (year_row name) lines)
+lines_rise : (name : List ℕ) (year : ℕ) (lines : List YearLine) → YearsFrom year lines
+    → KeysRise line_key (map (year_row name) lines)
 lines_rise name year [] from = tt
 lines_rise name year (line ∷ lines) from = (
   (λ later has.
@@ -106,22 +129,31 @@ lines_rise name year (line ∷ lines) from = (
   lines_rise name (year + 1) lines from.1,
 )
 
-paired : (name : List ℕ) (rows : List YearRow) (lines : List YearLine) → Pairs (IsYear name) rows lines → rows ≡ map (year_row name) lines
+paired : (name : List ℕ) (rows : List YearRow) (lines : List YearLine)
+    → Pairs (IsYear name) rows lines → rows ≡ map (year_row name) lines
 paired name [] [] pairs = refl
 paired name [] (line ∷ lines) pairs = absurd pairs
 paired name (row ∷ rows) [] pairs = absurd pairs
-paired name (row ∷ rows) (line ∷ lines) pairs = ap (λ r. r ∷ rows) pairs.0 ∙ ap (λ rs. year_row name line ∷ rs) (paired name rows lines pairs.1)
+paired name (row ∷ rows) (line ∷ lines) pairs = ap (λ r. r ∷ rows) pairs.0
+    ∙ ap (λ rs. year_row name line ∷ rs) (paired name rows lines pairs.1)
 
 -- the lines that were listed are the account's lines
-pub lines_known : {A : Type 0} (name : List ℕ) (listed : Vec YearLine A) (t : Tables) (s : State) → StandsFor t s → ListsYears name listed t → (settled : IsSettled t s name) → listed.items ≡ settled.lines
+pub lines_known : {A : Type 0} (name : List ℕ) (listed : Vec YearLine A) (t : Tables) (s : State)
+    → StandsFor t s → ListsYears name listed t → (settled : IsSettled t s name)
+    → listed.items ≡ settled.lines
 lines_known name listed t s stands lists settled =
     let l = lists.listed in
     let years = settled.are_lines.schedules.years in
     let sorted : l.ordered ≡ map (year_row name) settled.lines =
-    sorted_is line_key (map (year_row name) settled.lines) l.ordered (lines_rise name years.0 settled.lines years.2)
+    sorted_is line_key (map (year_row name) settled.lines) l.ordered
+    (lines_rise name years.0 settled.lines years.2)
     (next_do_not_fall line_key l.ordered (λ k d less. whole_rises _ _ (l.rise k d less)))
     (IsPermutation-trans _ _ _ (IsPermutation-sym _ _ settled.line_rows) l.same) in
-    let rows : map (year_row name) listed.items ≡ map (year_row name) settled.lines = sym (paired name l.ordered listed.items l.pairs) ∙ sorted in
-    let first : FirstCarriedAs name (filter (is_account name) (map enrolled_row s.accounts)) listed.items =
-    subst (λ accounts. FirstCarriedAs name (filter (is_account name) accounts) listed.items) stands.accounts lists.first in
-    lines_are name (is_carried (entries_of s name).account) listed.items settled.lines rows (listed_carried name s listed.items first lists.others) settled.are_lines.carried
+    let rows : map (year_row name) listed.items ≡ map (year_row name) settled.lines =
+    sym (paired name l.ordered listed.items l.pairs) ∙ sorted in
+    let first : FirstCarriedAs name (filter (is_account name) (map enrolled_row s.accounts))
+    listed.items =
+    subst (λ accounts. FirstCarriedAs name (filter (is_account name) accounts) listed.items)
+    stands.accounts lists.first in
+    lines_are name (is_carried (entries_of s name).account) listed.items settled.lines rows
+    (listed_carried name s listed.items first lists.others) settled.are_lines.carried

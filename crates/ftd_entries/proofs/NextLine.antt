@@ -1,5 +1,7 @@
 -- The line of a year that is opened.
-use Rattle.std.proofs.Common.{◌≡◌, ℕ, ◌+◌, ◌-◌, ◌<◌, ◌≤◌, ◌==◌, ◌&&◌, ◌||◌, ◌⊎◌, ◌↔◌, Bool, true, false, List, [], ◌∷◌, length, None, inl, inr, refl, sym, ap, ◌∙◌, arith}
+use Rattle.std.proofs.Common.{◌≡◌, ℕ, ◌+◌, ◌-◌, ◌<◌, ◌≤◌, ◌==◌, ◌&&◌, ◌||◌, ◌⊎◌, ◌↔◌, Bool, true}
+use Rattle.std.proofs.Common.{false, List, [], ◌∷◌, length, None, inl, inr, refl, sym, ap, ◌∙◌}
+use Rattle.std.proofs.Common.{arith}
 use Rattle.std.specs.Prelude.{is_some, IsSome, IsTrue, nat_lt}
 use Rattle.std.specs.List.{list_any}
 use Rattle.std.proofs.lemmas.Bool.{true≢false, eqb-true, eq-eqb, ltb-true, lt-ltb}
@@ -26,31 +28,40 @@ right_true false b e = e
 all_true : (a b c : Bool) → a ≡ true → b ≡ true → c ≡ true → (a && (b && c)) ≡ true
 all_true a b c x y z = rw (x, y, z) refl
 
-turned_from : (year : ℕ) (lines : List YearLine) → list_any (turns_into year) lines ≡ true → TurnedBefore lines year
+turned_from : (year : ℕ) (lines : List YearLine) → list_any (turns_into year) lines ≡ true
+    → TurnedBefore lines year
 turned_from year [] e = absurd (true≢false (sym e))
 turned_from year (line ∷ lines) e =
     elim (one_of (turns_into year line) (list_any (turns_into year) lines) e) [
       | inl here ↦
-          let parts = both (nat_lt line.year year) ((year - line.year == 1) && is_some line.turn) here in
+          let parts = both (nat_lt line.year year) ((year - line.year == 1) && is_some line.turn)
+          here in
           let rest = both (year - line.year == 1) (is_some line.turn) parts.1 in
           let less = ltb-true line.year year parts.0 in
           let one = eqb-true (year - line.year) 1 rest.0 in
           (line, inl refl, omega arith, rest.1)
-      | inr later ↦ let before = turned_from year lines later in (before.0, inr before.1, before.2, before.3)
+      | inr later ↦ let before = turned_from year lines later in
+          (before.0, inr before.1, before.2, before.3)
     ]
 
-turned_to : (year : ℕ) (lines : List YearLine) → (before : YearLine) → Has lines before → before.year + 1 ≡ year → IsSome before.turn → list_any (turns_into year) lines ≡ true
+turned_to : (year : ℕ) (lines : List YearLine) → (before : YearLine) → Has lines before
+    → before.year + 1 ≡ year → IsSome before.turn → list_any (turns_into year) lines ≡ true
 turned_to year [] before has next some = absurd has
 turned_to year (line ∷ lines) before (inl is) next some =
     let here : turns_into year before ≡ true =
-    all_true (nat_lt before.year year) (year - before.year == 1) (is_some before.turn) (lt-ltb before.year year (omega arith)) (eq-eqb (year - before.year) 1 (omega arith)) some in
-    left_true (turns_into year line) (list_any (turns_into year) lines) (ap (turns_into year) (sym is) ∙ here)
+    all_true (nat_lt before.year year) (year - before.year == 1) (is_some before.turn)
+    (lt-ltb before.year year (omega arith)) (eq-eqb (year - before.year) 1 (omega arith)) some in
+    left_true (turns_into year line) (list_any (turns_into year) lines)
+    (ap (turns_into year) (sym is) ∙ here)
 turned_to year (line ∷ lines) before (inr has) next some =
-    right_true (turns_into year line) (list_any (turns_into year) lines) (turned_to year lines before has next some)
+    right_true (turns_into year line) (list_any (turns_into year) lines)
+    (turned_to year lines before has next some)
 
 opening_is : (lines : List YearLine) (line : YearLine) (kind : Kind) → line.opening ≡ kind
-    → (kind ≡ Semiweekly) ↔ ((5_000_000 < line.lookback.0) ⊎ IsTrue (line.carried || list_any (turns_into line.year) lines))
-    → (kind ≡ Monthly) ↔ ((line.lookback.0 ≤ 5_000_000) × ((line.carried || list_any (turns_into line.year) lines) ≡ false))
+    → (kind ≡ Semiweekly) ↔ ((5_000_000 < line.lookback.0)
+    ⊎ IsTrue (line.carried || list_any (turns_into line.year) lines))
+    → (kind ≡ Monthly) ↔ ((line.lookback.0 ≤ 5_000_000)
+    × ((line.carried || list_any (turns_into line.year) lines) ≡ false))
     → HasOpening lines line
 opening_is lines line Semiweekly is semiweekly monthly =
     inl (
@@ -71,16 +82,22 @@ opening_is lines line Monthly is semiweekly monthly =
       (λ opens. elim opens [
         | inl much ↦ absurd (omega arith)
         | inr on ↦ elim on [
-          | inl carried ↦ true≢false (sym (left_true line.carried (list_any (turns_into line.year) lines) carried) ∙ facts.1)
-          | inr turned ↦ true≢false (sym (right_true line.carried (list_any (turns_into line.year) lines) (turned_to line.year lines turned.0 turned.1 turned.2 turned.3)) ∙ facts.1)
+          | inl carried ↦ true≢false
+              (sym (left_true line.carried (list_any (turns_into line.year) lines) carried)
+              ∙ facts.1)
+          | inr turned ↦ true≢false
+              (sym (right_true line.carried (list_any (turns_into line.year) lines)
+              (turned_to line.year lines turned.0 turned.1 turned.2 turned.3)) ∙ facts.1)
         ]
       ]),
     )
 
 pub next_line_is : (lines : List YearLine) (carried : Bool) (line : YearLine)
     → line.carried ≡ ((length lines == 0) && carried) → line.turn ≡ None
-    → (line.opening ≡ Semiweekly) ↔ ((5_000_000 < line.lookback.0) ⊎ IsTrue (line.carried || list_any (turns_into line.year) lines))
-    → (line.opening ≡ Monthly) ↔ ((line.lookback.0 ≤ 5_000_000) × ((line.carried || list_any (turns_into line.year) lines) ≡ false))
+    → (line.opening ≡ Semiweekly) ↔ ((5_000_000 < line.lookback.0)
+    ⊎ IsTrue (line.carried || list_any (turns_into line.year) lines))
+    → (line.opening ≡ Monthly) ↔ ((line.lookback.0 ≤ 5_000_000)
+    × ((line.carried || list_any (turns_into line.year) lines) ≡ false))
     → IsNextLine carried lines line.year line.lookback line
 next_line_is lines carried line is none semiweekly monthly = record {
   year_is = refl;

@@ -1,5 +1,7 @@
 -- A year that is opened: what is answered, and the tables stand for the machine's next state.
-use Rattle.std.proofs.Common.{◌≡◌, ℕ, ◌+◌, ◌<◌, ◌≤◌, ◌==◌, ◌&&◌, ◌⊎◌, Bool, true, false, pos, List, [], ◌∷◌, ◌++◌, length, map, Option, None, Some, Ok, Err, inl, inr, refl, sym, ap, subst, ◌∙◌, arith}
+use Rattle.std.proofs.Common.{◌≡◌, ℕ, ◌+◌, ◌<◌, ◌≤◌, ◌==◌, ◌&&◌, ◌⊎◌, Bool, true, false, pos, List}
+use Rattle.std.proofs.Common.{[], ◌∷◌, ◌++◌, length, map, Option, None, Some, Ok, Err, inl, inr}
+use Rattle.std.proofs.Common.{refl, sym, ap, subst, ◌∙◌, arith}
 use Rattle.std.specs.Prelude.{filter, bytes_eq, is_some, nat_le, IsSome, MatchOption, IsPermutation}
 use Rattle.std.specs.Ordering.{int_eq}
 use Rattle.std.proofs.lemmas.Bool.{true≢false, eqb-true, leb-true, cases_Bool}
@@ -18,7 +20,8 @@ use Rattle.ftd_rules.specs.declared.run.Voidable.{Voidable}
 use Rattle.ftd_rules.specs.Lists.{Has}
 use Rattle.ftd_rules.specs.Liability.{liability, share}
 use Rattle.ftd_rules.specs.Stops.{next_day_amount}
-use Rattle.ftd_rules.specs.Years.{year_last, YearsFrom, AreOpenYears, TurnedBefore, OpensSemiweekly, IsTurn, HasSchedule, AreLines}
+use Rattle.ftd_rules.specs.Years.{year_last, YearsFrom, AreOpenYears, TurnedBefore, OpensSemiweekly}
+use Rattle.ftd_rules.specs.Years.{IsTurn, HasSchedule, AreLines}
 use Rattle.ftd_rules.specs.Obligations.{AreObligations}
 use Rattle.ftd_rules.proofs.Cuts.{lt_or_le}
 use Rattle.ftd_rules.proofs.Walk.{liability-cons, share_before, share_after}
@@ -35,8 +38,11 @@ use Rattle.ftd_rows.specs.Rows.{year_row}
 use Rattle.ftd_rows.proofs.Found.{both}
 use Rattle.ftd_store.specs.Changes.{with_year, put_among}
 use Rattle.ftd_machine.specs.Limits.{is_between}
-use Rattle.ftd_machine.specs.State.{State, Entry, Entries, entries_of, is_of, has_key, content_of, kept_at, is_open, is_given, holidays}
-use Rattle.ftd_machine.specs.History.{form_of, is_carried, is_live, value_of, live, liability_of, live_sums, IsLookbackOn, HasLookback, AreCarried, year_of_line, year_of_entry, AreLinesOf}
+use Rattle.ftd_machine.specs.State.{State, Entry, Entries, entries_of, is_of, has_key, content_of}
+use Rattle.ftd_machine.specs.State.{kept_at, is_open, is_given, holidays}
+use Rattle.ftd_machine.specs.History.{form_of, is_carried, is_live, value_of, live, liability_of}
+use Rattle.ftd_machine.specs.History.{live_sums, IsLookbackOn, HasLookback, AreCarried}
+use Rattle.ftd_machine.specs.History.{year_of_line, year_of_entry, AreLinesOf}
 use Rattle.ftd_machine.specs.History.{LacksFigure}
 use Rattle.ftd_machine.specs.Checks.{Answer, first_of}
 use Rattle.ftd_machine.specs.Requests.{open_year_checks}
@@ -68,42 +74,69 @@ has_end : {X : Type 0} (xs : List X) (y : X) → Has (xs ++ y ∷ []) y
 has_end [] y = inl refl
 has_end (z ∷ xs) y = inr (has_end xs y)
 
-carried_more : (carried : Bool) (lines : List YearLine) (line : YearLine) → line.carried ≡ ((length lines == 0) && carried) → AreCarried carried lines → AreCarried carried (lines ++ line ∷ [])
+carried_more : (carried : Bool) (lines : List YearLine) (line : YearLine)
+    → line.carried ≡ ((length lines == 0) && carried) → AreCarried carried lines
+    → AreCarried carried (lines ++ line ∷ [])
 carried_more carried [] line is are = (is, tt)
-carried_more carried (first ∷ lines) line is are =
-    (are.0, carried_more false lines line (is ∙ ap (λ b. b && carried) (some (length (first ∷ lines) == 0) refl) ∙ none (length lines == 0)) are.1)
+carried_more carried (first ∷ lines) line is are = (
+  are.0,
+  carried_more false lines line
+      (is ∙ ap (λ b. b && carried) (some (length (first ∷ lines) == 0) refl)
+      ∙ none (length lines == 0)) are.1,
+)
   where
     none : (b : Bool) → false ≡ (b && false)
     none true = refl
     none false = refl
 
     some : (b : Bool) → (length (first ∷ lines) == 0) ≡ b → (length (first ∷ lines) == 0) ≡ false
-    some true e = absurd (let l : length (first ∷ lines) ≡ 0 = eqb-true (length (first ∷ lines)) 0 e in omega arith)
+    some true e = absurd (let l : length (first ∷ lines) ≡ 0 =
+        eqb-true (length (first ∷ lines)) 0 e in omega arith)
     some false e = e
 
 -- ---- years that follow one another
 
-follow_years : (first : ℕ) (lines : List YearLine) → FollowFrom first (map year_of_line lines) → first ≤ 2098 → ((line : YearLine) → Has lines line → line.year ≤ 2098) → YearsFrom (first + 1) lines
+follow_years : (first : ℕ) (lines : List YearLine) → FollowFrom first (map year_of_line lines)
+    → first ≤ 2098 → ((line : YearLine) → Has lines line → line.year ≤ 2098)
+    → YearsFrom (first + 1) lines
 follow_years first [] follow top within = omega arith
-follow_years first (line ∷ lines) follow top within =
-    (follow.0, subst (λ y. YearsFrom (y + 1) lines) follow.0 (follow_years line.year lines follow.1 (within line (inl refl)) (λ other has. within other (inr has))))
+follow_years first (line ∷ lines) follow top within = (
+  follow.0,
+  subst (λ y. YearsFrom (y + 1) lines) follow.0
+      (follow_years line.year lines follow.1 (within line (inl refl))
+      (λ other has. within other (inr has))),
+)
 
-open_years : (lines : List YearLine) → Follow (map year_of_line lines) → ((line : YearLine) → Has lines line → (2001 ≤ line.year) × (line.year ≤ 2098)) → AreOpenYears lines
+open_years : (lines : List YearLine) → Follow (map year_of_line lines)
+    → ((line : YearLine) → Has lines line → (2001 ≤ line.year) × (line.year ≤ 2098))
+    → AreOpenYears lines
 open_years [] follow within = (2001, omega arith, omega arith)
-open_years (line ∷ lines) follow within =
-    (line.year, (within line (inl refl)).0, (refl, follow_years line.year lines follow (within line (inl refl)).1 (λ other has. (within other (inr has)).1)))
+open_years (line ∷ lines) follow within = (
+  line.year,
+  (within line (inl refl)).0,
+  (
+    refl,
+    follow_years line.year lines follow (within line (inl refl)).1
+        (λ other has. (within other (inr has)).1),
+  ),
+)
 
 between : (year : ℕ) → is_between 2001 2098 year ≡ true → (2001 ≤ year) × (year ≤ 2098)
-between year e = let parts = both (nat_le 2001 year) (nat_le year 2098) e in (leb-true 2001 year parts.0, leb-true year 2098 parts.1)
+between year e = let parts = both (nat_le 2001 year) (nat_le year 2098) e in
+    (leb-true 2001 year parts.0, leb-true year 2098 parts.1)
 
 -- each line is of an open year
-line_entry : (s : State) (name : List ℕ) (lines : List YearLine) → map year_of_line lines ≡ map year_of_entry (entries_of s name).open_years → (line : YearLine) → Has lines line
+line_entry : (s : State) (name : List ℕ) (lines : List YearLine)
+    → map year_of_line lines ≡ map year_of_entry (entries_of s name).open_years → (line : YearLine)
+    → Has lines line
     → (e : Entry (Unit {0})) × Has (entries_of s name).open_years e × (line.year ≡ e.key)
 line_entry s name lines years line has =
-    let year : Has (map year_of_entry (entries_of s name).open_years) line.year = subst (λ ys. Has ys line.year) years (mapped_has year_of_line lines line has) in
+    let year : Has (map year_of_entry (entries_of s name).open_years) line.year =
+    subst (λ ys. Has ys line.year) years (mapped_has year_of_line lines line has) in
     has_mapped year_of_entry (entries_of s name).open_years line.year year
 
-lines_open : (s : State) (name : List ℕ) (lines : List YearLine) → IsSound s → map year_of_line lines ≡ map year_of_entry (entries_of s name).open_years → AreOpenYears lines
+lines_open : (s : State) (name : List ℕ) (lines : List YearLine) → IsSound s
+    → map year_of_line lines ≡ map year_of_entry (entries_of s name).open_years → AreOpenYears lines
 lines_open s name lines sound years =
     open_years lines (subst Follow (sym years) (sound.in_turn name)) (λ line has.
     (let from = line_entry s name lines years line has in
@@ -114,7 +147,8 @@ lines_open s name lines sound years =
 
 -- ---- a year without a payday
 
-no_liability : (sums : List DaySum) (year : ℕ) → 2001 ≤ year → year ≤ 2098 → ((x : DaySum) → Has sums x → year_of x.day ≡ year → ⊥)
+no_liability : (sums : List DaySum) (year : ℕ) → 2001 ≤ year → year ≤ 2098
+    → ((x : DaySum) → Has sums x → year_of x.day ≡ year → ⊥)
     → (a b : ℕ) → year_start year ≤ a → b ≤ year_last year → liability sums a b ≡ 0
 no_liability [] year low high none a b from to = refl
 no_liability (x ∷ sums) year low high none a b from to =
@@ -128,13 +162,15 @@ no_liability (x ∷ sums) year low high none a b from to =
         | inr within ↦
             let facts = year_facts year low high in
             let next = facts.3 in
-            absurd (none x (inl refl) (year_is year x.day (omega arith) (omega arith) (omega arith) (omega arith)))
+            absurd (none x (inl refl) (year_is year x.day (omega arith) (omega arith) (omega arith)
+            (omega arith)))
       ]
     ] in
     omega arith
 
 -- the paydays of an account lie in its open years
-no_payday : (s : State) (name : List ℕ) (year : ℕ) → IsSound s → is_open (entries_of s name) year ≡ false → (x : DaySum) → Has (live_sums (entries_of s name)) x → year_of x.day ≡ year → ⊥
+no_payday : (s : State) (name : List ℕ) (year : ℕ) → IsSound s → is_open (entries_of s name) year
+    ≡ false → (x : DaySum) → Has (live_sums (entries_of s name)) x → year_of x.day ≡ year → ⊥
 no_payday s name year sound closed x has is =
     let own = entries_of s name in
     let run = has_mapped liability_of (live own.runs) x has in
@@ -142,10 +178,14 @@ no_payday s name year sound closed x has is =
     let kept = has_filtered is_live own.runs from.0 from.1 in
     let its = has_filtered (is_of name) s.runs from.0 kept.0 in
     let e : Entry (Voidable PayRun) = from.0 in
-    let open_there : is_open (entries_of s e.name) (year_of e.content.value.payday) ≡ true = sound.paydays e its.0 in
-    let day : e.content.value.payday ≡ x.day = sym (ap (λ (r : PayRun). r.payday) from.2) ∙ sym (ap (λ (y : DaySum). y.day) run.2) in
+    let open_there : is_open (entries_of s e.name) (year_of e.content.value.payday) ≡ true =
+    sound.paydays e its.0 in
+    let day : e.content.value.payday ≡ x.day = sym (ap (λ (r : PayRun). r.payday) from.2)
+    ∙ sym (ap (λ (y : DaySum). y.day) run.2) in
     let here : is_open (entries_of s name) year ≡ true =
-    sym (ap (λ n. is_open (entries_of s n) (year_of e.content.value.payday)) (same_name e.name name its.1) ∙ ap (λ d. is_open (entries_of s name) (year_of d)) day ∙ ap (is_open (entries_of s name)) is) ∙ open_there in
+    sym (ap (λ n. is_open (entries_of s n) (year_of e.content.value.payday))
+    (same_name e.name name its.1) ∙ ap (λ d. is_open (entries_of s name) (year_of d)) day
+    ∙ ap (is_open (entries_of s name)) is) ∙ open_there in
     true≢false (sym here ∙ closed)
 
 -- ---- one line more
@@ -162,7 +202,8 @@ module _ (lines : List YearLine) (line : YearLine) (turnless : line.turn ≡ Non
   turned_still year before =
       elim (has_last lines line before.0 before.1) [
         | inl here ↦ (before.0, here, before.2, before.3)
-        | inr is ↦ absurd (no_turn before.0.turn (ap (λ (l : YearLine). l.turn) is ∙ turnless) before.3)
+        | inr is ↦ absurd (no_turn before.0.turn (ap (λ (l : YearLine). l.turn) is ∙ turnless)
+            before.3)
       ]
 
   turned_more : (year : ℕ) → TurnedBefore lines year → TurnedBefore More year
@@ -182,47 +223,61 @@ module _ (lines : List YearLine) (line : YearLine) (turnless : line.turn ≡ Non
   schedule_more L l (inl h) = inl (h.0, opens_more l h.1, h.2)
   schedule_more L l (inr h) = inr (h.0, (λ opens. h.1 (opens_still l opens)), h.2)
 
-  schedule_new : (sums : List DaySum) → 2001 ≤ line.year → line.year ≤ 2098 → ((x : DaySum) → Has sums x → year_of x.day ≡ line.year → ⊥) → HasOpening lines line
+  schedule_new : (sums : List DaySum) → 2001 ≤ line.year → line.year ≤ 2098
+      → ((x : DaySum) → Has sums x → year_of x.day ≡ line.year → ⊥) → HasOpening lines line
       → HasSchedule More (liability sums) line
   schedule_new sums low high none (inl h) = inl (h.0, opens_more line h.1, turnless)
-  schedule_new sums low high none (inr h) = inr (h.0, (λ opens. h.1 (opens_still line opens)), turn line.turn turnless)
+  schedule_new sums low high none (inr h) = inr (
+    h.0,
+    (λ opens. h.1 (opens_still line opens)),
+    turn line.turn turnless,
+  )
     where
       turn : (o : Option ℕ) → o ≡ None
           → MatchOption o
-          ((day : ℕ) → year_start line.year ≤ day → day ≤ year_last line.year → liability sums (month_start (month_of day)) day < next_day_amount)
+          ((day : ℕ) → year_start line.year ≤ day → day ≤ year_last line.year
+          → liability sums (month_start (month_of day)) day < next_day_amount)
           (λ t. IsTurn (liability sums) (year_start line.year) (year_last line.year) t)
       turn (Some t) is = absurd cc
       turn None is = λ day from to.
           (let facts = year_facts line.year low high in
           let end = facts.2 in
           let month = month_in_year line.year day (omega arith) from in
-          let zero = no_liability sums line.year low high none (month_start (month_of day)) day month.0 to in
+          let zero = no_liability sums line.year low high none (month_start (month_of day)) day
+          month.0 to in
           omega arith)
 
-  lines_more : (sums : List DaySum) → AreOpenYears More → ((x : DaySum) → Has sums x → year_of x.day ≡ line.year → ⊥) → 2001 ≤ line.year → line.year ≤ 2098 → HasOpening lines line
+  lines_more : (sums : List DaySum) → AreOpenYears More
+      → ((x : DaySum) → Has sums x → year_of x.day ≡ line.year → ⊥) → 2001 ≤ line.year
+      → line.year ≤ 2098 → HasOpening lines line
       → AreLines sums lines → AreLines sums More
   lines_more sums years none low high opening are = record {
     years = years;
     schedules = λ l has. elim (has_last lines line l has) [
       | inl here ↦ schedule_more (liability sums) l (are.schedules l here)
-      | inr is ↦ subst (HasSchedule More (liability sums)) (sym is) (schedule_new sums low high none opening)
+      | inr is ↦ subst (HasSchedule More (liability sums)) (sym is)
+          (schedule_new sums low high none opening)
     ];
   }
 
   -- nothing is owed for a year without a payday
-  owed_more : (form : Form) (sums : List DaySum) (days : List ℕ) (owed : List Obligation) → ((x : DaySum) → Has sums x → year_of x.day ≡ line.year → ⊥) → 2001 ≤ line.year → line.year ≤ 2098
+  owed_more : (form : Form) (sums : List DaySum) (days : List ℕ) (owed : List Obligation)
+      → ((x : DaySum) → Has sums x → year_of x.day ≡ line.year → ⊥) → 2001 ≤ line.year
+      → line.year ≤ 2098
       → AreObligations form lines sums days owed → AreObligations form More sums days owed
   owed_more form sums days owed none low high are =
       let were = rows_owed form lines sums days owed are in
       rows_stated form More sums days owed (record {
         by_first_day = were.by_first_day;
         all = λ o. (
-          (λ has. (let h = (were.all o).0 has in moved lines More o h (has_before lines line h.line h.open_year))),
+          (λ has. (let h = (were.all o).0 has in
+              moved lines More o h (has_before lines line h.line h.open_year))),
           (λ h. (were.all o).1 (less o h (has_last lines line h.line h.open_year))),
         );
       })
     where
-      moved : (some others : List YearLine) (o : Obligation) (h : IsOwedPiece form some sums days o) → Has others h.line → IsOwedPiece form others sums days o
+      moved : (some others : List YearLine) (o : Obligation) (h : IsOwedPiece form some sums days o)
+          → Has others h.line → IsOwedPiece form others sums days o
       moved some others o h has = record {
         line = h.line;
         open_year = has;
@@ -243,29 +298,37 @@ module _ (lines : List YearLine) (line : YearLine) (turnless : line.turn ≡ Non
           let year : h.line.year ≡ line.year = ap (λ (l : YearLine). l.year) is in
           let from = h.period.1 in let to = h.period.2 in
           let i0 = inside.0 in let i2 = inside.2 in
-          let first : year_start line.year ≤ o.first = subst (λ y. year_start y ≤ o.first) year (omega arith) in
-          let last : o.last ≤ year_last line.year = subst (λ y. o.last ≤ year_last y) year (omega arith) in
+          let first : year_start line.year ≤ o.first = subst (λ y. year_start y ≤ o.first) year
+          (omega arith) in
+          let last : o.last ≤ year_last line.year = subst (λ y. o.last ≤ year_last y) year
+          (omega arith) in
           let zero = no_liability sums line.year low high none o.first o.last first last in
           let amount = h.amount in let positive = h.positive in
           omega arith
 
-      less : (o : Obligation) (h : IsOwedPiece form More sums days o) → (Has lines h.line) ⊎ (h.line ≡ line) → IsOwedPiece form lines sums days o
+      less : (o : Obligation) (h : IsOwedPiece form More sums days o) → (Has lines h.line)
+          ⊎ (h.line ≡ line) → IsOwedPiece form lines sums days o
       less o h (inl here) = moved More lines o h here
       less o h (inr is) = absurd (nothing o h is)
 
 -- ---- the rows of the years
 
 -- no row is of a year that is not open
-no_row : (s : State) (t : Tables) (name : List ℕ) (year : ℕ) → is_open (entries_of s name) year ≡ false → IsSettled t s name → filter (is_year name (pos year)) (t Years) ≡ []
+no_row : (s : State) (t : Tables) (name : List ℕ) (year : ℕ) → is_open (entries_of s name) year
+    ≡ false → IsSettled t s name → filter (is_year name (pos year)) (t Years) ≡ []
 no_row s t name year closed settled = none_passes (is_year name (pos year)) (t Years) none
   where
-    none_passes : {X : Type 0} (test : X → Bool) (xs : List X) → ((x : X) → Has xs x → test x ≡ false) → filter test xs ≡ []
+    none_passes : {X : Type 0} (test : X → Bool) (xs : List X)
+        → ((x : X) → Has xs x → test x ≡ false) → filter test xs ≡ []
     none_passes test [] off = refl
-    none_passes test (x ∷ xs) off = rw (off x (inl refl)) (none_passes test xs (λ y has. off y (inr has)))
+    none_passes test (x ∷ xs) off = rw (off x (inl refl))
+        (none_passes test xs (λ y has. off y (inr has)))
 
-    kept : {X : Type 0} (test : X → Bool) (xs : List X) (x : X) → Has xs x → test x ≡ true → Has (filter test xs) x
+    kept : {X : Type 0} (test : X → Bool) (xs : List X) (x : X) → Has xs x → test x ≡ true
+        → Has (filter test xs) x
     kept test [] x has own = has
-    kept test (z ∷ xs) x (inl is) own = let here : test z ≡ true = ap test (sym is) ∙ own in rw here (inl is)
+    kept test (z ∷ xs) x (inl is) own = let here : test z ≡ true = ap test (sym is) ∙ own in
+        rw here (inl is)
     kept test (z ∷ xs) x (inr has) own = elim (cases_Bool (test z)) [
       | inl yes_it ↦ rw yes_it (inr (kept test xs x has own))
       | inr no_it ↦ rw no_it (kept test xs x has own)
@@ -279,12 +342,17 @@ no_row s t name year closed settled = none_passes (is_year name (pos year)) (t Y
     other row has is =
         let own = (entries_of s name).open_years in
         let parts = both (bytes_eq row.account name) (int_eq row.year (pos year)) is in
-        let among = has_permuted (map (year_row name) settled.lines) (filter (is_year_of name) (t Years)) (IsPermutation-sym _ _ settled.line_rows) row (kept (is_year_of name) (t Years) row has parts.0) in
+        let among = has_permuted (map (year_row name) settled.lines)
+        (filter (is_year_of name) (t Years)) (IsPermutation-sym _ _ settled.line_rows) row
+        (kept (is_year_of name) (t Years) row has parts.0) in
         let its = has_mapped (year_row name) settled.lines row among in
         let from = line_entry s name settled.lines settled.are_lines.years its.0 its.1 in
-        let cell : int_eq (pos its.0.year) (pos year) ≡ true = ap (λ (r : YearRow). int_eq r.year (pos year)) (sym its.2) ∙ parts.1 in
-        let same : has_key year from.0 ≡ true = ap (λ n. n == year) (sym from.2) ∙ sym (year_cell its.0.year year) ∙ cell in
-        found_none content_of (has_key year) own (not_kept (kept_at year own) closed) from.0 from.1 same
+        let cell : int_eq (pos its.0.year) (pos year) ≡ true =
+        ap (λ (r : YearRow). int_eq r.year (pos year)) (sym its.2) ∙ parts.1 in
+        let same : has_key year from.0 ≡ true = ap (λ n. n == year) (sym from.2)
+        ∙ sym (year_cell its.0.year year) ∙ cell in
+        found_none content_of (has_key year) own (not_kept (kept_at year own) closed) from.0 from.1
+        same
 
     none : (row : YearRow) → Has (t Years) row → is_year name (pos year) row ≡ false
     none row has = elim (cases_Bool (is_year name (pos year) row)) [
@@ -292,11 +360,16 @@ no_row s t name year closed settled = none_passes (is_year name (pos year)) (t Y
       | inr off ↦ off
     ]
 
-put_last : (name : List ℕ) (line : YearLine) (rows : List YearRow) → filter (is_year name (pos line.year)) rows ≡ [] → put_among (filter (is_year name (pos line.year)) rows) (year_row name line) rows ≡ rows ++ year_row name line ∷ []
+put_last : (name : List ℕ) (line : YearLine) (rows : List YearRow)
+    → filter (is_year name (pos line.year)) rows ≡ []
+    → put_among (filter (is_year name (pos line.year)) rows) (year_row name line) rows ≡ rows
+    ++ year_row name line ∷ []
 put_last name line rows none = ap (λ found. put_among found (year_row name line) rows) none
 
 -- the lookback total does not rest on the years that are open
-lookback_still : (form : Form) (own : Entries) (opened : List (Entry (Unit {0}))) (year : ℕ) (total : Cents) → IsLookbackOn form own year total → IsLookbackOn form (record own { open_years = opened }) year total
+lookback_still : (form : Form) (own : Entries) (opened : List (Entry (Unit {0}))) (year : ℕ)
+    (total : Cents) → IsLookbackOn form own year total
+    → IsLookbackOn form (record own { open_years = opened }) year total
 lookback_still F941 own opened year total has = has
 lookback_still F943 own opened year total has = has
 
@@ -310,75 +383,111 @@ module _ (name : List ℕ) (year : ℕ) where
   Next s = record s { open_years = with_entry s.open_years name year tt }
 
   abbrev state_checks : State → Option Answer
-  state_checks s = first_of (open_year_checks name year (entries_of s name).account (is_open (entries_of s name) year) (is_given s year) (is_given s (year + 1)))
+  state_checks s = first_of (open_year_checks name year (entries_of s name).account
+      (is_open (entries_of s name) year) (is_given s year) (is_given s (year + 1)))
 
-  module _ (account : Option Account) (there given next : Bool) (s : State) (knows : KeepsYear name year account there given next s) where
+  module _ (account : Option Account) (there given next : Bool) (s : State)
+      (knows : KeepsYear name year account there given next s) where
     checks_same : state_checks s ≡ first_of (open_year_checks name year account there given next)
-    checks_same = λ i. first_of (open_year_checks name year (knows.account_is i) (knows.there_is i) (knows.given_is i) (knows.next_is i))
+    checks_same = λ i. first_of (open_year_checks name year (knows.account_is i) (knows.there_is i)
+        (knows.given_is i) (knows.next_is i))
 
     -- a check decides
-    pub open_decided : (answer : Answer) → first_of (open_year_checks name year account there given next) ≡ Some answer → Step s Asked answer s
-    open_decided answer is = decided (state_checks s) s answer (OpensNext s answer s name year) (checks_same ∙ is)
+    pub open_decided : (answer : Answer)
+        → first_of (open_year_checks name year account there given next) ≡ Some answer
+        → Step s Asked answer s
+    open_decided answer is = decided (state_checks s) s answer (OpensNext s answer s name year)
+        (checks_same ∙ is)
 
-    module _ (all_passed : first_of (open_year_checks name year account there given next) ≡ None) where
+    module _ (all_passed : first_of (open_year_checks name year account there given next)
+        ≡ None) where
       -- a figure of the lookback period is missing
-      pub open_lacks : (refusal : Refusal) → LacksFigure (entries_of s name) year refusal → Step s Asked (Err refusal) s
+      pub open_lacks : (refusal : Refusal) → LacksFigure (entries_of s name) year refusal
+          → Step s Asked (Err refusal) s
       open_lacks refusal lacks =
           let answer : Answer = Err refusal in
-          passed (state_checks s) s answer s (OpensNext s answer s name year) (checks_same ∙ all_passed) (inl (refusal, lacks, (refl, refl)))
+          passed (state_checks s) s answer s (OpensNext s answer s name year)
+          (checks_same ∙ all_passed) (inl (refusal, lacks, (refl, refl)))
 
       -- the year before is not open
-      pub open_waits : (total : Cents) (answer : Answer) → HasLookback (entries_of s name) year total → first_of (may_open (entries_of s name) year) ≡ Some answer → Step s Asked answer s
+      pub open_waits : (total : Cents) (answer : Answer)
+          → HasLookback (entries_of s name) year total
+          → first_of (may_open (entries_of s name) year) ≡ Some answer → Step s Asked answer s
       open_waits total answer has is =
-          passed (state_checks s) s answer s (OpensNext s answer s name year) (checks_same ∙ all_passed)
-          (inr (total, has, decided (first_of (may_open (entries_of s name) year)) s answer ((answer ≡ Ok Done) × (s ≡ Next s)) is))
+          passed (state_checks s) s answer s (OpensNext s answer s name year)
+          (checks_same ∙ all_passed)
+          (inr (
+            total,
+            has,
+            decided (first_of (may_open (entries_of s name) year)) s answer
+                ((answer ≡ Ok Done) × (s ≡ Next s)) is,
+          ))
 
-      open_step : (total : Cents) → HasLookback (entries_of s name) year total → first_of (may_open (entries_of s name) year) ≡ None → Step s Asked (Ok Done) (Next s)
+      open_step : (total : Cents) → HasLookback (entries_of s name) year total
+          → first_of (may_open (entries_of s name) year) ≡ None → Step s Asked (Ok Done) (Next s)
       open_step total has may =
           let answer : Answer = Ok Done in
-          passed (state_checks s) s answer (Next s) (OpensNext s answer (Next s) name year) (checks_same ∙ all_passed)
-          (inr (total, has, passed (first_of (may_open (entries_of s name) year)) s answer (Next s) ((answer ≡ Ok Done) × (Next s ≡ Next s)) may (refl, refl)))
+          passed (state_checks s) s answer (Next s) (OpensNext s answer (Next s) name year)
+          (checks_same ∙ all_passed)
+          (inr (
+            total,
+            has,
+            passed (first_of (may_open (entries_of s name) year)) s answer (Next s)
+                ((answer ≡ Ok Done) × (Next s ≡ Next s)) may (refl, refl),
+          ))
 
       closed : is_open (entries_of s name) year ≡ false
       closed =
-          let fresh : Gives (open_year_checks name year account there given next) (there ≡ false) = skip_needs _ _ _ _ (skip_needs _ _ _ _ (skip_finds _ _ _ _ (gives_done _ _))) in
+          let fresh : Gives (open_year_checks name year account there given next) (there ≡ false) =
+          skip_needs _ _ _ _ (skip_needs _ _ _ _ (skip_finds _ _ _ _ (gives_done _ _))) in
           knows.there_is ∙ fresh.fact all_passed
 
       its_bounds : (2001 ≤ year) × (year ≤ 2098)
       its_bounds =
-          let fact : Gives (open_year_checks name year account there given next) (is_between 2001 2098 year ≡ true) = skip_needs _ _ _ _ (gives_needs _ _ _) in
+          let fact : Gives (open_year_checks name year account there given next)
+          (is_between 2001 2098 year ≡ true) = skip_needs _ _ _ _ (gives_needs _ _ _) in
           between year (fact.fact all_passed)
 
-      module _ (t : Tables) (stands : StandsFor t s) (sound : IsSound s) (total : Cents) (has : HasLookback (entries_of s name) year total) (may : first_of (may_open (entries_of s name) year) ≡ None) where
+      module _ (t : Tables) (stands : StandsFor t s) (sound : IsSound s) (total : Cents)
+          (has : HasLookback (entries_of s name) year total)
+          (may : first_of (may_open (entries_of s name) year) ≡ None) where
         abbrev was : IsSettled t s name
         was = stands.settled name
 
         next_sound : IsSound (Next s)
         next_sound = step_sound s Asked (Ok Done) (Next s) (open_step total has may) sound
 
-        module _ (line : YearLine) (is_next : IsNextLine (is_carried (entries_of s name).account) was.lines year total line) where
+        module _ (line : YearLine) (is_next : IsNextLine (is_carried (entries_of s name).account)
+            was.lines year total line) where
           abbrev After : Tables
           After = with_year name line t
 
-          years_more : map year_of_line (was.lines ++ line ∷ []) ≡ map year_of_entry (entries_of (Next s) name).open_years
+          years_more : map year_of_line (was.lines ++ line ∷ []) ≡ map year_of_entry
+              (entries_of (Next s) name).open_years
           years_more =
               map-append year_of_line was.lines (line ∷ [])
               ∙ ap (λ ys. ys ++ line.year ∷ []) was.are_lines.years
               ∙ ap (λ y. map year_of_entry (entries_of s name).open_years ++ y ∷ []) is_next.year_is
-              ∙ sym (map-append year_of_entry (entries_of s name).open_years (record { name = name; key = year; content = tt } ∷ []))
+              ∙ sym (map-append year_of_entry (entries_of s name).open_years
+              (record { name = name; key = year; content = tt } ∷ []))
               ∙ ap (map year_of_entry) (sym (entry_own s.open_years name year tt))
 
-          no_pay : (x : DaySum) → Has (live_sums (entries_of s name)) x → year_of x.day ≡ line.year → ⊥
+          no_pay : (x : DaySum) → Has (live_sums (entries_of s name)) x → year_of x.day ≡ line.year
+              → ⊥
           no_pay x among is = no_payday s name year sound closed x among (is ∙ is_next.year_is)
 
           low : 2001 ≤ line.year
-          low = let bounds = its_bounds in let from = bounds.0 in let same = is_next.year_is in omega arith
+          low = let bounds = its_bounds in let from = bounds.0 in let same = is_next.year_is in
+              omega arith
 
           high : line.year ≤ 2098
-          high = let bounds = its_bounds in let to = bounds.1 in let same = is_next.year_is in omega arith
+          high = let bounds = its_bounds in let to = bounds.1 in let same = is_next.year_is in
+              omega arith
 
           rows_put : After Years ≡ t Years ++ year_row name line ∷ []
-          rows_put = put_last name line (t Years) (no_row s t name line.year (ap (is_open (entries_of s name)) is_next.year_is ∙ closed) was)
+          rows_put = put_last name line (t Years)
+              (no_row s t name line.year (ap (is_open (entries_of s name)) is_next.year_is ∙ closed)
+              was)
 
           settled_own : IsSettled After (Next s) name
           settled_own = record {
@@ -386,34 +495,53 @@ module _ (name : List ℕ) (year : ℕ) where
             are_lines = record {
               years = years_more;
               lookbacks = λ l among. elim (has_last was.lines line l among) [
-                | inl here ↦ lookback_still (form_of (entries_of s name).account) (entries_of s name) (entries_of (Next s) name).open_years l.year l.lookback (was.are_lines.lookbacks l here)
-                | inr is ↦ lookback_still (form_of (entries_of s name).account) (entries_of s name) (entries_of (Next s) name).open_years l.year l.lookback
-                    (subst (λ (x : YearLine). HasLookback (entries_of s name) x.year x.lookback) (sym is)
-                    (subst (λ y. HasLookback (entries_of s name) y line.lookback) (sym is_next.year_is)
-                    (subst (λ amount. HasLookback (entries_of s name) year amount) (sym is_next.lookback) has)))
+                | inl here ↦ lookback_still (form_of (entries_of s name).account)
+                    (entries_of s name) (entries_of (Next s) name).open_years l.year l.lookback
+                    (was.are_lines.lookbacks l here)
+                | inr is ↦ lookback_still (form_of (entries_of s name).account) (entries_of s name)
+                    (entries_of (Next s) name).open_years l.year l.lookback
+                    (subst (λ (x : YearLine). HasLookback (entries_of s name) x.year x.lookback)
+                    (sym is)
+                    (subst (λ y. HasLookback (entries_of s name) y line.lookback)
+                    (sym is_next.year_is)
+                    (subst (λ amount. HasLookback (entries_of s name) year amount)
+                    (sym is_next.lookback) has)))
               ];
-              carried = carried_more (is_carried (entries_of s name).account) was.lines line is_next.is_carried was.are_lines.carried;
-              schedules = lines_more was.lines line is_next.turn (live_sums (entries_of s name)) (lines_open (Next s) name (was.lines ++ line ∷ []) next_sound years_more) no_pay low high is_next.opening was.are_lines.schedules;
+              carried = carried_more (is_carried (entries_of s name).account) was.lines line
+                  is_next.is_carried was.are_lines.carried;
+              schedules = lines_more was.lines line is_next.turn (live_sums (entries_of s name))
+                  (lines_open (Next s) name (was.lines ++ line ∷ []) next_sound years_more) no_pay
+                  low high is_next.opening was.are_lines.schedules;
             };
             owed = was.owed;
-            are_owed = owed_more was.lines line is_next.turn (form_of (entries_of s name).account) (live_sums (entries_of s name)) (holidays s) was.owed no_pay low high was.are_owed;
+            are_owed = owed_more was.lines line is_next.turn (form_of (entries_of s name).account)
+                (live_sums (entries_of s name)) (holidays s) was.owed no_pay low high was.are_owed;
             line_rows =
                 subst (λ rows. IsPermutation rows (map (year_row name) (was.lines ++ line ∷ [])))
-                (sym (ap (filter (is_year_of name)) rows_put ∙ filter_more (is_year_of name) (t Years) (year_row name line) true (own_name name)))
-                (subst (λ rows. IsPermutation (filter (is_year_of name) (t Years) ++ year_row name line ∷ []) rows) (sym (map-append (year_row name) was.lines (line ∷ [])))
-                (IsPermutation-append_left (year_row name line ∷ []) (filter (is_year_of name) (t Years)) (map (year_row name) was.lines) was.line_rows));
+                (sym (ap (filter (is_year_of name)) rows_put ∙ filter_more (is_year_of name)
+                (t Years) (year_row name line) true (own_name name)))
+                (subst (λ rows. IsPermutation
+                (filter (is_year_of name) (t Years) ++ year_row name line ∷ []) rows)
+                (sym (map-append (year_row name) was.lines (line ∷ [])))
+                (IsPermutation-append_left (year_row name line ∷ [])
+                (filter (is_year_of name) (t Years)) (map (year_row name) was.lines)
+                was.line_rows));
             owed_rows = was.owed_rows;
           }
 
-          settled_other : (other : List ℕ) → bytes_eq name other ≡ false → entries_of (Next s) other ≡ entries_of s other → IsSettled After (Next s) other
+          settled_other : (other : List ℕ) → bytes_eq name other ≡ false
+              → entries_of (Next s) other ≡ entries_of s other → IsSettled After (Next s) other
           settled_other other apart same =
               let its = stands.settled other in
               record {
                 lines = its.lines;
                 are_lines = subst (λ own. AreLinesOf own its.lines) (sym same) its.are_lines;
                 owed = its.owed;
-                are_owed = subst (λ own. AreObligations (form_of own.account) its.lines (live_sums own) (holidays s) its.owed) (sym same) its.are_owed;
-                line_rows = subst (λ rows. IsPermutation rows (map (year_row other) its.lines)) (sym (ap (filter (is_year_of other)) rows_put ∙ filter_more (is_year_of other) (t Years) (year_row name line) false apart)) its.line_rows;
+                are_owed = subst (λ own. AreObligations (form_of own.account) its.lines
+                    (live_sums own) (holidays s) its.owed) (sym same) its.are_owed;
+                line_rows = subst (λ rows. IsPermutation rows (map (year_row other) its.lines))
+                    (sym (ap (filter (is_year_of other)) rows_put ∙ filter_more (is_year_of other)
+                    (t Years) (year_row name line) false apart)) its.line_rows;
                 owed_rows = its.owed_rows;
               }
 
@@ -437,7 +565,12 @@ module _ (name : List ℕ) (year : ℕ) where
                 },
               )
             where
-              by_name : (other : List ℕ) (b : Bool) → bytes_eq name other ≡ b → IsSettled After (Next s) other
-              by_name other true is = subst (IsSettled After (Next s)) (same_name name other is) settled_own
+              by_name : (other : List ℕ) (b : Bool) → bytes_eq name other ≡ b
+                  → IsSettled After (Next s) other
+              by_name other true is = subst (IsSettled After (Next s)) (same_name name other is)
+                  settled_own
               by_name other false is =
-                  settled_other other is (others s Asked (Ok Done) (Next s) other (open_step total has may) (λ same. true≢false (sym (subst (λ n. bytes_eq name n ≡ true) same (own_name name)) ∙ is)))
+                  settled_other other is (others s Asked (Ok Done) (Next s) other
+                  (open_step total has may)
+                  (λ same. true≢false
+                  (sym (subst (λ n. bytes_eq name n ≡ true) same (own_name name)) ∙ is)))

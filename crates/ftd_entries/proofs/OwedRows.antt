@@ -19,7 +19,8 @@ rule_is NextDay Monthly e = absurd cc
 rule_is NextDay Semiweekly e = absurd cc
 rule_is NextDay NextDay e = refl
 
-pub obligation_is : (account : List ℕ) (o p : Obligation) → obligation_row account o ≡ obligation_row account p → o ≡ p
+pub obligation_is : (account : List ℕ) (o p : Obligation)
+    → obligation_row account o ≡ obligation_row account p → o ≡ p
 obligation_is account o p e =
     let first = day_is o.first p.first (ap (λ (r : ObligationRow). r.first) e) in
     let last = day_is o.last p.last (ap (λ (r : ObligationRow). r.last) e) in
@@ -27,4 +28,10 @@ obligation_is account o p e =
     let amounts : pos o.cents.0 ≡ pos p.cents.0 = ap (λ (r : ObligationRow). r.cents) e in
     let cents : o.cents.0 ≡ p.cents.0 = cc in
     let due = day_is o.due p.due (ap (λ (r : ObligationRow). r.due) e) in
-    λ i. record { first = first i; last = last i; rule = rule i; cents = record { 0 = cents i }; due = due i }
+    λ i. record {
+      first = first i;
+      last = last i;
+      rule = rule i;
+      cents = record { 0 = cents i };
+      due = due i;
+    }

@@ -1,5 +1,7 @@
--- Payments that are taken and voided: what is answered, and the tables stand for the machine's next state.
-use Rattle.std.proofs.Common.{◌≡◌, ◌∙◌, refl, sym, ap, ℕ, ◌&&◌, pos, Bool, true, false, cond, List, [], ◌∷◌, ◌++◌, map, length, Option, None, Some, Ok}
+-- Payments that are taken and voided: what is answered, and the tables stand for the machine's next
+-- state.
+use Rattle.std.proofs.Common.{◌≡◌, ◌∙◌, refl, sym, ap, ℕ, ◌&&◌, pos, Bool, true, false, cond, List}
+use Rattle.std.proofs.Common.{[], ◌∷◌, ◌++◌, map, length, Option, None, Some, Ok}
 use Rattle.std.specs.Prelude.{bytes_eq, if◌then◌else◌}
 use Rattle.std.proofs.lemmas.List.{map-append}
 use Rattle.ftd_days.specs.Calendar.{year_of}
@@ -18,7 +20,8 @@ use Rattle.ftd_machine.specs.declared.replies.Reply.TheVariants.{Done}
 use Rattle.ftd_machine.specs.State.{State, Entry, Entries, entries_of, kept_at, is_open}
 use Rattle.ftd_machine.specs.Checks.{Answer, first_of}
 use Rattle.ftd_machine.specs.Requests.{pay_checks, void_payment_checks}
-use Rattle.ftd_machine.specs.Step.{Step, with_entry, with_voided, voided_if, is_under, as_voided, taken}
+use Rattle.ftd_machine.specs.Step.{Step, with_entry, with_voided, voided_if, is_under, as_voided}
+use Rattle.ftd_machine.specs.Step.{taken}
 use Rattle.ftd_machine.specs.Sound.{IsSound}
 use Rattle.ftd_machine.proofs.Deciding.{decided, passed}
 use Rattle.ftd_entries.specs.Standing.{StandsFor, payment_entry}
@@ -30,7 +33,8 @@ use Rattle.ftd_entries.proofs.Kept.{same_number, kept_payment, counted_payments}
 use Rattle.ftd_entries.proofs.Growing.{settled_grows}
 
 -- other payments change no line and no obligation
-paid_stands : (t : Tables) (s : State) (rows : List PaymentRow) (payments : List (Entry (Voidable Payment))) → rows ≡ map payment_entry payments → StandsFor t s
+paid_stands : (t : Tables) (s : State) (rows : List PaymentRow)
+    (payments : List (Entry (Voidable Payment))) → rows ≡ map payment_entry payments → StandsFor t s
     → StandsFor (with_rows Payments rows t) (record s { payments = payments })
 paid_stands t s rows payments are stands = record {
   accounts = stands.accounts;
@@ -43,8 +47,15 @@ paid_stands t s rows payments are stands = record {
   runs = stands.runs;
   payments = are;
   settled = λ name.
-      settled_grows t (with_rows Payments rows t) s (record s { payments = payments }) name refl refl refl
-      (record { account = refl; open_years = refl; runs = refl; reported = λ figure has. has; reported_years = λ figure has. has }) (stands.settled name);
+      settled_grows t (with_rows Payments rows t) s (record s { payments = payments }) name refl
+      refl refl
+      (record {
+        account = refl;
+        open_years = refl;
+        runs = refl;
+        reported = λ figure has. has;
+        reported_years = λ figure has. has;
+      }) (stands.settled name);
 }
 
 -- what is read before the checks of a payment
@@ -58,81 +69,134 @@ module _ (name : List ℕ) (number : ℕ) (payment : Payment) (count : ℕ) wher
   KnowsAll = KnowsForPay name number (year_of payment.for_day)
 
   abbrev pub checks : KnownForPay → Option Answer
-  checks known = first_of (pay_checks name number payment known.account known.payment known.is_open count)
+  checks known = first_of (pay_checks name number payment known.account known.payment known.is_open
+      count)
 
   abbrev checks_on : Entries → Option Answer
-  checks_on own = first_of (pay_checks name number payment own.account (kept_at number own.payments) (is_open own (year_of payment.for_day)) (length own.payments))
+  checks_on own = first_of (pay_checks name number payment own.account (kept_at number own.payments)
+      (is_open own (year_of payment.for_day)) (length own.payments))
 
   -- the checks of what is kept are those of what was read
-  checks_are : (known : KnownForPay) (t : Tables) (s : State) → StandsFor t s → CountsPayments name count t → KnowsAll known t → checks_on (entries_of s name) ≡ checks known
+  checks_are : (known : KnownForPay) (t : Tables) (s : State) → StandsFor t s
+      → CountsPayments name count t → KnowsAll known t → checks_on (entries_of s name)
+      ≡ checks known
   checks_are known t s stands counted knows =
       let own = entries_of s name in
-      ap (λ a. first_of (pay_checks name number payment a (kept_at number own.payments) (is_open own (year_of payment.for_day)) (length own.payments))) (knows.account s stands)
-      ∙ ap (λ k. first_of (pay_checks name number payment known.account k (is_open own (year_of payment.for_day)) (length own.payments))) (kept_payment name t s stands number known.payment knows.payment)
-      ∙ ap (λ y. first_of (pay_checks name number payment known.account known.payment y (length own.payments))) (knows.is_open s stands)
-      ∙ ap (λ n. first_of (pay_checks name number payment known.account known.payment known.is_open n)) (counted_payments name t s stands count counted)
+      ap (λ a. first_of (pay_checks name number payment a (kept_at number own.payments)
+      (is_open own (year_of payment.for_day)) (length own.payments))) (knows.account s stands)
+      ∙ ap (λ k. first_of (pay_checks name number payment known.account k
+      (is_open own (year_of payment.for_day)) (length own.payments)))
+      (kept_payment name t s stands number known.payment knows.payment)
+      ∙ ap (λ y. first_of (pay_checks name number payment known.account known.payment y
+      (length own.payments))) (knows.is_open s stands)
+      ∙ ap (λ n. first_of (pay_checks name number payment known.account known.payment known.is_open
+      n)) (counted_payments name t s stands count counted)
 
   abbrev Next : State → State
   Next s = record s { payments = with_entry s.payments name number (taken payment) }
 
-  next_stands : (t : Tables) (s : State) → StandsFor t s → StandsFor (with_payment name number payment t) (Next s)
+  next_stands : (t : Tables) (s : State) → StandsFor t s
+      → StandsFor (with_payment name number payment t) (Next s)
   next_stands t s stands =
-      let more : Entry (Voidable Payment) = record { name = name; key = number; content = taken payment } in
+      let more : Entry (Voidable Payment) = record {
+        name = name;
+        key = number;
+        content = taken payment;
+      } in
       paid_stands t s _ (with_entry s.payments name number (taken payment))
-      (ap (λ rows. rows ++ payment_entry more ∷ []) stands.payments ∙ sym (map-append payment_entry s.payments (more ∷ []))) stands
+      (ap (λ rows. rows ++ payment_entry more ∷ []) stands.payments
+      ∙ sym (map-append payment_entry s.payments (more ∷ []))) stands
 
   -- a check decides
   pub pay_decided : (known : KnownForPay) (answer : Answer) → checks known ≡ Some answer
-      → (t : Tables) (s : State) → StandsFor t s → IsSound s → CountsPayments name count t → KnowsAll known t → Step s (Pay name number payment.paid payment.for_day payment.cents) answer s
-  pay_decided known answer is t s stands sound counted knows = decided _ s answer _ (checks_are known t s stands counted knows ∙ is)
+      → (t : Tables) (s : State) → StandsFor t s → IsSound s → CountsPayments name count t
+      → KnowsAll known t → Step s (Pay name number payment.paid payment.for_day payment.cents)
+      answer s
+  pay_decided known answer is t s stands sound counted knows = decided _ s answer _
+      (checks_are known t s stands counted knows ∙ is)
 
   -- all checks pass
   pub pay_done : (known : KnownForPay) → checks known ≡ None
-      → (t : Tables) (s : State) → StandsFor t s → IsSound s → CountsPayments name count t → KnowsAll known t
-      → (next : State) × Step s (Pay name number payment.paid payment.for_day payment.cents) (Ok Done) next × StandsFor (with_payment name number payment t) next
-  pay_done known is t s stands sound counted knows =
-      (Next s, passed _ s (Ok Done) (Next s) _ (checks_are known t s stands counted knows ∙ is) (refl, refl), next_stands t s stands)
+      → (t : Tables) (s : State) → StandsFor t s → IsSound s → CountsPayments name count t
+      → KnowsAll known t
+      → (next : State) × Step s (Pay name number payment.paid payment.for_day payment.cents)
+      (Ok Done) next × StandsFor (with_payment name number payment t) next
+  pay_done known is t s stands sound counted knows = (
+    Next s,
+    passed _ s (Ok Done) (Next s) _ (checks_are known t s stands counted knows ∙ is)
+        (refl, refl),
+    next_stands t s stands,
+  )
 
 -- ---- a payment is voided
 
 module _ (name : List ℕ) (number : ℕ) where
-  test_is : (e : Entry (Voidable Payment)) → is_payment name (pos number) (payment_entry e) ≡ is_under name number e
+  test_is : (e : Entry (Voidable Payment)) → is_payment name (pos number) (payment_entry e)
+      ≡ is_under name number e
   test_is e = ap (λ b. bytes_eq e.name name && b) (same_number e.key number)
 
   -- the row of an entry that is voided, is voided
-  row_voided : (e : Entry (Voidable Payment)) → changed (is_payment name (pos number)) voided_payment (payment_entry e) ≡ payment_entry (voided_if name number e)
-  row_voided e = ap (λ b. cond b (voided_payment (payment_entry e)) (payment_entry e)) (test_is e) ∙ by (is_under name number e)
+  row_voided : (e : Entry (Voidable Payment))
+      → changed (is_payment name (pos number)) voided_payment (payment_entry e) ≡ payment_entry
+      (voided_if name number e)
+  row_voided e = ap (λ b. cond b (voided_payment (payment_entry e)) (payment_entry e)) (test_is e)
+      ∙ by (is_under name number e)
     where
       by : (under : Bool) → cond under (voided_payment (payment_entry e)) (payment_entry e)
-          ≡ payment_entry (record { name = e.name; key = e.key; content = if under then as_voided e.content else e.content })
+          ≡ payment_entry
+          (record {
+            name = e.name;
+            key = e.key;
+            content = if under then as_voided e.content else e.content;
+          })
       by true = refl
       by false = refl
 
-  rows_voided : (xs : List (Entry (Voidable Payment))) → map (changed (is_payment name (pos number)) voided_payment) (map payment_entry xs) ≡ map payment_entry (with_voided xs name number)
+  rows_voided : (xs : List (Entry (Voidable Payment)))
+      → map (changed (is_payment name (pos number)) voided_payment) (map payment_entry xs)
+      ≡ map payment_entry (with_voided xs name number)
   rows_voided [] = refl
   rows_voided (e ∷ xs) = rw (row_voided e, rows_voided xs) refl
 
-  void_checks_are : (known : Option Account × Option (Voidable Payment)) (t : Tables) (s : State) → StandsFor t s → ReadsPayment name number known t
-      → first_of (void_payment_checks name number (entries_of s name).account (kept_at number (entries_of s name).payments)) ≡ first_of (void_payment_checks name number known.0 known.1)
+  void_checks_are : (known : Option Account × Option (Voidable Payment)) (t : Tables) (s : State)
+      → StandsFor t s → ReadsPayment name number known t
+      → first_of (void_payment_checks name number (entries_of s name).account
+      (kept_at number (entries_of s name).payments)) ≡ first_of
+      (void_payment_checks name number known.0 known.1)
   void_checks_are known t s stands knows =
-      ap (λ a. first_of (void_payment_checks name number a (kept_at number (entries_of s name).payments))) (knows.0 s stands)
-      ∙ ap (λ k. first_of (void_payment_checks name number known.0 k)) (kept_payment name t s stands number known.1 knows.1)
+      ap (λ a. first_of
+      (void_payment_checks name number a (kept_at number (entries_of s name).payments)))
+      (knows.0 s stands)
+      ∙ ap (λ k. first_of (void_payment_checks name number known.0 k))
+      (kept_payment name t s stands number known.1 knows.1)
 
   abbrev Voided : State → State
   Voided s = record s { payments = with_voided s.payments name number }
 
-  voided_stands : (t : Tables) (s : State) → StandsFor t s → StandsFor (with_void_payment name number t) (Voided s)
+  voided_stands : (t : Tables) (s : State) → StandsFor t s
+      → StandsFor (with_void_payment name number t) (Voided s)
   voided_stands t s stands =
-      paid_stands t s _ (with_voided s.payments name number) (ap (map (changed (is_payment name (pos number)) voided_payment)) stands.payments ∙ rows_voided s.payments) stands
+      paid_stands t s _ (with_voided s.payments name number)
+      (ap (map (changed (is_payment name (pos number)) voided_payment)) stands.payments
+      ∙ rows_voided s.payments) stands
 
   -- a check decides
-  pub void_decided : (known : Option Account × Option (Voidable Payment)) (answer : Answer) → first_of (void_payment_checks name number known.0 known.1) ≡ Some answer
-      → (t : Tables) (s : State) → StandsFor t s → IsSound s → ReadsPayment name number known t → Step s (VoidPay name number) answer s
-  void_decided known answer is t s stands sound knows = decided _ s answer _ (void_checks_are known t s stands knows ∙ is)
+  pub void_decided : (known : Option Account × Option (Voidable Payment)) (answer : Answer)
+      → first_of (void_payment_checks name number known.0 known.1) ≡ Some answer
+      → (t : Tables) (s : State) → StandsFor t s → IsSound s → ReadsPayment name number known t
+      → Step s (VoidPay name number) answer s
+  void_decided known answer is t s stands sound knows = decided _ s answer _
+      (void_checks_are known t s stands knows ∙ is)
 
   -- all checks pass
-  pub void_done : (known : Option Account × Option (Voidable Payment)) → first_of (void_payment_checks name number known.0 known.1) ≡ None
+  pub void_done : (known : Option Account × Option (Voidable Payment))
+      → first_of (void_payment_checks name number known.0 known.1) ≡ None
       → (t : Tables) (s : State) → StandsFor t s → IsSound s → ReadsPayment name number known t
-      → (next : State) × Step s (VoidPay name number) (Ok Done) next × StandsFor (with_void_payment name number t) next
-  void_done known is t s stands sound knows =
-      (Voided s, passed _ s (Ok Done) (Voided s) _ (void_checks_are known t s stands knows ∙ is) (refl, refl), voided_stands t s stands)
+      → (next : State) × Step s (VoidPay name number) (Ok Done) next
+      × StandsFor (with_void_payment name number t) next
+  void_done known is t s stands sound knows = (
+    Voided s,
+    passed _ s (Ok Done) (Voided s) _ (void_checks_are known t s stands knows ∙ is)
+        (refl, refl),
+    voided_stands t s stands,
+  )

@@ -1,5 +1,6 @@
 -- Figures that are reported: what is answered, and the tables stand for the machine's next state.
-use Rattle.std.proofs.Common.{◌≡◌, ◌∙◌, refl, sym, ap, ℕ, List, [], ◌∷◌, ◌++◌, Option, None, Some, Ok}
+use Rattle.std.proofs.Common.{◌≡◌, ◌∙◌, refl, sym, ap, ℕ, List, [], ◌∷◌, ◌++◌, Option, None, Some}
+use Rattle.std.proofs.Common.{Ok}
 use Rattle.std.proofs.lemmas.List.{map-append}
 use Rattle.ftd_days.specs.declared.cents.Cents.{Cents}
 use Rattle.ftd_schema.specs.Standing.{Tables}
@@ -30,19 +31,27 @@ module _ (name : List ℕ) (quarter : ℕ) (cents : Cents) where
   Knows = Both (KnowsAccount name) (FindsReported name quarter)
 
   -- the checks of what is kept are those of what was read
-  checks_are : (known : Option Account × Option Cents) (t : Tables) (s : State) → StandsFor t s → Knows known t
-      → first_of (report_checks name quarter cents (entries_of s name).account (kept_at quarter (entries_of s name).reported)) ≡ first_of (report_checks name quarter cents known.0 known.1)
+  checks_are : (known : Option Account × Option Cents) (t : Tables) (s : State) → StandsFor t s
+      → Knows known t
+      → first_of (report_checks name quarter cents (entries_of s name).account
+      (kept_at quarter (entries_of s name).reported)) ≡ first_of
+      (report_checks name quarter cents known.0 known.1)
   checks_are known t s stands knows =
-      ap (λ a. first_of (report_checks name quarter cents a (kept_at quarter (entries_of s name).reported))) (knows.0 s stands)
-      ∙ ap (λ k. first_of (report_checks name quarter cents known.0 k)) (kept_reported name t s stands quarter known.1 knows.1)
+      ap (λ a. first_of
+      (report_checks name quarter cents a (kept_at quarter (entries_of s name).reported)))
+      (knows.0 s stands)
+      ∙ ap (λ k. first_of (report_checks name quarter cents known.0 k))
+      (kept_reported name t s stands quarter known.1 knows.1)
 
-  reported_stands : (t : Tables) (s : State) → StandsFor t s → StandsFor (with_reported name quarter cents t) (Next s)
+  reported_stands : (t : Tables) (s : State) → StandsFor t s
+      → StandsFor (with_reported name quarter cents t) (Next s)
   reported_stands t s stands =
       let more : Entry Cents = record { name = name; key = quarter; content = cents } in
       record {
         accounts = stands.accounts;
         forms = stands.forms;
-        reported = ap (λ rows. rows ++ quarter_entry more ∷ []) stands.reported ∙ sym (map-append quarter_entry s.reported (more ∷ []));
+        reported = ap (λ rows. rows ++ quarter_entry more ∷ []) stands.reported
+            ∙ sym (map-append quarter_entry s.reported (more ∷ []));
         reported_years = stands.reported_years;
         calendars = stands.calendars;
         calendar_days = stands.calendar_days;
@@ -51,20 +60,35 @@ module _ (name : List ℕ) (quarter : ℕ) (cents : Cents) where
         payments = stands.payments;
         settled = λ other.
             settled_grows t (with_reported name quarter cents t) s (Next s) other refl refl refl
-            (record { account = refl; open_years = refl; runs = refl; reported = figures_more (is_of other) s.reported (more ∷ []); reported_years = λ figure has. has }) (stands.settled other);
+            (record {
+              account = refl;
+              open_years = refl;
+              runs = refl;
+              reported = figures_more (is_of other) s.reported (more ∷ []);
+              reported_years = λ figure has. has;
+            }) (stands.settled other);
       }
 
   -- a check decides
-  pub report_decided : (known : Option Account × Option Cents) (answer : Answer) → first_of (report_checks name quarter cents known.0 known.1) ≡ Some answer
-      → (t : Tables) (s : State) → StandsFor t s → IsSound s → Knows known t → Step s (Report name quarter cents) answer s
-  report_decided known answer is t s stands sound knows = decided _ s answer _ (checks_are known t s stands knows ∙ is)
+  pub report_decided : (known : Option Account × Option Cents) (answer : Answer)
+      → first_of (report_checks name quarter cents known.0 known.1) ≡ Some answer
+      → (t : Tables) (s : State) → StandsFor t s → IsSound s → Knows known t
+      → Step s (Report name quarter cents) answer s
+  report_decided known answer is t s stands sound knows = decided _ s answer _
+      (checks_are known t s stands knows ∙ is)
 
   -- all checks pass
-  pub report_done : (known : Option Account × Option Cents) → first_of (report_checks name quarter cents known.0 known.1) ≡ None
+  pub report_done : (known : Option Account × Option Cents)
+      → first_of (report_checks name quarter cents known.0 known.1) ≡ None
       → (t : Tables) (s : State) → StandsFor t s → IsSound s → Knows known t
-      → (next : State) × Step s (Report name quarter cents) (Ok Done) next × StandsFor (with_reported name quarter cents t) next
-  report_done known is t s stands sound knows =
-      (Next s, passed _ s (Ok Done) (Next s) _ (checks_are known t s stands knows ∙ is) (refl, refl), reported_stands t s stands)
+      → (next : State) × Step s (Report name quarter cents) (Ok Done) next
+      × StandsFor (with_reported name quarter cents t) next
+  report_done known is t s stands sound knows = (
+    Next s,
+    passed _ s (Ok Done) (Next s) _ (checks_are known t s stands knows ∙ is)
+        (refl, refl),
+    reported_stands t s stands,
+  )
 
 -- ---- of a year
 
@@ -75,36 +99,60 @@ module _ (name : List ℕ) (year : ℕ) (cents : Cents) where
   abbrev KnowsYears : Option Account × Option Cents → Tables → Type 0
   KnowsYears = Both (KnowsAccount name) (FindsReportedYear name year)
 
-  year_checks_are : (known : Option Account × Option Cents) (t : Tables) (s : State) → StandsFor t s → KnowsYears known t
-      → first_of (report_year_checks name year cents (entries_of s name).account (kept_at year (entries_of s name).reported_years)) ≡ first_of (report_year_checks name year cents known.0 known.1)
+  year_checks_are : (known : Option Account × Option Cents) (t : Tables) (s : State) → StandsFor t s
+      → KnowsYears known t
+      → first_of (report_year_checks name year cents (entries_of s name).account
+      (kept_at year (entries_of s name).reported_years)) ≡ first_of
+      (report_year_checks name year cents known.0 known.1)
   year_checks_are known t s stands knows =
-      ap (λ a. first_of (report_year_checks name year cents a (kept_at year (entries_of s name).reported_years))) (knows.0 s stands)
-      ∙ ap (λ k. first_of (report_year_checks name year cents known.0 k)) (kept_reported_year name t s stands year known.1 knows.1)
+      ap (λ a. first_of
+      (report_year_checks name year cents a (kept_at year (entries_of s name).reported_years)))
+      (knows.0 s stands)
+      ∙ ap (λ k. first_of (report_year_checks name year cents known.0 k))
+      (kept_reported_year name t s stands year known.1 knows.1)
 
-  reported_year_stands : (t : Tables) (s : State) → StandsFor t s → StandsFor (with_reported_year name year cents t) (NextYear s)
+  reported_year_stands : (t : Tables) (s : State) → StandsFor t s
+      → StandsFor (with_reported_year name year cents t) (NextYear s)
   reported_year_stands t s stands =
       let more : Entry Cents = record { name = name; key = year; content = cents } in
       record {
         accounts = stands.accounts;
         forms = stands.forms;
         reported = stands.reported;
-        reported_years = ap (λ rows. rows ++ year_entry more ∷ []) stands.reported_years ∙ sym (map-append year_entry s.reported_years (more ∷ []));
+        reported_years = ap (λ rows. rows ++ year_entry more ∷ []) stands.reported_years
+            ∙ sym (map-append year_entry s.reported_years (more ∷ []));
         calendars = stands.calendars;
         calendar_days = stands.calendar_days;
         added_days = stands.added_days;
         runs = stands.runs;
         payments = stands.payments;
         settled = λ other.
-            settled_grows t (with_reported_year name year cents t) s (NextYear s) other refl refl refl
-            (record { account = refl; open_years = refl; runs = refl; reported = λ figure has. has; reported_years = figures_more (is_of other) s.reported_years (more ∷ []) }) (stands.settled other);
+            settled_grows t (with_reported_year name year cents t) s (NextYear s) other refl refl
+            refl
+            (record {
+              account = refl;
+              open_years = refl;
+              runs = refl;
+              reported = λ figure has. has;
+              reported_years = figures_more (is_of other) s.reported_years (more ∷ []);
+            }) (stands.settled other);
       }
 
-  pub report_year_decided : (known : Option Account × Option Cents) (answer : Answer) → first_of (report_year_checks name year cents known.0 known.1) ≡ Some answer
-      → (t : Tables) (s : State) → StandsFor t s → IsSound s → KnowsYears known t → Step s (ReportYear name year cents) answer s
-  report_year_decided known answer is t s stands sound knows = decided _ s answer _ (year_checks_are known t s stands knows ∙ is)
-
-  pub report_year_done : (known : Option Account × Option Cents) → first_of (report_year_checks name year cents known.0 known.1) ≡ None
+  pub report_year_decided : (known : Option Account × Option Cents) (answer : Answer)
+      → first_of (report_year_checks name year cents known.0 known.1) ≡ Some answer
       → (t : Tables) (s : State) → StandsFor t s → IsSound s → KnowsYears known t
-      → (next : State) × Step s (ReportYear name year cents) (Ok Done) next × StandsFor (with_reported_year name year cents t) next
-  report_year_done known is t s stands sound knows =
-      (NextYear s, passed _ s (Ok Done) (NextYear s) _ (year_checks_are known t s stands knows ∙ is) (refl, refl), reported_year_stands t s stands)
+      → Step s (ReportYear name year cents) answer s
+  report_year_decided known answer is t s stands sound knows = decided _ s answer _
+      (year_checks_are known t s stands knows ∙ is)
+
+  pub report_year_done : (known : Option Account × Option Cents)
+      → first_of (report_year_checks name year cents known.0 known.1) ≡ None
+      → (t : Tables) (s : State) → StandsFor t s → IsSound s → KnowsYears known t
+      → (next : State) × Step s (ReportYear name year cents) (Ok Done) next
+      × StandsFor (with_reported_year name year cents t) next
+  report_year_done known is t s stands sound knows = (
+    NextYear s,
+    passed _ s (Ok Done) (NextYear s) _ (year_checks_are known t s stands knows ∙ is)
+        (refl, refl),
+    reported_year_stands t s stands,
+  )

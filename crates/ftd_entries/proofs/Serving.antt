@@ -16,67 +16,103 @@ use Rattle.ftd_entries.specs.Standing.{StandsFor}
 use Rattle.ftd_entries.specs.Words.{Serves}
 
 -- where the tables are so, the request is answered as the machine answers it
-abbrev pub ServesWhere : (Tables → Type 0) → Request → Answer → database.State → database.State → Tables → Type 0
+abbrev pub ServesWhere : (Tables → Type 0) → Request → Answer → database.State → database.State
+    → Tables → Type 0
 ServesWhere Where request answer before after t = Where t → Serves request answer before after t
 
 module _ {S : Type 0} (g : store.Ghosts S) (Where : Tables → Type 0) (request : Request) where
   -- what was read decides, and the state stays
-  pub served_looked_where : {A : Type 0} (old new : Tx S) (x : A) (answer : Answer) (Fact : A → Tables → Type 0) → Reads g old new (Ok x) Fact
-      → ((t : Tables) (s : State) → StandsFor t s → IsSound s → Where t → Fact x t → Step s request answer s) → Calls g old new (Ok answer) (ServesWhere Where request)
+  pub served_looked_where : {A : Type 0} (old new : Tx S) (x : A) (answer : Answer)
+      (Fact : A → Tables → Type 0) → Reads g old new (Ok x) Fact
+      → ((t : Tables) (s : State) → StandsFor t s → IsSound s → Where t → Fact x t
+      → Step s request answer s) → Calls g old new (Ok answer) (ServesWhere Where request)
   served_looked_where old new x answer Fact r decides = record {
     frame = goes_on g old new x answer r.frame;
     does = λ clean t stands known s stands_for sound.
-        let told = r.does clean t stands in
-        (s, decides t s stands_for sound known told.0, record { tables = t; stands = subst (λ db. Stands db t) (sym told.1.0.now_is) stands; stands_for = stands_for; sound = sound });
+        let told = r.does clean t stands in (
+          s,
+          decides t s stands_for sound known told.0,
+          record {
+            tables = t;
+            stands = subst (λ db. Stands db t) (sym told.1.0.now_is) stands;
+            stands_for = stands_for;
+            sound = sound;
+          },
+        );
   }
 
-  -- what was read lets the change pass, which makes other rows, and these stand for the machine's next state
-  pub served_turned_where : {A B : Type 0} (old mid new : Tx S) (x : A) (y : B) (answer : Answer) (Fact : A → Tables → Type 0) (So : B → Tables → Tables → Type 0)
+  -- what was read lets the change pass, which makes other rows, and these stand for the machine's
+  -- next state
+  pub served_turned_where : {A B : Type 0} (old mid new : Tx S) (x : A) (y : B) (answer : Answer)
+      (Fact : A → Tables → Type 0) (So : B → Tables → Tables → Type 0)
       → Reads g old mid (Ok x) Fact → Turns g mid new (Ok y) So
-      → ((t u : Tables) (s : State) → StandsFor t s → IsSound s → Where t → Fact x t → So y t u → (next : State) × Step s request answer next × StandsFor u next)
+      → ((t u : Tables) (s : State) → StandsFor t s → IsSound s → Where t → Fact x t → So y t u
+      → (next : State) × Step s request answer next × StandsFor u next)
       → Calls g old new (Ok answer) (ServesWhere Where request)
   served_turned_where old mid new x y answer Fact So r w makes = record {
     frame = then_goes g old mid new x y answer r.frame w.frame;
     does = λ clean t stands known s stands_for sound.
         let told = r.does (omega (arith, w.frame.crash.clean)) t stands in
         let made = w.does clean t (subst (λ db. Stands db t) (sym told.1.0.now_is) stands) in
-        let step = makes t made.0 s stands_for sound known told.0 made.1 in
-        (step.0, step.1, record { tables = made.0; stands = made.2.0; stands_for = step.2; sound = step_sound s request answer step.0 step.1 sound });
+        let step = makes t made.0 s stands_for sound known told.0 made.1 in (
+          step.0,
+          step.1,
+          record {
+            tables = made.0;
+            stands = made.2.0;
+            stands_for = step.2;
+            sound = step_sound s request answer step.0 step.1 sound;
+          },
+        );
   }
 
   -- so where the rows that it makes are a function of those before
-  pub served_changed_where : {A B : Type 0} (old mid new : Tx S) (x : A) (y : B) (answer : Answer) (Fact : A → Tables → Type 0) (change : Tables → Tables)
+  pub served_changed_where : {A B : Type 0} (old mid new : Tx S) (x : A) (y : B) (answer : Answer)
+      (Fact : A → Tables → Type 0) (change : Tables → Tables)
       → Reads g old mid (Ok x) Fact → Writes g mid new (Ok y) change
-      → ((t : Tables) (s : State) → StandsFor t s → IsSound s → Where t → Fact x t → (next : State) × Step s request answer next × StandsFor (change t) next)
+      → ((t : Tables) (s : State) → StandsFor t s → IsSound s → Where t → Fact x t → (next : State)
+      × Step s request answer next × StandsFor (change t) next)
       → Calls g old new (Ok answer) (ServesWhere Where request)
   served_changed_where old mid new x y answer Fact change r w makes =
       served_turned_where old mid new x y answer Fact (λ _ t u. u ≡ change t) r
       (record { frame = w.frame; does = λ clean t stands. (change t, refl, w.does clean t stands) })
-      (λ t u s stands sound known told is. let step = makes t s stands sound known told in (step.0, step.1, subst (λ v. StandsFor v step.0) (sym is) step.2))
+      (λ t u s stands sound known told is. let step = makes t s stands sound known told in
+      (step.0, step.1, subst (λ v. StandsFor v step.0) (sym is) step.2))
 
 -- the same, whatever the tables are
 module _ {S : Type 0} (g : store.Ghosts S) (request : Request) where
   abbrev Always : Tables → Type 0
   Always t = Unit {0}
 
-  always : (old new : Tx S) (answer : Answer) → Calls g old new (Ok answer) (ServesWhere Always request) → Calls g old new (Ok answer) (Serves request)
-  always old new answer c = record { frame = c.frame; does = λ clean t stands. c.does clean t stands tt }
+  always : (old new : Tx S) (answer : Answer) → Calls g old new (Ok answer)
+      (ServesWhere Always request) → Calls g old new (Ok answer) (Serves request)
+  always old new answer c =
+      record { frame = c.frame; does = λ clean t stands. c.does clean t stands tt }
 
-  pub served_looked : {A : Type 0} (old new : Tx S) (x : A) (answer : Answer) (Fact : A → Tables → Type 0) → Reads g old new (Ok x) Fact
-      → ((t : Tables) (s : State) → StandsFor t s → IsSound s → Fact x t → Step s request answer s) → Calls g old new (Ok answer) (Serves request)
+  pub served_looked : {A : Type 0} (old new : Tx S) (x : A) (answer : Answer) (Fact : A → Tables
+      → Type 0) → Reads g old new (Ok x) Fact
+      → ((t : Tables) (s : State) → StandsFor t s → IsSound s → Fact x t → Step s request answer s)
+      → Calls g old new (Ok answer) (Serves request)
   served_looked old new x answer Fact r decides =
-      always old new answer (served_looked_where g Always request old new x answer Fact r (λ t s stands sound _. decides t s stands sound))
+      always old new answer (served_looked_where g Always request old new x answer Fact r
+      (λ t s stands sound _. decides t s stands sound))
 
-  pub served_changed : {A B : Type 0} (old mid new : Tx S) (x : A) (y : B) (answer : Answer) (Fact : A → Tables → Type 0) (change : Tables → Tables)
+  pub served_changed : {A B : Type 0} (old mid new : Tx S) (x : A) (y : B) (answer : Answer)
+      (Fact : A → Tables → Type 0) (change : Tables → Tables)
       → Reads g old mid (Ok x) Fact → Writes g mid new (Ok y) change
-      → ((t : Tables) (s : State) → StandsFor t s → IsSound s → Fact x t → (next : State) × Step s request answer next × StandsFor (change t) next)
+      → ((t : Tables) (s : State) → StandsFor t s → IsSound s → Fact x t → (next : State)
+      × Step s request answer next × StandsFor (change t) next)
       → Calls g old new (Ok answer) (Serves request)
   served_changed old mid new x y answer Fact change r w makes =
-      always old new answer (served_changed_where g Always request old mid new x y answer Fact change r w (λ t s stands sound _. makes t s stands sound))
+      always old new answer (served_changed_where g Always request old mid new x y answer Fact
+      change r w (λ t s stands sound _. makes t s stands sound))
 
-  pub served_turned : {A B : Type 0} (old mid new : Tx S) (x : A) (y : B) (answer : Answer) (Fact : A → Tables → Type 0) (So : B → Tables → Tables → Type 0)
+  pub served_turned : {A B : Type 0} (old mid new : Tx S) (x : A) (y : B) (answer : Answer)
+      (Fact : A → Tables → Type 0) (So : B → Tables → Tables → Type 0)
       → Reads g old mid (Ok x) Fact → Turns g mid new (Ok y) So
-      → ((t u : Tables) (s : State) → StandsFor t s → IsSound s → Fact x t → So y t u → (next : State) × Step s request answer next × StandsFor u next)
+      → ((t u : Tables) (s : State) → StandsFor t s → IsSound s → Fact x t → So y t u
+      → (next : State) × Step s request answer next × StandsFor u next)
       → Calls g old new (Ok answer) (Serves request)
   served_turned old mid new x y answer Fact So r w makes =
-      always old new answer (served_turned_where g Always request old mid new x y answer Fact So r w (λ t u s stands sound _. makes t u s stands sound))
+      always old new answer (served_turned_where g Always request old mid new x y answer Fact So r w
+      (λ t u s stands sound _. makes t u s stands sound))

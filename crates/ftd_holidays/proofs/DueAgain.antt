@@ -1,5 +1,6 @@
 -- Obligations by other holidays: each has the due date that they give it, and is else the same.
-use Rattle.std.proofs.Common.{◌≡◌, ℕ, ◌≤◌, ◌<◌, ◌⊎◌, List, [], ◌∷◌, map, inl, inr, sym, ap, ◌∙◌, subst, arith}
+use Rattle.std.proofs.Common.{◌≡◌, ℕ, ◌≤◌, ◌<◌, ◌⊎◌, List, [], ◌∷◌, map, inl, inr, sym, ap, ◌∙◌}
+use Rattle.std.proofs.Common.{subst, arith}
 use Rattle.ftd_days.specs.Calendar.{last_day, year_of}
 use Rattle.ftd_days.specs.Holidays.{IsWithHoliday}
 use Rattle.ftd_days.proofs.Months.{in_month, year_is}
@@ -33,12 +34,15 @@ due_again holidays o = (due_some holidays o.rule o.last).0
 abbrev pub again : List ℕ → Obligation → Obligation
 again holidays o = record o { due = due_again holidays o }
 
-pub is_due_again : (holidays : List ℕ) (o : Obligation) → IsDueBy holidays o.rule o.last (due_again holidays o)
+pub is_due_again : (holidays : List ℕ) (o : Obligation) → IsDueBy holidays o.rule o.last
+    (due_again holidays o)
 is_due_again holidays o = (due_some holidays o.rule o.last).1
 
 -- with that due date it is an obligation by them
-owed_again : (form : Form) (lines : List YearLine) (sums : List DaySum) (some all : List ℕ) (o : Obligation) (due : ℕ) → IsDue all o.rule o.last due
-    → IsObligation form lines sums some o → IsObligation form lines sums all (record o { due = due })
+owed_again : (form : Form) (lines : List YearLine) (sums : List DaySum) (some all : List ℕ)
+    (o : Obligation) (due : ℕ) → IsDue all o.rule o.last due
+    → IsObligation form lines sums some o → IsObligation form lines sums all
+    (record o { due = due })
 owed_again form lines sums some all o due is owed = record {
   line = owed.line;
   open_year = owed.open_year;
@@ -62,7 +66,8 @@ pub record HasDays (o : Obligation) : Type 0 where
   pub one_year : year_of o.first ≡ year_of o.last
   pub to_2098 : year_of o.last ≤ 2098
 
-pub days_of_owed : (form : Form) (lines : List YearLine) (sums : List DaySum) (holidays : List ℕ) (o : Obligation) → AreLines sums lines → IsObligation form lines sums holidays o → HasDays o
+pub days_of_owed : (form : Form) (lines : List YearLine) (sums : List DaySum) (holidays : List ℕ)
+    (o : Obligation) → AreLines sums lines → IsObligation form lines sums holidays o → HasDays o
 days_of_owed form lines sums holidays o are owed =
     let is = piece_owed form lines sums holidays o owed in
     let y = line_is lines sums is.line are is.open_year in
@@ -72,8 +77,10 @@ days_of_owed form lines sums holidays o are owed =
     let inside = within_period form lines sums holidays o is in
     let i0 = inside.0 in let i1 = inside.1 in let i2 = inside.2 in
     let p1 = is.period.1 in let p2 = is.period.2 in
-    let first = year_is is.line.year o.first (omega arith) (omega arith) (omega arith) (omega arith) in
-    let last = year_is is.line.year o.last (omega arith) (omega arith) (omega arith) (omega arith) in
+    let first = year_is is.line.year o.first (omega arith) (omega arith) (omega arith)
+    (omega arith) in
+    let last = year_is is.line.year o.last (omega arith) (omega arith) (omega arith)
+    (omega arith) in
     record { some = i1; known = omega arith; one_year = first ∙ sym last; to_2098 = omega arith }
 
 counted_later : (rule : Rule) (last : ℕ) → last ≤ last_day → last < first_counted rule last
@@ -82,13 +89,17 @@ counted_later Semiweekly last within = let from = from_later Semiweekly last wit
 counted_later NextDay last within = omega arith
 
 -- a holiday that comes before it ends its first day, or after its due date, moves nothing
-pub due_as_before : (before after : List ℕ) (added : ℕ) (o : Obligation) → IsWithHoliday before added after → HasDays o → IsDue before o.rule o.last o.due
+pub due_as_before : (before after : List ℕ) (added : ℕ) (o : Obligation)
+    → IsWithHoliday before added after → HasDays o → IsDue before o.rule o.last o.due
     → (added ≤ o.first) ⊎ (o.due < added) → due_again after o ≡ o.due
 due_as_before before after added o with days is out =
     elim (same_or_not (due_again after o) o.due) [
       | inl same ↦ same
       | inr moved ↦
-          (let counted = (due_moves before after added o.rule o.last o.due (due_again after o) with (due_by before o.rule o.last o.due is) (is_due_again after o)).0 moved in
+          (let counted =
+          (due_moves before after added o.rule o.last o.due
+          (due_again after o) with (due_by before o.rule o.last o.due is) (is_due_again after o)).0
+          moved in
           let from = counted.1 in let to = counted.2 in
           let later = counted_later o.rule o.last days.known in
           let some = days.some in
@@ -97,7 +108,8 @@ due_as_before before after added o with days is out =
 
 -- ---- all of them
 
-by_first_again : (holidays : List ℕ) (rows : List Obligation) → ByFirstDay rows → ByFirstDay (map (again holidays) rows)
+by_first_again : (holidays : List ℕ) (rows : List Obligation) → ByFirstDay rows
+    → ByFirstDay (map (again holidays) rows)
 by_first_again holidays [] by = tt
 by_first_again holidays (o ∷ rows) by = (
   (λ later has.
@@ -108,21 +120,28 @@ by_first_again holidays (o ∷ rows) by = (
   by_first_again holidays rows by.1,
 )
 
-pub rows_again : (form : Form) (lines : List YearLine) (sums : List DaySum) (some all : List ℕ) (rows : List Obligation)
-    → AreObligations form lines sums some rows → AreObligations form lines sums all (map (again all) rows)
+pub rows_again : (form : Form) (lines : List YearLine) (sums : List DaySum) (some all : List ℕ)
+    (rows : List Obligation)
+    → AreObligations form lines sums some rows → AreObligations form lines sums all
+    (map (again all) rows)
 rows_again form lines sums some all rows are = record {
   by_first_day = by_first_again all rows are.by_first_day;
   all = λ o. (
     (λ has.
         (let from = has_mapped (again all) rows o has in
         let p = from.0 in
-        let owed = owed_again form lines sums some all p (due_again all p) (due_stated all p.rule p.last (due_again all p) (is_due_again all p)) ((are.all p).0 from.1) in
+        let owed = owed_again form lines sums some all p (due_again all p)
+        (due_stated all p.rule p.last (due_again all p) (is_due_again all p))
+        ((are.all p).0 from.1) in
         subst (IsObligation form lines sums all) (sym from.2) owed)),
     (λ owed.
         (let p : Obligation = again some o in
-        let was = owed_again form lines sums all some o (due_again some o) (due_stated some o.rule o.last (due_again some o) (is_due_again some o)) owed in
-        let has : Has (map (again all) rows) (again all o) = mapped_has (again all) rows p ((are.all p).1 was) in
-        let due : due_again all o ≡ o.due = due_one all o.rule o.last (due_again all o) o.due (is_due_again all o) (due_by all o.rule o.last o.due owed.due) in
+        let was = owed_again form lines sums all some o (due_again some o)
+        (due_stated some o.rule o.last (due_again some o) (is_due_again some o)) owed in
+        let has : Has (map (again all) rows) (again all o) = mapped_has (again all) rows p
+        ((are.all p).1 was) in
+        let due : due_again all o ≡ o.due = due_one all o.rule o.last (due_again all o) o.due
+        (is_due_again all o) (due_by all o.rule o.last o.due owed.due) in
         subst (λ (d : ℕ). Has (map (again all) rows) (record o { due = d })) due has)),
   );
 }

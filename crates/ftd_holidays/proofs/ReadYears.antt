@@ -1,5 +1,6 @@
 -- The holidays that were read of a year and of the years beside it.
-use Rattle.std.proofs.Common.{◌≡◌, ℕ, ◌+◌, ◌-◌, ◌≤◌, ◌⊎◌, Bool, true, false, List, [], Global, inl, inr, refl, sym, ap, ◌∙◌, subst, arith}
+use Rattle.std.proofs.Common.{◌≡◌, ℕ, ◌+◌, ◌-◌, ◌≤◌, ◌⊎◌, Bool, true, false, List, [], Global, inl}
+use Rattle.std.proofs.Common.{inr, refl, sym, ap, ◌∙◌, subst, arith}
 use Rattle.std.specs.Prelude.{◌==◌, ◌||◌, ◌&&◌}
 use Rattle.ftd_days.specs.Calendar.{year_of}
 use Rattle.ftd_days.specs.Business.{is_holiday}
@@ -24,29 +25,38 @@ AddsKeptYear year old new t = (s : State) → StandsFor t s → IsSound s → (d
     ≡ (is_holiday old day || ((year_of day == year) && is_holiday (holidays s) day))
 
 -- a year whose calendar was not given has no holidays
-none_kept : (year : ℕ) (old : List ℕ) (t : Tables) → HasCalendar year false t → AddsKeptYear year old old t
+none_kept : (year : ℕ) (old : List ℕ) (t : Tables) → HasCalendar year false t
+    → AddsKeptYear year old old t
 none_kept year old t finds s stands sound day =
     let off : ((year_of day == year) && is_holiday (holidays s) day) ≡ false =
     elim (same_or_not (year_of day) year) [
-      | inl its ↦ ap (λ b. b && is_holiday (holidays s) day) (eq_same (year_of day) year its) ∙ holiday_unknown t s stands sound Global year day finds its
+      | inl its ↦ ap (λ b. b && is_holiday (holidays s) day) (eq_same (year_of day) year its)
+          ∙ holiday_unknown t s stands sound Global year day finds its
       | inr other ↦ ap (λ b. b && is_holiday (holidays s) day) (eq_not (year_of day) year other)
     ] in
     sym (ap (λ b. is_holiday old day || b) off ∙ or_false (is_holiday old day))
 
 -- another one those that it was given with, and those that were added
-both_kept : (year : ℕ) (old new : List ℕ) (t : Tables) → AddsYear year old new t → AddsKeptYear year old new t
+both_kept : (year : ℕ) (old new : List ℕ) (t : Tables) → AddsYear year old new t
+    → AddsKeptYear year old new t
 both_kept year old new t adds s stands sound day =
-    let here : (is_holiday adds.given.items day || is_holiday adds.added.items day) ≡ ((year_of day == year) && is_holiday (holidays s) day) =
+    let here : (is_holiday adds.given.items day || is_holiday adds.added.items day)
+    ≡ ((year_of day == year) && is_holiday (holidays s) day) =
     elim (same_or_not (year_of day) year) [
-      | inl its ↦ sym (ap (λ b. b && is_holiday (holidays s) day) (eq_same (year_of day) year its) ∙ holiday_known t s stands sound adds.given adds.added year day adds.is_given adds.are_added its)
-      | inr other ↦ adds.elsewhere day other ∙ sym (ap (λ b. b && is_holiday (holidays s) day) (eq_not (year_of day) year other))
+      | inl its ↦ sym (ap (λ b. b && is_holiday (holidays s) day) (eq_same (year_of day) year its)
+          ∙ holiday_known t s stands sound adds.given adds.added year day adds.is_given
+          adds.are_added its)
+      | inr other ↦ adds.elsewhere day other
+          ∙ sym (ap (λ b. b && is_holiday (holidays s) day) (eq_not (year_of day) year other))
     ] in
     adds.same day ∙ ap (λ b. is_holiday old day || b) here
 
 -- so the holidays of a year, given or not, were added as they are kept
-pub adds_kept : (year : ℕ) (old new : List ℕ) (given : Bool) (t : Tables) → AddsIfGiven year old new given t → AddsKeptYear year old new t
+pub adds_kept : (year : ℕ) (old new : List ℕ) (given : Bool) (t : Tables)
+    → AddsIfGiven year old new given t → AddsKeptYear year old new t
 adds_kept year old new true t adds = both_kept year old new t adds
-adds_kept year old new false t adds = subst (λ (hs : List ℕ). AddsKeptYear year old hs t) (sym adds.1) (none_kept year old t adds.0)
+adds_kept year old new false t adds = subst (λ (hs : List ℕ). AddsKeptYear year old hs t)
+    (sym adds.1) (none_kept year old t adds.0)
 
 -- ---- three years
 
@@ -66,7 +76,8 @@ third_one true = refl
 third_one false = refl
 
 -- a number is one of the three about another
-one_of_three : (year y : ℕ) → 1 ≤ year → year ≤ y + 1 → y ≤ year + 1 → (y ≡ year - 1) ⊎ ((y ≡ year) ⊎ (y ≡ year + 1))
+one_of_three : (year y : ℕ) → 1 ≤ year → year ≤ y + 1 → y ≤ year + 1 → (y ≡ year - 1)
+    ⊎ ((y ≡ year) ⊎ (y ≡ year + 1))
 one_of_three year y some low high =
     elim (same_or_not y (year - 1)) [
       | inl before ↦ inl before
@@ -76,30 +87,42 @@ one_of_three year y some low high =
       ]
     ]
 
-in_three : (year y : ℕ) (b : Bool) → 1 ≤ year → year ≤ y + 1 → y ≤ year + 1 → together (y == (year - 1)) (y == year) (y == (year + 1)) b ≡ b
+in_three : (year y : ℕ) (b : Bool) → 1 ≤ year → year ≤ y + 1 → y ≤ year + 1
+    → together (y == (year - 1)) (y == year) (y == (year + 1)) b ≡ b
 in_three year y b some low high =
     elim (one_of_three year y some low high) [
       | inl before ↦
           ap (λ e. together e (y == year) (y == (year + 1)) b) (eq_same y (year - 1) before)
           ∙ (ap (λ e. together true e (y == (year + 1)) b) (eq_not y year (λ e. omega arith))
-          ∙ (ap (λ e. together true false e b) (eq_not y (year + 1) (λ e. omega arith)) ∙ first_one b))
+          ∙ (ap (λ e. together true false e b) (eq_not y (year + 1) (λ e. omega arith))
+          ∙ first_one b))
       | inr (inl here) ↦
-          ap (λ e. together e (y == year) (y == (year + 1)) b) (eq_not y (year - 1) (λ e. omega arith))
+          ap (λ e. together e (y == year) (y == (year + 1)) b)
+          (eq_not y (year - 1) (λ e. omega arith))
           ∙ (ap (λ e. together false e (y == (year + 1)) b) (eq_same y year here)
-          ∙ (ap (λ e. together false true e b) (eq_not y (year + 1) (λ e. omega arith)) ∙ second_one b))
+          ∙ (ap (λ e. together false true e b) (eq_not y (year + 1) (λ e. omega arith))
+          ∙ second_one b))
       | inr (inr after) ↦
-          ap (λ e. together e (y == year) (y == (year + 1)) b) (eq_not y (year - 1) (λ e. omega arith))
+          ap (λ e. together e (y == year) (y == (year + 1)) b)
+          (eq_not y (year - 1) (λ e. omega arith))
           ∙ (ap (λ e. together false e (y == (year + 1)) b) (eq_not y year (λ e. omega arith))
           ∙ (ap (λ e. together false false e b) (eq_same y (year + 1) after) ∙ third_one b))
     ]
 
 -- the holidays of the three years about an added holiday, and it, are known
-pub three_years : (added year : ℕ) (none before here after all : List ℕ) (t : Tables) → year ≡ year_of added → 1 ≤ year → none ≡ [] → IsWithHoliday after added all
-    → AddsKeptYear (year - 1) none before t → AddsKeptYear year before here t → AddsKeptYear (year + 1) here after t → KnowsHolidays added all t
-three_years added year none before here after all t is some empty with one two three s stands sound day low high =
+pub three_years : (added year : ℕ) (none before here after all : List ℕ) (t : Tables)
+    → year ≡ year_of added → 1 ≤ year → none ≡ [] → IsWithHoliday after added all
+    → AddsKeptYear (year - 1) none before t → AddsKeptYear year before here t
+    → AddsKeptYear (year + 1) here after t → KnowsHolidays added all t
+three_years added year none before here after all t is some empty with one two three s stands sound
+    day low high =
     let b = is_holiday (holidays s) day in
     let y = year_of day in
-    let first : is_holiday before day ≡ ((y == (year - 1)) && b) = one s stands sound day ∙ ap (λ hs. is_holiday hs day || ((y == (year - 1)) && b)) empty in
-    let second : is_holiday here day ≡ (((y == (year - 1)) && b) || ((y == year) && b)) = two s stands sound day ∙ ap (λ x. x || ((y == year) && b)) first in
-    let third : is_holiday after day ≡ together (y == (year - 1)) (y == year) (y == (year + 1)) b = three s stands sound day ∙ ap (λ x. x || ((y == (year + 1)) && b)) second in
-    with day ∙ ap (λ x. x || (added == day)) (third ∙ in_three year y b some (omega arith) (omega arith))
+    let first : is_holiday before day ≡ ((y == (year - 1)) && b) = one s stands sound day
+    ∙ ap (λ hs. is_holiday hs day || ((y == (year - 1)) && b)) empty in
+    let second : is_holiday here day ≡ (((y == (year - 1)) && b) || ((y == year) && b)) =
+    two s stands sound day ∙ ap (λ x. x || ((y == year) && b)) first in
+    let third : is_holiday after day ≡ together (y == (year - 1)) (y == year) (y == (year + 1)) b =
+    three s stands sound day ∙ ap (λ x. x || ((y == (year + 1)) && b)) second in
+    with day ∙ ap (λ x. x || (added == day)) (third ∙ in_three year y b some (omega arith)
+    (omega arith))

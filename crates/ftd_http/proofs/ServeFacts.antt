@@ -1,6 +1,8 @@
 -- A connection so far, and its next step.
 use Rattle.std.specs.Prelude.{slice_range}
-use Rattle.std.proofs.Common.{◌≡◌, ◌||◌, ◌==◌, ◌⊎◌, inl, inr, ◌<◌, ◌+◌, ◌++◌, ℕ, Bool, true, false, List, [], ◌∷◌, Option, Some, None, drop, refl, sym, ap, ◌∙◌, subst, arith, append_assoc, append-nil, length-append}
+use Rattle.std.proofs.Common.{◌≡◌, ◌||◌, ◌==◌, ◌⊎◌, inl, inr, ◌<◌, ◌+◌, ◌++◌, ℕ, Bool, true, false}
+use Rattle.std.proofs.Common.{List, [], ◌∷◌, Option, Some, None, drop, refl, sym, ap, ◌∙◌, subst}
+use Rattle.std.proofs.Common.{arith, append_assoc, append-nil, length-append}
 use Rattle.std.specs.List.{flat_map}
 use Rattle.std.specs.Io.KnownBytes.{Appends, IsAtEnd}
 use Rattle.std.proofs.KnownBytes.{Consumes-nil, Consumes-trans, Appends-nil, Appends-trans}
@@ -19,35 +21,45 @@ use Rattle.ftd_http.specs.Responses.{Said, response_text}
 use Rattle.ftd_routes.specs.Asking.{asked_of}
 use Rattle.ftd_http.specs.Replying.{Responds}
 use Rattle.ftd_routes.specs.declared.ask.Asked.{Asked}
-use Rattle.ftd_http.specs.Serving.{Ends, closed, truncated, bad, asked, limit, AreMessages, closes_after, refusal_text, IsAnswer, none, more, Answered, Broken, Serves, BreaksOff, unasked, in_answer, in_refusal, Breaks, HasEnded, HasFailed, Talk}
+use Rattle.ftd_http.specs.Serving.{Ends, closed, truncated, bad, asked, limit, AreMessages}
+use Rattle.ftd_http.specs.Serving.{closes_after, refusal_text, IsAnswer, none, more, Answered}
+use Rattle.ftd_http.specs.Serving.{Broken, Serves, BreaksOff, unasked, in_answer, in_refusal}
+use Rattle.ftd_http.specs.Serving.{Breaks, HasEnded, HasFailed, Talk}
 use Rattle.ftd_http.specs.declared.connection.End.{End}
 use Rattle.ftd_http.specs.declared.connection.End.TheVariants as end
 use Rattle.ftd_http.specs.declared.connection.Cause.{Cause}
 use Rattle.ftd_http.specs.declared.connection.Cause.TheVariants as why
 
 -- one more message of the bytes
-more_messages : (bytes buf : List ℕ) (messages : List Message) (parts : Parts) (message : Message) → AreMessages bytes messages buf
-    → IsMessageAt buf parts message → AreMessages bytes (messages ++ message ∷ []) (drop parts.end buf)
+more_messages : (bytes buf : List ℕ) (messages : List Message) (parts : Parts) (message : Message)
+    → AreMessages bytes messages buf
+    → IsMessageAt buf parts message → AreMessages bytes (messages ++ message ∷ [])
+    (drop parts.end buf)
 more_messages bytes buf messages parts message so_far at =
     record {
       are = All-push IsMessage messages message so_far.are at.is;
       parts =
-          let one : flat_map message_bytes (message ∷ []) ≡ message_bytes message = append-nil (message_bytes message) in
-          let all = flat_map-append message_bytes messages (message ∷ []) ∙ ap (λ z. flat_map message_bytes messages ++ z) one in
+          let one : flat_map message_bytes (message ∷ []) ≡ message_bytes message =
+          append-nil (message_bytes message) in
+          let all = flat_map-append message_bytes messages (message ∷ [])
+          ∙ ap (λ z. flat_map message_bytes messages ++ z) one in
           so_far.parts ∙ ap (λ z. flat_map message_bytes messages ++ z) at.reads
-          ∙ sym (append_assoc (flat_map message_bytes messages) (message_bytes message) (drop parts.end buf))
+          ∙ sym (append_assoc (flat_map message_bytes messages) (message_bytes message)
+          (drop parts.end buf))
           ∙ ap (λ z. z ++ drop parts.end buf) (sym all);
     }
 
 -- an answer fails in a write, or for want of memory
-pub fails_so : (cause : Cause) (source_failed target_failed : Bool) → HasFailed cause false target_failed → HasFailed cause source_failed target_failed
+pub fails_so : (cause : Cause) (source_failed target_failed : Bool)
+    → HasFailed cause false target_failed → HasFailed cause source_failed target_failed
 fails_so why.Read source_failed target_failed failed = cc
 fails_so why.Write source_failed target_failed failed = failed
 fails_so why.Memory source_failed target_failed failed = failed
 
 module _ {M : Type 0} (goes : M → Request → Answer → M → Type 0) where
   -- nothing is read yet
-  pub begins : (start : M) (left taken : Option (List ℕ)) → Talk goes start start left left taken taken [] 0
+  pub begins : (start : M) (left taken : Option (List ℕ))
+      → Talk goes start start left left taken taken [] 0
   begins start left taken =
       record {
         read = [];
@@ -62,8 +74,10 @@ module _ {M : Type 0} (goes : M → Request → Answer → M → Type 0) where
       }
 
   -- more bytes come
-  pub reads : (start now : M) (left mid left' taken taken' : Option (List ℕ)) (kept buf : List ℕ) (answered : ℕ)
-      → Talk goes start now left mid taken taken' kept answered → Reads mid left' kept buf → Talk goes start now left left' taken taken' buf answered
+  pub reads : (start now : M) (left mid left' taken taken' : Option (List ℕ)) (kept buf : List ℕ)
+      (answered : ℕ)
+      → Talk goes start now left mid taken taken' kept answered → Reads mid left' kept buf
+      → Talk goes start now left left' taken taken' buf answered
   reads start now left mid left' taken taken' kept buf answered talk r =
       record {
         read = talk.read ++ r.bytes;
@@ -72,7 +86,8 @@ module _ {M : Type 0} (goes : M → Request → Answer → M → Type 0) where
         gives = Consumes-trans left mid left' talk.read r.bytes talk.gives r.gives;
         are = record {
           are = talk.are.are;
-          parts = ap (λ z. z ++ r.bytes) talk.are.parts ∙ append_assoc (flat_map message_bytes talk.messages) kept r.bytes
+          parts = ap (λ z. z ++ r.bytes) talk.are.parts
+              ∙ append_assoc (flat_map message_bytes talk.messages) kept r.bytes
               ∙ ap (λ z. flat_map message_bytes talk.messages ++ z) (sym r.kept);
         };
         stay = talk.stay;
@@ -82,11 +97,14 @@ module _ {M : Type 0} (goes : M → Request → Answer → M → Type 0) where
       }
 
   -- one more message is answered, after which the connection stays open
-  pub goes_on : (start now later : M) (left left' taken mid taken' : Option (List ℕ)) (buf : List ℕ) (answered : ℕ) (parts : Parts) (message : Message) (answer : List ℕ)
-      → (talk : Talk goes start now left left' taken mid buf answered) → IsMessageAt buf parts message → IsAnswer goes answered now message answer later
+  pub goes_on : (start now later : M) (left left' taken mid taken' : Option (List ℕ)) (buf : List ℕ)
+      (answered : ℕ) (parts : Parts) (message : Message) (answer : List ℕ)
+      → (talk : Talk goes start now left left' taken mid buf answered)
+      → IsMessageAt buf parts message → IsAnswer goes answered now message answer later
       → Appends mid taken' answer → parts.closes ≡ false → answered < 99
       → Talk goes start later left left' taken taken' (drop parts.end buf) (answered + 1)
-  goes_on start now later left left' taken mid taken' buf answered parts message answer talk at is written stays few =
+  goes_on start now later left left' taken mid taken' buf answered parts message answer talk at is
+      written stays few =
       let same = talk.count in
       record {
         read = talk.read;
@@ -95,22 +113,28 @@ module _ {M : Type 0} (goes : M → Request → Answer → M → Type 0) where
         gives = talk.gives;
         are = more_messages talk.read buf talk.messages parts message talk.are at;
         stay = record {
-          stay = All-push (λ m. closes m ≡ false) talk.messages message talk.stay.stay (sym at.closes ∙ stays);
+          stay = All-push (λ m. closes m ≡ false) talk.messages message talk.stay.stay
+              (sym at.closes ∙ stays);
           few = (let l = length-append talk.messages (message ∷ []) in omega arith);
         };
-        answers = more talk.messages talk.text now message answer later talk.answers (rw (← talk.count) is);
+        answers = more talk.messages talk.text now message answer later talk.answers
+            (rw (← talk.count) is);
         written = Appends-trans taken mid taken' talk.text answer talk.written written;
         count = (let l = length-append talk.messages (message ∷ []) in omega arith);
       }
 
   -- nothing more is written
-  same_text : (taken taken' : Option (List ℕ)) (text : List ℕ) → Appends taken taken' text → Appends taken taken' (text ++ [])
-  same_text taken taken' text a = let P : List ℕ → Type 0 = λ z. Appends taken taken' z in subst P (sym (append-nil text)) a
+  same_text : (taken taken' : Option (List ℕ)) (text : List ℕ) → Appends taken taken' text
+      → Appends taken taken' (text ++ [])
+  same_text taken taken' text a = let P : List ℕ → Type 0 = λ z. Appends taken taken' z in
+      subst P (sym (append-nil text)) a
 
   -- the bytes end
-  pub ends_closed : (start now : M) (left left' taken taken' : Option (List ℕ)) (kept : List ℕ) (answered : ℕ)
+  pub ends_closed : (start now : M) (left left' taken taken' : Option (List ℕ)) (kept : List ℕ)
+      (answered : ℕ)
       → Talk goes start now left left' taken taken' kept answered → kept ≡ [] → IsAtEnd left'
-      → Serves (Answered goes start now) left left' taken taken' (record { answered = answered; end = end.Closed })
+      → Serves (Answered goes start now) left left' taken taken'
+      (record { answered = answered; end = end.Closed })
   ends_closed start now left left' taken taken' kept answered talk none_left at_end =
       let same = talk.count in
       record {
@@ -128,9 +152,11 @@ module _ {M : Type 0} (goes : M → Request → Answer → M → Type 0) where
         count = omega arith;
       }
 
-  pub ends_truncated : (start now : M) (left left' taken taken' : Option (List ℕ)) (kept : List ℕ) (answered : ℕ)
+  pub ends_truncated : (start now : M) (left left' taken taken' : Option (List ℕ)) (kept : List ℕ)
+      (answered : ℕ)
       → Talk goes start now left left' taken taken' kept answered → IsCut kept → IsAtEnd left'
-      → Serves (Answered goes start now) left left' taken taken' (record { answered = answered; end = end.Truncated })
+      → Serves (Answered goes start now) left left' taken taken'
+      (record { answered = answered; end = end.Truncated })
   ends_truncated start now left left' taken taken' kept answered talk cut at_end =
       let same = talk.count in
       record {
@@ -149,9 +175,12 @@ module _ {M : Type 0} (goes : M → Request → Answer → M → Type 0) where
       }
 
   -- a message is refused
-  pub ends_refused : (start now : M) (left left' taken mid taken' : Option (List ℕ)) (kept : List ℕ) (answered : ℕ) (status : Status)
-      → Talk goes start now left left' taken mid kept answered → IsRefused kept status → Appends mid taken' (refusal_text (Some status))
-      → Serves (Answered goes start now) left left' taken taken' (record { answered = answered + 1; end = end.BadMessage })
+  pub ends_refused : (start now : M) (left left' taken mid taken' : Option (List ℕ)) (kept : List ℕ)
+      (answered : ℕ) (status : Status)
+      → Talk goes start now left left' taken mid kept answered → IsRefused kept status
+      → Appends mid taken' (refusal_text (Some status))
+      → Serves (Answered goes start now) left left' taken taken'
+      (record { answered = answered + 1; end = end.BadMessage })
   ends_refused start now left left' taken mid taken' kept answered status talk refused written =
       let same = talk.count in
       record {
@@ -165,16 +194,22 @@ module _ {M : Type 0} (goes : M → Request → Answer → M → Type 0) where
         ends = bad talk.messages status talk.stay refused;
         at_end = tt;
         answers = talk.answers;
-        written = Appends-trans taken mid taken' talk.text (refusal_text (Some status)) talk.written written;
+        written = Appends-trans taken mid taken' talk.text (refusal_text (Some status)) talk.written
+            written;
         count = omega arith;
       }
 
   -- a message is answered, and is the last
-  last : (start now later : M) (left left' taken mid taken' : Option (List ℕ)) (buf : List ℕ) (answered : ℕ) (parts : Parts) (message : Message) (answer : List ℕ) (why_ends : End)
-      → (talk : Talk goes start now left left' taken mid buf answered) → IsMessageAt buf parts message → IsAnswer goes answered now message answer later
-      → Appends mid taken' answer → Ends (drop parts.end buf) (talk.messages ++ message ∷ []) None why_ends → HasEnded why_ends left'
-      → Serves (Answered goes start later) left left' taken taken' (record { answered = answered + 1; end = why_ends })
-  last start now later left left' taken mid taken' buf answered parts message answer why_ends talk at is written ends at_end =
+  last : (start now later : M) (left left' taken mid taken' : Option (List ℕ)) (buf : List ℕ)
+      (answered : ℕ) (parts : Parts) (message : Message) (answer : List ℕ) (why_ends : End)
+      → (talk : Talk goes start now left left' taken mid buf answered)
+      → IsMessageAt buf parts message → IsAnswer goes answered now message answer later
+      → Appends mid taken' answer → Ends (drop parts.end buf) (talk.messages ++ message ∷ []) None
+      why_ends → HasEnded why_ends left'
+      → Serves (Answered goes start later) left left' taken taken'
+      (record { answered = answered + 1; end = why_ends })
+  last start now later left left' taken mid taken' buf answered parts message answer why_ends talk
+      at is written ends at_end =
       let same = talk.count in
       record {
         read = talk.read;
@@ -186,33 +221,49 @@ module _ {M : Type 0} (goes : M → Request → Answer → M → Type 0) where
         are = more_messages talk.read buf talk.messages parts message talk.are at;
         ends = ends;
         at_end = at_end;
-        answers = more talk.messages talk.text now message answer later talk.answers (rw (← talk.count) is);
-        written = same_text taken taken' (talk.text ++ answer) (Appends-trans taken mid taken' talk.text answer talk.written written);
+        answers = more talk.messages talk.text now message answer later talk.answers
+            (rw (← talk.count) is);
+        written = same_text taken taken' (talk.text ++ answer)
+            (Appends-trans taken mid taken' talk.text answer talk.written written);
         count = (let l = length-append talk.messages (message ∷ []) in omega arith);
       }
 
-  pub ends_asked : (start now later : M) (left left' taken mid taken' : Option (List ℕ)) (buf : List ℕ) (answered : ℕ) (parts : Parts) (message : Message) (answer : List ℕ)
-      → Talk goes start now left left' taken mid buf answered → IsMessageAt buf parts message → IsAnswer goes answered now message answer later
+  pub ends_asked : (start now later : M) (left left' taken mid taken' : Option (List ℕ))
+      (buf : List ℕ) (answered : ℕ) (parts : Parts) (message : Message) (answer : List ℕ)
+      → Talk goes start now left left' taken mid buf answered → IsMessageAt buf parts message
+      → IsAnswer goes answered now message answer later
       → Appends mid taken' answer → parts.closes ≡ true
-      → Serves (Answered goes start later) left left' taken taken' (record { answered = answered + 1; end = end.Asked })
-  ends_asked start now later left left' taken mid taken' buf answered parts message answer talk at is written asks =
-      last start now later left left' taken mid taken' buf answered parts message answer end.Asked talk at is written
+      → Serves (Answered goes start later) left left' taken taken'
+      (record { answered = answered + 1; end = end.Asked })
+  ends_asked start now later left left' taken mid taken' buf answered parts message answer talk at
+      is written asks =
+      last start now later left left' taken mid taken' buf answered parts message answer end.Asked
+      talk at is written
       (asked talk.messages message talk.stay (sym at.closes ∙ asks)) tt
 
-  pub ends_limit : (start now later : M) (left left' taken mid taken' : Option (List ℕ)) (buf : List ℕ) (answered : ℕ) (parts : Parts) (message : Message) (answer : List ℕ)
-      → Talk goes start now left left' taken mid buf answered → IsMessageAt buf parts message → IsAnswer goes answered now message answer later
+  pub ends_limit : (start now later : M) (left left' taken mid taken' : Option (List ℕ))
+      (buf : List ℕ) (answered : ℕ) (parts : Parts) (message : Message) (answer : List ℕ)
+      → Talk goes start now left left' taken mid buf answered → IsMessageAt buf parts message
+      → IsAnswer goes answered now message answer later
       → Appends mid taken' answer → parts.closes ≡ false → answered ≡ 99
-      → Serves (Answered goes start later) left left' taken taken' (record { answered = answered + 1; end = end.Limit })
-  ends_limit start now later left left' taken mid taken' buf answered parts message answer talk at is written stays full =
-      last start now later left left' taken mid taken' buf answered parts message answer end.Limit talk at is written
+      → Serves (Answered goes start later) left left' taken taken'
+      (record { answered = answered + 1; end = end.Limit })
+  ends_limit start now later left left' taken mid taken' buf answered parts message answer talk at
+      is written stays full =
+      last start now later left left' taken mid taken' buf answered parts message answer end.Limit
+      talk at is written
       (limit talk.messages message talk.stay (sym at.closes ∙ stays) (sym talk.count ∙ full)) tt
 
   -- serving fails in the next message
-  pub breaks_in : (start now later : M) (left left' taken mid taken' : Option (List ℕ)) (source_failed target_failed : Bool) (kept part : List ℕ) (answered : ℕ) (cause : Cause)
-      → (talk : Talk goes start now left left' taken mid kept answered) → BreaksOff goes answered kept now later part cause → Appends mid taken' part
+  pub breaks_in : (start now later : M) (left left' taken mid taken' : Option (List ℕ))
+      (source_failed target_failed : Bool) (kept part : List ℕ) (answered : ℕ) (cause : Cause)
+      → (talk : Talk goes start now left left' taken mid kept answered)
+      → BreaksOff goes answered kept now later part cause → Appends mid taken' part
       → HasFailed cause source_failed target_failed
-      → Breaks (Broken goes start later) left left' source_failed taken taken' target_failed (record { answered = answered; cause = cause })
-  breaks_in start now later left left' taken mid taken' source_failed target_failed kept part answered cause talk breaks written failed =
+      → Breaks (Broken goes start later) left left' source_failed taken taken' target_failed
+      (record { answered = answered; cause = cause })
+  breaks_in start now later left left' taken mid taken' source_failed target_failed kept part
+      answered cause talk breaks written failed =
       record {
         read = talk.read;
         messages = talk.messages;
@@ -229,75 +280,127 @@ module _ {M : Type 0} (goes : M → Request → Answer → M → Type 0) where
       }
 
   -- a read fails, or there is no memory for what it gave
-  pub breaks_reading : (start now : M) (left mid left' taken taken' : Option (List ℕ)) (source_failed target_failed : Bool) (kept : List ℕ) (answered : ℕ) (cause : Cause)
-      → Talk goes start now left mid taken taken' kept answered → Takes mid left' → HasFailed cause source_failed target_failed
-      → Breaks (Broken goes start now) left left' source_failed taken taken' target_failed (record { answered = answered; cause = cause })
-  breaks_reading start now left mid left' taken taken' source_failed target_failed kept answered cause talk takes failed =
-      let later = reads start now left mid left' taken taken' kept (kept ++ takes.bytes) answered talk
+  pub breaks_reading : (start now : M) (left mid left' taken taken' : Option (List ℕ))
+      (source_failed target_failed : Bool) (kept : List ℕ) (answered : ℕ) (cause : Cause)
+      → Talk goes start now left mid taken taken' kept answered → Takes mid left'
+      → HasFailed cause source_failed target_failed
+      → Breaks (Broken goes start now) left left' source_failed taken taken' target_failed
+      (record { answered = answered; cause = cause })
+  breaks_reading start now left mid left' taken taken' source_failed target_failed kept answered
+      cause talk takes failed =
+      let later = reads start now left mid left' taken taken' kept (kept ++ takes.bytes) answered
+      talk
       (record { bytes = takes.bytes; gives = takes.gives; kept = refl }) in
-      breaks_in start now now left left' taken taken' taken' source_failed target_failed (kept ++ takes.bytes) [] answered cause later
+      breaks_in start now now left left' taken taken' taken' source_failed target_failed
+      (kept ++ takes.bytes) [] answered cause later
       (unasked cause refl) (Appends-nil taken') failed
 
   -- a refusal is written in part
-  pub breaks_refusing : (start now : M) (left left' taken mid taken' : Option (List ℕ)) (source_failed target_failed : Bool) (kept : List ℕ) (answered : ℕ) (status : Status)
-      → Talk goes start now left left' taken mid kept answered → IsRefused kept status → WritesPrefix mid taken' (refusal_text (Some status)) → target_failed ≡ true
-      → Breaks (Broken goes start now) left left' source_failed taken taken' target_failed (record { answered = answered; cause = why.Write })
-  breaks_refusing start now left left' taken mid taken' source_failed target_failed kept answered status talk refused p failed =
-      breaks_in start now now left left' taken mid taken' source_failed target_failed kept p.written answered why.Write talk
-      (in_refusal status p.written p.unwritten why.Write (λ e. cc) refused refl p.parts) p.appends failed
+  pub breaks_refusing : (start now : M) (left left' taken mid taken' : Option (List ℕ))
+      (source_failed target_failed : Bool) (kept : List ℕ) (answered : ℕ) (status : Status)
+      → Talk goes start now left left' taken mid kept answered → IsRefused kept status
+      → WritesPrefix mid taken' (refusal_text (Some status)) → target_failed ≡ true
+      → Breaks (Broken goes start now) left left' source_failed taken taken' target_failed
+      (record { answered = answered; cause = why.Write })
+  breaks_refusing start now left left' taken mid taken' source_failed target_failed kept answered
+      status talk refused p failed =
+      breaks_in start now now left left' taken mid taken' source_failed target_failed kept p.written
+      answered why.Write talk
+      (in_refusal status p.written p.unwritten why.Write (λ e. cc) refused refl p.parts) p.appends
+      failed
 
   -- what was asked, by the parts of a message
-  asked_at : (buf : List ℕ) (parts : Parts) (message : Message) (what : Asked) → IsMessageAt buf parts message
-      → what ≡ asked_of (span_bytes buf parts.method) (span_bytes buf parts.target) (slice_range buf parts.body parts.end)
+  asked_at : (buf : List ℕ) (parts : Parts) (message : Message) (what : Asked)
+      → IsMessageAt buf parts message
+      → what ≡ asked_of (span_bytes buf parts.method) (span_bytes buf parts.target)
+      (slice_range buf parts.body parts.end)
       → what ≡ asked_of message.head.method message.head.target message.body
   asked_at buf parts message what at is = rw (at.method, at.target, at.body) at is
 
-  responds_at : (buf : List ℕ) (parts : Parts) (message : Message) (what : Asked) (now later : M) (said : Said) → IsMessageAt buf parts message
-      → what ≡ asked_of (span_bytes buf parts.method) (span_bytes buf parts.target) (slice_range buf parts.body parts.end)
-      → Responds goes now what said later → Responds goes now (asked_of message.head.method message.head.target message.body) said later
+  responds_at : (buf : List ℕ) (parts : Parts) (message : Message) (what : Asked) (now later : M)
+      (said : Said) → IsMessageAt buf parts message
+      → what ≡ asked_of (span_bytes buf parts.method) (span_bytes buf parts.target)
+      (slice_range buf parts.body parts.end)
+      → Responds goes now what said later
+      → Responds goes now (asked_of message.head.method message.head.target message.body) said later
   responds_at buf parts message what now later said at is responds =
       let P : Asked → Type 0 = λ a. Responds goes now a said later in
       subst P (asked_at buf parts message what at is) responds
 
   -- whether the connection closes after the answer, by the parts of the message
-  closing_at : (before : ℕ) (buf : List ℕ) (parts : Parts) (message : Message) (close : Bool) → IsMessageAt buf parts message
+  closing_at : (before : ℕ) (buf : List ℕ) (parts : Parts) (message : Message) (close : Bool)
+      → IsMessageAt buf parts message
       → close ≡ (parts.closes || (before == 99)) → close ≡ closes_after before message
-  closing_at before buf parts message close at is = is ∙ ap (λ (b : Bool). b || (before == 99)) at.closes
+  closing_at before buf parts message close at is = is
+      ∙ ap (λ (b : Bool). b || (before == 99)) at.closes
 
   -- there is no memory for the answer
-  pub lost_answer : (before : ℕ) (buf : List ℕ) (parts : Parts) (message : Message) (what : Asked) (now later : M) (taken : Option (List ℕ))
+  pub lost_answer : (before : ℕ) (buf : List ℕ) (parts : Parts) (message : Message) (what : Asked)
+      (now later : M) (taken : Option (List ℕ))
       → IsMessageAt buf parts message
-      → what ≡ asked_of (span_bytes buf parts.method) (span_bytes buf parts.target) (slice_range buf parts.body parts.end)
+      → what ≡ asked_of (span_bytes buf parts.method) (span_bytes buf parts.target)
+      (slice_range buf parts.body parts.end)
       → (later ≡ now) ⊎ ((said : Said) × Responds goes now what said later)
-      → (part : List ℕ) × BreaksOff goes before buf now later part why.Memory × Appends taken taken part
-  lost_answer before buf parts message what now later taken at is (inl same) = ([], unasked why.Memory same, Appends-nil taken)
+      → (part : List ℕ) × BreaksOff goes before buf now later part why.Memory
+      × Appends taken taken part
+  lost_answer before buf parts message what now later taken at is (inl same) =
+      ([], unasked why.Memory same, Appends-nil taken)
   lost_answer before buf parts message what now later taken at is (inr (said, responds)) = (
     [],
-    in_answer message (drop parts.end buf) [] (response_text said (closes_after before message)) why.Memory (λ e. cc) at.is at.reads
-        (record { said = said; responds = responds_at buf parts message what now later said at is responds; is = refl }),
+    in_answer message (drop parts.end buf) [] (response_text said (closes_after before message))
+        why.Memory (λ e. cc) at.is at.reads
+        (record {
+          said = said;
+          responds = responds_at buf parts message what now later said at is
+              responds;
+          is = refl;
+        }),
     Appends-nil taken,
   )
 
   -- the answer is written in part
-  pub half_answer : (before : ℕ) (buf : List ℕ) (parts : Parts) (message : Message) (what : Asked) (now later : M) (said : Said) (close : Bool) (taken taken' : Option (List ℕ))
+  pub half_answer : (before : ℕ) (buf : List ℕ) (parts : Parts) (message : Message) (what : Asked)
+      (now later : M) (said : Said) (close : Bool) (taken taken' : Option (List ℕ))
       → IsMessageAt buf parts message
-      → what ≡ asked_of (span_bytes buf parts.method) (span_bytes buf parts.target) (slice_range buf parts.body parts.end)
-      → close ≡ (parts.closes || (before == 99)) → Responds goes now what said later → WritesPrefix taken taken' (response_text said close)
-      → (part : List ℕ) × BreaksOff goes before buf now later part why.Write × Appends taken taken' part
-  half_answer before buf parts message what now later said close taken taken' at is closing responds p =
+      → what ≡ asked_of (span_bytes buf parts.method) (span_bytes buf parts.target)
+      (slice_range buf parts.body parts.end)
+      → close ≡ (parts.closes || (before == 99)) → Responds goes now what said later
+      → WritesPrefix taken taken' (response_text said close)
+      → (part : List ℕ) × BreaksOff goes before buf now later part why.Write
+      × Appends taken taken' part
+  half_answer before buf parts message what now later said close taken taken' at is closing responds
+      p =
       let closing = closing_at before buf parts message close at closing in (
         p.written,
-        in_answer message (drop parts.end buf) p.written p.unwritten why.Write (λ e. cc) at.is at.reads
-            (record { said = said; responds = responds_at buf parts message what now later said at is responds; is = sym p.parts ∙ ap (λ b. response_text said b) closing }),
+        in_answer message (drop parts.end buf) p.written p.unwritten why.Write
+            (λ e. cc) at.is at.reads
+            (record {
+              said = said;
+              responds = responds_at buf parts message what now later said at
+                  is responds;
+              is = sym p.parts ∙ ap (λ b. response_text said b) closing;
+            }),
         p.appends,
       )
 
   -- the answer is written
-  pub whole_answer : (before : ℕ) (buf : List ℕ) (parts : Parts) (message : Message) (what : Asked) (now later : M) (said : Said) (close : Bool) (taken taken' : Option (List ℕ))
+  pub whole_answer : (before : ℕ) (buf : List ℕ) (parts : Parts) (message : Message) (what : Asked)
+      (now later : M) (said : Said) (close : Bool) (taken taken' : Option (List ℕ))
       → IsMessageAt buf parts message
-      → what ≡ asked_of (span_bytes buf parts.method) (span_bytes buf parts.target) (slice_range buf parts.body parts.end)
-      → close ≡ (parts.closes || (before == 99)) → Responds goes now what said later → Appends taken taken' (response_text said close)
+      → what ≡ asked_of (span_bytes buf parts.method) (span_bytes buf parts.target)
+      (slice_range buf parts.body parts.end)
+      → close ≡ (parts.closes || (before == 99)) → Responds goes now what said later
+      → Appends taken taken' (response_text said close)
       → (text : List ℕ) × IsAnswer goes before now message text later × Appends taken taken' text
-  whole_answer before buf parts message what now later said close taken taken' at is closing responds a =
-      let closing = closing_at before buf parts message close at closing in
-      (response_text said close, record { said = said; responds = responds_at buf parts message what now later said at is responds; is = ap (λ b. response_text said b) closing }, a)
+  whole_answer before buf parts message what now later said close taken taken' at is closing
+      responds a =
+      let closing = closing_at before buf parts message close at closing in (
+        response_text said close,
+        record {
+          said = said;
+          responds = responds_at buf parts message what now later said at is
+              responds;
+          is = ap (λ b. response_text said b) closing;
+        },
+        a,
+      )

@@ -15,21 +15,28 @@ use Rattle.ftd_routes.specs.declared.ask.Asked.{Asked}
 use Rattle.ftd_routes.specs.declared.ask.Asked.TheVariants as asked
 use Rattle.ftd_http.specs.Responses.{Said}
 use Rattle.ftd_http.specs.Replying.{Responds}
-use Rattle.ftd_http.specs.Serving.{IsAnswer, Answers, none, more, Answered, Broken, BreaksOff, unasked, in_answer, in_refusal, Serves, Breaks}
+use Rattle.ftd_http.specs.Serving.{IsAnswer, Answers, none, more, Answered, Broken, BreaksOff}
+use Rattle.ftd_http.specs.Serving.{unasked, in_answer, in_refusal, Serves, Breaks}
 use Rattle.ftd_http.specs.Tables.{Follows, AnsweredBy, BrokenBy}
 use Rattle.ftd_http.specs.declared.connection.Cause.{Cause}
 use Rattle.ftd_http.specs.declared.connection.Served.{Served}
 use Rattle.ftd_http.specs.declared.connection.ServeFault.{ServeFault}
 
 -- a desk that stays as it was
-same_desk : (old new : Held) (so : State → State → Type 0) → new ≡ old → ((s : State) → so s s) → Follows old new so
+same_desk : (old new : Held) (so : State → State → Type 0) → new ≡ old → ((s : State) → so s s)
+    → Follows old new so
 same_desk old new so same holds = rw same (stays old)
   where
     stays : (h : Held) → Follows h h so
-    stays h = record { honest = λ clean. clean; opens = λ clean opened. opened; follows = λ clean opened s keeps. (s, holds s, keeps) }
+    stays h = record {
+      honest = λ clean. clean;
+      opens = λ clean opened. opened;
+      follows = λ clean opened s keeps. (s, holds s, keeps);
+    }
 
 -- one after the other
-both : (old mid new : Held) (first second so : State → State → Type 0) → Follows old mid first → Follows mid new second
+both : (old mid new : Held) (first second so : State → State → Type 0) → Follows old mid first
+    → Follows mid new second
     → ((s m end : State) → first s m → second m end → so s end) → Follows old new so
 both old mid new first second so a b join =
     record {
@@ -41,12 +48,14 @@ both old mid new first second so a b join =
           (end, join s m end one other, later);
     }
 
-weaker : (old new : Held) (first so : State → State → Type 0) → Follows old new first → ((s end : State) → first s end → so s end) → Follows old new so
+weaker : (old new : Held) (first so : State → State → Type 0) → Follows old new first
+    → ((s end : State) → first s end → so s end) → Follows old new so
 weaker old new first so a less =
     record {
       honest = a.honest;
       opens = a.opens;
-      follows = λ clean opened s keeps. let (end, one, kept) = a.follows clean opened s keeps in (end, less s end one, kept);
+      follows = λ clean opened s keeps. let (end, one, kept) = a.follows clean opened s keeps in
+          (end, less s end one, kept);
     }
 
 module _ {S : Type 0} (g : store.Ghosts S) where
@@ -58,9 +67,12 @@ module _ {S : Type 0} (g : store.Ghosts S) where
 
   responds : (now later : Desk S) (what : Asked) (said : Said) → Responds goes now what said later
       → Follows (held g now) (held g later) (λ s end. Responds Goes s what said end)
-  responds now later asked.NoRoute said (same, is) = same_desk _ _ _ (held_same now later same) (λ s. (refl, is))
-  responds now later (asked.OtherMethod allow) said (same, is) = same_desk _ _ _ (held_same now later same) (λ s. (refl, is))
-  responds now later asked.BadForm said (same, is) = same_desk _ _ _ (held_same now later same) (λ s. (refl, is))
+  responds now later asked.NoRoute said (same, is) = same_desk _ _ _ (held_same now later same)
+      (λ s. (refl, is))
+  responds now later (asked.OtherMethod allow) said (same, is) =
+      same_desk _ _ _ (held_same now later same) (λ s. (refl, is))
+  responds now later asked.BadForm said (same, is) = same_desk _ _ _ (held_same now later same)
+      (λ s. (refl, is))
   responds now later (asked.Asks request) said (answer, handles, is) =
       record {
         honest = handles.honest;
@@ -70,39 +82,54 @@ module _ {S : Type 0} (g : store.Ghosts S) where
             (end, (answer, step, is), kept);
       }
 
-  one_answer : (before : ℕ) (now later : Desk S) (message : Message) (text : List ℕ) → IsAnswer goes before now message text later
+  one_answer : (before : ℕ) (now later : Desk S) (message : Message) (text : List ℕ)
+      → IsAnswer goes before now message text later
       → Follows (held g now) (held g later) (λ s end. IsAnswer Goes before s message text end)
   one_answer before now later message text answer =
       let what = asked_of message.head.method message.head.target message.body in
-      weaker _ _ (λ s end. Responds Goes s what answer.said end) _ (responds now later what answer.said answer.responds)
+      weaker _ _ (λ s end. Responds Goes s what answer.said end) _
+      (responds now later what answer.said answer.responds)
       (λ s end one. record { said = answer.said; responds = one; is = answer.is })
 
-  all_answers : (start later : Desk S) (messages : List Message) (text : List ℕ) → Answers goes start messages text later
+  all_answers : (start later : Desk S) (messages : List Message) (text : List ℕ)
+      → Answers goes start messages text later
       → AnsweredBy (held g start) (held g later) messages text
   all_answers start _ _ _ none = same_desk _ _ _ refl (λ s. none)
   all_answers start _ _ _ (more before said now message answer later first last) =
-      both _ (held g now) _ (λ s m. Answers Goes s before said m) (λ m end. IsAnswer Goes (length before) m message answer end) _
-      (all_answers start now before said first) (one_answer (length before) now later message answer last)
+      both _ (held g now) _ (λ s m. Answers Goes s before said m)
+      (λ m end. IsAnswer Goes (length before) m message answer end) _
+      (all_answers start now before said first)
+      (one_answer (length before) now later message answer last)
       (λ s m end one other. more before said m message answer end one other)
 
-  breaks_off : (before : ℕ) (rest part : List ℕ) (cause : Cause) (now later : Desk S) → BreaksOff goes before rest now later part cause
+  breaks_off : (before : ℕ) (rest part : List ℕ) (cause : Cause) (now later : Desk S)
+      → BreaksOff goes before rest now later part cause
       → Follows (held g now) (held g later) (λ s end. BreaksOff Goes before rest s end part cause)
-  breaks_off before rest _ _ now later (unasked cause same) = same_desk _ _ _ (held_same now later same) (λ s. unasked cause refl)
-  breaks_off before rest _ _ now later (in_answer message after part others cause unread is begins answer) =
-      weaker _ _ (λ s end. IsAnswer Goes before s message (part ++ others) end) _ (one_answer before now later message (part ++ others) answer)
+  breaks_off before rest _ _ now later (unasked cause same) =
+      same_desk _ _ _ (held_same now later same) (λ s. unasked cause refl)
+  breaks_off before rest _ _ now later
+      (in_answer message after part others cause unread is begins answer) =
+      weaker _ _ (λ s end. IsAnswer Goes before s message (part ++ others) end) _
+      (one_answer before now later message (part ++ others) answer)
       (λ s end one. in_answer message after part others cause unread is begins one)
-  breaks_off before rest _ _ now later (in_refusal status part others cause unread refused same parts) =
-      same_desk _ _ _ (held_same now later same) (λ s. in_refusal status part others cause unread refused refl parts)
+  breaks_off before rest _ _ now later
+      (in_refusal status part others cause unread refused same parts) =
+      same_desk _ _ _ (held_same now later same)
+      (λ s. in_refusal status part others cause unread refused refl parts)
 
-  all_broken : (start later : Desk S) (messages : List Message) (text rest part : List ℕ) (cause : Cause) → Broken goes start later messages text rest part cause
+  all_broken : (start later : Desk S) (messages : List Message) (text rest part : List ℕ)
+      (cause : Cause) → Broken goes start later messages text rest part cause
       → BrokenBy (held g start) (held g later) messages text rest part cause
   all_broken start later messages text rest part cause (now, answers, breaks) =
-      both _ (held g now) _ (λ s m. Answers Goes s messages text m) (λ m end. BreaksOff Goes (length messages) rest m end part cause) _
-      (all_answers start now messages text answers) (breaks_off (length messages) rest part cause now later breaks)
+      both _ (held g now) _ (λ s m. Answers Goes s messages text m)
+      (λ m end. BreaksOff Goes (length messages) rest m end part cause) _
+      (all_answers start now messages text answers)
+      (breaks_off (length messages) rest part cause now later breaks)
       (λ s m end one other. (m, one, other))
 
   module _ (start later : Desk S) (left left' taken taken' : Option (List ℕ)) where
-    pub served_by : (r : Result Served ServeFault) → IfOk r (Serves (Answered goes start later) left left' taken taken')
+    pub served_by : (r : Result Served ServeFault)
+        → IfOk r (Serves (Answered goes start later) left left' taken taken')
         → IfOk r (Serves (AnsweredBy (held g start) (held g later)) left left' taken taken')
     served_by (Ok served) h = record {
       read = h.read;
@@ -121,8 +148,10 @@ module _ {S : Type 0} (g : store.Ghosts S) where
     served_by (Err fault) h = h
 
     pub broken_by : (source_failed target_failed : Bool) (r : Result Served ServeFault)
-        → IfErr r (Breaks (Broken goes start later) left left' source_failed taken taken' target_failed)
-        → IfErr r (Breaks (BrokenBy (held g start) (held g later)) left left' source_failed taken taken' target_failed)
+        → IfErr r (Breaks (Broken goes start later) left left' source_failed taken taken'
+        target_failed)
+        → IfErr r (Breaks (BrokenBy (held g start) (held g later)) left left' source_failed taken
+        taken' target_failed)
     broken_by source_failed target_failed (Ok served) h = h
     broken_by source_failed target_failed (Err fault) h = record {
       read = h.read;

@@ -1,5 +1,7 @@
 -- Records posted in lists.
-use Rattle.std.proofs.Common.{◌≡◌, ◌⊎◌, refl, sym, ap, subst, ◌∙◌, ◌+◌, ◌<◌, ◌≤◌, inl, inr, arith, rules, Bool, true, false, ℕ, List, [], ◌∷◌, ◌++◌, length, map, Option, Some, None, Result, Ok, Err, length-append}
+use Rattle.std.proofs.Common.{◌≡◌, ◌⊎◌, refl, sym, ap, subst, ◌∙◌, ◌+◌, ◌<◌, ◌≤◌, inl, inr, arith}
+use Rattle.std.proofs.Common.{rules, Bool, true, false, ℕ, List, [], ◌∷◌, ◌++◌, length, map, Option}
+use Rattle.std.proofs.Common.{Some, None, Result, Ok, Err, length-append}
 use Rattle.std.specs.List.{cons_option, filter_map, list_any}
 use Rattle.std.specs.Prelude.{MatchResult, ◌||◌}
 use Rattle.std.proofs.lemmas.List.{append_assoc, append-nil, length-map, map-append}
@@ -16,20 +18,26 @@ use Rattle.ftd_machine.specs.declared.replies.Refusal.TheVariants as refusal
 use Rattle.ftd_machine.specs.declared.requests.Request.{Request}
 use Rattle.ftd_desk.specs.Desks.{Held}
 use Rattle.ftd_desk.specs.Words.{AreSteps, HandlesAll, HandlesTogether, is_fault}
-use Rattle.ftd_import.specs.Outcomes.{Counts, CountsAnswers, IsNothing, IsSame, IsSummary, Outcome, answer_in, fault_in, fault_of, post_in, post_of, posted, posts_of, record_in, request_in, skipped}
-use Rattle.ftd_import.specs.Imports.{AreOutcomes, Asks, HandlesOrLeaves, Posts, PostsNone, StopsIn, StopsWithin, most_together}
+use Rattle.ftd_import.specs.Outcomes.{Counts, CountsAnswers, IsNothing, IsSame, IsSummary, Outcome}
+use Rattle.ftd_import.specs.Outcomes.{answer_in, fault_in, fault_of, post_in, post_of, posted}
+use Rattle.ftd_import.specs.Outcomes.{posts_of, record_in, request_in, skipped}
+use Rattle.ftd_import.specs.Imports.{AreOutcomes, Asks, HandlesOrLeaves, Posts, PostsNone, StopsIn}
+use Rattle.ftd_import.specs.Imports.{StopsWithin, most_together}
 use Rattle.ftd_import.specs.declared.summary.StopCause.{StopCause}
 use Rattle.ftd_import.specs.declared.summary.Summary.{Summary}
-use Rattle.ftd_import.proofs.Together.{all_again, all_together, either_after, none_together, some_again}
+use Rattle.ftd_import.proofs.Together.{all_again, all_together, either_after, none_together}
+use Rattle.ftd_import.proofs.Together.{some_again}
 use Rattle.ftd_import.proofs.Outcomes.{are_then, asks_then, counts_then, summary_of}
 
 -- the posts asked for are those of the records
 requests_are : (xs : List Outcome) → filter_map request_in xs ≡ posts_of (map record_in xs)
 requests_are [] = refl
-requests_are (posted number run answer ∷ xs) = ap (λ (z : List Request). post_of run ∷ z) (requests_are xs)
+requests_are (posted number run answer ∷ xs) = ap (λ (z : List Request). post_of run ∷ z)
+    (requests_are xs)
 requests_are (skipped number field ∷ xs) = requests_are xs
 
-requests_of_records : (rs : List (ℕ × Said)) (xs : List Outcome) → map record_in xs ≡ rs → filter_map request_in xs ≡ posts_of rs
+requests_of_records : (rs : List (ℕ × Said)) (xs : List Outcome) → map record_in xs ≡ rs
+    → filter_map request_in xs ≡ posts_of rs
 requests_of_records rs xs are = requests_are xs ∙ ap posts_of are
 
 -- an answer that is no fault
@@ -39,7 +47,8 @@ fault_none (Err refusal.Memory) sure = absurd (cc)
 fault_none (Err refusal.Store) sure = absurd (cc)
 fault_none (Err why) sure = search rules
 
-cons_none : {X : Type 0} (o : Option X) (xs : List X) → cons_option o xs ≡ [] → (o ≡ None) × (xs ≡ [])
+cons_none : {X : Type 0} (o : Option X) (xs : List X) → cons_option o xs ≡ [] → (o ≡ None)
+    × (xs ≡ [])
 cons_none None xs e = (refl, e)
 cons_none (Some x) xs e = absurd (cc)
 
@@ -47,7 +56,8 @@ either_false : (p q : Bool) → (p || q) ≡ false → (p ≡ false) × (q ≡ f
 either_false false q e = (refl, e)
 either_false true q e = absurd (cc)
 
-none_faulty : (xs : List Outcome) → list_any is_fault (filter_map answer_in xs) ≡ false → filter_map fault_in xs ≡ []
+none_faulty : (xs : List Outcome) → list_any is_fault (filter_map answer_in xs) ≡ false
+    → filter_map fault_in xs ≡ []
 none_faulty [] e = refl
 none_faulty (posted number run answer ∷ xs) e =
     let both = either_false (is_fault answer) (list_any is_fault (filter_map answer_in xs)) e in
@@ -59,7 +69,9 @@ no_fault answer none (inl memory) = let e = rw memory at none in absurd (cc)
 no_fault answer none (inr store) = let e = rw store at none in absurd (cc)
 
 -- a run with no fault is one of steps
-steps_of_run : (xs : List Outcome) → filter_map fault_in xs ≡ [] → (s end : State) → IsRun s (filter_map request_in xs) (filter_map answer_in xs) end → AreSteps s (filter_map request_in xs) (filter_map answer_in xs) end
+steps_of_run : (xs : List Outcome) → filter_map fault_in xs ≡ [] → (s end : State)
+    → IsRun s (filter_map request_in xs) (filter_map answer_in xs) end
+    → AreSteps s (filter_map request_in xs) (filter_map answer_in xs) end
 steps_of_run [] none s end run = run
 steps_of_run (posted number run answer ∷ xs) none s end goes =
     let both = cons_none (fault_of answer) (filter_map fault_in xs) none in
@@ -71,18 +83,28 @@ steps_of_run (skipped number field ∷ xs) none s end run = steps_of_run xs none
 
 -- ---- a list of records
 -- its posts were answered together
-pub posts_together : (a b : Held) (rs : List (ℕ × Said)) (requests : List Request) (answers : List Answer) (p q r : Summary) → requests ≡ posts_of rs → HandlesTogether a b requests (Ok answers) → list_any is_fault answers ≡ false → IsSame p q → CountsAnswers q rs answers r → Posts a b rs p r
+pub posts_together : (a b : Held) (rs : List (ℕ × Said)) (requests : List Request)
+    (answers : List Answer) (p q r : Summary) → requests ≡ posts_of rs
+    → HandlesTogether a b requests (Ok answers) → list_any is_fault answers ≡ false → IsSame p q
+    → CountsAnswers q rs answers r → Posts a b rs p r
 posts_together a b rs requests answers p q r is handles sure same counts = record {
   outcomes = counts.outcomes;
-  are = record { all = counts.all; no_fault = none_faulty counts.outcomes (subst (λ (said : List Answer). list_any is_fault said ≡ false) (sym counts.answered) sure) };
+  are = record {
+    all = counts.all;
+    no_fault = none_faulty counts.outcomes
+        (subst (λ (said : List Answer). list_any is_fault said ≡ false) (sym counts.answered) sure);
+  };
   counts = counts_then p q r [] counts.outcomes same counts.counts;
   asks =
-      subst (λ (xs : List Request). HandlesAll a b xs (filter_map answer_in counts.outcomes)) (is ∙ sym (requests_of_records rs counts.outcomes counts.all))
-      (subst (λ (said : List Answer). HandlesAll a b requests said) (sym counts.answered) (all_together a b requests answers handles));
+      subst (λ (xs : List Request). HandlesAll a b xs (filter_map answer_in counts.outcomes))
+      (is ∙ sym (requests_of_records rs counts.outcomes counts.all))
+      (subst (λ (said : List Answer). HandlesAll a b requests said) (sym counts.answered)
+      (all_together a b requests answers handles));
 }
 
 -- none was posted, and then all, one after the other
-pub posts_again : (failed : Type 0) (a b c : Held) (rs : List (ℕ × Said)) (p q r : Summary) → PostsNone failed a b (posts_of rs) → IsSame p q → Posts b c rs q r → Posts a c rs p r
+pub posts_again : (failed : Type 0) (a b c : Held) (rs : List (ℕ × Said)) (p q r : Summary)
+    → PostsNone failed a b (posts_of rs) → IsSame p q → Posts b c rs q r → Posts a c rs p r
 posts_again failed a b c rs p q r none same posts = record {
   outcomes = posts.outcomes;
   are = posts.are;
@@ -91,17 +113,23 @@ posts_again failed a b c rs p q r none same posts = record {
     | inl asks ↦ asks_then a b c [] posts.outcomes asks posts.asks
     | inr met ↦
         let requests = requests_of_records rs posts.outcomes posts.are.all in
-        subst (λ (xs : List Request). HandlesAll a c xs (filter_map answer_in posts.outcomes)) (sym requests)
+        subst (λ (xs : List Request). HandlesAll a c xs (filter_map answer_in posts.outcomes))
+        (sym requests)
         (all_again a b c (posts_of rs) met.1.0 (filter_map answer_in posts.outcomes) met.1.1
-        (subst (λ (xs : List Request). HandlesAll b c xs (filter_map answer_in posts.outcomes)) requests posts.asks))
+        (subst (λ (xs : List Request). HandlesAll b c xs (filter_map answer_in posts.outcomes))
+        requests posts.asks))
   ];
 }
 
-shorter : (rs passed : List (ℕ × Said)) (at : ℕ × Said) (others : List (ℕ × Said)) → rs ≡ passed ++ at ∷ others → length passed < length rs
-shorter rs passed at others split = let whole = ap length split ∙ length-append passed (at ∷ others) in omega arith
+shorter : (rs passed : List (ℕ × Said)) (at : ℕ × Said) (others : List (ℕ × Said))
+    → rs ≡ passed ++ at ∷ others → length passed < length rs
+shorter rs passed at others split = let whole = ap length split
+    ∙ length-append passed (at ∷ others) in omega arith
 
 -- none was posted, and then some, one after the other
-pub stops_again : (failed later : Type 0) (a b c : Held) (rs : List (ℕ × Said)) (p q r : Summary) (why : StopCause) → length rs ≤ most_together → (failed → later) → PostsNone failed a b (posts_of rs) → IsSame p q → StopsIn b c rs q r why
+pub stops_again : (failed later : Type 0) (a b c : Held) (rs : List (ℕ × Said)) (p q r : Summary)
+    (why : StopCause) → length rs ≤ most_together → (failed → later)
+    → PostsNone failed a b (posts_of rs) → IsSame p q → StopsIn b c rs q r why
     → StopsWithin later a c rs (λ outcomes. Counts p outcomes r) why
 stops_again failed later a b c rs p q r why short stays none same stops =
     let outcomes = stops.outcomes ++ stops.last in
@@ -126,69 +154,103 @@ stops_again failed later a b c rs p q r why short stays none same stops =
             split = sym (append-nil rs);
             short = short;
             begins = omega arith;
-            ends = let less = shorter rs stops.passed stops.at stops.others stops.split in omega arith;
-            asks = some_again a b c (posts_of rs) met.1.0 (filter_map request_in outcomes) (filter_map answer_in outcomes) met.1.1 stops.asks;
+            ends = let less = shorter rs stops.passed stops.at stops.others stops.split in
+                omega arith;
+            asks = some_again a b c (posts_of rs) met.1.0 (filter_map request_in outcomes)
+                (filter_map answer_in outcomes) met.1.1 stops.asks;
           },
         )
       ];
     }
 
 -- a fault: none of a list was posted
-pub none_posted : (failed : Type 0) (a b : Held) (posts requests : List Request) (why : Refusal) → requests ≡ posts → HandlesTogether a b requests (Err why) → failed ⊎ Survives a.db b.db (λ _. ⊥) → PostsNone failed a b posts
+pub none_posted : (failed : Type 0) (a b : Held) (posts requests : List Request) (why : Refusal)
+    → requests ≡ posts → HandlesTogether a b requests (Err why) → failed ⊎ Survives a.db b.db
+    (λ _. ⊥) → PostsNone failed a b posts
 none_posted failed a b posts requests why is h keeps = elim keeps [
   | inl met ↦ inr (met, (why, subst (λ (rs : List Request). HandlesTogether a b rs (Err why)) is h))
   | inr crash ↦ inl (none_together a b requests why h crash)
 ]
 
 -- whatever became of its records then
-pub list_again : {A : Type 0} (failed later : Type 0) (a b c : Held) (rs : List (ℕ × Said)) (p q r : Summary) (result : Result A StopCause) → length rs ≤ most_together → (failed → later) → PostsNone failed a b (posts_of rs) → IsSame p q
-    → MatchResult result (λ _. Posts b c rs q r) (λ why. StopsIn b c rs q r why) → MatchResult result (λ _. Posts a c rs p r) (λ why. StopsWithin later a c rs (λ outcomes. Counts p outcomes r) why)
-list_again failed later a b c rs p q r (Ok x) short stays none same posts = posts_again failed a b c rs p q r none same posts
-list_again failed later a b c rs p q r (Err why) short stays none same stops = stops_again failed later a b c rs p q r why short stays none same stops
+pub list_again : {A : Type 0} (failed later : Type 0) (a b c : Held) (rs : List (ℕ × Said))
+    (p q r : Summary) (result : Result A StopCause) → length rs ≤ most_together → (failed → later)
+    → PostsNone failed a b (posts_of rs) → IsSame p q
+    → MatchResult result (λ _. Posts b c rs q r) (λ why. StopsIn b c rs q r why)
+    → MatchResult result (λ _. Posts a c rs p r)
+    (λ why. StopsWithin later a c rs (λ outcomes. Counts p outcomes r) why)
+list_again failed later a b c rs p q r (Ok x) short stays none same posts =
+    posts_again failed a b c rs p q r none same posts
+list_again failed later a b c rs p q r (Err why) short stays none same stops =
+    stops_again failed later a b c rs p q r why short stays none same stops
 
 -- ---- lists of records
 -- the records are those that were passed, the next list and those after it
-pub next_list : (xs rest list later : List Record) (passed : List (ℕ × Said)) → map record_view xs ≡ passed ++ map record_view rest → rest ≡ list ++ later → map record_view xs ≡ passed ++ (map record_view list ++ map record_view later)
-next_list xs rest list later passed split parts = split ∙ ap (λ (z : List Record). passed ++ map record_view z) parts ∙ ap (λ (z : List (ℕ × Said)). passed ++ z) (map-append record_view list later)
+pub next_list : (xs rest list later : List Record) (passed : List (ℕ × Said))
+    → map record_view xs ≡ passed ++ map record_view rest → rest ≡ list ++ later
+    → map record_view xs ≡ passed ++ (map record_view list ++ map record_view later)
+next_list xs rest list later passed split parts = split
+    ∙ ap (λ (z : List Record). passed ++ map record_view z) parts
+    ∙ ap (λ (z : List (ℕ × Said)). passed ++ z) (map-append record_view list later)
 
-pub list_fits : (xs list later : List Record) (passed : List (ℕ × Said)) → map record_view xs ≡ passed ++ (map record_view list ++ map record_view later) → length passed + length list ≤ length xs
+pub list_fits : (xs list later : List Record) (passed : List (ℕ × Said))
+    → map record_view xs ≡ passed ++ (map record_view list ++ map record_view later)
+    → length passed + length list ≤ length xs
 list_fits xs list later passed split =
-    let whole = sym (length-map xs record_view) ∙ ap length split ∙ length-append passed (map record_view list ++ map record_view later) in
+    let whole = sym (length-map xs record_view) ∙ ap length split
+    ∙ length-append passed (map record_view list ++ map record_view later) in
     let next = length-append (map record_view list) (map record_view later) in
     let listed = length-map list record_view in
     omega arith
 
-regroup : (pre passed : List (ℕ × Said)) (at : ℕ × Said) (others more : List (ℕ × Said)) → pre ++ ((passed ++ at ∷ others) ++ more) ≡ (pre ++ passed) ++ at ∷ (others ++ more)
+regroup : (pre passed : List (ℕ × Said)) (at : ℕ × Said) (others more : List (ℕ × Said))
+    → pre ++ ((passed ++ at ∷ others) ++ more) ≡ (pre ++ passed) ++ at ∷ (others ++ more)
 regroup pre passed at others more = simp append_assoc
 
-regroup_list : (pre before list others more : List (ℕ × Said)) → pre ++ (((before ++ list) ++ others) ++ more) ≡ ((pre ++ before) ++ list) ++ (others ++ more)
+regroup_list : (pre before list others more : List (ℕ × Said))
+    → pre ++ (((before ++ list) ++ others) ++ more) ≡ ((pre ++ before) ++ list) ++ (others ++ more)
 regroup_list pre before list others more = simp append_assoc
 
 -- the outcomes of the first records, before those of a list whose commit failed
-either_then : (a b c : Held) (rs list : List (ℕ × Said)) (xs ys : List Outcome) → AreOutcomes rs xs → Asks a b xs → HandlesOrLeaves b c (filter_map request_in ys) (filter_map answer_in ys) (posts_of list)
-    → HandlesOrLeaves a c (filter_map request_in (xs ++ ys)) (filter_map answer_in (xs ++ ys)) (posts_of (rs ++ list))
+either_then : (a b c : Held) (rs list : List (ℕ × Said)) (xs ys : List Outcome) → AreOutcomes rs xs
+    → Asks a b xs → HandlesOrLeaves b c (filter_map request_in ys) (filter_map answer_in ys)
+    (posts_of list)
+    → HandlesOrLeaves a c (filter_map request_in (xs ++ ys)) (filter_map answer_in (xs ++ ys))
+    (posts_of (rs ++ list))
 either_then a b c rs list xs ys are first later =
-    subst (λ (qs : List Request). HandlesOrLeaves a c qs (filter_map answer_in (xs ++ ys)) (posts_of (rs ++ list))) (sym (filter_map-append request_in xs ys))
-    (subst (λ (ps : List Answer). HandlesOrLeaves a c (filter_map request_in xs ++ filter_map request_in ys) ps (posts_of (rs ++ list))) (sym (filter_map-append answer_in xs ys))
-    (subst (λ (all : List Request). HandlesOrLeaves a c (filter_map request_in xs ++ filter_map request_in ys) (filter_map answer_in xs ++ filter_map answer_in ys) all)
-    (ap (λ (z : List Request). z ++ posts_of list) (requests_of_records rs xs are.all) ∙ sym (filter_map-append post_in rs list))
-    (either_after a b c (filter_map request_in xs) (filter_map answer_in xs) (filter_map request_in ys) (filter_map answer_in ys) (posts_of list) (λ s end run. steps_of_run xs are.no_fault s end run) first later)))
+    subst (λ (qs : List Request). HandlesOrLeaves a c qs (filter_map answer_in (xs ++ ys))
+    (posts_of (rs ++ list))) (sym (filter_map-append request_in xs ys))
+    (subst (λ (ps : List Answer). HandlesOrLeaves a c
+    (filter_map request_in xs ++ filter_map request_in ys) ps (posts_of (rs ++ list)))
+    (sym (filter_map-append answer_in xs ys))
+    (subst (λ (all : List Request). HandlesOrLeaves a c
+    (filter_map request_in xs ++ filter_map request_in ys)
+    (filter_map answer_in xs ++ filter_map answer_in ys) all)
+    (ap (λ (z : List Request). z ++ posts_of list) (requests_of_records rs xs are.all)
+    ∙ sym (filter_map-append post_in rs list))
+    (either_after a b c (filter_map request_in xs) (filter_map answer_in xs)
+    (filter_map request_in ys) (filter_map answer_in ys) (posts_of list)
+    (λ s end run. steps_of_run xs are.no_fault s end run) first later)))
 
 -- some lists were posted, and the import stopped in the next
-pub stops_later : (failed : Type 0) (a b c : Held) (pre list more all : List (ℕ × Said)) (p q r : Summary) (why : StopCause) → all ≡ pre ++ (list ++ more) → Posts a b pre p q → StopsWithin failed b c list (λ outcomes. Counts q outcomes r) why
+pub stops_later : (failed : Type 0) (a b c : Held) (pre list more all : List (ℕ × Said))
+    (p q r : Summary) (why : StopCause) → all ≡ pre ++ (list ++ more) → Posts a b pre p q
+    → StopsWithin failed b c list (λ outcomes. Counts q outcomes r) why
     → StopsWithin failed a c all (λ outcomes. Counts p outcomes r) why
 stops_later failed a b c pre list more all p q r why split posts stops = record {
   passed = pre ++ stops.passed;
   at = stops.at;
   others = stops.others ++ more;
-  split = split ∙ ap (λ (z : List (ℕ × Said)). pre ++ (z ++ more)) stops.split ∙ regroup pre stops.passed stops.at stops.others more;
+  split = split ∙ ap (λ (z : List (ℕ × Said)). pre ++ (z ++ more)) stops.split
+      ∙ regroup pre stops.passed stops.at stops.others more;
   outcomes = posts.outcomes ++ stops.outcomes;
   are = are_then pre stops.passed posts.outcomes stops.outcomes posts.are stops.are;
   told = counts_then p q r posts.outcomes stops.outcomes posts.counts stops.told;
   last = stops.last;
   stop = stops.stop;
   asks = elim stops.asks [
-    | inl asks ↦ inl (subst (λ (xs : List Outcome). Asks a c xs) (sym together) (asks_then a b c posts.outcomes (stops.outcomes ++ stops.last) posts.asks asks))
+    | inl asks ↦ inl (subst (λ (xs : List Outcome). Asks a c xs) (sym together)
+        (asks_then a b c posts.outcomes (stops.outcomes ++ stops.last) posts.asks asks))
     | inr met ↦
         let again = met.1 in
         inr (
@@ -197,24 +259,36 @@ stops_later failed a b c pre list more all p q r why split posts stops = record 
             before = pre ++ again.before;
             list = again.list;
             others = again.others ++ more;
-            split = split ∙ ap (λ (z : List (ℕ × Said)). pre ++ (z ++ more)) again.split ∙ regroup_list pre again.before again.list again.others more;
+            split = split ∙ ap (λ (z : List (ℕ × Said)). pre ++ (z ++ more)) again.split
+                ∙ regroup_list pre again.before again.list again.others more;
             short = again.short;
-            begins = let l = length-append pre again.before in let m = length-append pre stops.passed in let n = again.begins in omega arith;
-            ends = let l = length-append pre again.before in let m = length-append pre stops.passed in let n = again.ends in omega arith;
+            begins = let l = length-append pre again.before in
+                let m = length-append pre stops.passed in let n = again.begins in omega arith;
+            ends = let l = length-append pre again.before in
+                let m = length-append pre stops.passed in let n = again.ends in omega arith;
             asks =
-                subst (λ (xs : List Outcome). HandlesOrLeaves a c (filter_map request_in xs) (filter_map answer_in xs) (posts_of ((pre ++ again.before) ++ again.list))) (sym together)
-                (subst (λ (rs : List (ℕ × Said)). HandlesOrLeaves a c (filter_map request_in (posts.outcomes ++ (stops.outcomes ++ stops.last))) (filter_map answer_in (posts.outcomes ++ (stops.outcomes ++ stops.last))) (posts_of rs)) (sym (append_assoc pre again.before again.list))
-                (either_then a b c pre (again.before ++ again.list) posts.outcomes (stops.outcomes ++ stops.last) posts.are posts.asks again.asks));
+                subst (λ (xs : List Outcome). HandlesOrLeaves a c (filter_map request_in xs)
+                (filter_map answer_in xs) (posts_of ((pre ++ again.before) ++ again.list)))
+                (sym together)
+                (subst (λ (rs : List (ℕ × Said)). HandlesOrLeaves a c
+                (filter_map request_in (posts.outcomes ++ (stops.outcomes ++ stops.last)))
+                (filter_map answer_in (posts.outcomes ++ (stops.outcomes ++ stops.last)))
+                (posts_of rs)) (sym (append_assoc pre again.before again.list))
+                (either_then a b c pre (again.before ++ again.list) posts.outcomes
+                (stops.outcomes ++ stops.last) posts.are posts.asks again.asks));
           },
         )
   ];
 }
   where
-    together : (posts.outcomes ++ stops.outcomes) ++ stops.last ≡ posts.outcomes ++ (stops.outcomes ++ stops.last)
+    together : (posts.outcomes ++ stops.outcomes) ++ stops.last ≡ posts.outcomes
+        ++ (stops.outcomes ++ stops.last)
     together = append_assoc posts.outcomes stops.outcomes stops.last
 
 -- ---- the whole text
-pub stops_told : (failed later : Type 0) (a b : Held) (rs : List (ℕ × Said)) (p q : Summary) (why : StopCause) → (failed → later) → IsNothing p → StopsWithin failed a b rs (λ outcomes. Counts p outcomes q) why
+pub stops_told : (failed later : Type 0) (a b : Held) (rs : List (ℕ × Said)) (p q : Summary)
+    (why : StopCause) → (failed → later) → IsNothing p → StopsWithin failed a b rs
+    (λ outcomes. Counts p outcomes q) why
     → StopsWithin later a b rs (λ outcomes. IsSummary outcomes q) why
 stops_told failed later a b rs p q why stays none stops = record {
   passed = stops.passed;
@@ -230,7 +304,9 @@ stops_told failed later a b rs p q why stays none stops = record {
 }
 
 -- no commit failed, or one did
-pub one_by_one : (failed : Type 0) (a b : Held) (rs : List (ℕ × Said)) (IsTold : List Outcome → Type 0) (why : StopCause) → StopsWithin failed a b rs IsTold why → failed ⊎ StopsWithin ⊥ a b rs IsTold why
+pub one_by_one : (failed : Type 0) (a b : Held) (rs : List (ℕ × Said)) (IsTold : List Outcome
+    → Type 0) (why : StopCause) → StopsWithin failed a b rs IsTold why
+    → failed ⊎ StopsWithin ⊥ a b rs IsTold why
 one_by_one failed a b rs IsTold why stops = elim stops.asks [
   | inl asks ↦ inr (record {
     passed = stops.passed;

@@ -1,7 +1,10 @@
 -- Outcomes of records, one after the other.
-use Rattle.std.proofs.Common.{◌≡◌, refl, sym, ap, subst, ◌∙◌, ◌+◌, ◌<◌, inl, inr, arith, suc, add-one, Bool, ℕ, List, [], ◌∷◌, ◌++◌, length, map, take, drop, get_or, drop-cons, Some, None, length-append}
+use Rattle.std.proofs.Common.{◌≡◌, refl, sym, ap, subst, ◌∙◌, ◌+◌, ◌<◌, inl, inr, arith, suc}
+use Rattle.std.proofs.Common.{add-one, Bool, ℕ, List, [], ◌∷◌, ◌++◌, length, map, take, drop}
+use Rattle.std.proofs.Common.{get_or, drop-cons, Some, None, length-append}
 use Rattle.std.specs.List.{filter, filter_map}
-use Rattle.std.proofs.lemmas.List.{append_assoc, append-nil, map-append, take-append-drop, take_more}
+use Rattle.std.proofs.lemmas.List.{append_assoc, append-nil, map-append, take-append-drop}
+use Rattle.std.proofs.lemmas.List.{take_more}
 use Rattle.std.proofs.lemmas.List.Elements.{filter-append, filter_map-append}
 use Rattle.ftd_csv.specs.Answers.{record_view}
 use Rattle.ftd_csv.specs.declared.record.Record.{Record}
@@ -10,24 +13,35 @@ use Rattle.ftd_machine.specs.Checks.{Answer}
 use Rattle.ftd_desk.specs.Desks.{Held}
 use Rattle.ftd_desk.specs.Words.{Handles, HandlesAll}
 use Rattle.ftd_desk.proofs.Running.{all_none}
-use Rattle.ftd_import.specs.Outcomes.{Counts, IsNothing, IsSame, IsSummary, Outcome, answer_in, fault_in, fault_of, note_in, post_of, posted, record_in, request_in, skipped, was_already, was_malformed, was_posted, was_refused}
+use Rattle.ftd_import.specs.Outcomes.{Counts, IsNothing, IsSame, IsSummary, Outcome, answer_in}
+use Rattle.ftd_import.specs.Outcomes.{fault_in, fault_of, note_in, post_of, posted, record_in}
+use Rattle.ftd_import.specs.Outcomes.{request_in, skipped, was_already, was_malformed, was_posted}
+use Rattle.ftd_import.specs.Outcomes.{was_refused}
 use Rattle.ftd_import.specs.Imports.{AreOutcomes, Asks, Posts, StopsAt, StopsIn}
 use Rattle.ftd_import.specs.declared.summary.StopCause.{StopCause}
 use Rattle.ftd_import.specs.declared.summary.StopCause.TheVariants as cause
 use Rattle.ftd_import.specs.declared.summary.Summary.{Summary}
 use Rattle.ftd_import.proofs.Joining.{all_one, all_then}
 
-number_then : (test : Outcome → Bool) (xs ys : List Outcome) (p q r : ℕ) → q ≡ p + length (filter test xs) → r ≡ q + length (filter test ys) → r ≡ p + length (filter test (xs ++ ys))
+number_then : (test : Outcome → Bool) (xs ys : List Outcome) (p q r : ℕ)
+    → q ≡ p + length (filter test xs) → r ≡ q + length (filter test ys)
+    → r ≡ p + length (filter test (xs ++ ys))
 number_then test xs ys p q r first second =
-    let whole = ap length (filter-append test xs ys) ∙ length-append (filter test xs) (filter test ys) in
+    let whole = ap length (filter-append test xs ys) ∙ length-append (filter test xs)
+    (filter test ys) in
     omega arith
 
-pub counts_then : (p q r : Summary) (xs ys : List Outcome) → Counts p xs q → Counts q ys r → Counts p (xs ++ ys) r
+pub counts_then : (p q r : Summary) (xs ys : List Outcome) → Counts p xs q → Counts q ys r
+    → Counts p (xs ++ ys) r
 counts_then p q r xs ys first second = record {
-  posted_are = number_then was_posted xs ys p.posted q.posted r.posted first.posted_are second.posted_are;
-  already_are = number_then was_already xs ys p.already q.already r.already first.already_are second.already_are;
-  refused_are = number_then was_refused xs ys p.refused q.refused r.refused first.refused_are second.refused_are;
-  malformed_are = number_then was_malformed xs ys p.malformed q.malformed r.malformed first.malformed_are second.malformed_are;
+  posted_are = number_then was_posted xs ys p.posted q.posted r.posted first.posted_are
+      second.posted_are;
+  already_are = number_then was_already xs ys p.already q.already r.already first.already_are
+      second.already_are;
+  refused_are = number_then was_refused xs ys p.refused q.refused r.refused first.refused_are
+      second.refused_are;
+  malformed_are = number_then was_malformed xs ys p.malformed q.malformed r.malformed
+      first.malformed_are second.malformed_are;
   notes_are =
       second.notes_are ∙ ap (λ z. z ++ filter_map note_in ys) first.notes_are
       ∙ append_assoc p.notes.items (filter_map note_in xs) (filter_map note_in ys)
@@ -47,7 +61,8 @@ from_nothing : (p q n : ℕ) → p ≡ 0 → q ≡ p + n → q ≡ n
 from_nothing p q n none is = omega arith
 
 -- with more room for notes it says the same
-pub with_room : (p q : Summary) → q.posted ≡ p.posted → q.already ≡ p.already → q.refused ≡ p.refused → q.malformed ≡ p.malformed → q.notes.items ≡ p.notes.items → IsSame p q
+pub with_room : (p q : Summary) → q.posted ≡ p.posted → q.already ≡ p.already
+    → q.refused ≡ p.refused → q.malformed ≡ p.malformed → q.notes.items ≡ p.notes.items → IsSame p q
 with_room p q posted_is already_is refused_is malformed_is notes_is = record {
   posted_are = omega arith;
   already_are = omega arith;
@@ -59,30 +74,47 @@ with_room p q posted_is already_is refused_is malformed_is notes_is = record {
 -- counted from nothing it is a summary
 pub summary_of : (p q : Summary) (xs : List Outcome) → IsNothing p → Counts p xs q → IsSummary xs q
 summary_of p q xs none counts = record {
-  posted_are = from_nothing p.posted q.posted (length (filter was_posted xs)) none.posted_are counts.posted_are;
-  already_are = from_nothing p.already q.already (length (filter was_already xs)) none.already_are counts.already_are;
-  refused_are = from_nothing p.refused q.refused (length (filter was_refused xs)) none.refused_are counts.refused_are;
-  malformed_are = from_nothing p.malformed q.malformed (length (filter was_malformed xs)) none.malformed_are counts.malformed_are;
+  posted_are = from_nothing p.posted q.posted (length (filter was_posted xs)) none.posted_are
+      counts.posted_are;
+  already_are = from_nothing p.already q.already (length (filter was_already xs)) none.already_are
+      counts.already_are;
+  refused_are = from_nothing p.refused q.refused (length (filter was_refused xs)) none.refused_are
+      counts.refused_are;
+  malformed_are = from_nothing p.malformed q.malformed (length (filter was_malformed xs))
+      none.malformed_are counts.malformed_are;
   notes_are = counts.notes_are ∙ ap (λ z. z ++ filter_map note_in xs) none.notes_are;
 }
 
-pub are_then : (rs ss : List (ℕ × Said)) (xs ys : List Outcome) → AreOutcomes rs xs → AreOutcomes ss ys → AreOutcomes (rs ++ ss) (xs ++ ys)
+pub are_then : (rs ss : List (ℕ × Said)) (xs ys : List Outcome) → AreOutcomes rs xs
+    → AreOutcomes ss ys → AreOutcomes (rs ++ ss) (xs ++ ys)
 are_then rs ss xs ys first second = record {
-  all = map-append record_in xs ys ∙ ap (λ z. z ++ map record_in ys) first.all ∙ ap (λ z. rs ++ z) second.all;
-  no_fault = filter_map-append fault_in xs ys ∙ ap (λ z. z ++ filter_map fault_in ys) first.no_fault ∙ second.no_fault;
+  all = map-append record_in xs ys ∙ ap (λ z. z ++ map record_in ys) first.all
+      ∙ ap (λ z. rs ++ z) second.all;
+  no_fault = filter_map-append fault_in xs ys ∙ ap (λ z. z ++ filter_map fault_in ys) first.no_fault
+      ∙ second.no_fault;
 }
 
-pub asks_then : (a b c : Held) (xs ys : List Outcome) → Asks a b xs → Asks b c ys → Asks a c (xs ++ ys)
+pub asks_then : (a b c : Held) (xs ys : List Outcome) → Asks a b xs → Asks b c ys
+    → Asks a c (xs ++ ys)
 asks_then a b c xs ys first second =
-    subst (λ rs. HandlesAll a c rs (filter_map answer_in (xs ++ ys))) (sym (filter_map-append request_in xs ys))
-    (subst (λ qs. HandlesAll a c (filter_map request_in xs ++ filter_map request_in ys) qs) (sym (filter_map-append answer_in xs ys))
-    (all_then a b c (filter_map request_in xs) (filter_map answer_in xs) (filter_map request_in ys) (filter_map answer_in ys) first second))
+    subst (λ rs. HandlesAll a c rs (filter_map answer_in (xs ++ ys)))
+    (sym (filter_map-append request_in xs ys))
+    (subst (λ qs. HandlesAll a c (filter_map request_in xs ++ filter_map request_in ys) qs)
+    (sym (filter_map-append answer_in xs ys))
+    (all_then a b c (filter_map request_in xs) (filter_map answer_in xs) (filter_map request_in ys)
+    (filter_map answer_in ys) first second))
 
 -- ---- posts
 pub posts_none : (a : Held) (p : Summary) → Posts a a [] p p
-posts_none a p = record { outcomes = []; are = record { all = refl; no_fault = refl }; counts = same p; asks = all_none a }
+posts_none a p = record {
+  outcomes = [];
+  are = record { all = refl; no_fault = refl };
+  counts = same p;
+  asks = all_none a;
+}
 
-pub posts_then : (a b c : Held) (rs ss : List (ℕ × Said)) (p q r : Summary) → Posts a b rs p q → Posts b c ss q r → Posts a c (rs ++ ss) p r
+pub posts_then : (a b c : Held) (rs ss : List (ℕ × Said)) (p q r : Summary) → Posts a b rs p q
+    → Posts b c ss q r → Posts a c (rs ++ ss) p r
 posts_then a b c rs ss p q r first second = record {
   outcomes = first.outcomes ++ second.outcomes;
   are = are_then rs ss first.outcomes second.outcomes first.are second.are;
@@ -91,7 +123,9 @@ posts_then a b c rs ss p q r first second = record {
 }
 
 -- a pay run that was answered
-pub posts_one : (a b : Held) (number : ℕ) (run : Run) (answer : Answer) (p q : Summary) → Handles a b (post_of run) answer → fault_of answer ≡ None → Counts p (posted number run answer ∷ []) q
+pub posts_one : (a b : Held) (number : ℕ) (run : Run) (answer : Answer) (p q : Summary)
+    → Handles a b (post_of run) answer → fault_of answer ≡ None
+    → Counts p (posted number run answer ∷ []) q
     → Posts a b ((number, pay_run run) ∷ []) p q
 posts_one a b number run answer p q handles none counts = record {
   outcomes = posted number run answer ∷ [];
@@ -101,7 +135,8 @@ posts_one a b number run answer p q handles none counts = record {
 }
 
 -- a malformed record
-pub skips_one : (a : Held) (number field : ℕ) (p q : Summary) → Counts p (skipped number field ∷ []) q → Posts a a ((number, malformed field) ∷ []) p q
+pub skips_one : (a : Held) (number field : ℕ) (p q : Summary)
+    → Counts p (skipped number field ∷ []) q → Posts a a ((number, malformed field) ∷ []) p q
 skips_one a number field p q counts = record {
   outcomes = skipped number field ∷ [];
   are = record { all = refl; no_fault = refl };
@@ -113,15 +148,19 @@ skips_one a number field p q counts = record {
 pub no_room : (a : Held) (at : ℕ × Said) → StopsAt a a at cause.Memory
 no_room a at = record { last = []; stop = inl (refl, refl); asks = all_none a }
 
-pub faulted : (a b : Held) (number : ℕ) (run : Run) (answer : Answer) (why : StopCause) → Handles a b (post_of run) answer → fault_of answer ≡ Some why → StopsAt a b (number, pay_run run) why
+pub faulted : (a b : Held) (number : ℕ) (run : Run) (answer : Answer) (why : StopCause)
+    → Handles a b (post_of run) answer → fault_of answer ≡ Some why
+    → StopsAt a b (number, pay_run run) why
 faulted a b number run answer why handles fault = record {
   last = posted number run answer ∷ [];
   stop = inr (posted number run answer, refl, refl, fault);
   asks = all_one a b (post_of run) answer handles;
 }
 
-pub posts_stop : (a b c : Held) (rs : List (ℕ × Said)) (at : ℕ × Said) (others : List (ℕ × Said)) (all : List (ℕ × Said)) (p q r : Summary) (why : StopCause)
-    → all ≡ rs ++ at ∷ others → Posts a b rs p q → StopsAt b c at why → IsSame q r → StopsIn a c all p r why
+pub posts_stop : (a b c : Held) (rs : List (ℕ × Said)) (at : ℕ × Said) (others : List (ℕ × Said))
+    (all : List (ℕ × Said)) (p q r : Summary) (why : StopCause)
+    → all ≡ rs ++ at ∷ others → Posts a b rs p q → StopsAt b c at why → IsSame q r
+    → StopsIn a c all p r why
 posts_stop a b c rs at others all p q r why split posts stops keeps = record {
   passed = rs;
   at = at;
@@ -129,7 +168,8 @@ posts_stop a b c rs at others all p q r why split posts stops keeps = record {
   split = split;
   outcomes = posts.outcomes;
   are = posts.are;
-  counts = subst (λ xs. Counts p xs r) (append-nil posts.outcomes) (counts_then p q r posts.outcomes [] posts.counts keeps);
+  counts = subst (λ xs. Counts p xs r) (append-nil posts.outcomes)
+      (counts_then p q r posts.outcomes [] posts.counts keeps);
   last = stops.last;
   stop = stops.stop;
   asks = asks_then a b c posts.outcomes stops.last posts.asks stops.asks;
@@ -137,9 +177,11 @@ posts_stop a b c rs at others all p q r why split posts stops keeps = record {
 
 -- ---- the records from one on are it and those after it
 pub record_split : (xs : List Record) (i : ℕ) (x : Record) → i < length xs → x ≡ get_or xs i x
-    → map record_view xs ≡ map record_view (take i xs) ++ record_view x ∷ map record_view (drop (i + 1) xs)
+    → map record_view xs ≡ map record_view (take i xs) ++ record_view x ∷ map record_view
+    (drop (i + 1) xs)
 record_split xs i x h is =
-    let on : drop i xs ≡ x ∷ drop (i + 1) xs = rw add-one (drop-cons xs i x h ∙ ap (λ (z : Record). z ∷ drop (suc i) xs) (sym is)) in
+    let on : drop i xs ≡ x ∷ drop (i + 1) xs =
+    rw add-one (drop-cons xs i x h ∙ ap (λ (z : Record). z ∷ drop (suc i) xs) (sym is)) in
     ap (λ (z : List Record). map record_view z) (sym (take-append-drop i xs))
     ∙ map-append record_view (take i xs) (drop i xs)
     ∙ ap (λ (z : List Record). map record_view (take i xs) ++ map record_view z) on
@@ -147,5 +189,6 @@ record_split xs i x h is =
 pub record_more : (xs : List Record) (i : ℕ) (x : Record) → i < length xs → x ≡ get_or xs i x
     → map record_view (take (i + 1) xs) ≡ map record_view (take i xs) ++ record_view x ∷ []
 record_more xs i x h is =
-    ap (λ (z : List Record). map record_view z) (take_more xs i x h ∙ ap (λ (y : Record). take i xs ++ y ∷ []) (sym is))
+    ap (λ (z : List Record). map record_view z) (take_more xs i x h
+    ∙ ap (λ (y : Record). take i xs ++ y ∷ []) (sym is))
     ∙ map-append record_view (take i xs) (x ∷ [])

@@ -1,5 +1,6 @@
 -- The records of a text, in lists.
-use Rattle.std.proofs.Common.{◌≡◌, ◌⊎◌, sym, subst, inl, inr, rules, true, ℕ, List, map, Some, Ok, Err}
+use Rattle.std.proofs.Common.{◌≡◌, ◌⊎◌, sym, subst, inl, inr, rules, true, ℕ, List, map, Some, Ok}
+use Rattle.std.proofs.Common.{Err}
 use Rattle.std.proofs.lemmas.Bool.{false≢true}
 use Rattle.ftd_csv.specs.Answers.{AreRecords, RecordsFail, record_view}
 use Rattle.ftd_csv.specs.declared.record.Record.{Record}
@@ -10,8 +11,10 @@ use Rattle.ftd_machine.specs.Checks.{Answer}
 use Rattle.ftd_machine.specs.declared.replies.Refusal.TheVariants as refusal
 use Rattle.ftd_desk.specs.Desks.{Held}
 use Rattle.ftd_desk.proofs.Running.{all_none}
-use Rattle.ftd_import.specs.Outcomes.{Counts, IsNothing, Outcome, fault_of, posted, skipped, text_cause}
-use Rattle.ftd_import.specs.Imports.{AreOutcomes, Imports, IsStop, Posts, StopsAmong, StopsFor, StopsWithin, is_of_text, numbered_in}
+use Rattle.ftd_import.specs.Outcomes.{Counts, IsNothing, Outcome, fault_of, posted, skipped}
+use Rattle.ftd_import.specs.Outcomes.{text_cause}
+use Rattle.ftd_import.specs.Imports.{AreOutcomes, Imports, IsStop, Posts, StopsAmong, StopsFor}
+use Rattle.ftd_import.specs.Imports.{StopsWithin, is_of_text, numbered_in}
 use Rattle.ftd_import.specs.declared.summary.StopCause.{StopCause}
 use Rattle.ftd_import.specs.declared.summary.StopCause.TheVariants as cause
 use Rattle.ftd_import.specs.declared.summary.Summary.{Summary}
@@ -19,24 +22,32 @@ use Rattle.ftd_import.proofs.Again.{one_by_one, stops_told}
 use Rattle.ftd_import.proofs.Outcomes.{summary_of}
 
 -- there are no records
-pub text_fails : (failed : Type 0) (a : Held) (text : List ℕ) (done : Summary) (fault : RecordFault) (why : StopCause) → why ≡ text_cause fault → IsNothing done → RecordsFail text fault → StopsFor failed a a text done why
-text_fails failed a text done text_fault.TooLong why is none fails = rw is (fails, (none, all_none a))
-text_fails failed a text done text_fault.BadHeader why is none fails = rw is (fails.0, fails.1, (none, all_none a))
+pub text_fails : (failed : Type 0) (a : Held) (text : List ℕ) (done : Summary) (fault : RecordFault)
+    (why : StopCause) → why ≡ text_cause fault → IsNothing done → RecordsFail text fault
+    → StopsFor failed a a text done why
+text_fails failed a text done text_fault.TooLong why is none fails =
+    rw is (fails, (none, all_none a))
+text_fails failed a text done text_fault.BadHeader why is none fails =
+    rw is (fails.0, fails.1, (none, all_none a))
 text_fails failed a text done text_fault.Memory why is none fails = rw is (inl (none, all_none a))
 
 -- an import stops at a record for want of memory, or since the store failed
-fault_cause : (answer : Answer) (why : StopCause) → fault_of answer ≡ Some why → (why ≡ cause.Memory) ⊎ (why ≡ cause.Store)
+fault_cause : (answer : Answer) (why : StopCause) → fault_of answer ≡ Some why
+    → (why ≡ cause.Memory) ⊎ (why ≡ cause.Store)
 fault_cause (Ok reply) why is = absurd (cc)
 fault_cause (Err refusal.Memory) why is = inl (cc)
 fault_cause (Err refusal.Store) why is = inr (cc)
 fault_cause (Err other) why is = search rules
 
-stop_cause : (at : ℕ × Said) (why : StopCause) (last : List Outcome) → IsStop at why last → (why ≡ cause.Memory) ⊎ (why ≡ cause.Store)
+stop_cause : (at : ℕ × Said) (why : StopCause) (last : List Outcome) → IsStop at why last
+    → (why ≡ cause.Memory) ⊎ (why ≡ cause.Store)
 stop_cause at why last (inl none) = inl none.0
-stop_cause at why last (inr (posted number run answer, one, of, fault)) = fault_cause answer why fault
+stop_cause at why last (inr (posted number run answer, one, of, fault)) =
+    fault_cause answer why fault
 stop_cause at why last (inr (skipped number field, one, of, fault)) = absurd (cc)
 
-module _ (text : List ℕ) (items : List Record) (are : AreRecords text items) (a b : Held) (p q : Summary) (none : IsNothing p) where
+module _ (text : List ℕ) (items : List Record) (are : AreRecords text items) (a b : Held)
+    (p q : Summary) (none : IsNothing p) where
   pub text_posts : Posts a b (map record_view items) p q → Imports a b text q
   text_posts posts = record {
     short = are.short;
@@ -47,27 +58,39 @@ module _ (text : List ℕ) (items : List Record) (are : AreRecords text items) (
     asks = posts.asks;
   }
 
-  pub text_stops : (failed later : Type 0) (why : StopCause) → (failed → later) → StopsWithin failed a b (map record_view items) (λ outcomes. Counts p outcomes q) why → StopsFor later a b text q why
+  pub text_stops : (failed later : Type 0) (why : StopCause) → (failed → later)
+      → StopsWithin failed a b (map record_view items) (λ outcomes. Counts p outcomes q) why
+      → StopsFor later a b text q why
   text_stops failed later why stays stops =
       let among : StopsAmong later a b text q why = record {
         short = are.short;
         header = are.header;
-        stops = stops_told failed later a b (numbered_in text) p q why stays none (subst (λ (rs : List (ℕ × Said)). StopsWithin failed a b rs (λ outcomes. Counts p outcomes q) why) are.all stops);
+        stops = stops_told failed later a b (numbered_in text) p q why stays none
+            (subst (λ (rs : List (ℕ × Said)). StopsWithin failed a b rs
+            (λ outcomes. Counts p outcomes q) why) are.all stops);
       } in
       elim (stop_cause stops.at why stops.last stops.stop) [
-        | inl memory ↦ subst (λ (c : StopCause). StopsFor later a b text q c) (sym memory) (inr (subst (λ (c : StopCause). StopsAmong later a b text q c) memory among))
-        | inr store ↦ subst (λ (c : StopCause). StopsFor later a b text q c) (sym store) (subst (λ (c : StopCause). StopsAmong later a b text q c) store among)
+        | inl memory ↦ subst (λ (c : StopCause). StopsFor later a b text q c) (sym memory)
+            (inr (subst (λ (c : StopCause). StopsAmong later a b text q c) memory among))
+        | inr store ↦ subst (λ (c : StopCause). StopsFor later a b text q c) (sym store)
+            (subst (λ (c : StopCause). StopsAmong later a b text q c) store among)
       ]
 
-  pub text_one_by_one : (failed : Type 0) (why : StopCause) → StopsWithin failed a b (map record_view items) (λ outcomes. Counts p outcomes q) why → failed ⊎ StopsFor ⊥ a b text q why
-  text_one_by_one failed why stops = elim (one_by_one failed a b (map record_view items) (λ outcomes. Counts p outcomes q) why stops) [
-    | inl met ↦ inl met
-    | inr plain ↦ inr (text_stops ⊥ ⊥ why (λ met. met) plain)
-  ]
+  pub text_one_by_one : (failed : Type 0) (why : StopCause)
+      → StopsWithin failed a b (map record_view items) (λ outcomes. Counts p outcomes q) why
+      → failed ⊎ StopsFor ⊥ a b text q why
+  text_one_by_one failed why stops =
+      elim (one_by_one failed a b (map record_view items) (λ outcomes. Counts p outcomes q) why
+      stops) [
+        | inl met ↦ inl met
+        | inr plain ↦ inr (text_stops ⊥ ⊥ why (λ met. met) plain)
+      ]
 
 -- the text is not at fault then
-pub not_of_text : (failed : Type 0) (a b : Held) (rs : List (ℕ × Said)) (IsTold : List Outcome → Type 0) (why : StopCause) → StopsWithin failed a b rs IsTold why → is_of_text why ≡ true → ⊥
-not_of_text failed a b rs IsTold why stops of_text = elim (stop_cause stops.at why stops.last stops.stop) [
-  | inl memory ↦ false≢true (rw memory at of_text)
-  | inr store ↦ false≢true (rw store at of_text)
-]
+pub not_of_text : (failed : Type 0) (a b : Held) (rs : List (ℕ × Said)) (IsTold : List Outcome
+    → Type 0) (why : StopCause) → StopsWithin failed a b rs IsTold why → is_of_text why ≡ true → ⊥
+not_of_text failed a b rs IsTold why stops of_text =
+    elim (stop_cause stops.at why stops.last stops.stop) [
+      | inl memory ↦ false≢true (rw memory at of_text)
+      | inr store ↦ false≢true (rw store at of_text)
+    ]

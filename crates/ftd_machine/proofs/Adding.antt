@@ -1,5 +1,6 @@
 -- Entries that are added or voided, beside those of one account.
-use Rattle.std.proofs.Common.{◌≡◌, refl, sym, ap, ◌∙◌, ℕ, Bool, true, false, cond, List, [], ◌∷◌, ◌++◌, filter, Some, bytes_eq}
+use Rattle.std.proofs.Common.{◌≡◌, refl, sym, ap, ◌∙◌, ℕ, Bool, true, false, cond, List, [], ◌∷◌}
+use Rattle.std.proofs.Common.{◌++◌, filter, Some, bytes_eq}
 use Rattle.std.specs.Prelude.{find, option_map}
 use Rattle.std.proofs.lemmas.List.{append-nil}
 use Rattle.std.proofs.lemmas.List.Elements.{filter-append}
@@ -34,21 +35,28 @@ filter_more p xs x false e = filter-append p xs (x ∷ []) ∙ (rw e (append-nil
 
 -- an entry more is one of its account
 pub entry_own : {X : Type 0} (xs : List (Entry X)) (name : List ℕ) (key : ℕ) (content : X)
-    → filter (is_of name) (with_entry xs name key content) ≡ with_entry (filter (is_of name) xs) name key content
+    → filter (is_of name) (with_entry xs name key content) ≡ with_entry (filter (is_of name) xs)
+    name key content
 entry_own xs name key content = filter_more (is_of name) xs _ true (own_name name)
 
 -- and of no other one
-pub entry_other : {X : Type 0} (xs : List (Entry X)) (name : List ℕ) (key : ℕ) (content : X) (account : List ℕ)
-    → (name ≡ account → ⊥) → filter (is_of account) (with_entry xs name key content) ≡ filter (is_of account) xs
-entry_other xs name key content account other = filter_more (is_of account) xs _ false (other_name name account other)
+pub entry_other : {X : Type 0} (xs : List (Entry X)) (name : List ℕ) (key : ℕ) (content : X)
+    (account : List ℕ)
+    → (name ≡ account → ⊥) → filter (is_of account) (with_entry xs name key content) ≡ filter
+    (is_of account) xs
+entry_other xs name key content account other = filter_more (is_of account) xs _ false
+    (other_name name account other)
 
-find_more : {X : Type 0} (p : X → Bool) (xs : List X) (x : X) → p x ≡ false → find p (xs ++ x ∷ []) ≡ find p xs
+find_more : {X : Type 0} (p : X → Bool) (xs : List X) (x : X) → p x ≡ false
+    → find p (xs ++ x ∷ []) ≡ find p xs
 find_more p [] x e = rw e refl
 find_more p (y ∷ xs) x e = ap (λ o. cond (p y) (Some y) o) (find_more p xs x e)
 
 pub account_other : (xs : List Enrolled) (name : List ℕ) (account : Account) (other : List ℕ)
-    → (name ≡ other → ⊥) → find (is_named other) (with_account xs name account) ≡ find (is_named other) xs
-account_other xs name account other apart = find_more (is_named other) xs _ (other_name name other apart)
+    → (name ≡ other → ⊥) → find (is_named other) (with_account xs name account) ≡ find
+    (is_named other) xs
+account_other xs name account other apart = find_more (is_named other) xs _
+    (other_name name other apart)
 
 -- ---- one that is voided
 
@@ -59,20 +67,26 @@ voided_head name key account e other own =
     other_name e.name name (λ is. other (sym is ∙ same_name e.name account own)) in
     rw off refl
 
-voided_step : {X : Type 0} (name : List ℕ) (key : ℕ) (account : List ℕ) (e : Entry (Voidable X)) (xs : List (Entry (Voidable X)))
+voided_step : {X : Type 0} (name : List ℕ) (key : ℕ) (account : List ℕ) (e : Entry (Voidable X))
+    (xs : List (Entry (Voidable X)))
     (b : Bool) → bytes_eq e.name account ≡ b → (name ≡ account → ⊥)
     → filter (is_of account) (with_voided xs name key) ≡ filter (is_of account) xs
-    → cond b (voided_if name key e ∷ filter (is_of account) (with_voided xs name key)) (filter (is_of account) (with_voided xs name key))
+    → cond b (voided_if name key e ∷ filter (is_of account) (with_voided xs name key))
+    (filter (is_of account) (with_voided xs name key))
     ≡ cond b (e ∷ filter (is_of account) xs) (filter (is_of account) xs)
-voided_step name key account e xs true own other same = rw (voided_head name key account e other own, same) refl
+voided_step name key account e xs true own other same =
+    rw (voided_head name key account e other own, same) refl
 voided_step name key account e xs false own other same = same
 
 -- what is voided of one account leaves the entries of each other one
-pub voided_other : {X : Type 0} (xs : List (Entry (Voidable X))) (name : List ℕ) (key : ℕ) (account : List ℕ)
-    → (name ≡ account → ⊥) → filter (is_of account) (with_voided xs name key) ≡ filter (is_of account) xs
+pub voided_other : {X : Type 0} (xs : List (Entry (Voidable X))) (name : List ℕ) (key : ℕ)
+    (account : List ℕ)
+    → (name ≡ account → ⊥) → filter (is_of account) (with_voided xs name key) ≡ filter
+    (is_of account) xs
 voided_other [] name key account other = refl
 voided_other (e ∷ xs) name key account other =
-    voided_step name key account e xs (bytes_eq e.name account) refl other (voided_other xs name key account other)
+    voided_step name key account e xs (bytes_eq e.name account) refl other
+    (voided_other xs name key account other)
 
 -- and those of the account are voided in their places
 pub voided_own : {X : Type 0} (xs : List (Entry (Voidable X))) (name : List ℕ) (key : ℕ)
@@ -81,21 +95,27 @@ voided_own [] name key = refl
 voided_own (e ∷ xs) name key =
     own_step name key e xs (bytes_eq e.name name) (voided_own xs name key)
   where
-    own_step : {X : Type 0} (name : List ℕ) (key : ℕ) (e : Entry (Voidable X)) (xs : List (Entry (Voidable X))) (b : Bool)
-        → filter (is_of name) (with_voided xs name key) ≡ with_voided (filter (is_of name) xs) name key
-        → cond b (voided_if name key e ∷ filter (is_of name) (with_voided xs name key)) (filter (is_of name) (with_voided xs name key))
+    own_step : {X : Type 0} (name : List ℕ) (key : ℕ) (e : Entry (Voidable X))
+        (xs : List (Entry (Voidable X))) (b : Bool)
+        → filter (is_of name) (with_voided xs name key) ≡ with_voided (filter (is_of name) xs) name
+        key
+        → cond b (voided_if name key e ∷ filter (is_of name) (with_voided xs name key))
+        (filter (is_of name) (with_voided xs name key))
         ≡ with_voided (cond b (e ∷ filter (is_of name) xs) (filter (is_of name) xs)) name key
     own_step name key e xs true same = ap (λ ys. voided_if name key e ∷ ys) same
     own_step name key e xs false same = same
 
 -- an account more is the one of its name, unless there was one
 find_own : (p : Enrolled → Bool) (xs : List Enrolled) (x : Enrolled) → p x ≡ true
-    → option_map account_of (find p (xs ++ x ∷ [])) ≡ option_or (option_map account_of (find p xs)) (Some x.account)
+    → option_map account_of (find p (xs ++ x ∷ [])) ≡ option_or (option_map account_of (find p xs))
+    (Some x.account)
 find_own p [] x e = rw e refl
 find_own p (y ∷ xs) x e = found_own (p y) (find_own p xs x e)
   where
-    found_own : (b : Bool) → option_map account_of (find p (xs ++ x ∷ [])) ≡ option_or (option_map account_of (find p xs)) (Some x.account)
-        → option_map account_of (cond b (Some y) (find p (xs ++ x ∷ []))) ≡ option_or (option_map account_of (cond b (Some y) (find p xs))) (Some x.account)
+    found_own : (b : Bool) → option_map account_of (find p (xs ++ x ∷ [])) ≡ option_or
+        (option_map account_of (find p xs)) (Some x.account)
+        → option_map account_of (cond b (Some y) (find p (xs ++ x ∷ []))) ≡ option_or
+        (option_map account_of (cond b (Some y) (find p xs))) (Some x.account)
     found_own true same = refl
     found_own false same = same
 

@@ -1,5 +1,6 @@
 -- A request that was done is answered Already from then on.
-use Rattle.std.proofs.Common.{◌≡◌, refl, sym, subst, ℕ, ◌==◌, Bool, true, false, List, [], ◌∷◌, Option, None, Some}
+use Rattle.std.proofs.Common.{◌≡◌, refl, sym, subst, ℕ, ◌==◌, Bool, true, false, List, [], ◌∷◌}
+use Rattle.std.proofs.Common.{Option, None, Some}
 use Rattle.std.specs.Prelude.{nat_le}
 use Rattle.std.proofs.lemmas.Bool.{eq-eqb}
 use Rattle.ftd_days.specs.Calendar.{year_of}
@@ -13,11 +14,22 @@ use Rattle.ftd_rules.specs.declared.payment.Payment.{Payment}
 use Rattle.ftd_rules.specs.declared.run.Voidable.{Voidable}
 use Rattle.ftd_rules.specs.Accounts.{is_account_name}
 use Rattle.ftd_machine.specs.Checks.{first_of, finds, meets}
-use Rattle.ftd_machine.specs.Requests.{is_form, same_flag, same_account, same_amount, same_run, same_payment, same_days, is_voided, is_on, days_of_year, enrol_checks, calendar_checks, add_holiday_checks, report_checks, report_year_checks, open_year_checks, post_checks, void_checks, pay_checks, void_payment_checks}
+use Rattle.ftd_machine.specs.Requests.{is_form, same_flag, same_account, same_amount, same_run}
+use Rattle.ftd_machine.specs.Requests.{same_payment, same_days, is_voided, is_on, days_of_year}
+use Rattle.ftd_machine.specs.Requests.{enrol_checks, calendar_checks, add_holiday_checks}
+use Rattle.ftd_machine.specs.Requests.{report_checks, report_year_checks, open_year_checks}
+use Rattle.ftd_machine.specs.Requests.{post_checks, void_checks, pay_checks, void_payment_checks}
 use Rattle.ftd_machine.specs.declared.replies.Refusal.{Refusal}
-use Rattle.ftd_machine.specs.declared.replies.Refusal.TheVariants.{UnknownAccount, AccountDiffers, CalendarDiffers, QuarterDiffers, RunDiffers, PaymentDiffers, UnknownRun, UnknownPayment, CalendarMissing, YearDiffers}
+use Rattle.ftd_machine.specs.declared.replies.Refusal.TheVariants.{UnknownAccount, AccountDiffers}
+use Rattle.ftd_machine.specs.declared.replies.Refusal.TheVariants.{CalendarDiffers, QuarterDiffers}
+use Rattle.ftd_machine.specs.declared.replies.Refusal.TheVariants.{RunDiffers, PaymentDiffers}
+use Rattle.ftd_machine.specs.declared.replies.Refusal.TheVariants.{UnknownRun, UnknownPayment}
+use Rattle.ftd_machine.specs.declared.replies.Refusal.TheVariants.{CalendarMissing, YearDiffers}
 use Rattle.ftd_machine.proofs.Adding.{own_name}
-use Rattle.ftd_machine.proofs.Heads.{quiet_none, quiet_needs, quiet_finds, Turns, turns_needs, turns_finds, turns_new, turns_done, firm_none, firm_needs, firm_finds, Stays, stays_needs, stays_finds, stays_new, stays_done}
+use Rattle.ftd_machine.proofs.Heads.{quiet_none, quiet_needs, quiet_finds, Turns, turns_needs}
+use Rattle.ftd_machine.proofs.Heads.{turns_finds, turns_new, turns_done, firm_none, firm_needs}
+use Rattle.ftd_machine.proofs.Heads.{firm_finds, Stays, stays_needs, stays_finds, stays_new}
+use Rattle.ftd_machine.proofs.Heads.{stays_done}
 use Rattle.ftd_machine.proofs.Keeping.{IsStill}
 
 -- ---- equal content
@@ -34,21 +46,26 @@ form_same F941 = refl
 form_same F943 = refl
 
 pub account_same : (account : Account) → same_account account account ≡ true
-account_same account = rw (same account.start, flag_same account.carried, form_same account.form) refl
+account_same account = rw (same account.start, flag_same account.carried, form_same account.form)
+    refl
 
 pub amount_same : (cents : Cents) → same_amount cents cents ≡ true
 amount_same cents = same cents.0
 
-pub run_same : (run : PayRun) (voided : Bool) → same_run run (record { value = run; voided = voided }) ≡ true
+pub run_same : (run : PayRun) (voided : Bool)
+    → same_run run (record { value = run; voided = voided }) ≡ true
 run_same run voided = rw (same run.payday, same run.fit.0, same run.ss.0, same run.medicare.0) refl
 
-pub payment_same : (payment : Payment) (voided : Bool) → same_payment payment (record { value = payment; voided = voided }) ≡ true
-payment_same payment voided = rw (same payment.paid, same payment.for_day, same payment.cents.0) refl
+pub payment_same : (payment : Payment) (voided : Bool)
+    → same_payment payment (record { value = payment; voided = voided }) ≡ true
+payment_same payment voided = rw (same payment.paid, same payment.for_day, same payment.cents.0)
+    refl
 
 -- ---- the checks before and after
 
 -- a fact that stays where the account does
-meets_still : (test : Account → Bool) (o p : Option Account) → ((a : Account) → o ≡ Some a → p ≡ Some a) → meets test o ≡ true → meets test p ≡ true
+meets_still : (test : Account → Bool) (o p : Option Account)
+    → ((a : Account) → o ≡ Some a → p ≡ Some a) → meets test o ≡ true → meets test p ≡ true
 meets_still test (Some a) p still e = rw (still a refl) e
 meets_still test None p still e = absurd cc
 
@@ -65,95 +82,121 @@ module _ (name : List ℕ) where
   enrol_turns account o p there =
       turns_needs _ _ _ _ _ (always (is_account_name name))
       (turns_needs _ _ _ _ _ (always (nat_le (year_of account.start) 2098))
-      (turns_new o p (same_account account) AccountDiffers [] [] (λ none. (account, there none, account_same account)) quiet_none))
+      (turns_new o p (same_account account) AccountDiffers [] []
+      (λ none. (account, there none, account_same account)) quiet_none))
 
   pub enrol_stays : (account : Account) (o p : Option Account) → StillThere o p
       → Stays (enrol_checks name account o) (enrol_checks name account p)
   enrol_stays account o p still =
       stays_needs _ _ _ _ _ (always (is_account_name name))
       (stays_needs _ _ _ _ _ (always (nat_le (year_of account.start) 2098))
-      (stays_new o p (same_account account) AccountDiffers [] [] (λ a is. (a, still a is, λ e. e)) firm_none))
+      (stays_new o p (same_account account) AccountDiffers [] [] (λ a is. (a, still a is, λ e. e))
+      firm_none))
 
   -- Report and ReportYear
-  pub report_turns : (quarter : ℕ) (cents : Cents) (account : Option Account) (o p : Option Cents) → (o ≡ None → p ≡ Some cents)
-      → Turns (report_checks name quarter cents account o) (report_checks name quarter cents account p)
+  pub report_turns : (quarter : ℕ) (cents : Cents) (account : Option Account) (o p : Option Cents)
+      → (o ≡ None → p ≡ Some cents)
+      → Turns (report_checks name quarter cents account o)
+      (report_checks name quarter cents account p)
   report_turns quarter cents account o p there =
       turns_needs _ _ _ _ _ (always _)
       (turns_needs _ _ _ _ _ (always _)
       (turns_needs _ _ _ _ _ (always _)
       (turns_finds account account UnknownAccount _ _ (λ a e. e)
       (turns_needs _ _ _ _ _ (always _)
-      (turns_new o p (same_amount cents) QuarterDiffers _ _ (λ none. (cents, there none, amount_same cents)) (quiet_needs _ _ [] quiet_none))))))
+      (turns_new o p (same_amount cents) QuarterDiffers _ _
+      (λ none. (cents, there none, amount_same cents)) (quiet_needs _ _ [] quiet_none))))))
 
-  pub report_stays : (quarter : ℕ) (cents : Cents) (account account' : Option Account) (o p : Option Cents)
+  pub report_stays : (quarter : ℕ) (cents : Cents) (account account' : Option Account)
+      (o p : Option Cents)
       → StillThere account account' → ((x : Cents) → o ≡ Some x → p ≡ Some x)
-      → Stays (report_checks name quarter cents account o) (report_checks name quarter cents account' p)
+      → Stays (report_checks name quarter cents account o)
+      (report_checks name quarter cents account' p)
   report_stays quarter cents account account' o p here still =
       stays_needs _ _ _ _ _ (always _)
       (stays_needs _ _ _ _ _ (always _)
       (stays_needs _ _ _ _ _ (always _)
       (stays_finds account account' UnknownAccount _ _ here
       (stays_needs _ _ _ _ _ (meets_still (is_on F941) account account' here)
-      (stays_new o p (same_amount cents) QuarterDiffers _ _ (λ x is. (x, still x is, λ e. e)) (firm_needs _ _ [] firm_none))))))
+      (stays_new o p (same_amount cents) QuarterDiffers _ _ (λ x is. (x, still x is, λ e. e))
+      (firm_needs _ _ [] firm_none))))))
 
-  pub report_year_turns : (year : ℕ) (cents : Cents) (account : Option Account) (o p : Option Cents) → (o ≡ None → p ≡ Some cents)
-      → Turns (report_year_checks name year cents account o) (report_year_checks name year cents account p)
+  pub report_year_turns : (year : ℕ) (cents : Cents) (account : Option Account) (o p : Option Cents)
+      → (o ≡ None → p ≡ Some cents)
+      → Turns (report_year_checks name year cents account o)
+      (report_year_checks name year cents account p)
   report_year_turns year cents account o p there =
       turns_needs _ _ _ _ _ (always _)
       (turns_needs _ _ _ _ _ (always _)
       (turns_needs _ _ _ _ _ (always _)
       (turns_finds account account UnknownAccount _ _ (λ a e. e)
       (turns_needs _ _ _ _ _ (always _)
-      (turns_new o p (same_amount cents) YearDiffers _ _ (λ none. (cents, there none, amount_same cents)) (quiet_needs _ _ [] quiet_none))))))
+      (turns_new o p (same_amount cents) YearDiffers _ _
+      (λ none. (cents, there none, amount_same cents)) (quiet_needs _ _ [] quiet_none))))))
 
-  pub report_year_stays : (year : ℕ) (cents : Cents) (account account' : Option Account) (o p : Option Cents)
+  pub report_year_stays : (year : ℕ) (cents : Cents) (account account' : Option Account)
+      (o p : Option Cents)
       → StillThere account account' → ((x : Cents) → o ≡ Some x → p ≡ Some x)
-      → Stays (report_year_checks name year cents account o) (report_year_checks name year cents account' p)
+      → Stays (report_year_checks name year cents account o)
+      (report_year_checks name year cents account' p)
   report_year_stays year cents account account' o p here still =
       stays_needs _ _ _ _ _ (always _)
       (stays_needs _ _ _ _ _ (always _)
       (stays_needs _ _ _ _ _ (always _)
       (stays_finds account account' UnknownAccount _ _ here
       (stays_needs _ _ _ _ _ (meets_still (is_on F943) account account' here)
-      (stays_new o p (same_amount cents) YearDiffers _ _ (λ x is. (x, still x is, λ e. e)) (firm_needs _ _ [] firm_none))))))
+      (stays_new o p (same_amount cents) YearDiffers _ _ (λ x is. (x, still x is, λ e. e))
+      (firm_needs _ _ [] firm_none))))))
 
   -- OpenYear
-  pub open_turns : (year : ℕ) (account : Option Account) (there after : Bool) (calendar next : Bool) → after ≡ true
-      → Turns (open_year_checks name year account there calendar next) (open_year_checks name year account after calendar next)
+  pub open_turns : (year : ℕ) (account : Option Account) (there after : Bool) (calendar next : Bool)
+      → after ≡ true
+      → Turns (open_year_checks name year account there calendar next)
+      (open_year_checks name year account after calendar next)
   open_turns year account there after calendar next is =
       turns_needs _ _ _ _ _ (always _)
       (turns_needs _ _ _ _ _ (always _)
       (turns_finds account account UnknownAccount _ _ (λ a e. e)
-      (turns_done there after _ _ (λ e. is) (quiet_needs _ _ _ (quiet_needs _ _ _ (quiet_needs _ _ [] quiet_none))))))
+      (turns_done there after _ _ (λ e. is)
+      (quiet_needs _ _ _ (quiet_needs _ _ _ (quiet_needs _ _ [] quiet_none))))))
 
-  pub open_stays : (year : ℕ) (account account' : Option Account) (there after : Bool) (calendar next calendar' next' : Bool)
+  pub open_stays : (year : ℕ) (account account' : Option Account) (there after : Bool)
+      (calendar next calendar' next' : Bool)
       → StillThere account account' → (there ≡ true → after ≡ true)
-      → Stays (open_year_checks name year account there calendar next) (open_year_checks name year account' after calendar' next')
+      → Stays (open_year_checks name year account there calendar next)
+      (open_year_checks name year account' after calendar' next')
   open_stays year account account' there after calendar next calendar' next' here still =
       stays_needs _ _ _ _ _ (always _)
       (stays_needs _ _ _ _ _ (always _)
       (stays_finds account account' UnknownAccount _ _ here
-      (stays_done there after _ _ still (firm_needs _ _ _ (firm_needs _ _ _ (firm_needs _ _ [] firm_none))))))
+      (stays_done there after _ _ still
+      (firm_needs _ _ _ (firm_needs _ _ _ (firm_needs _ _ [] firm_none))))))
 
   -- Post and Void
-  pub post_turns : (number : ℕ) (run : PayRun) (account : Option Account) (o p : Option (Voidable PayRun)) (there after : Bool) (count count' : ℕ)
+  pub post_turns : (number : ℕ) (run : PayRun) (account : Option Account)
+      (o p : Option (Voidable PayRun)) (there after : Bool) (count count' : ℕ)
       → (o ≡ None → p ≡ Some (record { value = run; voided = false }))
-      → Turns (post_checks name number run account o there count) (post_checks name number run account p after count')
+      → Turns (post_checks name number run account o there count)
+      (post_checks name number run account p after count')
   post_turns number run account o p there after count count' is =
       turns_needs _ _ _ _ _ (always _)
       (turns_needs _ _ _ _ _ (always _)
       (turns_needs _ _ _ _ _ (always _)
       (turns_needs _ _ _ _ _ (always _)
       (turns_finds account account UnknownAccount _ _ (λ a e. e)
-      (turns_new o p (same_run run) RunDiffers _ _ (λ none. (record { value = run; voided = false }, is none, run_same run false))
+      (turns_new o p (same_run run) RunDiffers _ _
+      (λ none. (record { value = run; voided = false }, is none, run_same run false))
       (quiet_needs _ _ _ (quiet_needs _ _ _ (quiet_needs _ _ [] quiet_none))))))))
 
   abbrev pub StillKept : {X : Type 0} → Option (Voidable X) → Option (Voidable X) → Type 0
-  StillKept {X = X} o p = (v : Voidable X) → o ≡ Some v → (w : Voidable X) × (p ≡ Some w) × IsStill v w
+  StillKept {X = X} o p = (v : Voidable X) → o ≡ Some v → (w : Voidable X) × (p ≡ Some w)
+      × IsStill v w
 
-  pub post_stays : (number : ℕ) (run : PayRun) (account account' : Option Account) (o p : Option (Voidable PayRun)) (there after : Bool) (count count' : ℕ)
+  pub post_stays : (number : ℕ) (run : PayRun) (account account' : Option Account)
+      (o p : Option (Voidable PayRun)) (there after : Bool) (count count' : ℕ)
       → StillThere account account' → StillKept o p
-      → Stays (post_checks name number run account o there count) (post_checks name number run account' p after count')
+      → Stays (post_checks name number run account o there count)
+      (post_checks name number run account' p after count')
   post_stays number run account account' o p there after count count' here still =
       stays_needs _ _ _ _ _ (always _)
       (stays_needs _ _ _ _ _ (always _)
@@ -161,7 +204,12 @@ module _ (name : List ℕ) where
       (stays_needs _ _ _ _ _ (always _)
       (stays_finds account account' UnknownAccount _ _ here
       (stays_new o p (same_run run) RunDiffers _ _
-      (λ v is. (let w = still v is in (w.0, w.1, λ e. subst (λ (x : PayRun). same_run run (record { value = x; voided = false }) ≡ true) (sym w.2.0) e)))
+      (λ v is. (let w = still v is in (
+        w.0,
+        w.1,
+        λ e. subst (λ (x : PayRun). same_run run (record { value = x; voided = false })
+            ≡ true) (sym w.2.0) e,
+      )))
       (firm_needs _ _ _ (firm_needs _ _ _ (firm_needs _ _ [] firm_none))))))))
 
   voided_after : {X : Type 0} (o p : Option (Voidable X)) (refusal : Refusal)
@@ -170,22 +218,27 @@ module _ (name : List ℕ) where
   voided_after (Some v) p refusal is e = let w = is v refl in rw (w.1) (w.2)
   voided_after None p refusal is e = absurd cc
 
-  voided_still : {X : Type 0} (o p : Option (Voidable X)) → StillKept o p → meets is_voided o ≡ true → meets is_voided p ≡ true
+  voided_still : {X : Type 0} (o p : Option (Voidable X)) → StillKept o p → meets is_voided o ≡ true
+      → meets is_voided p ≡ true
   voided_still (Some v) p still e = let w = still v refl in rw (w.1) (w.2.1 e)
   voided_still None p still e = absurd cc
 
   abbrev pub IsVoidAfter : {X : Type 0} → Option (Voidable X) → Option (Voidable X) → Type 0
-  IsVoidAfter {X = X} o p = (v : Voidable X) → o ≡ Some v → (w : Voidable X) × (p ≡ Some w) × (w.voided ≡ true)
+  IsVoidAfter {X = X} o p = (v : Voidable X) → o ≡ Some v → (w : Voidable X) × (p ≡ Some w)
+      × (w.voided ≡ true)
 
-  pub void_turns : (number : ℕ) (account : Option Account) (o p : Option (Voidable PayRun)) → IsVoidAfter o p
+  pub void_turns : (number : ℕ) (account : Option Account) (o p : Option (Voidable PayRun))
+      → IsVoidAfter o p
       → Turns (void_checks name number account o) (void_checks name number account p)
   void_turns number account o p is =
       turns_needs _ _ _ _ _ (always _)
       (turns_needs _ _ _ _ _ (always _)
       (turns_finds account account UnknownAccount _ _ (λ a e. e)
-      (turns_done _ _ _ _ (voided_after o p UnknownRun is) (quiet_finds o UnknownRun [] quiet_none))))
+      (turns_done _ _ _ _ (voided_after o p UnknownRun is)
+      (quiet_finds o UnknownRun [] quiet_none))))
 
-  pub void_stays : (number : ℕ) (account account' : Option Account) (o p : Option (Voidable PayRun)) → StillThere account account' → StillKept o p
+  pub void_stays : (number : ℕ) (account account' : Option Account) (o p : Option (Voidable PayRun))
+      → StillThere account account' → StillKept o p
       → Stays (void_checks name number account o) (void_checks name number account' p)
   void_stays number account account' o p here still =
       stays_needs _ _ _ _ _ (always _)
@@ -194,21 +247,26 @@ module _ (name : List ℕ) where
       (stays_done _ _ _ _ (voided_still o p still) (firm_finds o UnknownRun [] firm_none))))
 
   -- Pay and VoidPay
-  pub pay_turns : (number : ℕ) (payment : Payment) (account : Option Account) (o p : Option (Voidable Payment)) (there after : Bool) (count count' : ℕ)
+  pub pay_turns : (number : ℕ) (payment : Payment) (account : Option Account)
+      (o p : Option (Voidable Payment)) (there after : Bool) (count count' : ℕ)
       → (o ≡ None → p ≡ Some (record { value = payment; voided = false }))
-      → Turns (pay_checks name number payment account o there count) (pay_checks name number payment account p after count')
+      → Turns (pay_checks name number payment account o there count)
+      (pay_checks name number payment account p after count')
   pay_turns number payment account o p there after count count' is =
       turns_needs _ _ _ _ _ (always _)
       (turns_needs _ _ _ _ _ (always _)
       (turns_needs _ _ _ _ _ (always _)
       (turns_needs _ _ _ _ _ (always _)
       (turns_finds account account UnknownAccount _ _ (λ a e. e)
-      (turns_new o p (same_payment payment) PaymentDiffers _ _ (λ none. (record { value = payment; voided = false }, is none, payment_same payment false))
+      (turns_new o p (same_payment payment) PaymentDiffers _ _
+      (λ none. (record { value = payment; voided = false }, is none, payment_same payment false))
       (quiet_needs _ _ _ (quiet_needs _ _ _ (quiet_needs _ _ [] quiet_none))))))))
 
-  pub pay_stays : (number : ℕ) (payment : Payment) (account account' : Option Account) (o p : Option (Voidable Payment)) (there after : Bool) (count count' : ℕ)
+  pub pay_stays : (number : ℕ) (payment : Payment) (account account' : Option Account)
+      (o p : Option (Voidable Payment)) (there after : Bool) (count count' : ℕ)
       → StillThere account account' → StillKept o p
-      → Stays (pay_checks name number payment account o there count) (pay_checks name number payment account' p after count')
+      → Stays (pay_checks name number payment account o there count)
+      (pay_checks name number payment account' p after count')
   pay_stays number payment account account' o p there after count count' here still =
       stays_needs _ _ _ _ _ (always _)
       (stays_needs _ _ _ _ _ (always _)
@@ -216,19 +274,29 @@ module _ (name : List ℕ) where
       (stays_needs _ _ _ _ _ (always _)
       (stays_finds account account' UnknownAccount _ _ here
       (stays_new o p (same_payment payment) PaymentDiffers _ _
-      (λ v is. (let w = still v is in (w.0, w.1, λ e. subst (λ (x : Payment). same_payment payment (record { value = x; voided = false }) ≡ true) (sym w.2.0) e)))
+      (λ v is. (let w = still v is in (
+        w.0,
+        w.1,
+        λ e. subst (λ (x : Payment). same_payment payment (record { value = x; voided = false })
+            ≡ true) (sym w.2.0) e,
+      )))
       (firm_needs _ _ _ (firm_needs _ _ _ (firm_needs _ _ [] firm_none))))))))
 
-  pub void_payment_turns : (number : ℕ) (account : Option Account) (o p : Option (Voidable Payment)) → IsVoidAfter o p
-      → Turns (void_payment_checks name number account o) (void_payment_checks name number account p)
+  pub void_payment_turns : (number : ℕ) (account : Option Account) (o p : Option (Voidable Payment))
+      → IsVoidAfter o p
+      → Turns (void_payment_checks name number account o)
+      (void_payment_checks name number account p)
   void_payment_turns number account o p is =
       turns_needs _ _ _ _ _ (always _)
       (turns_needs _ _ _ _ _ (always _)
       (turns_finds account account UnknownAccount _ _ (λ a e. e)
-      (turns_done _ _ _ _ (voided_after o p UnknownPayment is) (quiet_finds o UnknownPayment [] quiet_none))))
+      (turns_done _ _ _ _ (voided_after o p UnknownPayment is)
+      (quiet_finds o UnknownPayment [] quiet_none))))
 
-  pub void_payment_stays : (number : ℕ) (account account' : Option Account) (o p : Option (Voidable Payment)) → StillThere account account' → StillKept o p
-      → Stays (void_payment_checks name number account o) (void_payment_checks name number account' p)
+  pub void_payment_stays : (number : ℕ) (account account' : Option Account)
+      (o p : Option (Voidable Payment)) → StillThere account account' → StillKept o p
+      → Stays (void_payment_checks name number account o)
+      (void_payment_checks name number account' p)
   void_payment_stays number account account' o p here still =
       stays_needs _ _ _ _ _ (always _)
       (stays_needs _ _ _ _ _ (always _)
@@ -241,25 +309,31 @@ pub calendar_turns : (year : ℕ) (days : List ℕ) (o p : Option (List ℕ)) �
 calendar_turns year days o p there =
     turns_needs _ _ _ _ _ (always _)
     (turns_needs _ _ _ _ _ (always _)
-    (turns_new o p (same_days days) CalendarDiffers [] [] (λ none. (days, there none, own_name days)) quiet_none))
+    (turns_new o p (same_days days) CalendarDiffers [] []
+    (λ none. (days, there none, own_name days)) quiet_none))
 
-pub calendar_stays : (year : ℕ) (days : List ℕ) (o p : Option (List ℕ)) → ((x : List ℕ) → o ≡ Some x → p ≡ Some x)
+pub calendar_stays : (year : ℕ) (days : List ℕ) (o p : Option (List ℕ))
+    → ((x : List ℕ) → o ≡ Some x → p ≡ Some x)
     → Stays (calendar_checks year days o) (calendar_checks year days p)
 calendar_stays year days o p still =
     stays_needs _ _ _ _ _ (always _)
     (stays_needs _ _ _ _ _ (always _)
-    (stays_new o p (same_days days) CalendarDiffers [] [] (λ x is. (x, still x is, λ e. e)) firm_none))
+    (stays_new o p (same_days days) CalendarDiffers [] [] (λ x is. (x, still x is, λ e. e))
+    firm_none))
 
 -- AddHoliday
-pub holiday_turns : (day : ℕ) (o p : Option (List ℕ)) (added more : List ℕ) → is_holiday (days_of_year p more) day ≡ true
+pub holiday_turns : (day : ℕ) (o p : Option (List ℕ)) (added more : List ℕ)
+    → is_holiday (days_of_year p more) day ≡ true
     → Turns (add_holiday_checks day o added) (add_holiday_checks day p more)
 holiday_turns day o p added more is =
     turns_needs _ _ _ _ _ (always _)
-    (turns_done _ _ _ _ (λ e. is) (quiet_finds o (CalendarMissing (year_of day)) _ (quiet_needs _ _ [] quiet_none)))
+    (turns_done _ _ _ _ (λ e. is) (quiet_finds o (CalendarMissing (year_of day)) _
+    (quiet_needs _ _ [] quiet_none)))
 
 pub holiday_stays : (day : ℕ) (o p : Option (List ℕ)) (added more : List ℕ)
     → (is_holiday (days_of_year o added) day ≡ true → is_holiday (days_of_year p more) day ≡ true)
     → Stays (add_holiday_checks day o added) (add_holiday_checks day p more)
 holiday_stays day o p added more still =
     stays_needs _ _ _ _ _ (always _)
-    (stays_done _ _ _ _ still (firm_finds o (CalendarMissing (year_of day)) _ (firm_needs _ _ [] firm_none)))
+    (stays_done _ _ _ _ still (firm_finds o (CalendarMissing (year_of day)) _
+    (firm_needs _ _ [] firm_none)))

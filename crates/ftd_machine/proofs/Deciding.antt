@@ -5,7 +5,8 @@ use Rattle.ftd_machine.specs.Checks.{Answer, Decides}
 
 -- the checks decided, and the state is as it was, or they passed
 pub either : (check : Option Answer) (s : State) (answer : Answer) (new : State) (Else : Type 0)
-    → Decides check s answer new Else → ((check ≡ Some answer) × (new ≡ s)) ⊎ ((check ≡ None) × Else)
+    → Decides check s answer new Else → ((check ≡ Some answer) × (new ≡ s))
+    ⊎ ((check ≡ None) × Else)
 either (Some given) s answer new Else d = inl (ap Some (sym d.0), d.1)
 either None s answer new Else d = inr (refl, d)
 

@@ -1,5 +1,7 @@
--- Worked examples over the definitions alone: what a desk answers to requests one after the other, and what it keeps
--- then. A day is the number of days after 1 January 1900, a quarter that of quarters after the first of 1900, an amount
+-- Worked examples over the definitions alone: what a desk answers to requests one after the other,
+-- and what it keeps
+-- then. A day is the number of days after 1 January 1900, a quarter that of quarters after the
+-- first of 1900, an amount
 -- its cents.
 use Rattle.std.proofs.Common.{inl, refl, ℕ, false, true, List, [], ◌∷◌, Ok, Err}
 use Rattle.std.specs.Prelude.{codes}
@@ -10,8 +12,15 @@ use Rattle.ftd_rules.specs.Accounts.{is_account_name}
 use Rattle.ftd_machine.specs.State.{State, nothing}
 use Rattle.ftd_machine.specs.Runs.{IsRun}
 use Rattle.ftd_machine.specs.declared.replies.Reply.TheVariants.{Done, Already}
-use Rattle.ftd_machine.specs.declared.replies.Refusal.TheVariants.{BadName, AccountDiffers, CalendarDiffers, QuarterDiffers, PaymentDiffers, UnknownAccount, UnknownPayment, BeforeStart, CalendarMissing, YearNotOpen, WrongForm}
-use Rattle.ftd_machine.specs.declared.requests.Request.TheVariants.{Enrol, Calendar, AddHoliday, Report, ReportYear, Pay, VoidPay}
+use Rattle.ftd_machine.specs.declared.replies.Refusal.TheVariants.{BadName, AccountDiffers}
+use Rattle.ftd_machine.specs.declared.replies.Refusal.TheVariants.{CalendarDiffers, QuarterDiffers}
+use Rattle.ftd_machine.specs.declared.replies.Refusal.TheVariants.{PaymentDiffers, UnknownAccount}
+use Rattle.ftd_machine.specs.declared.replies.Refusal.TheVariants.{UnknownPayment, BeforeStart}
+use Rattle.ftd_machine.specs.declared.replies.Refusal.TheVariants.{CalendarMissing, YearNotOpen}
+use Rattle.ftd_machine.specs.declared.replies.Refusal.TheVariants.{WrongForm}
+use Rattle.ftd_machine.specs.declared.requests.Request.TheVariants.{Enrol, Calendar, AddHoliday}
+use Rattle.ftd_machine.specs.declared.requests.Request.TheVariants.{Report, ReportYear, Pay}
+use Rattle.ftd_machine.specs.declared.requests.Request.TheVariants.{VoidPay}
 
 ash : List ℕ
 ash = codes "ash"
@@ -21,34 +30,66 @@ cents amount = record { 0 = amount }
 
 -- `ash`, which starts on 2024-01-01, on Form 941
 with_ash : State
-with_ash = record nothing { accounts = record { name = codes "ash"; account = record { start = 45_290; carried = false; form = F941 } } ∷ [] }
+with_ash =
+    record nothing {
+      accounts = record {
+        name = codes "ash";
+        account = record { start = 45_290; carried = false; form = F941 };
+      } ∷ [];
+    }
 
 -- enrolled once; with another first day or another form it differs, and `Ash` is no name
 enrolled : IsRun nothing
-    (Enrol ash 45_290 false F941 ∷ Enrol ash 45_290 false F941 ∷ Enrol ash 45_291 false F941 ∷ Enrol ash 45_290 false F943
+    (Enrol ash 45_290 false F941 ∷ Enrol ash 45_290 false F941 ∷ Enrol ash 45_291 false F941
+    ∷ Enrol ash 45_290 false F943
     ∷ Enrol (codes "Ash") 45_290 false F941 ∷ [])
     (Ok Done ∷ Ok Already ∷ Err AccountDiffers ∷ Err AccountDiffers ∷ Err BadName ∷ []) with_ash
 unfolding ash with_ash is_account_name month_of month_from month_start
 enrolled = (
   with_ash,
   inl (refl, refl),
-  (with_ash, inl (refl, refl), (with_ash, inl (refl, refl), (with_ash, inl (refl, refl), (with_ash, inl (refl, refl), refl)))),
+  (
+    with_ash,
+    inl (refl, refl),
+    (with_ash, inl (refl, refl), (with_ash, inl (refl, refl), (with_ash, inl (refl, refl), refl))),
+  ),
 )
 
 -- with 1.00 reported for 2024Q1
 with_figure : State
-with_figure = record with_ash { reported = record { name = codes "ash"; key = 496; content = record { 0 = 100 } } ∷ [] }
+with_figure = record with_ash {
+  reported = record {
+    name = codes "ash";
+    key = 496;
+    content = record { 0 = 100 };
+  } ∷ [];
+}
 
--- reported once; 2.00 differs; 2023Q4 ends before the first day; years are reported on Form 943; `nobody` is not enrolled
+-- reported once; 2.00 differs; 2023Q4 ends before the first day; years are reported on Form 943;
+-- `nobody` is not enrolled
 reported : IsRun with_ash
-    (Report ash 496 (cents 100) ∷ Report ash 496 (cents 100) ∷ Report ash 496 (cents 200) ∷ Report ash 495 (cents 100)
+    (Report ash 496 (cents 100) ∷ Report ash 496 (cents 100) ∷ Report ash 496 (cents 200)
+    ∷ Report ash 495 (cents 100)
     ∷ ReportYear ash 2024 (cents 100) ∷ Report (codes "nobody") 496 (cents 100) ∷ [])
-    (Ok Done ∷ Ok Already ∷ Err QuarterDiffers ∷ Err BeforeStart ∷ Err WrongForm ∷ Err UnknownAccount ∷ []) with_figure
+    (Ok Done ∷ Ok Already ∷ Err QuarterDiffers ∷ Err BeforeStart ∷ Err WrongForm
+    ∷ Err UnknownAccount ∷ []) with_figure
 unfolding ash cents with_ash with_figure is_account_name month_of month_from month_start
 reported = (
   with_figure,
   inl (refl, refl),
-  (with_figure, inl (refl, refl), (with_figure, inl (refl, refl), (with_figure, inl (refl, refl), (with_figure, inl (refl, refl), (with_figure, inl (refl, refl), refl))))),
+  (
+    with_figure,
+    inl (refl, refl),
+    (
+      with_figure,
+      inl (refl, refl),
+      (
+        with_figure,
+        inl (refl, refl),
+        (with_figure, inl (refl, refl), (with_figure, inl (refl, refl), refl)),
+      ),
+    ),
+  ),
 )
 
 -- 27 May 2024 given as a holiday, and 29 May added
@@ -58,28 +99,49 @@ given = record nothing { calendars = record { year = 2024; days = 45_437 ∷ [] 
 added : State
 added = record given { added_days = 45_439 ∷ [] }
 
--- the added day is a holiday from then on, and the calendar is compared as it was given; 2026 is not given
+-- the added day is a holiday from then on, and the calendar is compared as it was given; 2026 is
+-- not given
 holidays_added : IsRun nothing
-    (Calendar 2024 (45_437 ∷ []) ∷ AddHoliday 45_439 ∷ AddHoliday 45_439 ∷ Calendar 2024 (45_437 ∷ []) ∷ Calendar 2024 (45_437 ∷ 45_439 ∷ [])
+    (Calendar 2024 (45_437 ∷ []) ∷ AddHoliday 45_439 ∷ AddHoliday 45_439 ∷ Calendar 2024
+    (45_437 ∷ []) ∷ Calendar 2024 (45_437 ∷ 45_439 ∷ [])
     ∷ AddHoliday 46_021 ∷ [])
-    (Ok Done ∷ Ok Done ∷ Ok Already ∷ Ok Already ∷ Err CalendarDiffers ∷ Err (CalendarMissing 2026) ∷ []) added
+    (Ok Done ∷ Ok Done ∷ Ok Already ∷ Ok Already ∷ Err CalendarDiffers ∷ Err (CalendarMissing 2026)
+    ∷ []) added
 unfolding given added month_of month_from month_start
 holidays_added = (
   given,
   inl (refl, refl),
-  (added, inl (refl, refl), (added, inl (refl, refl), (added, inl (refl, refl), (added, inl (refl, refl), (added, inl (refl, refl), refl))))),
+  (
+    added,
+    inl (refl, refl),
+    (
+      added,
+      inl (refl, refl),
+      (added, inl (refl, refl), (added, inl (refl, refl), (added, inl (refl, refl), refl))),
+    ),
+  ),
 )
 
 -- 2024 is open, and payment 1 of 5.00 was made on 2024-01-10 for 2024-01-05
 opened : State
-opened = record with_ash { open_years = record { name = codes "ash"; key = 2024; content = tt } ∷ [] }
+opened = record with_ash {
+  open_years = record { name = codes "ash"; key = 2024; content = tt }
+      ∷ [];
+}
 
 paid : State
 paid = record opened {
   payments = record {
     name = codes "ash";
     key = 1;
-    content = record { value = record { paid = 45_299; for_day = 45_294; cents = record { 0 = 500 } }; voided = false };
+    content = record {
+      value = record {
+        paid = 45_299;
+        for_day = 45_294;
+        cents = record { 0 = 500 };
+      };
+      voided = false;
+    };
   } ∷ [];
 }
 
@@ -88,15 +150,26 @@ void = record opened {
   payments = record {
     name = codes "ash";
     key = 1;
-    content = record { value = record { paid = 45_299; for_day = 45_294; cents = record { 0 = 500 } }; voided = true };
+    content = record {
+      value = record {
+        paid = 45_299;
+        for_day = 45_294;
+        cents = record { 0 = 500 };
+      };
+      voided = true;
+    };
   } ∷ [];
 }
 
--- taken once; 6.00 differs; voided once, after which the number stays taken and the payment voided; 2025 is not open
+-- taken once; 6.00 differs; voided once, after which the number stays taken and the payment voided;
+-- 2025 is not open
 payments_taken : IsRun opened
-    (Pay ash 1 45_299 45_294 (cents 500) ∷ Pay ash 1 45_299 45_294 (cents 500) ∷ Pay ash 1 45_299 45_294 (cents 600) ∷ VoidPay ash 2 ∷ VoidPay ash 1
-    ∷ VoidPay ash 1 ∷ Pay ash 1 45_299 45_294 (cents 500) ∷ Pay ash 2 45_665 45_665 (cents 100) ∷ [])
-    (Ok Done ∷ Ok Already ∷ Err PaymentDiffers ∷ Err UnknownPayment ∷ Ok Done ∷ Ok Already ∷ Ok Already ∷ Err (YearNotOpen 2025) ∷ []) void
+    (Pay ash 1 45_299 45_294 (cents 500) ∷ Pay ash 1 45_299 45_294 (cents 500) ∷ Pay ash 1 45_299
+    45_294 (cents 600) ∷ VoidPay ash 2 ∷ VoidPay ash 1
+    ∷ VoidPay ash 1 ∷ Pay ash 1 45_299 45_294 (cents 500) ∷ Pay ash 2 45_665 45_665 (cents 100)
+    ∷ [])
+    (Ok Done ∷ Ok Already ∷ Err PaymentDiffers ∷ Err UnknownPayment ∷ Ok Done ∷ Ok Already
+    ∷ Ok Already ∷ Err (YearNotOpen 2025) ∷ []) void
 unfolding ash cents with_ash opened paid void is_account_name month_of month_from month_start
 payments_taken = (
   paid,
@@ -110,7 +183,11 @@ payments_taken = (
       (
         paid,
         inl (refl, refl),
-        (void, inl (refl, refl), (void, inl (refl, refl), (void, inl (refl, refl), (void, inl (refl, refl), refl)))),
+        (
+          void,
+          inl (refl, refl),
+          (void, inl (refl, refl), (void, inl (refl, refl), (void, inl (refl, refl), refl))),
+        ),
       ),
     ),
   ),

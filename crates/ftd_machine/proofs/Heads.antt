@@ -1,6 +1,8 @@
--- Lists of checks of which the first decides, head by head: which of them answer that the request was done
+-- Lists of checks of which the first decides, head by head: which of them answer that the request
+-- was done
 -- before, and when.
-use Rattle.std.proofs.Common.{◌≡◌, refl, if◌then◌else◌, Bool, true, false, List, [], ◌∷◌, Option, None, Some, Ok, Err}
+use Rattle.std.proofs.Common.{◌≡◌, refl, if◌then◌else◌, Bool, true, false, List, [], ◌∷◌, Option}
+use Rattle.std.proofs.Common.{None, Some, Ok, Err}
 use Rattle.std.specs.Prelude.{is_some}
 use Rattle.ftd_machine.specs.Checks.{Answer, first_of, needs, done_if, finds, is_new}
 use Rattle.ftd_machine.specs.Laws.{is_change}
@@ -23,15 +25,18 @@ pub record Quiet (P : List (Option Answer)) : Type 0 where
 pub quiet_none : Quiet []
 quiet_none = record { told = tt }
 
-pub quiet_needs : (holds : Bool) (refusal : Refusal) (Q : List (Option Answer)) → Quiet Q → Quiet (needs holds refusal ∷ Q)
+pub quiet_needs : (holds : Bool) (refusal : Refusal) (Q : List (Option Answer)) → Quiet Q
+    → Quiet (needs holds refusal ∷ Q)
 quiet_needs true refusal Q quiet = record { told = quiet.told }
 quiet_needs false refusal Q quiet = record { told = refl }
 
-pub quiet_finds : {X : Type 0} (o : Option X) (refusal : Refusal) (Q : List (Option Answer)) → Quiet Q → Quiet (finds o refusal ∷ Q)
+pub quiet_finds : {X : Type 0} (o : Option X) (refusal : Refusal) (Q : List (Option Answer))
+    → Quiet Q → Quiet (finds o refusal ∷ Q)
 quiet_finds (Some x) refusal Q quiet = record { told = quiet.told }
 quiet_finds None refusal Q quiet = record { told = refl }
 
-same_quiet : (same : Bool) (refusal : Refusal) → is_change (if same then Ok Already else Err refusal) ≡ false
+same_quiet : (same : Bool) (refusal : Refusal)
+    → is_change (if same then Ok Already else Err refusal) ≡ false
 same_quiet true refusal = refl
 same_quiet false refusal = refl
 
@@ -41,26 +46,44 @@ pub record Turns (P P' : List (Option Answer)) : Type 0 where
   pub no_change : IsNoChange (first_of P)
   pub done : first_of P ≡ None → first_of P' ≡ done_before
 
-pub turns_needs : (holds after : Bool) (refusal : Refusal) (Q Q' : List (Option Answer)) → (holds ≡ true → after ≡ true)
+pub turns_needs : (holds after : Bool) (refusal : Refusal) (Q Q' : List (Option Answer))
+    → (holds ≡ true → after ≡ true)
     → Turns Q Q' → Turns (needs holds refusal ∷ Q) (needs after refusal ∷ Q')
-turns_needs true after refusal Q Q' stays turns = record { no_change = turns.no_change; done = λ e. rw (stays refl) (turns.done e) }
-turns_needs false after refusal Q Q' stays turns = record { no_change = refl; done = λ e. absurd cc }
+turns_needs true after refusal Q Q' stays turns = record {
+  no_change = turns.no_change;
+  done = λ e. rw (stays refl) (turns.done e);
+}
+turns_needs false after refusal Q Q' stays turns =
+    record { no_change = refl; done = λ e. absurd cc }
 
 pub turns_finds : {X : Type 0} (o p : Option X) (refusal : Refusal) (Q Q' : List (Option Answer))
-    → ((x : X) → o ≡ Some x → p ≡ Some x) → Turns Q Q' → Turns (finds o refusal ∷ Q) (finds p refusal ∷ Q')
-turns_finds (Some x) p refusal Q Q' stays turns = record { no_change = turns.no_change; done = λ e. rw (stays x refl) (turns.done e) }
+    → ((x : X) → o ≡ Some x → p ≡ Some x) → Turns Q Q' → Turns (finds o refusal ∷ Q)
+    (finds p refusal ∷ Q')
+turns_finds (Some x) p refusal Q Q' stays turns = record {
+  no_change = turns.no_change;
+  done = λ e. rw (stays x refl) (turns.done e);
+}
 turns_finds None p refusal Q Q' stays turns = record { no_change = refl; done = λ e. absurd cc }
 
-pub turns_new : {X : Type 0} (o p : Option X) (same : X → Bool) (refusal : Refusal) (Q Q' : List (Option Answer))
+pub turns_new : {X : Type 0} (o p : Option X) (same : X → Bool) (refusal : Refusal)
+    (Q Q' : List (Option Answer))
     → (o ≡ None → (x : X) × (p ≡ Some x) × (same x ≡ true)) → Quiet Q
     → Turns (is_new o same refusal ∷ Q) (is_new p same refusal ∷ Q')
-turns_new (Some x) p same refusal Q Q' after quiet = record { no_change = same_quiet (same x) refusal; done = λ e. absurd cc }
-turns_new None p same refusal Q Q' after quiet = record { no_change = quiet.told; done = λ e. (let is = after refl in rw (is.1, is.2) refl) }
+turns_new (Some x) p same refusal Q Q' after quiet =
+    record { no_change = same_quiet (same x) refusal; done = λ e. absurd cc }
+turns_new None p same refusal Q Q' after quiet = record {
+  no_change = quiet.told;
+  done = λ e. (let is = after refl in rw (is.1, is.2) refl);
+}
 
-pub turns_done : (holds after : Bool) (Q Q' : List (Option Answer)) → (first_of Q ≡ None → after ≡ true) → Quiet Q
+pub turns_done : (holds after : Bool) (Q Q' : List (Option Answer))
+    → (first_of Q ≡ None → after ≡ true) → Quiet Q
     → Turns (done_if holds ∷ Q) (done_if after ∷ Q')
 turns_done true after Q Q' stays quiet = record { no_change = refl; done = λ e. absurd cc }
-turns_done false after Q Q' stays quiet = record { no_change = quiet.told; done = λ e. rw (stays e) refl }
+turns_done false after Q Q' stays quiet = record {
+  no_change = quiet.told;
+  done = λ e. rw (stays e) refl;
+}
 
 -- ---- a list that never answers so
 
@@ -70,11 +93,13 @@ pub record Firm (Q : List (Option Answer)) : Type 0 where
 pub firm_none : Firm []
 firm_none = record { never = λ e. absurd cc }
 
-pub firm_needs : (holds : Bool) (refusal : Refusal) (Q : List (Option Answer)) → Firm Q → Firm (needs holds refusal ∷ Q)
+pub firm_needs : (holds : Bool) (refusal : Refusal) (Q : List (Option Answer)) → Firm Q
+    → Firm (needs holds refusal ∷ Q)
 firm_needs true refusal Q firm = record { never = λ e. firm.never e }
 firm_needs false refusal Q firm = record { never = λ e. absurd cc }
 
-pub firm_finds : {X : Type 0} (o : Option X) (refusal : Refusal) (Q : List (Option Answer)) → Firm Q → Firm (finds o refusal ∷ Q)
+pub firm_finds : {X : Type 0} (o : Option X) (refusal : Refusal) (Q : List (Option Answer)) → Firm Q
+    → Firm (finds o refusal ∷ Q)
 firm_finds (Some x) refusal Q firm = record { never = λ e. firm.never e }
 firm_finds None refusal Q firm = record { never = λ e. absurd cc }
 
@@ -83,29 +108,39 @@ firm_finds None refusal Q firm = record { never = λ e. absurd cc }
 pub record Stays (P P' : List (Option Answer)) : Type 0 where
   pub still : first_of P ≡ done_before → first_of P' ≡ done_before
 
-pub stays_needs : (holds after : Bool) (refusal : Refusal) (Q Q' : List (Option Answer)) → (holds ≡ true → after ≡ true)
+pub stays_needs : (holds after : Bool) (refusal : Refusal) (Q Q' : List (Option Answer))
+    → (holds ≡ true → after ≡ true)
     → Stays Q Q' → Stays (needs holds refusal ∷ Q) (needs after refusal ∷ Q')
-stays_needs true after refusal Q Q' still stays = record { still = λ e. rw (still refl) (stays.still e) }
+stays_needs true after refusal Q Q' still stays =
+    record { still = λ e. rw (still refl) (stays.still e) }
 stays_needs false after refusal Q Q' still stays = record { still = λ e. absurd cc }
 
 pub stays_finds : {X : Type 0} (o p : Option X) (refusal : Refusal) (Q Q' : List (Option Answer))
-    → ((x : X) → o ≡ Some x → p ≡ Some x) → Stays Q Q' → Stays (finds o refusal ∷ Q) (finds p refusal ∷ Q')
-stays_finds (Some x) p refusal Q Q' still stays = record { still = λ e. rw (still x refl) (stays.still e) }
+    → ((x : X) → o ≡ Some x → p ≡ Some x) → Stays Q Q' → Stays (finds o refusal ∷ Q)
+    (finds p refusal ∷ Q')
+stays_finds (Some x) p refusal Q Q' still stays =
+    record { still = λ e. rw (still x refl) (stays.still e) }
 stays_finds None p refusal Q Q' still stays = record { still = λ e. absurd cc }
 
-same_told : (same : Bool) (refusal : Refusal) → Some (if same then Ok Already else Err refusal) ≡ done_before → same ≡ true
+same_told : (same : Bool) (refusal : Refusal) → Some (if same then Ok Already else Err refusal)
+    ≡ done_before → same ≡ true
 same_told true refusal e = refl
 same_told false refusal e = absurd cc
 
-pub stays_new : {X : Type 0} (o p : Option X) (same : X → Bool) (refusal : Refusal) (Q Q' : List (Option Answer))
+pub stays_new : {X : Type 0} (o p : Option X) (same : X → Bool) (refusal : Refusal)
+    (Q Q' : List (Option Answer))
     → ((x : X) → o ≡ Some x → (y : X) × (p ≡ Some y) × (same x ≡ true → same y ≡ true)) → Firm Q
     → Stays (is_new o same refusal ∷ Q) (is_new p same refusal ∷ Q')
 stays_new (Some x) p same refusal Q Q' still firm =
     let is = still x refl in
-    record { still = λ e. (let equal : same is.0 ≡ true = is.2 (same_told (same x) refusal e) in rw (is.1, equal) refl) }
+    record {
+      still = λ e. (let equal : same is.0 ≡ true = is.2 (same_told (same x) refusal e) in
+          rw (is.1, equal) refl);
+    }
 stays_new None p same refusal Q Q' still firm = record { still = λ e. absurd (firm.never e) }
 
-pub stays_done : (holds after : Bool) (Q Q' : List (Option Answer)) → (holds ≡ true → after ≡ true) → Firm Q
+pub stays_done : (holds after : Bool) (Q Q' : List (Option Answer)) → (holds ≡ true → after ≡ true)
+    → Firm Q
     → Stays (done_if holds ∷ Q) (done_if after ∷ Q')
 stays_done true after Q Q' still firm = record { still = λ e. rw (still refl) refl }
 stays_done false after Q Q' still firm = record { still = λ e. absurd (firm.never e) }
@@ -115,34 +150,43 @@ stays_done false after Q Q' still firm = record { still = λ e. absurd (firm.nev
 pub record Gives (P : List (Option Answer)) (Fact : Type 0) : Type 0 where
   pub fact : first_of P ≡ None → Fact
 
-pub gives_needs : (holds : Bool) (refusal : Refusal) (Q : List (Option Answer)) → Gives (needs holds refusal ∷ Q) (holds ≡ true)
+pub gives_needs : (holds : Bool) (refusal : Refusal) (Q : List (Option Answer))
+    → Gives (needs holds refusal ∷ Q) (holds ≡ true)
 gives_needs true refusal Q = record { fact = λ e. refl }
 gives_needs false refusal Q = record { fact = λ e. absurd cc }
 
-pub gives_finds : {X : Type 0} (o : Option X) (refusal : Refusal) (Q : List (Option Answer)) → Gives (finds o refusal ∷ Q) (is_some o ≡ true)
+pub gives_finds : {X : Type 0} (o : Option X) (refusal : Refusal) (Q : List (Option Answer))
+    → Gives (finds o refusal ∷ Q) (is_some o ≡ true)
 gives_finds (Some x) refusal Q = record { fact = λ e. refl }
 gives_finds None refusal Q = record { fact = λ e. absurd cc }
 
-pub gives_done : (holds : Bool) (Q : List (Option Answer)) → Gives (done_if holds ∷ Q) (holds ≡ false)
+pub gives_done : (holds : Bool) (Q : List (Option Answer)) → Gives (done_if holds ∷ Q)
+    (holds ≡ false)
 gives_done true Q = record { fact = λ e. absurd cc }
 gives_done false Q = record { fact = λ e. refl }
 
-pub gives_new : {X : Type 0} (o : Option X) (same : X → Bool) (refusal : Refusal) (Q : List (Option Answer)) → Gives (is_new o same refusal ∷ Q) (o ≡ None)
+pub gives_new : {X : Type 0} (o : Option X) (same : X → Bool) (refusal : Refusal)
+    (Q : List (Option Answer)) → Gives (is_new o same refusal ∷ Q) (o ≡ None)
 gives_new (Some x) same refusal Q = record { fact = λ e. absurd cc }
 gives_new None same refusal Q = record { fact = λ e. refl }
 
-pub skip_needs : (holds : Bool) (refusal : Refusal) (Q : List (Option Answer)) (Fact : Type 0) → Gives Q Fact → Gives (needs holds refusal ∷ Q) Fact
+pub skip_needs : (holds : Bool) (refusal : Refusal) (Q : List (Option Answer)) (Fact : Type 0)
+    → Gives Q Fact → Gives (needs holds refusal ∷ Q) Fact
 skip_needs true refusal Q Fact g = record { fact = λ e. g.fact e }
 skip_needs false refusal Q Fact g = record { fact = λ e. absurd cc }
 
-pub skip_finds : {X : Type 0} (o : Option X) (refusal : Refusal) (Q : List (Option Answer)) (Fact : Type 0) → Gives Q Fact → Gives (finds o refusal ∷ Q) Fact
+pub skip_finds : {X : Type 0} (o : Option X) (refusal : Refusal) (Q : List (Option Answer))
+    (Fact : Type 0) → Gives Q Fact → Gives (finds o refusal ∷ Q) Fact
 skip_finds (Some x) refusal Q Fact g = record { fact = λ e. g.fact e }
 skip_finds None refusal Q Fact g = record { fact = λ e. absurd cc }
 
-pub skip_new : {X : Type 0} (o : Option X) (same : X → Bool) (refusal : Refusal) (Q : List (Option Answer)) (Fact : Type 0) → Gives Q Fact → Gives (is_new o same refusal ∷ Q) Fact
+pub skip_new : {X : Type 0} (o : Option X) (same : X → Bool) (refusal : Refusal)
+    (Q : List (Option Answer)) (Fact : Type 0) → Gives Q Fact
+    → Gives (is_new o same refusal ∷ Q) Fact
 skip_new (Some x) same refusal Q Fact g = record { fact = λ e. absurd cc }
 skip_new None same refusal Q Fact g = record { fact = λ e. g.fact e }
 
-pub skip_done : (holds : Bool) (Q : List (Option Answer)) (Fact : Type 0) → Gives Q Fact → Gives (done_if holds ∷ Q) Fact
+pub skip_done : (holds : Bool) (Q : List (Option Answer)) (Fact : Type 0) → Gives Q Fact
+    → Gives (done_if holds ∷ Q) Fact
 skip_done true Q Fact g = record { fact = λ e. absurd cc }
 skip_done false Q Fact g = record { fact = λ e. g.fact e }

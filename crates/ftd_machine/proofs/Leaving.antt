@@ -10,12 +10,16 @@ use Rattle.ftd_rules.specs.declared.run.PayRun.{PayRun}
 use Rattle.ftd_rules.specs.declared.run.Voidable.{Voidable}
 use Rattle.ftd_machine.specs.declared.replies.Reply.TheVariants.{Done}
 use Rattle.ftd_machine.specs.declared.requests.Request.{Request}
-use Rattle.ftd_machine.specs.declared.requests.Request.TheVariants.{Enrol, Calendar, AddHoliday, Report, ReportYear, OpenYear, Post, Void, Pay, VoidPay, Status, DueList, ScheduleB}
+use Rattle.ftd_machine.specs.declared.requests.Request.TheVariants.{Enrol, Calendar, AddHoliday}
+use Rattle.ftd_machine.specs.declared.requests.Request.TheVariants.{Report, ReportYear, OpenYear}
+use Rattle.ftd_machine.specs.declared.requests.Request.TheVariants.{Post, Void, Pay, VoidPay}
+use Rattle.ftd_machine.specs.declared.requests.Request.TheVariants.{Status, DueList, ScheduleB}
 use Rattle.ftd_machine.proofs.Deciding.{either}
 
 -- a request that is done has changed the state
 pub done_leaves : (check : Option Answer) (s : State) (answer : Answer) (new after : State)
-    → Decides check s answer new ((answer ≡ Ok Done) × (new ≡ after)) → is_change answer ≡ false → new ≡ s
+    → Decides check s answer new ((answer ≡ Ok Done) × (new ≡ after)) → is_change answer ≡ false
+    → new ≡ s
 done_leaves check s answer new after step stays =
     elim (either check s answer new _ step) [
       | inl same ↦ same.1
@@ -23,7 +27,8 @@ done_leaves check s answer new after step stays =
     ]
 
 -- a question changes nothing
-pub asked_leaves : (check : Option Answer) (s : State) (answer : Answer) (new : State) (Told : Type 0)
+pub asked_leaves : (check : Option Answer) (s : State) (answer : Answer) (new : State)
+    (Told : Type 0)
     → Decides check s answer new ((new ≡ s) × Told) → new ≡ s
 asked_leaves check s answer new Told step =
     elim (either check s answer new _ step) [ inl same ↦ same.1 | inr told ↦ told.1.0 ]
@@ -33,36 +38,49 @@ next_leaves : (s : State) (answer : Answer) (new : State) (name : List ℕ) (yea
 next_leaves s answer new name year (inl missing) stays = missing.2.1
 next_leaves s answer new name year (inr found) stays = done_leaves _ s answer new _ found.2 stays
 
-open_leaves : (check : Option Answer) (s : State) (answer : Answer) (new : State) (name : List ℕ) (year : ℕ)
-    → Decides check s answer new (OpensNext s answer new name year) → is_change answer ≡ false → new ≡ s
+open_leaves : (check : Option Answer) (s : State) (answer : Answer) (new : State) (name : List ℕ)
+    (year : ℕ)
+    → Decides check s answer new (OpensNext s answer new name year) → is_change answer ≡ false
+    → new ≡ s
 open_leaves (Some given) s answer new name year step stays = step.1
 open_leaves None s answer new name year step stays = next_leaves s answer new name year step stays
 
 -- what is posted or voided is told
-post_leaves : (check : Option Answer) (s : State) (answer : Answer) (new after : State) (holidays : List ℕ) (own then : Entries) (payday : ℕ)
-    → Decides check s answer new ((new ≡ after) × IsPosted holidays own then payday answer) → is_change answer ≡ false → new ≡ s
+post_leaves : (check : Option Answer) (s : State) (answer : Answer) (new after : State)
+    (holidays : List ℕ) (own then : Entries) (payday : ℕ)
+    → Decides check s answer new ((new ≡ after) × IsPosted holidays own then payday answer)
+    → is_change answer ≡ false → new ≡ s
 post_leaves (Some given) s answer new after holidays own then payday step stays = step.1
-post_leaves None s answer new after holidays own then payday step stays = absurd (true≢false (rw step.1.told at stays))
+post_leaves None s answer new after holidays own then payday step stays =
+    absurd (true≢false (rw step.1.told at stays))
 
-void_leaves : (check : Option Answer) (s : State) (answer : Answer) (new after : State) (holidays : List ℕ) (own then : Entries) (known : Option (Voidable PayRun))
-    → Decides check s answer new ((run : Voidable PayRun) × (known ≡ Some run) × (new ≡ after) × IsPosted holidays own then run.value.payday answer)
+void_leaves : (check : Option Answer) (s : State) (answer : Answer) (new after : State)
+    (holidays : List ℕ) (own then : Entries) (known : Option (Voidable PayRun))
+    → Decides check s answer new ((run : Voidable PayRun) × (known ≡ Some run) × (new ≡ after)
+    × IsPosted holidays own then run.value.payday answer)
     → is_change answer ≡ false → new ≡ s
 void_leaves (Some given) s answer new after holidays own then known step stays = step.1
-void_leaves None s answer new after holidays own then known step stays = absurd (true≢false (rw step.3.told at stays))
+void_leaves None s answer new after holidays own then known step stays =
+    absurd (true≢false (rw step.3.told at stays))
 
 pub leaves : (s : State) (request : Request) (answer : Answer) (next : State)
     → Step s request answer next → is_change answer ≡ false → next ≡ s
-leaves s (Enrol name start carried form) answer next step stays = done_leaves _ s answer next _ step stays
+leaves s (Enrol name start carried form) answer next step stays =
+    done_leaves _ s answer next _ step stays
 leaves s (Calendar year days) answer next step stays = done_leaves _ s answer next _ step stays
 leaves s (AddHoliday day) answer next step stays = done_leaves _ s answer next _ step stays
-leaves s (Report name quarter cents) answer next step stays = done_leaves _ s answer next _ step stays
-leaves s (ReportYear name year cents) answer next step stays = done_leaves _ s answer next _ step stays
-leaves s (OpenYear name year) answer next step stays = open_leaves _ s answer next name year step stays
+leaves s (Report name quarter cents) answer next step stays =
+    done_leaves _ s answer next _ step stays
+leaves s (ReportYear name year cents) answer next step stays =
+    done_leaves _ s answer next _ step stays
+leaves s (OpenYear name year) answer next step stays = open_leaves _ s answer next name year step
+    stays
 leaves s (Post name number payday fit ss medicare) answer next step stays =
     post_leaves _ s answer next _ _ _ _ _ step stays
 leaves s (Void name number) answer next step stays =
     void_leaves _ s answer next _ _ _ _ _ step stays
-leaves s (Pay name number paid for_day cents) answer next step stays = done_leaves _ s answer next _ step stays
+leaves s (Pay name number paid for_day cents) answer next step stays =
+    done_leaves _ s answer next _ step stays
 leaves s (VoidPay name number) answer next step stays = done_leaves _ s answer next _ step stays
 leaves s (Status name day) answer next step stays = asked_leaves _ s answer next _ step
 leaves s (DueList name quarter as_of) answer next step stays = asked_leaves _ s answer next _ step

@@ -9,7 +9,10 @@ use Rattle.ftd_rules.specs.declared.run.PayRun.{PayRun}
 use Rattle.ftd_rules.specs.declared.run.Voidable.{Voidable}
 use Rattle.ftd_machine.specs.declared.replies.Reply.TheVariants.{Done}
 use Rattle.ftd_machine.specs.declared.requests.Request.{Request}
-use Rattle.ftd_machine.specs.declared.requests.Request.TheVariants.{Enrol, Calendar, AddHoliday, Report, ReportYear, OpenYear, Post, Void, Pay, VoidPay, Status, DueList, ScheduleB}
+use Rattle.ftd_machine.specs.declared.requests.Request.TheVariants.{Enrol, Calendar, AddHoliday}
+use Rattle.ftd_machine.specs.declared.requests.Request.TheVariants.{Report, ReportYear, OpenYear}
+use Rattle.ftd_machine.specs.declared.requests.Request.TheVariants.{Post, Void, Pay, VoidPay}
+use Rattle.ftd_machine.specs.declared.requests.Request.TheVariants.{Status, DueList, ScheduleB}
 use Rattle.ftd_machine.proofs.Adding.{account_other, entry_other, voided_other}
 use Rattle.ftd_machine.proofs.Leaving.{asked_leaves}
 
@@ -27,13 +30,17 @@ module _ {X : Type 0} (told : State → X) (s : State) (answer : Answer) (new : 
   done_stays (Some given) after step same = stays s step.1 refl
   done_stays None after step same = stays after step.1 same
 
-  pub post_stays : (check : Option Answer) (after : State) (holidays : List ℕ) (own then : Entries) (payday : ℕ)
-      → Decides check s answer new ((new ≡ after) × IsPosted holidays own then payday answer) → Stay after → Stay new
+  pub post_stays : (check : Option Answer) (after : State) (holidays : List ℕ) (own then : Entries)
+      (payday : ℕ)
+      → Decides check s answer new ((new ≡ after) × IsPosted holidays own then payday answer)
+      → Stay after → Stay new
   post_stays (Some given) after holidays own then payday step same = stays s step.1 refl
   post_stays None after holidays own then payday step same = stays after step.0 same
 
-  pub void_stays : (check : Option Answer) (after : State) (holidays : List ℕ) (own then : Entries) (known : Option (Voidable PayRun))
-      → Decides check s answer new ((run : Voidable PayRun) × (known ≡ Some run) × (new ≡ after) × IsPosted holidays own then run.value.payday answer)
+  pub void_stays : (check : Option Answer) (after : State) (holidays : List ℕ) (own then : Entries)
+      (known : Option (Voidable PayRun))
+      → Decides check s answer new ((run : Voidable PayRun) × (known ≡ Some run) × (new ≡ after)
+      × IsPosted holidays own then run.value.payday answer)
       → Stay after → Stay new
   void_stays (Some given) after holidays own then known step same = stays s step.1 refl
   void_stays None after holidays own then known step same = stays after step.2 same
@@ -43,33 +50,50 @@ module _ {X : Type 0} (told : State → X) (s : State) (answer : Answer) (new : 
   next_stays name year (inl missing) same = stays s missing.2.1 refl
   next_stays name year (inr found) same = done_stays _ _ found.2 same
 
-  pub open_stays : (check : Option Answer) (name : List ℕ) (year : ℕ) → Decides check s answer new (OpensNext s answer new name year)
+  pub open_stays : (check : Option Answer) (name : List ℕ) (year : ℕ) → Decides check s answer new
+      (OpensNext s answer new name year)
       → Stay (record s { open_years = with_entry s.open_years name year tt }) → Stay new
   open_stays (Some given) name year step same = stays s step.1 refl
   open_stays None name year step same = next_stays name year step same
 
 pub others : (s : State) (request : Request) (answer : Answer) (next : State) (account : List ℕ)
-    → Step s request answer next → (Names request account → ⊥) → entries_of next account ≡ entries_of s account
+    → Step s request answer next → (Names request account → ⊥)
+    → entries_of next account ≡ entries_of s account
 others s (Enrol name start carried form) answer next account step other =
-    done_stays (λ x. entries_of x account) s answer next _ _ step (rw (account_other s.accounts name (record { start = start; carried = carried; form = form }) account other) refl)
+    done_stays (λ x. entries_of x account) s answer next _ _ step
+    (rw (account_other s.accounts name (record { start = start; carried = carried; form = form })
+    account other) refl)
 others s (Calendar year days) answer next account step other =
     done_stays (λ x. entries_of x account) s answer next _ _ step refl
 others s (AddHoliday day) answer next account step other =
     done_stays (λ x. entries_of x account) s answer next _ _ step refl
 others s (Report name quarter cents) answer next account step other =
-    done_stays (λ x. entries_of x account) s answer next _ _ step (rw (entry_other s.reported name quarter cents account other) refl)
+    done_stays (λ x. entries_of x account) s answer next _ _ step
+    (rw (entry_other s.reported name quarter cents account other) refl)
 others s (ReportYear name year cents) answer next account step other =
-    done_stays (λ x. entries_of x account) s answer next _ _ step (rw (entry_other s.reported_years name year cents account other) refl)
+    done_stays (λ x. entries_of x account) s answer next _ _ step
+    (rw (entry_other s.reported_years name year cents account other) refl)
 others s (OpenYear name year) answer next account step other =
-    open_stays (λ x. entries_of x account) s answer next _ name year step (rw (entry_other s.open_years name year tt account other) refl)
+    open_stays (λ x. entries_of x account) s answer next _ name year step
+    (rw (entry_other s.open_years name year tt account other) refl)
 others s (Post name number payday fit ss medicare) answer next account step other =
-    post_stays (λ x. entries_of x account) s answer next _ _ _ _ _ _ step (rw (entry_other s.runs name number (taken (record { payday = payday; fit = fit; ss = ss; medicare = medicare })) account other) refl)
+    post_stays (λ x. entries_of x account) s answer next _ _ _ _ _ _ step
+    (rw (entry_other s.runs name number
+    (taken (record { payday = payday; fit = fit; ss = ss; medicare = medicare })) account other)
+    refl)
 others s (Void name number) answer next account step other =
-    void_stays (λ x. entries_of x account) s answer next _ _ _ _ _ _ step (rw (voided_other s.runs name number account other) refl)
+    void_stays (λ x. entries_of x account) s answer next _ _ _ _ _ _ step
+    (rw (voided_other s.runs name number account other) refl)
 others s (Pay name number paid for_day cents) answer next account step other =
-    done_stays (λ x. entries_of x account) s answer next _ _ step (rw (entry_other s.payments name number (taken (record { paid = paid; for_day = for_day; cents = cents })) account other) refl)
+    done_stays (λ x. entries_of x account) s answer next _ _ step
+    (rw (entry_other s.payments name number
+    (taken (record { paid = paid; for_day = for_day; cents = cents })) account other) refl)
 others s (VoidPay name number) answer next account step other =
-    done_stays (λ x. entries_of x account) s answer next _ _ step (rw (voided_other s.payments name number account other) refl)
-others s (Status name day) answer next account step other = ap (λ x. entries_of x account) (asked_leaves _ s answer next _ step)
-others s (DueList name quarter as_of) answer next account step other = ap (λ x. entries_of x account) (asked_leaves _ s answer next _ step)
-others s (ScheduleB name quarter) answer next account step other = ap (λ x. entries_of x account) (asked_leaves _ s answer next _ step)
+    done_stays (λ x. entries_of x account) s answer next _ _ step
+    (rw (voided_other s.payments name number account other) refl)
+others s (Status name day) answer next account step other = ap (λ x. entries_of x account)
+    (asked_leaves _ s answer next _ step)
+others s (DueList name quarter as_of) answer next account step other =
+    ap (λ x. entries_of x account) (asked_leaves _ s answer next _ step)
+others s (ScheduleB name quarter) answer next account step other = ap (λ x. entries_of x account)
+    (asked_leaves _ s answer next _ step)

@@ -1,5 +1,7 @@
 -- In any list a request that was done is answered Already from then on, or by a fault.
-use Rattle.std.proofs.Common.{◌≡◌, ◌∙◌, inl, inr, refl, sym, ap, subst, ℕ, ◌+◌, ◌==◌, ◌||◌, Bool, true, false, List, [], ◌∷◌, ◌++◌, length, filter, Option, None, Some, Ok, arith, length-append}
+use Rattle.std.proofs.Common.{◌≡◌, ◌∙◌, inl, inr, refl, sym, ap, subst, ℕ, ◌+◌, ◌==◌, ◌||◌, Bool}
+use Rattle.std.proofs.Common.{true, false, List, [], ◌∷◌, ◌++◌, length, filter, Option, None, Some}
+use Rattle.std.proofs.Common.{Ok, arith, length-append}
 use Rattle.std.specs.Prelude.{is_some, unwrap_or}
 use Rattle.std.specs.List.{list_any}
 use Rattle.std.proofs.lemmas.Bool.{true≢false}
@@ -13,42 +15,71 @@ use Rattle.ftd_machine.specs.declared.entries.Account.{Account}
 use Rattle.ftd_rules.specs.declared.run.PayRun.{PayRun}
 use Rattle.ftd_rules.specs.declared.payment.Payment.{Payment}
 use Rattle.ftd_rules.specs.declared.run.Voidable.{Voidable}
-use Rattle.ftd_machine.specs.State.{State, entries_of, is_named, account_of, kept_at, is_open, is_given, calendar_at, days_of, added_in, holidays}
+use Rattle.ftd_machine.specs.State.{State, entries_of, is_named, account_of, kept_at, is_open}
+use Rattle.ftd_machine.specs.State.{is_given, calendar_at, days_of, added_in, holidays}
 use Rattle.ftd_machine.specs.Checks.{Answer, first_of, Decides}
-use Rattle.ftd_machine.specs.Requests.{days_of_year, enrol_checks, calendar_checks, add_holiday_checks, report_checks, report_year_checks, open_year_checks, post_checks, void_checks, pay_checks, void_payment_checks, status_checks, due_list_checks, schedule_b_checks}
+use Rattle.ftd_machine.specs.Requests.{days_of_year, enrol_checks, calendar_checks}
+use Rattle.ftd_machine.specs.Requests.{add_holiday_checks, report_checks, report_year_checks}
+use Rattle.ftd_machine.specs.Requests.{open_year_checks, post_checks, void_checks, pay_checks}
+use Rattle.ftd_machine.specs.Requests.{void_payment_checks, status_checks, due_list_checks}
+use Rattle.ftd_machine.specs.Requests.{schedule_b_checks}
 use Rattle.ftd_machine.specs.Asking.{IsStatus, IsDueList, IsScheduleB}
-use Rattle.ftd_machine.specs.Step.{Step, OpensNext, may_open, taken, with_account, with_entry, with_voided}
+use Rattle.ftd_machine.specs.Step.{Step, OpensNext, may_open, taken, with_account, with_entry}
+use Rattle.ftd_machine.specs.Step.{with_voided}
 use Rattle.ftd_machine.specs.Runs.{Goes, IsRun}
 use Rattle.ftd_machine.specs.Laws.{is_change, IsRepeat}
 use Rattle.ftd_machine.specs.declared.replies.Reply.TheVariants.{Done, Already}
 use Rattle.ftd_machine.specs.declared.requests.Request.{Request}
-use Rattle.ftd_machine.specs.declared.requests.Request.TheVariants.{Enrol, Calendar, AddHoliday, Report, ReportYear, OpenYear, Post, Void, Pay, VoidPay, Status, DueList, ScheduleB}
+use Rattle.ftd_machine.specs.declared.requests.Request.TheVariants.{Enrol, Calendar, AddHoliday}
+use Rattle.ftd_machine.specs.declared.requests.Request.TheVariants.{Report, ReportYear, OpenYear}
+use Rattle.ftd_machine.specs.declared.requests.Request.TheVariants.{Post, Void, Pay, VoidPay}
+use Rattle.ftd_machine.specs.declared.requests.Request.TheVariants.{Status, DueList, ScheduleB}
 use Rattle.ftd_machine.proofs.Deciding.{either}
 use Rattle.ftd_machine.proofs.Leaving.{asked_leaves}
 use Rattle.ftd_machine.proofs.Adding.{own_name}
-use Rattle.ftd_machine.proofs.Heads.{done_before, Quiet, quiet_none, quiet_needs, quiet_finds, Turns, Firm, firm_none, firm_needs, firm_finds, Stays}
-use Rattle.ftd_machine.proofs.Keeping.{found_append, found_last, same_key, kept_own, kept_some, Keeps, keeps_entry, KeepsVoidable, keeps_same, keeps_more, keeps_voided, voided_kept}
-use Rattle.ftd_machine.proofs.Again.{enrol_turns, enrol_stays, report_turns, report_stays, report_year_turns, report_year_stays, open_turns, open_stays, post_turns, post_stays, void_turns, void_stays, pay_turns, pay_stays, void_payment_turns, void_payment_stays, calendar_turns, calendar_stays, holiday_turns, holiday_stays}
+use Rattle.ftd_machine.proofs.Heads.{done_before, Quiet, quiet_none, quiet_needs, quiet_finds}
+use Rattle.ftd_machine.proofs.Heads.{Turns, Firm, firm_none, firm_needs, firm_finds, Stays}
+use Rattle.ftd_machine.proofs.Keeping.{found_append, found_last, same_key, kept_own, kept_some}
+use Rattle.ftd_machine.proofs.Keeping.{Keeps, keeps_entry, KeepsVoidable, keeps_same, keeps_more}
+use Rattle.ftd_machine.proofs.Keeping.{keeps_voided, voided_kept}
+use Rattle.ftd_machine.proofs.Again.{enrol_turns, enrol_stays, report_turns, report_stays}
+use Rattle.ftd_machine.proofs.Again.{report_year_turns, report_year_stays, open_turns, open_stays}
+use Rattle.ftd_machine.proofs.Again.{post_turns, post_stays, void_turns, void_stays, pay_turns}
+use Rattle.ftd_machine.proofs.Again.{pay_stays, void_payment_turns, void_payment_stays}
+use Rattle.ftd_machine.proofs.Again.{calendar_turns, calendar_stays, holiday_turns, holiday_stays}
 
 -- the checks of a request in a state
 abbrev pub checks_of : State → Request → List (Option Answer)
-checks_of s (Enrol name start carried form) = enrol_checks name (record { start = start; carried = carried; form = form }) (entries_of s name).account
+checks_of s (Enrol name start carried form) =
+    enrol_checks name (record { start = start; carried = carried; form = form })
+    (entries_of s name).account
 checks_of s (Calendar year days) = calendar_checks year days (calendar_at s year)
-checks_of s (AddHoliday day) = add_holiday_checks day (calendar_at s (year_of day)) (added_in s (year_of day))
-checks_of s (Report name quarter cents) = report_checks name quarter cents (entries_of s name).account (kept_at quarter (entries_of s name).reported)
-checks_of s (ReportYear name year cents) = report_year_checks name year cents (entries_of s name).account (kept_at year (entries_of s name).reported_years)
-checks_of s (OpenYear name year) = open_year_checks name year (entries_of s name).account (is_open (entries_of s name) year) (is_given s year) (is_given s (year + 1))
+checks_of s (AddHoliday day) = add_holiday_checks day (calendar_at s (year_of day))
+    (added_in s (year_of day))
+checks_of s (Report name quarter cents) = report_checks name quarter cents
+    (entries_of s name).account (kept_at quarter (entries_of s name).reported)
+checks_of s (ReportYear name year cents) = report_year_checks name year cents
+    (entries_of s name).account (kept_at year (entries_of s name).reported_years)
+checks_of s (OpenYear name year) = open_year_checks name year (entries_of s name).account
+    (is_open (entries_of s name) year) (is_given s year) (is_given s (year + 1))
 checks_of s (Post name number payday fit ss medicare) =
     post_checks name number (record { payday = payday; fit = fit; ss = ss; medicare = medicare })
-    (entries_of s name).account (kept_at number (entries_of s name).runs) (is_open (entries_of s name) (year_of payday)) (length (entries_of s name).runs)
-checks_of s (Void name number) = void_checks name number (entries_of s name).account (kept_at number (entries_of s name).runs)
+    (entries_of s name).account (kept_at number (entries_of s name).runs)
+    (is_open (entries_of s name) (year_of payday)) (length (entries_of s name).runs)
+checks_of s (Void name number) = void_checks name number (entries_of s name).account
+    (kept_at number (entries_of s name).runs)
 checks_of s (Pay name number paid for_day cents) =
     pay_checks name number (record { paid = paid; for_day = for_day; cents = cents })
-    (entries_of s name).account (kept_at number (entries_of s name).payments) (is_open (entries_of s name) (year_of for_day)) (length (entries_of s name).payments)
-checks_of s (VoidPay name number) = void_payment_checks name number (entries_of s name).account (kept_at number (entries_of s name).payments)
-checks_of s (Status name day) = status_checks name day (entries_of s name).account (is_open (entries_of s name) (year_of day))
-checks_of s (DueList name quarter as_of) = due_list_checks name quarter as_of (entries_of s name).account (is_open (entries_of s name) (quarter_year quarter))
-checks_of s (ScheduleB name quarter) = schedule_b_checks name quarter (entries_of s name).account (is_open (entries_of s name) (quarter_year quarter))
+    (entries_of s name).account (kept_at number (entries_of s name).payments)
+    (is_open (entries_of s name) (year_of for_day)) (length (entries_of s name).payments)
+checks_of s (VoidPay name number) = void_payment_checks name number (entries_of s name).account
+    (kept_at number (entries_of s name).payments)
+checks_of s (Status name day) = status_checks name day (entries_of s name).account
+    (is_open (entries_of s name) (year_of day))
+checks_of s (DueList name quarter as_of) = due_list_checks name quarter as_of
+    (entries_of s name).account (is_open (entries_of s name) (quarter_year quarter))
+checks_of s (ScheduleB name quarter) = schedule_b_checks name quarter (entries_of s name).account
+    (is_open (entries_of s name) (quarter_year quarter))
 
 -- they answer that it was done before
 pub record WasDone (s : State) (request : Request) : Type 0 where
@@ -73,30 +104,44 @@ abbrev is : ℕ → ℕ → Bool
 is day holiday = holiday == day
 
 holiday_more : (o : Option (List ℕ)) (added more : List ℕ) (day : ℕ)
-    → is_holiday (days_of_year o added) day ≡ true → is_holiday (days_of_year o (added ++ more)) day ≡ true
+    → is_holiday (days_of_year o added) day ≡ true → is_holiday (days_of_year o (added ++ more)) day
+    ≡ true
 holiday_more None added more day e = list_any-append (is day) added more ∙ or_first _ _ e
 holiday_more (Some given) added more day e =
-    list_any-append (is day) given (added ++ more) ∙ ap (λ b. list_any (is day) given || b) (list_any-append (is day) added more)
-    ∙ or_more (list_any (is day) given) (list_any (is day) added) (list_any (is day) more) (sym (list_any-append (is day) given added) ∙ e)
+    list_any-append (is day) given (added ++ more) ∙ ap (λ b. list_any (is day) given || b)
+    (list_any-append (is day) added more)
+    ∙ or_more (list_any (is day) given) (list_any (is day) added) (list_any (is day) more)
+    (sym (list_any-append (is day) given added) ∙ e)
 
-holiday_last : (o : Option (List ℕ)) (added : List ℕ) (day : ℕ) → is_holiday (days_of_year o (added ++ day ∷ [])) day ≡ true
-holiday_last None added day = list_any-append (is day) added (day ∷ []) ∙ or_second _ _ (or_first _ _ (same_key day))
+holiday_last : (o : Option (List ℕ)) (added : List ℕ) (day : ℕ)
+    → is_holiday (days_of_year o (added ++ day ∷ [])) day ≡ true
+holiday_last None added day = list_any-append (is day) added (day ∷ [])
+    ∙ or_second _ _ (or_first _ _ (same_key day))
 holiday_last (Some given) added day =
-    list_any-append (is day) given (added ++ day ∷ []) ∙ or_second _ _ (list_any-append (is day) added (day ∷ []) ∙ or_second _ _ (or_first _ _ (same_key day)))
+    list_any-append (is day) given (added ++ day ∷ [])
+    ∙ or_second _ _ (list_any-append (is day) added (day ∷ [])
+    ∙ or_second _ _ (or_first _ _ (same_key day)))
 
-holiday_given : (o p : Option (List ℕ)) (added : List ℕ) (day : ℕ) → ((x : List ℕ) → o ≡ Some x → p ≡ Some x)
+holiday_given : (o p : Option (List ℕ)) (added : List ℕ) (day : ℕ)
+    → ((x : List ℕ) → o ≡ Some x → p ≡ Some x)
     → is_holiday (days_of_year o added) day ≡ true → is_holiday (days_of_year p added) day ≡ true
 holiday_given (Some given) p added day still e = rw (still given refl) e
 holiday_given None None added day still e = e
-holiday_given None (Some given) added day still e = list_any-append (is day) given added ∙ or_second _ _ e
+holiday_given None (Some given) added day still e = list_any-append (is day) given added
+    ∙ or_second _ _ e
 
 -- ---- what is kept stays
 
 pub record Extends (s t : State) : Type 0 where
-  pub accounts : (name : List ℕ) (account : Account) → (entries_of s name).account ≡ Some account → (entries_of t name).account ≡ Some account
-  pub calendars : (year : ℕ) (days : List ℕ) → calendar_at s year ≡ Some days → calendar_at t year ≡ Some days
-  pub holidays : (day : ℕ) → is_holiday (days_of_year (calendar_at s (year_of day)) (added_in s (year_of day))) day ≡ true
-      → is_holiday (days_of_year (calendar_at t (year_of day)) (added_in t (year_of day))) day ≡ true
+  pub accounts : (name : List ℕ) (account : Account) → (entries_of s name).account ≡ Some account
+      → (entries_of t name).account ≡ Some account
+  pub calendars : (year : ℕ) (days : List ℕ) → calendar_at s year ≡ Some days
+      → calendar_at t year ≡ Some days
+  pub holidays : (day : ℕ)
+      → is_holiday (days_of_year (calendar_at s (year_of day)) (added_in s (year_of day))) day
+      ≡ true
+      → is_holiday (days_of_year (calendar_at t (year_of day)) (added_in t (year_of day))) day
+      ≡ true
   pub reported : Keeps s.reported t.reported
   pub reported_years : Keeps s.reported_years t.reported_years
   pub open_years : Keeps s.open_years t.open_years
@@ -115,7 +160,8 @@ extends_same s = record {
   payments = keeps_same s.payments;
 }
 
-extends_account : (s : State) (name : List ℕ) (account : Account) → Extends s (record s { accounts = with_account s.accounts name account })
+extends_account : (s : State) (name : List ℕ) (account : Account)
+    → Extends s (record s { accounts = with_account s.accounts name account })
 extends_account s name account = record {
   accounts = λ other a there. found_append account_of (is_named other) s.accounts _ a there;
   calendars = λ year days there. there;
@@ -131,14 +177,19 @@ abbrev pub is_year : ℕ → YearDays → Bool
 is_year year g = g.year == year
 
 pub calendar_still : (s : State) (year : ℕ) (days : List ℕ) (other : ℕ) (x : List ℕ)
-    → calendar_at s other ≡ Some x → calendar_at (record s { calendars = s.calendars ++ record { year = year; days = days } ∷ [] }) other ≡ Some x
-calendar_still s year days other x there = found_append days_of (is_year other) s.calendars _ x there
+    → calendar_at s other ≡ Some x
+    → calendar_at (record s { calendars = s.calendars ++ record { year = year; days = days } ∷ [] })
+    other ≡ Some x
+calendar_still s year days other x there = found_append days_of (is_year other) s.calendars _ x
+    there
 
-extends_calendar : (s : State) (year : ℕ) (days : List ℕ) → Extends s (record s { calendars = s.calendars ++ record { year = year; days = days } ∷ [] })
+extends_calendar : (s : State) (year : ℕ) (days : List ℕ)
+    → Extends s (record s { calendars = s.calendars ++ record { year = year; days = days } ∷ [] })
 extends_calendar s year days = record {
   accounts = λ name account there. there;
   calendars = calendar_still s year days;
-  holidays = λ day there. holiday_given _ _ (added_in s (year_of day)) day (calendar_still s year days (year_of day)) there;
+  holidays = λ day there. holiday_given _ _ (added_in s (year_of day)) day
+      (calendar_still s year days (year_of day)) there;
   reported = λ name key content there. there;
   reported_years = λ name key content there. there;
   open_years = λ name key content there. there;
@@ -146,13 +197,15 @@ extends_calendar s year days = record {
   payments = keeps_same s.payments;
 }
 
-extends_added : (s : State) (more : ℕ) → Extends s (record s { added_days = s.added_days ++ more ∷ [] })
+extends_added : (s : State) (more : ℕ)
+    → Extends s (record s { added_days = s.added_days ++ more ∷ [] })
 extends_added s more = record {
   accounts = λ name account there. there;
   calendars = λ year days there. there;
   holidays = λ day there.
       let year = year_of day in
-      let added : added_in (record s { added_days = s.added_days ++ more ∷ [] }) year ≡ added_in s year ++ added_in (record s { added_days = more ∷ [] }) year =
+      let added : added_in (record s { added_days = s.added_days ++ more ∷ [] }) year
+      ≡ added_in s year ++ added_in (record s { added_days = more ∷ [] }) year =
       filter-append (λ d. year_of d == year) s.added_days (more ∷ []) in
       rw added (holiday_more (calendar_at s year) (added_in s year) _ day there);
   reported = λ name key content there. there;
@@ -162,7 +215,8 @@ extends_added s more = record {
   payments = keeps_same s.payments;
 }
 
-extends_reported : (s : State) (name : List ℕ) (key : ℕ) (cents : Cents) → Extends s (record s { reported = with_entry s.reported name key cents })
+extends_reported : (s : State) (name : List ℕ) (key : ℕ) (cents : Cents)
+    → Extends s (record s { reported = with_entry s.reported name key cents })
 extends_reported s name key cents = record {
   accounts = λ name account there. there;
   calendars = λ year days there. there;
@@ -174,7 +228,8 @@ extends_reported s name key cents = record {
   payments = keeps_same s.payments;
 }
 
-extends_reported_year : (s : State) (name : List ℕ) (key : ℕ) (cents : Cents) → Extends s (record s { reported_years = with_entry s.reported_years name key cents })
+extends_reported_year : (s : State) (name : List ℕ) (key : ℕ) (cents : Cents)
+    → Extends s (record s { reported_years = with_entry s.reported_years name key cents })
 extends_reported_year s name key cents = record {
   accounts = λ name account there. there;
   calendars = λ year days there. there;
@@ -186,7 +241,8 @@ extends_reported_year s name key cents = record {
   payments = keeps_same s.payments;
 }
 
-extends_open : (s : State) (name : List ℕ) (year : ℕ) → Extends s (record s { open_years = with_entry s.open_years name year tt })
+extends_open : (s : State) (name : List ℕ) (year : ℕ)
+    → Extends s (record s { open_years = with_entry s.open_years name year tt })
 extends_open s name year = record {
   accounts = λ name account there. there;
   calendars = λ year days there. there;
@@ -198,7 +254,8 @@ extends_open s name year = record {
   payments = keeps_same s.payments;
 }
 
-extends_run : (s : State) (name : List ℕ) (number : ℕ) (more : Voidable PayRun) → Extends s (record s { runs = with_entry s.runs name number more })
+extends_run : (s : State) (name : List ℕ) (number : ℕ) (more : Voidable PayRun)
+    → Extends s (record s { runs = with_entry s.runs name number more })
 extends_run s name number more = record {
   accounts = λ name account there. there;
   calendars = λ year days there. there;
@@ -210,7 +267,8 @@ extends_run s name number more = record {
   payments = keeps_same s.payments;
 }
 
-extends_void_run : (s : State) (name : List ℕ) (number : ℕ) → Extends s (record s { runs = with_voided s.runs name number })
+extends_void_run : (s : State) (name : List ℕ) (number : ℕ)
+    → Extends s (record s { runs = with_voided s.runs name number })
 extends_void_run s name number = record {
   accounts = λ name account there. there;
   calendars = λ year days there. there;
@@ -222,7 +280,8 @@ extends_void_run s name number = record {
   payments = keeps_same s.payments;
 }
 
-extends_payment : (s : State) (name : List ℕ) (number : ℕ) (more : Voidable Payment) → Extends s (record s { payments = with_entry s.payments name number more })
+extends_payment : (s : State) (name : List ℕ) (number : ℕ) (more : Voidable Payment)
+    → Extends s (record s { payments = with_entry s.payments name number more })
 extends_payment s name number more = record {
   accounts = λ name account there. there;
   calendars = λ year days there. there;
@@ -234,7 +293,8 @@ extends_payment s name number more = record {
   payments = keeps_more s.payments name number more;
 }
 
-extends_void_payment : (s : State) (name : List ℕ) (number : ℕ) → Extends s (record s { payments = with_voided s.payments name number })
+extends_void_payment : (s : State) (name : List ℕ) (number : ℕ)
+    → Extends s (record s { payments = with_voided s.payments name number })
 extends_void_payment s name number = record {
   accounts = λ name account there. there;
   calendars = λ year days there. there;
@@ -246,94 +306,129 @@ extends_void_payment s name number = record {
   payments = keeps_voided s.payments name number;
 }
 
-pub some_still : {X : Type 0} (o p : Option X) → ((x : X) → o ≡ Some x → p ≡ Some x) → is_some o ≡ true → is_some p ≡ true
+pub some_still : {X : Type 0} (o p : Option X) → ((x : X) → o ≡ Some x → p ≡ Some x)
+    → is_some o ≡ true → is_some p ≡ true
 some_still (Some x) p still e = rw (still x refl) refl
 some_still None p still e = absurd cc
 
-through : (s t : State) (request : Request) → Stays (checks_of s request) (checks_of t request) → WasDone s request → WasDone t request
+through : (s t : State) (request : Request) → Stays (checks_of s request) (checks_of t request)
+    → WasDone s request → WasDone t request
 through s t request stays was = record { told = stays.still was.told }
 
-never : (s t : State) (request : Request) → Firm (checks_of s request) → WasDone s request → WasDone t request
+never : (s t : State) (request : Request) → Firm (checks_of s request) → WasDone s request
+    → WasDone t request
 never s t request firm was = absurd (firm.never was.told)
 
 -- so what was done before stays so
-pub still_done : (s t : State) (request : Request) → Extends s t → WasDone s request → WasDone t request
+pub still_done : (s t : State) (request : Request) → Extends s t → WasDone s request
+    → WasDone t request
 still_done s t (Enrol name start carried form) more =
     through s t (Enrol name start carried form) (enrol_stays name _ _ _ (more.accounts name))
-still_done s t (Calendar year days) more = through s t (Calendar year days) (calendar_stays year days _ _ (more.calendars year))
-still_done s t (AddHoliday day) more = through s t (AddHoliday day) (holiday_stays day (calendar_at s (year_of day)) (calendar_at t (year_of day)) (added_in s (year_of day)) (added_in t (year_of day)) (more.holidays day))
+still_done s t (Calendar year days) more = through s t (Calendar year days)
+    (calendar_stays year days _ _ (more.calendars year))
+still_done s t (AddHoliday day) more = through s t (AddHoliday day)
+    (holiday_stays day (calendar_at s (year_of day)) (calendar_at t (year_of day))
+    (added_in s (year_of day)) (added_in t (year_of day)) (more.holidays day))
 still_done s t (Report name quarter cents) more =
-    through s t (Report name quarter cents) (report_stays name quarter cents _ _ _ _ (more.accounts name) (more.reported name quarter))
+    through s t (Report name quarter cents) (report_stays name quarter cents _ _ _ _
+    (more.accounts name) (more.reported name quarter))
 still_done s t (ReportYear name year cents) more =
-    through s t (ReportYear name year cents) (report_year_stays name year cents _ _ _ _ (more.accounts name) (more.reported_years name year))
+    through s t (ReportYear name year cents) (report_year_stays name year cents _ _ _ _
+    (more.accounts name) (more.reported_years name year))
 still_done s t (OpenYear name year) more =
     through s t (OpenYear name year)
-    (open_stays name year _ _ (is_open (entries_of s name) year) (is_open (entries_of t name) year) (is_given s year) (is_given s (year + 1)) (is_given t year) (is_given t (year + 1))
-    (more.accounts name) (some_still (kept_at year (entries_of s name).open_years) (kept_at year (entries_of t name).open_years) (more.open_years name year)))
+    (open_stays name year _ _ (is_open (entries_of s name) year) (is_open (entries_of t name) year)
+    (is_given s year) (is_given s (year + 1)) (is_given t year) (is_given t (year + 1))
+    (more.accounts name) (some_still (kept_at year (entries_of s name).open_years)
+    (kept_at year (entries_of t name).open_years) (more.open_years name year)))
 still_done s t (Post name number payday fit ss medicare) more =
     let run : PayRun = record { payday = payday; fit = fit; ss = ss; medicare = medicare } in
     let here = entries_of s name in
     let there = entries_of t name in
     through s t (Post name number payday fit ss medicare)
-    (post_stays name number run _ _ _ _ (is_open here (year_of payday)) (is_open there (year_of payday)) (length here.runs) (length there.runs) (more.accounts name) (more.runs name number))
-still_done s t (Void name number) more = through s t (Void name number) (void_stays name number _ _ _ _ (more.accounts name) (more.runs name number))
+    (post_stays name number run _ _ _ _ (is_open here (year_of payday))
+    (is_open there (year_of payday)) (length here.runs) (length there.runs) (more.accounts name)
+    (more.runs name number))
+still_done s t (Void name number) more = through s t (Void name number)
+    (void_stays name number _ _ _ _ (more.accounts name) (more.runs name number))
 still_done s t (Pay name number paid for_day cents) more =
     let payment : Payment = record { paid = paid; for_day = for_day; cents = cents } in
     let here = entries_of s name in
     let there = entries_of t name in
     through s t (Pay name number paid for_day cents)
-    (pay_stays name number payment _ _ _ _ (is_open here (year_of for_day)) (is_open there (year_of for_day)) (length here.payments) (length there.payments) (more.accounts name) (more.payments name number))
+    (pay_stays name number payment _ _ _ _ (is_open here (year_of for_day))
+    (is_open there (year_of for_day)) (length here.payments) (length there.payments)
+    (more.accounts name) (more.payments name number))
 still_done s t (VoidPay name number) more =
-    through s t (VoidPay name number) (void_payment_stays name number _ _ _ _ (more.accounts name) (more.payments name number))
+    through s t (VoidPay name number) (void_payment_stays name number _ _ _ _ (more.accounts name)
+    (more.payments name number))
 still_done s t (Status name day) more =
-    never s t (Status name day) (firm_needs _ _ _ (firm_needs _ _ _ (firm_finds _ _ _ (firm_needs _ _ [] firm_none))))
+    never s t (Status name day)
+    (firm_needs _ _ _ (firm_needs _ _ _ (firm_finds _ _ _ (firm_needs _ _ [] firm_none))))
 still_done s t (DueList name quarter as_of) more =
-    never s t (DueList name quarter as_of) (firm_needs _ _ _ (firm_needs _ _ _ (firm_needs _ _ _ (firm_finds _ _ _ (firm_needs _ _ [] firm_none)))))
+    never s t (DueList name quarter as_of)
+    (firm_needs _ _ _
+    (firm_needs _ _ _ (firm_needs _ _ _ (firm_finds _ _ _ (firm_needs _ _ [] firm_none)))))
 still_done s t (ScheduleB name quarter) more =
-    never s t (ScheduleB name quarter) (firm_needs _ _ _ (firm_needs _ _ _ (firm_finds _ _ _ (firm_needs _ _ _ (firm_needs _ _ [] firm_none)))))
+    never s t (ScheduleB name quarter)
+    (firm_needs _ _ _
+    (firm_needs _ _ _ (firm_finds _ _ _ (firm_needs _ _ _ (firm_needs _ _ [] firm_none)))))
 
 -- ---- a step
 
--- what was done with a change: the checks passed, and what stands last holds; and then it was done before
-pub does : (s : State) (answer : Answer) (new : State) (P P' : List (Option Answer)) (Else : Type 0) → Turns P P'
-    → Decides (first_of P) s answer new Else → is_change answer ≡ true → Else × (first_of P' ≡ done_before)
+-- what was done with a change: the checks passed, and what stands last holds; and then it was done
+-- before
+pub does : (s : State) (answer : Answer) (new : State) (P P' : List (Option Answer)) (Else : Type 0)
+    → Turns P P'
+    → Decides (first_of P) s answer new Else → is_change answer ≡ true
+    → Else × (first_of P' ≡ done_before)
 does s answer new P P' Else turns step changes =
     elim (either (first_of P) s answer new Else step) [
       | inl same ↦ absurd (true≢false (sym changes ∙ rw same.0 at turns.no_change))
       | inr passed ↦ (passed.1, turns.done passed.0)
     ]
 
-done_after : (s : State) (answer : Answer) (new after : State) (request : Request) (P : List (Option Answer)) → Turns P (checks_of after request)
-    → Decides (first_of P) s answer new ((answer ≡ Ok Done) × (new ≡ after)) → is_change answer ≡ true → WasDone new request
+done_after : (s : State) (answer : Answer) (new after : State) (request : Request)
+    (P : List (Option Answer)) → Turns P (checks_of after request)
+    → Decides (first_of P) s answer new ((answer ≡ Ok Done) × (new ≡ after))
+    → is_change answer ≡ true → WasDone new request
 done_after s answer new after request P turns step changes =
     let done = does s answer new P (checks_of after request) _ turns step changes in
     subst (λ x. WasDone x request) (sym done.0.1) (record { told = done.1 })
 
-post_after : (s : State) (answer : Answer) (new after : State) (request : Request) (P : List (Option Answer)) (Told : Type 0) → Turns P (checks_of after request)
-    → Decides (first_of P) s answer new ((new ≡ after) × Told) → is_change answer ≡ true → WasDone new request
+post_after : (s : State) (answer : Answer) (new after : State) (request : Request)
+    (P : List (Option Answer)) (Told : Type 0) → Turns P (checks_of after request)
+    → Decides (first_of P) s answer new ((new ≡ after) × Told) → is_change answer ≡ true
+    → WasDone new request
 post_after s answer new after request P Told turns step changes =
     let done = does s answer new P (checks_of after request) _ turns step changes in
     subst (λ x. WasDone x request) (sym done.0.0) (record { told = done.1 })
 
-void_after : (s : State) (answer : Answer) (new after : State) (request : Request) (P : List (Option Answer)) (known : Option (Voidable PayRun))
+void_after : (s : State) (answer : Answer) (new after : State) (request : Request)
+    (P : List (Option Answer)) (known : Option (Voidable PayRun))
     (Told : Voidable PayRun → Type 0) → Turns P (checks_of after request)
-    → Decides (first_of P) s answer new ((run : Voidable PayRun) × (known ≡ Some run) × (new ≡ after) × Told run) → is_change answer ≡ true → WasDone new request
+    → Decides (first_of P) s answer new ((run : Voidable PayRun) × (known ≡ Some run)
+    × (new ≡ after) × Told run) → is_change answer ≡ true → WasDone new request
 void_after s answer new after request P known Told turns step changes =
     let done = does s answer new P (checks_of after request) _ turns step changes in
     subst (λ x. WasDone x request) (sym done.0.2) (record { told = done.1 })
 
 -- a question is answered with no change
-no_question : (s : State) (answer : Answer) (new : State) (P : List (Option Answer)) (Told : Type 0) → Quiet P
-    → (Told → is_change answer ≡ false) → Decides (first_of P) s answer new ((new ≡ s) × Told) → is_change answer ≡ true → ⊥
+no_question : (s : State) (answer : Answer) (new : State) (P : List (Option Answer)) (Told : Type 0)
+    → Quiet P
+    → (Told → is_change answer ≡ false) → Decides (first_of P) s answer new ((new ≡ s) × Told)
+    → is_change answer ≡ true → ⊥
 no_question s answer new P Told quiet asks step changes =
     elim (either (first_of P) s answer new _ step) [
       | inl same ↦ true≢false (sym changes ∙ rw same.0 at quiet.told)
       | inr told ↦ true≢false (sym changes ∙ asks told.1.1)
     ]
 
-next_after : (s : State) (answer : Answer) (new : State) (name : List ℕ) (year : ℕ) → OpensNext s answer new name year → is_change answer ≡ true
+next_after : (s : State) (answer : Answer) (new : State) (name : List ℕ) (year : ℕ)
+    → OpensNext s answer new name year → is_change answer ≡ true
     → new ≡ record s { open_years = with_entry s.open_years name year tt }
-next_after s answer new name year (inl missing) changes = absurd (true≢false (sym changes ∙ ap is_change missing.2.0))
+next_after s answer new name year (inl missing) changes =
+    absurd (true≢false (sym changes ∙ ap is_change missing.2.0))
 next_after s answer new name year (inr found) changes =
     let quiet : Quiet (may_open (entries_of s name) year) = quiet_needs _ _ [] quiet_none in
     elim (either (first_of (may_open (entries_of s name) year)) s answer new _ found.2) [
@@ -342,65 +437,96 @@ next_after s answer new name year (inr found) changes =
     ]
 
 open_after : (s : State) (answer : Answer) (new : State) (name : List ℕ) (year : ℕ)
-    → Decides (first_of (checks_of s (OpenYear name year))) s answer new (OpensNext s answer new name year) → is_change answer ≡ true
+    → Decides (first_of (checks_of s (OpenYear name year))) s answer new
+    (OpensNext s answer new name year) → is_change answer ≡ true
     → WasDone new (OpenYear name year)
 open_after s answer new name year step changes =
     let after : State = record s { open_years = with_entry s.open_years name year tt } in
     let turns : Turns (checks_of s (OpenYear name year)) (checks_of after (OpenYear name year)) =
-    open_turns name year (entries_of s name).account (is_open (entries_of s name) year) (is_open (entries_of after name) year)
+    open_turns name year (entries_of s name).account (is_open (entries_of s name) year)
+    (is_open (entries_of after name) year)
     (is_given s year) (is_given s (year + 1)) (kept_some s.open_years name year tt) in
-    let done = does s answer new (checks_of s (OpenYear name year)) (checks_of after (OpenYear name year)) _ turns step changes in
-    subst (λ x. WasDone x (OpenYear name year)) (sym (next_after s answer new name year done.0 changes)) (record { told = done.1 })
+    let done = does s answer new (checks_of s (OpenYear name year))
+    (checks_of after (OpenYear name year)) _ turns step changes in
+    subst (λ x. WasDone x (OpenYear name year))
+    (sym (next_after s answer new name year done.0 changes)) (record { told = done.1 })
 
-added_last : (s : State) (day : ℕ) → is_holiday (days_of_year (calendar_at s (year_of day)) (added_in (record s { added_days = s.added_days ++ day ∷ [] }) (year_of day))) day ≡ true
+added_last : (s : State) (day : ℕ)
+    → is_holiday (days_of_year (calendar_at s (year_of day))
+    (added_in (record s { added_days = s.added_days ++ day ∷ [] }) (year_of day))) day ≡ true
 added_last s day =
     let year = year_of day in
-    let one : filter (λ d. year_of d == year) (day ∷ []) ≡ day ∷ [] = rw (same_key (year_of day)) refl in
-    let added : added_in (record s { added_days = s.added_days ++ day ∷ [] }) year ≡ added_in s year ++ day ∷ [] =
-    filter-append (λ d. year_of d == year) s.added_days (day ∷ []) ∙ ap (λ xs. added_in s year ++ xs) one in
+    let one : filter (λ d. year_of d == year) (day ∷ []) ≡ day ∷ [] =
+    rw (same_key (year_of day)) refl in
+    let added : added_in (record s { added_days = s.added_days ++ day ∷ [] }) year ≡ added_in s year
+    ++ day ∷ [] =
+    filter-append (λ d. year_of d == year) s.added_days (day ∷ [])
+    ∙ ap (λ xs. added_in s year ++ xs) one in
     rw added (holiday_last (calendar_at s year) (added_in s year) day)
 
 -- what a step has changed is done from then on
-pub step_done : (s : State) (request : Request) (answer : Answer) (next : State) → Step s request answer next → is_change answer ≡ true → WasDone next request
+pub step_done : (s : State) (request : Request) (answer : Answer) (next : State)
+    → Step s request answer next → is_change answer ≡ true → WasDone next request
 step_done s (Enrol name start carried form) answer next step changes =
     let account : Account = record { start = start; carried = carried; form = form } in
-    done_after s answer next (record s { accounts = with_account s.accounts name account }) (Enrol name start carried form) _
-    (enrol_turns name account _ _ (found_last account_of (is_named name) s.accounts _ (own_name name))) step changes
+    done_after s answer next (record s { accounts = with_account s.accounts name account })
+    (Enrol name start carried form) _
+    (enrol_turns name account _ _ (found_last account_of (is_named name) s.accounts _
+    (own_name name))) step changes
 step_done s (Calendar year days) answer next step changes =
-    done_after s answer next (record s { calendars = s.calendars ++ record { year = year; days = days } ∷ [] }) (Calendar year days) _
-    (calendar_turns year days _ _ (found_last days_of (is_year year) s.calendars _ (same_key year))) step changes
+    done_after s answer next
+    (record s { calendars = s.calendars ++ record { year = year; days = days } ∷ [] })
+    (Calendar year days) _
+    (calendar_turns year days _ _ (found_last days_of (is_year year) s.calendars _ (same_key year)))
+    step changes
 step_done s (AddHoliday day) answer next step changes =
-    done_after s answer next (record s { added_days = s.added_days ++ day ∷ [] }) (AddHoliday day) (checks_of s (AddHoliday day))
-    (holiday_turns day (calendar_at s (year_of day)) (calendar_at s (year_of day)) (added_in s (year_of day))
-    (added_in (record s { added_days = s.added_days ++ day ∷ [] }) (year_of day)) (added_last s day)) step changes
+    done_after s answer next (record s { added_days = s.added_days ++ day ∷ [] }) (AddHoliday day)
+    (checks_of s (AddHoliday day))
+    (holiday_turns day (calendar_at s (year_of day)) (calendar_at s (year_of day))
+    (added_in s (year_of day))
+    (added_in (record s { added_days = s.added_days ++ day ∷ [] }) (year_of day))
+    (added_last s day)) step changes
 step_done s (Report name quarter cents) answer next step changes =
-    done_after s answer next (record s { reported = with_entry s.reported name quarter cents }) (Report name quarter cents) _
+    done_after s answer next (record s { reported = with_entry s.reported name quarter cents })
+    (Report name quarter cents) _
     (report_turns name quarter cents _ _ _ (kept_own s.reported name quarter cents)) step changes
 step_done s (ReportYear name year cents) answer next step changes =
-    done_after s answer next (record s { reported_years = with_entry s.reported_years name year cents }) (ReportYear name year cents) _
-    (report_year_turns name year cents _ _ _ (kept_own s.reported_years name year cents)) step changes
-step_done s (OpenYear name year) answer next step changes = open_after s answer next name year step changes
+    done_after s answer next
+    (record s { reported_years = with_entry s.reported_years name year cents })
+    (ReportYear name year cents) _
+    (report_year_turns name year cents _ _ _ (kept_own s.reported_years name year cents)) step
+    changes
+step_done s (OpenYear name year) answer next step changes =
+    open_after s answer next name year step changes
 step_done s (Post name number payday fit ss medicare) answer next step changes =
     let run : PayRun = record { payday = payday; fit = fit; ss = ss; medicare = medicare } in
     let after : State = record s { runs = with_entry s.runs name number (taken run) } in
     let here = entries_of s name in
     let there = entries_of after name in
-    post_after s answer next after (Post name number payday fit ss medicare) (checks_of s (Post name number payday fit ss medicare)) _
-    (post_turns name number run here.account (kept_at number here.runs) (kept_at number there.runs) (is_open here (year_of payday)) (is_open there (year_of payday))
+    post_after s answer next after (Post name number payday fit ss medicare)
+    (checks_of s (Post name number payday fit ss medicare)) _
+    (post_turns name number run here.account (kept_at number here.runs) (kept_at number there.runs)
+    (is_open here (year_of payday)) (is_open there (year_of payday))
     (length here.runs) (length there.runs) (kept_own s.runs name number (taken run))) step changes
 step_done s (Void name number) answer next step changes =
-    void_after s answer next (record s { runs = with_voided s.runs name number }) (Void name number) _ _ _
+    void_after s answer next (record s { runs = with_voided s.runs name number })
+    (Void name number) _ _ _
     (void_turns name number _ _ _ (voided_kept s.runs name number)) step changes
 step_done s (Pay name number paid for_day cents) answer next step changes =
     let payment : Payment = record { paid = paid; for_day = for_day; cents = cents } in
     let after : State = record s { payments = with_entry s.payments name number (taken payment) } in
     let here = entries_of s name in
     let there = entries_of after name in
-    done_after s answer next after (Pay name number paid for_day cents) (checks_of s (Pay name number paid for_day cents))
-    (pay_turns name number payment here.account (kept_at number here.payments) (kept_at number there.payments) (is_open here (year_of for_day)) (is_open there (year_of for_day))
-    (length here.payments) (length there.payments) (kept_own s.payments name number (taken payment))) step changes
+    done_after s answer next after (Pay name number paid for_day cents)
+    (checks_of s (Pay name number paid for_day cents))
+    (pay_turns name number payment here.account (kept_at number here.payments)
+    (kept_at number there.payments) (is_open here (year_of for_day))
+    (is_open there (year_of for_day))
+    (length here.payments) (length there.payments)
+    (kept_own s.payments name number (taken payment))) step changes
 step_done s (VoidPay name number) answer next step changes =
-    done_after s answer next (record s { payments = with_voided s.payments name number }) (VoidPay name number) _
+    done_after s answer next (record s { payments = with_voided s.payments name number })
+    (VoidPay name number) _
     (void_payment_turns name number _ _ _ (voided_kept s.payments name number)) step changes
 step_done s (Status name day) answer next step changes =
     absurd (no_question s answer next (checks_of s (Status name day)) _
@@ -408,60 +534,92 @@ step_done s (Status name day) answer next step changes =
     (λ (told : IsStatus (entries_of s name) day answer). ap is_change told.told) step changes)
 step_done s (DueList name quarter as_of) answer next step changes =
     absurd (no_question s answer next (checks_of s (DueList name quarter as_of)) _
-    (quiet_needs _ _ _ (quiet_needs _ _ _ (quiet_needs _ _ _ (quiet_finds _ _ _ (quiet_needs _ _ [] quiet_none)))))
-    (λ (told : IsDueList (holidays s) (entries_of s name) quarter as_of answer). ap is_change told.told) step changes)
+    (quiet_needs _ _ _
+    (quiet_needs _ _ _ (quiet_needs _ _ _ (quiet_finds _ _ _ (quiet_needs _ _ [] quiet_none)))))
+    (λ (told : IsDueList (holidays s) (entries_of s name) quarter as_of answer).
+    ap is_change told.told) step changes)
 step_done s (ScheduleB name quarter) answer next step changes =
     absurd (no_question s answer next (checks_of s (ScheduleB name quarter)) _
-    (quiet_needs _ _ _ (quiet_needs _ _ _ (quiet_finds _ _ _ (quiet_needs _ _ _ (quiet_needs _ _ [] quiet_none)))))
-    (λ (told : IsScheduleB (entries_of s name) quarter answer). ap is_change told.told) step changes)
+    (quiet_needs _ _ _
+    (quiet_needs _ _ _ (quiet_finds _ _ _ (quiet_needs _ _ _ (quiet_needs _ _ [] quiet_none)))))
+    (λ (told : IsScheduleB (entries_of s name) quarter answer). ap is_change told.told) step
+    changes)
 
 -- ---- each step keeps what was kept
 
 done_extends : (check : Option Answer) (s : State) (answer : Answer) (new after : State)
-    → Decides check s answer new ((answer ≡ Ok Done) × (new ≡ after)) → Extends s after → Extends s new
-done_extends (Some given) s answer new after step more = subst (Extends s) (sym step.1) (extends_same s)
+    → Decides check s answer new ((answer ≡ Ok Done) × (new ≡ after)) → Extends s after
+    → Extends s new
+done_extends (Some given) s answer new after step more = subst (Extends s) (sym step.1)
+    (extends_same s)
 done_extends None s answer new after step more = subst (Extends s) (sym step.1) more
 
-post_extends : (check : Option Answer) (s : State) (answer : Answer) (new after : State) (Told : Type 0)
+post_extends : (check : Option Answer) (s : State) (answer : Answer) (new after : State)
+    (Told : Type 0)
     → Decides check s answer new ((new ≡ after) × Told) → Extends s after → Extends s new
-post_extends (Some given) s answer new after Told step more = subst (Extends s) (sym step.1) (extends_same s)
+post_extends (Some given) s answer new after Told step more = subst (Extends s) (sym step.1)
+    (extends_same s)
 post_extends None s answer new after Told step more = subst (Extends s) (sym step.0) more
 
-void_extends : (check : Option Answer) (s : State) (answer : Answer) (new after : State) (known : Option (Voidable PayRun)) (Told : Voidable PayRun → Type 0)
-    → Decides check s answer new ((run : Voidable PayRun) × (known ≡ Some run) × (new ≡ after) × Told run) → Extends s after → Extends s new
-void_extends (Some given) s answer new after known Told step more = subst (Extends s) (sym step.1) (extends_same s)
+void_extends : (check : Option Answer) (s : State) (answer : Answer) (new after : State)
+    (known : Option (Voidable PayRun)) (Told : Voidable PayRun → Type 0)
+    → Decides check s answer new ((run : Voidable PayRun) × (known ≡ Some run) × (new ≡ after)
+    × Told run) → Extends s after → Extends s new
+void_extends (Some given) s answer new after known Told step more = subst (Extends s) (sym step.1)
+    (extends_same s)
 void_extends None s answer new after known Told step more = subst (Extends s) (sym step.2) more
 
-next_extends : (s : State) (answer : Answer) (new : State) (name : List ℕ) (year : ℕ) → OpensNext s answer new name year → Extends s new
-next_extends s answer new name year (inl missing) = subst (Extends s) (sym missing.2.1) (extends_same s)
-next_extends s answer new name year (inr found) = done_extends _ s answer new _ found.2 (extends_open s name year)
+next_extends : (s : State) (answer : Answer) (new : State) (name : List ℕ) (year : ℕ)
+    → OpensNext s answer new name year → Extends s new
+next_extends s answer new name year (inl missing) = subst (Extends s) (sym missing.2.1)
+    (extends_same s)
+next_extends s answer new name year (inr found) = done_extends _ s answer new _ found.2
+    (extends_open s name year)
 
-open_extends : (check : Option Answer) (s : State) (answer : Answer) (new : State) (name : List ℕ) (year : ℕ)
+open_extends : (check : Option Answer) (s : State) (answer : Answer) (new : State) (name : List ℕ)
+    (year : ℕ)
     → Decides check s answer new (OpensNext s answer new name year) → Extends s new
-open_extends (Some given) s answer new name year step = subst (Extends s) (sym step.1) (extends_same s)
+open_extends (Some given) s answer new name year step = subst (Extends s) (sym step.1)
+    (extends_same s)
 open_extends None s answer new name year step = next_extends s answer new name year step
 
-pub step_extends : (s : State) (request : Request) (answer : Answer) (next : State) → Step s request answer next → Extends s next
+pub step_extends : (s : State) (request : Request) (answer : Answer) (next : State)
+    → Step s request answer next → Extends s next
 step_extends s (Enrol name start carried form) answer next step =
-    done_extends _ s answer next _ step (extends_account s name (record { start = start; carried = carried; form = form }))
-step_extends s (Calendar year days) answer next step = done_extends _ s answer next _ step (extends_calendar s year days)
-step_extends s (AddHoliday day) answer next step = done_extends _ s answer next _ step (extends_added s day)
-step_extends s (Report name quarter cents) answer next step = done_extends _ s answer next _ step (extends_reported s name quarter cents)
-step_extends s (ReportYear name year cents) answer next step = done_extends _ s answer next _ step (extends_reported_year s name year cents)
+    done_extends _ s answer next _ step
+    (extends_account s name (record { start = start; carried = carried; form = form }))
+step_extends s (Calendar year days) answer next step = done_extends _ s answer next _ step
+    (extends_calendar s year days)
+step_extends s (AddHoliday day) answer next step = done_extends _ s answer next _ step
+    (extends_added s day)
+step_extends s (Report name quarter cents) answer next step = done_extends _ s answer next _ step
+    (extends_reported s name quarter cents)
+step_extends s (ReportYear name year cents) answer next step = done_extends _ s answer next _ step
+    (extends_reported_year s name year cents)
 step_extends s (OpenYear name year) answer next step = open_extends _ s answer next name year step
 step_extends s (Post name number payday fit ss medicare) answer next step =
-    post_extends _ s answer next _ _ step (extends_run s name number (taken (record { payday = payday; fit = fit; ss = ss; medicare = medicare })))
-step_extends s (Void name number) answer next step = void_extends _ s answer next _ _ _ step (extends_void_run s name number)
+    post_extends _ s answer next _ _ step
+    (extends_run s name number
+    (taken (record { payday = payday; fit = fit; ss = ss; medicare = medicare })))
+step_extends s (Void name number) answer next step = void_extends _ s answer next _ _ _ step
+    (extends_void_run s name number)
 step_extends s (Pay name number paid for_day cents) answer next step =
-    done_extends _ s answer next _ step (extends_payment s name number (taken (record { paid = paid; for_day = for_day; cents = cents })))
-step_extends s (VoidPay name number) answer next step = done_extends _ s answer next _ step (extends_void_payment s name number)
-step_extends s (Status name day) answer next step = subst (Extends s) (sym (asked_leaves _ s answer next _ step)) (extends_same s)
-step_extends s (DueList name quarter as_of) answer next step = subst (Extends s) (sym (asked_leaves _ s answer next _ step)) (extends_same s)
-step_extends s (ScheduleB name quarter) answer next step = subst (Extends s) (sym (asked_leaves _ s answer next _ step)) (extends_same s)
+    done_extends _ s answer next _ step
+    (extends_payment s name number
+    (taken (record { paid = paid; for_day = for_day; cents = cents })))
+step_extends s (VoidPay name number) answer next step = done_extends _ s answer next _ step
+    (extends_void_payment s name number)
+step_extends s (Status name day) answer next step =
+    subst (Extends s) (sym (asked_leaves _ s answer next _ step)) (extends_same s)
+step_extends s (DueList name quarter as_of) answer next step =
+    subst (Extends s) (sym (asked_leaves _ s answer next _ step)) (extends_same s)
+step_extends s (ScheduleB name quarter) answer next step =
+    subst (Extends s) (sym (asked_leaves _ s answer next _ step)) (extends_same s)
 
 -- ---- the same request again
 
-again_told : (check : Option Answer) (s : State) (answer : Answer) (new : State) (Else : Type 0) → check ≡ done_before
+again_told : (check : Option Answer) (s : State) (answer : Answer) (new : State) (Else : Type 0)
+    → check ≡ done_before
     → Decides check s answer new Else → (answer ≡ Ok Already) × (new ≡ s)
 again_told (Some given) s answer new Else e step = (step.0 ∙ inside given e, step.1)
   where
@@ -469,46 +627,65 @@ again_told (Some given) s answer new Else e step = (step.0 ∙ inside given e, s
     inside given e = ap (λ o. unwrap_or o given) e
 again_told None s answer new Else e step = absurd cc
 
-pub step_again : (s : State) (request : Request) (answer : Answer) (next : State) → WasDone s request → Step s request answer next
+pub step_again : (s : State) (request : Request) (answer : Answer) (next : State)
+    → WasDone s request → Step s request answer next
     → (answer ≡ Ok Already) × (next ≡ s)
-step_again s (Enrol name start carried form) answer next was step = again_told _ s answer next _ was.told step
+step_again s (Enrol name start carried form) answer next was step =
+    again_told _ s answer next _ was.told step
 step_again s (Calendar year days) answer next was step = again_told _ s answer next _ was.told step
 step_again s (AddHoliday day) answer next was step = again_told _ s answer next _ was.told step
-step_again s (Report name quarter cents) answer next was step = again_told _ s answer next _ was.told step
-step_again s (ReportYear name year cents) answer next was step = again_told _ s answer next _ was.told step
+step_again s (Report name quarter cents) answer next was step =
+    again_told _ s answer next _ was.told step
+step_again s (ReportYear name year cents) answer next was step =
+    again_told _ s answer next _ was.told step
 step_again s (OpenYear name year) answer next was step = again_told _ s answer next _ was.told step
-step_again s (Post name number payday fit ss medicare) answer next was step = again_told _ s answer next _ was.told step
+step_again s (Post name number payday fit ss medicare) answer next was step =
+    again_told _ s answer next _ was.told step
 step_again s (Void name number) answer next was step = again_told _ s answer next _ was.told step
-step_again s (Pay name number paid for_day cents) answer next was step = again_told _ s answer next _ was.told step
+step_again s (Pay name number paid for_day cents) answer next was step =
+    again_told _ s answer next _ was.told step
 step_again s (VoidPay name number) answer next was step = again_told _ s answer next _ was.told step
 step_again s (Status name day) answer next was step = again_told _ s answer next _ was.told step
-step_again s (DueList name quarter as_of) answer next was step = again_told _ s answer next _ was.told step
-step_again s (ScheduleB name quarter) answer next was step = again_told _ s answer next _ was.told step
+step_again s (DueList name quarter as_of) answer next was step =
+    again_told _ s answer next _ was.told step
+step_again s (ScheduleB name quarter) answer next was step =
+    again_told _ s answer next _ was.told step
 
 -- ---- a run
 
-goes_done : (s : State) (request : Request) (answer : Answer) (next : State) → Goes s request answer next → is_change answer ≡ true → WasDone next request
+goes_done : (s : State) (request : Request) (answer : Answer) (next : State)
+    → Goes s request answer next → is_change answer ≡ true → WasDone next request
 goes_done s request answer next (inl step) changes = step_done s request answer next step changes
-goes_done s request answer next (inr (inl memory, same)) changes = absurd (true≢false (sym changes ∙ ap is_change memory))
-goes_done s request answer next (inr (inr store, same)) changes = absurd (true≢false (sym changes ∙ ap is_change store))
+goes_done s request answer next (inr (inl memory, same)) changes =
+    absurd (true≢false (sym changes ∙ ap is_change memory))
+goes_done s request answer next (inr (inr store, same)) changes =
+    absurd (true≢false (sym changes ∙ ap is_change store))
 
-goes_still : (s : State) (request : Request) (answer : Answer) (next : State) (earlier : Request) → Goes s request answer next → WasDone s earlier → WasDone next earlier
-goes_still s request answer next earlier (inl step) was = still_done s next earlier (step_extends s request answer next step) was
-goes_still s request answer next earlier (inr fault) was = subst (λ x. WasDone x earlier) (sym fault.1) was
+goes_still : (s : State) (request : Request) (answer : Answer) (next : State) (earlier : Request)
+    → Goes s request answer next → WasDone s earlier → WasDone next earlier
+goes_still s request answer next earlier (inl step) was = still_done s next earlier
+    (step_extends s request answer next step) was
+goes_still s request answer next earlier (inr fault) was = subst (λ x. WasDone x earlier)
+    (sym fault.1) was
 
-run_still : (s : State) (requests : List Request) (answers : List Answer) (end : State) (earlier : Request) → IsRun s requests answers end → WasDone s earlier → WasDone end earlier
+run_still : (s : State) (requests : List Request) (answers : List Answer) (end : State)
+    (earlier : Request) → IsRun s requests answers end → WasDone s earlier → WasDone end earlier
 run_still s [] [] end earlier run was = subst (λ x. WasDone x earlier) (sym run) was
 run_still s [] (answer ∷ answers) end earlier run was = absurd run
 run_still s (request ∷ requests) [] end earlier run was = absurd run
 run_still s (request ∷ requests) (answer ∷ answers) end earlier run was =
-    run_still run.0 requests answers end earlier run.2 (goes_still s request answer run.0 earlier run.1 was)
+    run_still run.0 requests answers end earlier run.2
+    (goes_still s request answer run.0 earlier run.1 was)
 
-goes_again : (s : State) (request : Request) (answer : Answer) (next : State) → WasDone s request → Goes s request answer next → IsRepeat answer × (next ≡ s)
-goes_again s request answer next was (inl step) = let told = step_again s request answer next was step in (inl told.0, told.1)
+goes_again : (s : State) (request : Request) (answer : Answer) (next : State) → WasDone s request
+    → Goes s request answer next → IsRepeat answer × (next ≡ s)
+goes_again s request answer next was (inl step) = let told =
+    step_again s request answer next was step in (inl told.0, told.1)
 goes_again s request answer next was (inr fault) = (inr fault.0, fault.1)
 
 -- a run is cut in two where both lists are
-split : (s : State) (xs ys : List Request) (us vs : List Answer) (end : State) → length us ≡ length xs → IsRun s (xs ++ ys) (us ++ vs) end
+split : (s : State) (xs ys : List Request) (us vs : List Answer) (end : State)
+    → length us ≡ length xs → IsRun s (xs ++ ys) (us ++ vs) end
     → (mid : State) × IsRun s xs us mid × IsRun mid ys vs end
 split s [] ys [] vs end e run = (s, refl, run)
 split s [] ys (a ∷ us) vs end e run = absurd (omega arith)
@@ -517,27 +694,37 @@ split s (x ∷ xs) ys (a ∷ us) vs end e run =
     let rest = split run.0 xs ys us vs end (omega arith) run.2 in
     (rest.0, (run.0, run.1, rest.1), rest.2)
 
-join : (s : State) (xs ys : List Request) (us vs : List Answer) (mid end : State) → IsRun s xs us mid → IsRun mid ys vs end → IsRun s (xs ++ ys) (us ++ vs) end
+join : (s : State) (xs ys : List Request) (us vs : List Answer) (mid end : State)
+    → IsRun s xs us mid → IsRun mid ys vs end → IsRun s (xs ++ ys) (us ++ vs) end
 join s [] ys [] vs mid end first run = subst (λ from. IsRun from ys vs end) first run
 join s [] ys (a ∷ us) vs mid end first run = absurd first
 join s (x ∷ xs) ys [] vs mid end first run = absurd first
-join s (x ∷ xs) ys (a ∷ us) vs mid end first run = (first.0, first.1, join first.0 xs ys us vs mid end first.2 run)
+join s (x ∷ xs) ys (a ∷ us) vs mid end first run =
+    (first.0, first.1, join first.0 xs ys us vs mid end first.2 run)
 
 pub repeats : (s end : State) (before between after : List Request) (request : Request)
     (answers_before answers_between answers_after : List Answer) (answer again : Answer)
     → length answers_before ≡ length before → length answers_between ≡ length between
-    → IsRun s (before ++ request ∷ between ++ request ∷ after) (answers_before ++ answer ∷ answers_between ++ again ∷ answers_after) end
+    → IsRun s (before ++ request ∷ between ++ request ∷ after)
+    (answers_before ++ answer ∷ answers_between ++ again ∷ answers_after) end
     → is_change answer ≡ true
-    → IsRepeat again × IsRun s (before ++ request ∷ between ++ after) (answers_before ++ answer ∷ answers_between ++ answers_after) end
-repeats s end before between after request answers_before answers_between answers_after answer again e f run changes =
-    let lengths : length (answers_before ++ answer ∷ answers_between) ≡ length (before ++ request ∷ between) =
-    length-append answers_before (answer ∷ answers_between) ∙ (rw (e, f) (sym (length-append before (request ∷ between)))) in
-    let halves = split s (before ++ request ∷ between) (request ∷ after) (answers_before ++ answer ∷ answers_between) (again ∷ answers_after) end lengths run in
-    let parts = split s before (request ∷ between) answers_before (answer ∷ answers_between) halves.0 e halves.1 in
+    → IsRepeat again × IsRun s (before ++ request ∷ between ++ after)
+    (answers_before ++ answer ∷ answers_between ++ answers_after) end
+repeats s end before between after request answers_before answers_between answers_after answer again
+    e f run changes =
+    let lengths : length (answers_before ++ answer ∷ answers_between) ≡ length
+    (before ++ request ∷ between) =
+    length-append answers_before (answer ∷ answers_between)
+    ∙ (rw (e, f) (sym (length-append before (request ∷ between)))) in
+    let halves = split s (before ++ request ∷ between) (request ∷ after)
+    (answers_before ++ answer ∷ answers_between) (again ∷ answers_after) end lengths run in
+    let parts = split s before (request ∷ between) answers_before (answer ∷ answers_between)
+    halves.0 e halves.1 in
     let was = run_still parts.2.0 between answers_between halves.0 request parts.2.2
     (goes_done parts.0 request answer parts.2.0 parts.2.1 changes) in
     let told = goes_again halves.0 request again halves.2.0 was halves.2.1 in (
       told.0,
-      join s (before ++ request ∷ between) after (answers_before ++ answer ∷ answers_between) answers_after halves.0 end halves.1
+      join s (before ++ request ∷ between) after (answers_before ++ answer ∷ answers_between)
+          answers_after halves.0 end halves.1
           (subst (λ from. IsRun from after answers_after end) told.1 halves.2.2),
     )

@@ -1,5 +1,6 @@
 -- A state and a request have one answer.
-use Rattle.std.proofs.Common.{◌≡◌, ◌∙◌, ◌⊎◌, inl, inr, refl, sym, ap, subst, ℕ, ◌<◌, Bool, true, false, List, [], ◌∷◌, ◌++◌, map, length, Some, Ok, arith}
+use Rattle.std.proofs.Common.{◌≡◌, ◌∙◌, ◌⊎◌, inl, inr, refl, sym, ap, subst, ℕ, ◌<◌, Bool, true}
+use Rattle.std.proofs.Common.{false, List, [], ◌∷◌, ◌++◌, map, length, Some, Ok, arith}
 use Rattle.std.specs.Prelude.{unwrap_or}
 use Rattle.std.proofs.lemmas.Bool.{true≢false}
 use Rattle.ftd_days.specs.declared.cents.Cents.{Cents}
@@ -20,10 +21,13 @@ use Rattle.ftd_rules.proofs.Lines.{lines_one}
 use Rattle.ftd_rules.proofs.Schedules.{line_one}
 use Rattle.ftd_rules.proofs.Only.{rows_one, obligations_one}
 use Rattle.ftd_machine.specs.State.{Entries}
-use Rattle.ftd_machine.specs.History.{start_of, form_of, is_carried, figures, live_sums, IsLookbackOn, HasLookback, IsMissingOn, AreCarried, year_of_line, AreLinesOf, AreOwed}
+use Rattle.ftd_machine.specs.History.{start_of, form_of, is_carried, figures, live_sums}
+use Rattle.ftd_machine.specs.History.{IsLookbackOn, HasLookback, IsMissingOn, AreCarried}
+use Rattle.ftd_machine.specs.History.{year_of_line, AreLinesOf, AreOwed}
 use Rattle.ftd_machine.specs.Checks.{Answer}
 use Rattle.ftd_machine.specs.Posting.{AreOnlyIn, Spans, Differ, IsPosted}
-use Rattle.ftd_machine.specs.Asking.{IsTurnBefore, HasNoTurnBefore, IsReason, IsStatus, IsDueRow, first_of_row, IsDueList, day_of_sum, IsScheduleB}
+use Rattle.ftd_machine.specs.Asking.{IsTurnBefore, HasNoTurnBefore, IsReason, IsStatus, IsDueRow}
+use Rattle.ftd_machine.specs.Asking.{first_of_row, IsDueList, day_of_sum, IsScheduleB}
 use Rattle.ftd_machine.specs.declared.replies.Reason.{Reason}
 use Rattle.ftd_machine.specs.declared.replies.Reason.TheVariants as reason
 use Rattle.ftd_machine.specs.declared.replies.Reply.TheVariants.{Posted, Status, Due, Days}
@@ -48,8 +52,16 @@ members_one {X = X} key (x ∷ xs) (y ∷ ys) g h f b =
     ] in
     let first : key x ≡ key y = ap key same in
     let tails : xs ≡ ys = members_one key xs ys g.1 h.1
-    (λ o k. elim (f o (inr k)) [ inl e ↦ absurd (let l = g.0 o k in let y0 : key o ≡ key y = ap key e in omega arith) | inr r ↦ r ])
-    (λ o k. elim (b o (inr k)) [ inl e ↦ absurd (let l = h.0 o k in let x0 : key o ≡ key x = ap key e in omega arith) | inr r ↦ r ]) in
+    (λ o k. elim (f o (inr k)) [
+      | inl e ↦ absurd (let l = g.0 o k in
+          let y0 : key o ≡ key y = ap key e in omega arith)
+      | inr r ↦ r
+    ])
+    (λ o k. elim (b o (inr k)) [
+      | inl e ↦ absurd (let l = h.0 o k in
+          let x0 : key o ≡ key x = ap key e in omega arith)
+      | inr r ↦ r
+    ]) in
     ap (λ z. z ∷ xs) same ∙ ap (λ zs. y ∷ zs) tails
 
 -- ---- the lookback period
@@ -59,35 +71,46 @@ pub record IsOnce (own : Entries) : Type 0 where
   pub quarters : AreReportedOnce (figures own.reported)
   pub years : AreReportedOnce (figures own.reported_years)
 
-lookback_one : (form : Form) (own : Entries) (year : ℕ) (c d : Cents) → IsOnce own → IsLookbackOn form own year c → IsLookbackOn form own year d → c.0 ≡ d.0
+lookback_one : (form : Form) (own : Entries) (year : ℕ) (c d : Cents) → IsOnce own
+    → IsLookbackOn form own year c → IsLookbackOn form own year d → c.0 ≡ d.0
 lookback_one F941 own year c d once h k =
     let reported = figures own.reported in
     let start = start_of own.account in
     together_one reported start (lookback_quarters year) c.0 d.0 once.quarters
     (lookback_together reported start year c.0 h) (lookback_together reported start year d.0 k)
-lookback_one F943 own year c d once h k = year_one (figures own.reported_years) (start_of own.account) year c d once.years h k
+lookback_one F943 own year c d once h k = year_one (figures own.reported_years)
+    (start_of own.account) year c d once.years h k
 
-pub lacks_none : (form : Form) (own : Entries) (year : ℕ) (refusal : Refusal) (c : Cents) → IsMissingOn form own year refusal → IsLookbackOn form own year c → ⊥
+pub lacks_none : (form : Form) (own : Entries) (year : ℕ) (refusal : Refusal) (c : Cents)
+    → IsMissingOn form own year refusal → IsLookbackOn form own year c → ⊥
 lacks_none F941 own year refusal c missing h =
-    together_all (figures own.reported) (start_of own.account) (lookback_quarters year) c.0 missing.0 missing.1.0 missing.1.1
+    together_all (figures own.reported) (start_of own.account) (lookback_quarters year) c.0
+    missing.0 missing.1.0 missing.1.1
     (lookback_together (figures own.reported) (start_of own.account) year c.0 h)
-lacks_none F943 own year refusal c missing h = year_none (figures own.reported_years) (start_of own.account) year missing.0 c missing.1 h
+lacks_none F943 own year refusal c missing h = year_none (figures own.reported_years)
+    (start_of own.account) year missing.0 c missing.1 h
 
 neither_less : (a b : ℕ) → (a < b → ⊥) → (b < a → ⊥) → a ≡ b
 neither_less a b f g = omega arith
 
-first_one : (reported : List (ℕ × Cents)) (start year q r : ℕ) → IsFirstMissing reported start year q → IsFirstMissing reported start year r → q ≡ r
-first_one reported start year q r h k = neither_less q r (λ less. k.2 q h.0 less h.1) (λ less. h.2 r k.0 less k.1)
+first_one : (reported : List (ℕ × Cents)) (start year q r : ℕ)
+    → IsFirstMissing reported start year q → IsFirstMissing reported start year r → q ≡ r
+first_one reported start year q r h k = neither_less q r (λ less. k.2 q h.0 less h.1)
+    (λ less. h.2 r k.0 less k.1)
 
-pub lacks_one : (form : Form) (own : Entries) (year : ℕ) (refusal other : Refusal) → IsMissingOn form own year refusal → IsMissingOn form own year other → refusal ≡ other
+pub lacks_one : (form : Form) (own : Entries) (year : ℕ) (refusal other : Refusal)
+    → IsMissingOn form own year refusal → IsMissingOn form own year other → refusal ≡ other
 lacks_one F941 own year refusal other h k =
-    h.2 ∙ ap QuarterMissing (first_one (figures own.reported) (start_of own.account) year h.0 k.0 h.1 k.1) ∙ sym k.2
+    h.2 ∙ ap QuarterMissing (first_one (figures own.reported) (start_of own.account) year h.0 k.0
+    h.1 k.1) ∙ sym k.2
 lacks_one F943 own year refusal other h k = h.2 ∙ ap YearMissing (h.1.0 ∙ sym k.1.0) ∙ sym k.2
 
 -- ---- lines and obligations
 
-given_one : (own : Entries) (carried : Bool) (xs ys : List YearLine) → IsOnce own → map year_of_line xs ≡ map year_of_line ys
-    → ((line : YearLine) → Has xs line → HasLookback own line.year line.lookback) → ((line : YearLine) → Has ys line → HasLookback own line.year line.lookback)
+given_one : (own : Entries) (carried : Bool) (xs ys : List YearLine) → IsOnce own
+    → map year_of_line xs ≡ map year_of_line ys
+    → ((line : YearLine) → Has xs line → HasLookback own line.year line.lookback)
+    → ((line : YearLine) → Has ys line → HasLookback own line.year line.lookback)
     → AreCarried carried xs → AreCarried carried ys → map given xs ≡ map given ys
 given_one own carried [] [] once e f g c d = refl
 given_one own carried [] (y ∷ ys) once e f g c d = absurd cc
@@ -95,33 +118,44 @@ given_one own carried (x ∷ xs) [] once e f g c d = absurd cc
 given_one own carried (x ∷ xs) (y ∷ ys) once e f g c d =
     let year : x.year ≡ y.year = cc in
     let years : map year_of_line xs ≡ map year_of_line ys = cc in
-    let there : HasLookback own x.year y.lookback = subst (λ n. HasLookback own n y.lookback) (sym year) (g y (inl refl)) in
-    let amount : x.lookback.0 ≡ y.lookback.0 = lookback_one (form_of own.account) own x.year x.lookback y.lookback once (f x (inl refl)) there in
+    let there : HasLookback own x.year y.lookback = subst (λ n. HasLookback own n y.lookback)
+    (sym year) (g y (inl refl)) in
+    let amount : x.lookback.0 ≡ y.lookback.0 = lookback_one (form_of own.account) own x.year
+    x.lookback y.lookback once (f x (inl refl)) there in
     let flag : x.carried ≡ y.carried = c.0 ∙ sym d.0 in
     let rest : map given xs ≡ map given ys =
-    given_one own false xs ys once years (λ line has. f line (inr has)) (λ line has. g line (inr has)) c.1 d.1 in
+    given_one own false xs ys once years (λ line has. f line (inr has))
+    (λ line has. g line (inr has)) c.1 d.1 in
     rw (year, amount, flag, rest) refl
 
-pub lines_of_one : (own : Entries) (xs ys : List YearLine) → IsOnce own → AreLinesOf own xs → AreLinesOf own ys → xs ≡ ys
+pub lines_of_one : (own : Entries) (xs ys : List YearLine) → IsOnce own → AreLinesOf own xs
+    → AreLinesOf own ys → xs ≡ ys
 lines_of_one own xs ys once g h =
     lines_one (live_sums own) xs ys g.schedules h.schedules
-    (given_one own (is_carried own.account) xs ys once (g.years ∙ sym h.years) g.lookbacks h.lookbacks g.carried h.carried)
+    (given_one own (is_carried own.account) xs ys once (g.years ∙ sym h.years) g.lookbacks
+    h.lookbacks g.carried h.carried)
 
-pub owed_one : (holidays : List ℕ) (own : Entries) (rows others : List Obligation) → IsOnce own → AreOwed holidays own rows → AreOwed holidays own others → rows ≡ others
+pub owed_one : (holidays : List ℕ) (own : Entries) (rows others : List Obligation) → IsOnce own
+    → AreOwed holidays own rows → AreOwed holidays own others → rows ≡ others
 owed_one holidays own rows others once g h =
     let form = form_of own.account in
     let sums = live_sums own in
     let same : g.0 ≡ h.0 = lines_of_one own g.0 h.0 once g.1 h.1 in
-    let other : AreObligations form g.0 sums holidays others = subst (λ lines. AreObligations form lines sums holidays others) (sym same) h.2 in
-    obligations_one form g.0 sums holidays rows others (rows_owed form g.0 sums holidays rows g.2) (rows_owed form g.0 sums holidays others other)
+    let other : AreObligations form g.0 sums holidays others =
+    subst (λ lines. AreObligations form lines sums holidays others) (sym same) h.2 in
+    obligations_one form g.0 sums holidays rows others (rows_owed form g.0 sums holidays rows g.2)
+    (rows_owed form g.0 sums holidays others other)
 
 -- ---- what is posted
 
-only_one : (rows others xs ys : List Obligation) → AreOnlyIn rows others xs → AreOnlyIn rows others ys → xs ≡ ys
+only_one : (rows others xs ys : List Obligation) → AreOnlyIn rows others xs
+    → AreOnlyIn rows others ys → xs ≡ ys
 only_one rows others xs ys g h =
-    rows_one xs ys g.by_first_day h.by_first_day (λ o k. (h.all o).1 ((g.all o).0 k)) (λ o k. (g.all o).1 ((h.all o).0 k))
+    rows_one xs ys g.by_first_day h.by_first_day (λ o k. (h.all o).1 ((g.all o).0 k))
+    (λ o k. (g.all o).1 ((h.all o).0 k))
 
-spans_one : (rows : List Obligation) (from to from' to' : ℕ) → Spans rows from to → Spans rows from' to' → (from ≡ from') × (to ≡ to')
+spans_one : (rows : List Obligation) (from to from' to' : ℕ) → Spans rows from to
+    → Spans rows from' to' → (from ≡ from') × (to ≡ to')
 spans_one rows from to from' to' g h =
     let a = g.within h.first h.has_first in
     let b = g.within h.last h.has_last in
@@ -138,53 +172,69 @@ spans_none rows from to e g = subst (λ xs. Has xs g.first) e g.has_first
 
 days_one : (rows : List Obligation) (payday from to from' to' : ℕ)
     → Spans rows from to ⊎ ((rows ≡ []) × (from ≡ payday) × (to ≡ payday))
-    → Spans rows from' to' ⊎ ((rows ≡ []) × (from' ≡ payday) × (to' ≡ payday)) → (from ≡ from') × (to ≡ to')
+    → Spans rows from' to' ⊎ ((rows ≡ []) × (from' ≡ payday) × (to' ≡ payday)) → (from ≡ from')
+    × (to ≡ to')
 days_one rows payday from to from' to' (inl g) (inl h) = spans_one rows from to from' to' g h
 days_one rows payday from to from' to' (inl g) (inr h) = absurd (spans_none rows from to h.0 g)
 days_one rows payday from to from' to' (inr g) (inl h) = absurd (spans_none rows from' to' g.0 h)
 days_one rows payday from to from' to' (inr g) (inr h) = (g.1 ∙ sym h.1, g.2 ∙ sym h.2)
 
-posted_as : (from to removed added from' to' removed' added' : ℕ) → from ≡ from' → to ≡ to' → removed ≡ removed' → added ≡ added'
+posted_as : (from to removed added from' to' removed' added' : ℕ) → from ≡ from' → to ≡ to'
+    → removed ≡ removed' → added ≡ added'
     → Posted from to removed added ≡ Posted from' to' removed' added'
 posted_as from to removed added from' to' removed' added' a b c d = rw (a, b, c, d) refl
 
-differ_one : (before after : List Obligation) (payday from to removed added from' to' removed' added' : ℕ)
-    → Differ before after payday from to removed added → Differ before after payday from' to' removed' added'
+differ_one : (before after : List Obligation)
+    (payday from to removed added from' to' removed' added' : ℕ)
+    → Differ before after payday from to removed added
+    → Differ before after payday from' to' removed' added'
     → Posted from to removed added ≡ Posted from' to' removed' added'
 differ_one before after payday from to removed added from' to' removed' added' g h =
     let gone : g.gone ≡ h.gone = only_one before after g.gone h.gone g.are_gone h.are_gone in
     let come : g.come ≡ h.come = only_one after before g.come h.come g.are_come h.are_come in
     let both : h.gone ++ h.come ≡ g.gone ++ g.come = rw (gone, come) refl in
     let days = days_one (g.gone ++ g.come) payday from to from' to' g.days
-    (subst (λ rows. Spans rows from' to' ⊎ ((rows ≡ []) × (from' ≡ payday) × (to' ≡ payday))) both h.days) in
+    (subst (λ rows. Spans rows from' to' ⊎ ((rows ≡ []) × (from' ≡ payday) × (to' ≡ payday))) both
+    h.days) in
     posted_as from to removed added from' to' removed' added' days.0 days.1
-    (g.removed_is ∙ ap length gone ∙ sym h.removed_is) (g.added_is ∙ ap length come ∙ sym h.added_is)
+    (g.removed_is ∙ ap length gone ∙ sym h.removed_is) (g.added_is ∙ ap length come
+    ∙ sym h.added_is)
 
-pub posted_one : (holidays : List ℕ) (own after : Entries) (payday : ℕ) (a b : Answer) → IsOnce own → IsOnce after
+pub posted_one : (holidays : List ℕ) (own after : Entries) (payday : ℕ) (a b : Answer) → IsOnce own
+    → IsOnce after
     → IsPosted holidays own after payday a → IsPosted holidays own after payday b → a ≡ b
 posted_one holidays own after payday a b once once_after g h =
     let rows = owed_one holidays own g.rows h.rows once g.owed h.owed in
-    let rows_after = owed_one holidays after g.rows_after h.rows_after once_after g.owed_after h.owed_after in
+    let rows_after = owed_one holidays after g.rows_after h.rows_after once_after g.owed_after
+    h.owed_after in
     let there : Differ g.rows g.rows_after payday h.from h.to h.removed h.added =
     subst (λ xs. Differ xs g.rows_after payday h.from h.to h.removed h.added) (sym rows)
-    (subst (λ xs. Differ h.rows xs payday h.from h.to h.removed h.added) (sym rows_after) h.differ) in
-    g.told ∙ ap Ok (differ_one g.rows g.rows_after payday g.from g.to g.removed g.added h.from h.to h.removed h.added g.differ there) ∙ sym h.told
+    (subst (λ xs. Differ h.rows xs payday h.from h.to h.removed h.added)
+    (sym rows_after) h.differ) in
+    g.told ∙ ap Ok (differ_one g.rows g.rows_after payday g.from g.to g.removed g.added h.from h.to
+    h.removed h.added g.differ there) ∙ sym h.told
 
 -- ---- what is asked
 
-pub due_list_one : (holidays : List ℕ) (own : Entries) (quarter as_of : ℕ) (a b : Answer) → IsOnce own
+pub due_list_one : (holidays : List ℕ) (own : Entries) (quarter as_of : ℕ) (a b : Answer)
+    → IsOnce own
     → IsDueList holidays own quarter as_of a → IsDueList holidays own quarter as_of b → a ≡ b
 due_list_one holidays own quarter as_of a b once g h =
     let rows : g.rows ≡ h.rows = owed_one holidays own g.rows h.rows once g.owed h.owed in
-    let to : (row : DueRow) → IsDueRow holidays own g.rows quarter as_of row → IsDueRow holidays own h.rows quarter as_of row =
+    let to : (row : DueRow) → IsDueRow holidays own g.rows quarter as_of row
+    → IsDueRow holidays own h.rows quarter as_of row =
     λ row is. subst (λ xs. IsDueRow holidays own xs quarter as_of row) rows is in
-    let back : (row : DueRow) → IsDueRow holidays own h.rows quarter as_of row → IsDueRow holidays own g.rows quarter as_of row =
+    let back : (row : DueRow) → IsDueRow holidays own h.rows quarter as_of row
+    → IsDueRow holidays own g.rows quarter as_of row =
     λ row is. subst (λ xs. IsDueRow holidays own xs quarter as_of row) (sym rows) is in
-    let listed : g.listed ≡ h.listed = members_one first_of_row g.listed h.listed g.by_first_day h.by_first_day
-    (λ row k. (h.all row).1 (to row ((g.all row).0 k))) (λ row k. (g.all row).1 (back row ((h.all row).0 k))) in
+    let listed : g.listed ≡ h.listed = members_one first_of_row g.listed h.listed g.by_first_day
+    h.by_first_day
+    (λ row k. (h.all row).1 (to row ((g.all row).0 k)))
+    (λ row k. (g.all row).1 (back row ((h.all row).0 k))) in
     g.told ∙ ap (λ xs. Ok (Due xs)) listed ∙ sym h.told
 
-pub schedule_one : (own : Entries) (quarter : ℕ) (a b : Answer) → IsScheduleB own quarter a → IsScheduleB own quarter b → a ≡ b
+pub schedule_one : (own : Entries) (quarter : ℕ) (a b : Answer) → IsScheduleB own quarter a
+    → IsScheduleB own quarter b → a ≡ b
 schedule_one own quarter a b g h =
     let listed : g.listed ≡ h.listed = members_one day_of_sum g.listed h.listed g.by_day h.by_day
     (λ x k. (h.all x).1 ((g.all x).0 k)) (λ x k. (g.all x).1 ((h.all x).0 k)) in
@@ -193,55 +243,72 @@ schedule_one own quarter a b g h =
 inside : {X : Type 0} (x y : X) → Some x ≡ Some y → x ≡ y
 inside x y e = ap (λ o. unwrap_or o x) e
 
-before_one : (year : ℕ) (lines : List YearLine) (line : YearLine) (turn other : ℕ) → YearsFrom year lines
+before_one : (year : ℕ) (lines : List YearLine) (line : YearLine) (turn other : ℕ)
+    → YearsFrom year lines
     → IsTurnBefore lines line turn → IsTurnBefore lines line other → turn ≡ other
 before_one year lines line turn other from g h =
     let years : g.0.year ≡ h.0.year = let a = g.2 in let b = h.2 in omega arith in
     let same : g.0 ≡ h.0 = line_one year lines g.0 h.0 from g.1 h.1 years in
     inside turn other (sym g.3 ∙ ap (λ (l : YearLine). l.turn) same ∙ h.3)
 
-turned_one : (year : ℕ) (lines : List YearLine) (line : YearLine) (turn other : ℕ) → YearsFrom year lines
-    → IsTurnBefore lines line turn ⊎ (HasNoTurnBefore lines line × (line.carried ≡ false) × (line.turn ≡ Some turn))
-    → IsTurnBefore lines line other ⊎ (HasNoTurnBefore lines line × (line.carried ≡ false) × (line.turn ≡ Some other)) → turn ≡ other
-turned_one year lines line turn other from (inl g) (inl h) = before_one year lines line turn other from g h
+turned_one : (year : ℕ) (lines : List YearLine) (line : YearLine) (turn other : ℕ)
+    → YearsFrom year lines
+    → IsTurnBefore lines line turn ⊎ (HasNoTurnBefore lines line × (line.carried ≡ false)
+    × (line.turn ≡ Some turn))
+    → IsTurnBefore lines line other ⊎ (HasNoTurnBefore lines line × (line.carried ≡ false)
+    × (line.turn ≡ Some other)) → turn ≡ other
+turned_one year lines line turn other from (inl g) (inl h) =
+    before_one year lines line turn other from g h
 turned_one year lines line turn other from (inl g) (inr h) = absurd (h.0 turn g)
 turned_one year lines line turn other from (inr g) (inl h) = absurd (g.0 other h)
 turned_one year lines line turn other from (inr g) (inr h) = inside turn other (sym g.2 ∙ h.2)
 
-not_carried : (lines : List YearLine) (line : YearLine) (turn : ℕ) → HasNoTurnBefore lines line → line.carried ≡ true
-    → IsTurnBefore lines line turn ⊎ (HasNoTurnBefore lines line × (line.carried ≡ false) × (line.turn ≡ Some turn)) → ⊥
+not_carried : (lines : List YearLine) (line : YearLine) (turn : ℕ) → HasNoTurnBefore lines line
+    → line.carried ≡ true
+    → IsTurnBefore lines line turn ⊎ (HasNoTurnBefore lines line × (line.carried ≡ false)
+    × (line.turn ≡ Some turn)) → ⊥
 not_carried lines line turn none carried (inl g) = none turn g
 not_carried lines line turn none carried (inr g) = true≢false (sym carried ∙ g.1)
 
-reason_one : (year : ℕ) (lines : List YearLine) (line : YearLine) (status : Kind) (why other : Reason) → YearsFrom year lines
+reason_one : (year : ℕ) (lines : List YearLine) (line : YearLine) (status : Kind)
+    (why other : Reason) → YearsFrom year lines
     → IsReason lines line status why → IsReason lines line status other → why ≡ other
 reason_one year lines line status reason.Lookback reason.Lookback from g h = refl
 reason_one year lines line status reason.Lookback (reason.Turned other) from g h = absurd (h.0 g)
 reason_one year lines line status reason.Lookback reason.Carried from g h = absurd (h.0 g)
 reason_one year lines line status (reason.Turned turn) reason.Lookback from g h = absurd (g.0 h)
-reason_one year lines line status (reason.Turned turn) (reason.Turned other) from g h = ap reason.Turned (turned_one year lines line turn other from g.1 h.1)
-reason_one year lines line status (reason.Turned turn) reason.Carried from g h = absurd (not_carried lines line turn h.1 h.2 g.1)
+reason_one year lines line status (reason.Turned turn) (reason.Turned other) from g h =
+    ap reason.Turned (turned_one year lines line turn other from g.1 h.1)
+reason_one year lines line status (reason.Turned turn) reason.Carried from g h =
+    absurd (not_carried lines line turn h.1 h.2 g.1)
 reason_one year lines line status reason.Carried reason.Lookback from g h = absurd (g.0 h)
-reason_one year lines line status reason.Carried (reason.Turned other) from g h = absurd (not_carried lines line other g.1 g.2 h.1)
+reason_one year lines line status reason.Carried (reason.Turned other) from g h =
+    absurd (not_carried lines line other g.1 g.2 h.1)
 reason_one year lines line status reason.Carried reason.Carried from g h = refl
 
-kind_one : (line : YearLine) (day : ℕ) (status other : Kind) → HasStatusOn line day status → HasStatusOn line day other → status ≡ other
+kind_one : (line : YearLine) (day : ℕ) (status other : Kind) → HasStatusOn line day status
+    → HasStatusOn line day other → status ≡ other
 kind_one line day kind.Monthly kind.Monthly g h = refl
 kind_one line day kind.Monthly kind.Semiweekly g h = absurd (g h)
 kind_one line day kind.Semiweekly kind.Monthly g h = absurd (h g)
 kind_one line day kind.Semiweekly kind.Semiweekly g h = refl
 
-pub status_one : (own : Entries) (day : ℕ) (a b : Answer) → IsOnce own → IsStatus own day a → IsStatus own day b → a ≡ b
+pub status_one : (own : Entries) (day : ℕ) (a b : Answer) → IsOnce own → IsStatus own day a
+    → IsStatus own day b → a ≡ b
 status_one own day a b once g h =
     let lines : h.lines ≡ g.lines = lines_of_one own h.lines g.lines once h.are_lines g.are_lines in
     let from = g.are_lines.schedules.years in
     let open_year : Has g.lines h.line = subst (λ xs. Has xs h.line) lines h.open_year in
-    let line : h.line ≡ g.line = line_one from.0 g.lines h.line g.line from.2 open_year g.open_year (h.of_day ∙ sym g.of_day) in
-    let status : HasStatusOn g.line day h.status = subst (λ l. HasStatusOn l day h.status) line h.has_status in
+    let line : h.line ≡ g.line = line_one from.0 g.lines h.line g.line from.2 open_year g.open_year
+    (h.of_day ∙ sym g.of_day) in
+    let status : HasStatusOn g.line day h.status = subst (λ l. HasStatusOn l day h.status) line
+    h.has_status in
     let same : h.status ≡ g.status = kind_one g.line day h.status g.status status g.has_status in
     let why : IsReason g.lines g.line g.status h.why =
     subst (λ k. IsReason g.lines g.line k h.why) same
-    (subst (λ l. IsReason g.lines l h.status h.why) line (subst (λ xs. IsReason xs h.line h.status h.why) lines h.is_why)) in
-    let reasons : h.why ≡ g.why = reason_one from.0 g.lines g.line g.status h.why g.why from.2 why g.is_why in
+    (subst (λ l. IsReason g.lines l h.status h.why) line
+    (subst (λ xs. IsReason xs h.line h.status h.why) lines h.is_why)) in
+    let reasons : h.why ≡ g.why = reason_one from.0 g.lines g.line g.status h.why g.why from.2 why
+    g.is_why in
     let told : Status g.status g.why ≡ Status h.status h.why = rw (same, reasons) refl in
     g.told ∙ ap Ok told ∙ sym h.told

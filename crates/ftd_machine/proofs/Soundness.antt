@@ -1,5 +1,7 @@
 -- Each step leaves the state sound.
-use Rattle.std.proofs.Common.{◌≡◌, ◌∙◌, ◌⊎◌, inl, inr, refl, sym, ap, subst, ℕ, ◌+◌, ◌-◌, ◌≤◌, ◌==◌, ◌||◌, ◌&&◌, Bool, true, false, cond, List, [], ◌∷◌, ◌++◌, map, filter, length, Option, None, Some, Ok, arith, bytes_eq}
+use Rattle.std.proofs.Common.{◌≡◌, ◌∙◌, ◌⊎◌, inl, inr, refl, sym, ap, subst, ℕ, ◌+◌, ◌-◌, ◌≤◌, ◌==◌}
+use Rattle.std.proofs.Common.{◌||◌, ◌&&◌, Bool, true, false, cond, List, [], ◌∷◌, ◌++◌, map, filter}
+use Rattle.std.proofs.Common.{length, Option, None, Some, Ok, arith, bytes_eq}
 use Rattle.std.specs.Prelude.{find, option_map, is_some, nat_le, nat_lt}
 use Rattle.std.proofs.lemmas.Bool.{true≢false, eqb-true, leb-true}
 use Rattle.ftd_days.specs.Calendar.{year_of}
@@ -12,19 +14,27 @@ use Rattle.ftd_rules.specs.declared.run.PayRun.{PayRun}
 use Rattle.ftd_rules.specs.declared.payment.Payment.{Payment}
 use Rattle.ftd_rules.specs.declared.run.Voidable.{Voidable}
 use Rattle.ftd_machine.specs.Limits.{is_between, is_calendar}
-use Rattle.ftd_machine.specs.State.{State, nothing, Entry, entries_of, is_named, account_of, is_of, has_key, content_of, kept_at, is_open, is_given, calendar_at, days_of, added_in}
+use Rattle.ftd_machine.specs.State.{State, nothing, Entry, entries_of, is_named, account_of, is_of}
+use Rattle.ftd_machine.specs.State.{has_key, content_of, kept_at, is_open, is_given, calendar_at}
+use Rattle.ftd_machine.specs.State.{days_of, added_in}
 use Rattle.ftd_machine.specs.History.{figure_of, figures, year_of_entry}
 use Rattle.ftd_machine.specs.Requests.{days_of_year}
 use Rattle.ftd_machine.specs.Checks.{Answer, first_of, Decides}
-use Rattle.ftd_machine.specs.Step.{Step, OpensNext, may_open, taken, with_account, with_entry, with_voided, voided_if, as_voided, is_under}
-use Rattle.ftd_machine.specs.Sound.{AreDistinct, name_of, year_of_calendar, place_of, FollowFrom, Follow, IsSound}
+use Rattle.ftd_machine.specs.Step.{Step, OpensNext, may_open, taken, with_account, with_entry}
+use Rattle.ftd_machine.specs.Step.{with_voided, voided_if, as_voided, is_under}
+use Rattle.ftd_machine.specs.Sound.{AreDistinct, name_of, year_of_calendar, place_of, FollowFrom}
+use Rattle.ftd_machine.specs.Sound.{Follow, IsSound}
 use Rattle.ftd_machine.specs.Runs.{Goes, IsRun, IsReached}
 use Rattle.ftd_machine.specs.declared.replies.Reply.TheVariants.{Done}
 use Rattle.ftd_machine.specs.declared.requests.Request.{Request}
-use Rattle.ftd_machine.specs.declared.requests.Request.TheVariants.{Enrol, Calendar, AddHoliday, Report, ReportYear, OpenYear, Post, Void, Pay, VoidPay, Status, DueList, ScheduleB}
+use Rattle.ftd_machine.specs.declared.requests.Request.TheVariants.{Enrol, Calendar, AddHoliday}
+use Rattle.ftd_machine.specs.declared.requests.Request.TheVariants.{Report, ReportYear, OpenYear}
+use Rattle.ftd_machine.specs.declared.requests.Request.TheVariants.{Post, Void, Pay, VoidPay}
+use Rattle.ftd_machine.specs.declared.requests.Request.TheVariants.{Status, DueList, ScheduleB}
 use Rattle.ftd_machine.proofs.Deciding.{either}
 use Rattle.ftd_machine.proofs.Leaving.{asked_leaves}
-use Rattle.ftd_machine.proofs.Heads.{Gives, gives_finds, gives_needs, gives_done, gives_new, skip_needs, skip_finds, skip_new, skip_done}
+use Rattle.ftd_machine.proofs.Heads.{Gives, gives_finds, gives_needs, gives_done, gives_new}
+use Rattle.ftd_machine.proofs.Heads.{skip_needs, skip_finds, skip_new, skip_done}
 use Rattle.ftd_machine.proofs.Adding.{own_name, same_name, filter_more}
 use Rattle.ftd_machine.proofs.Keeping.{found_append, same_key, keeps_entry}
 use Rattle.ftd_machine.proofs.Repeats.{checks_of, is_year, calendar_still, some_still}
@@ -36,42 +46,55 @@ use Rattle.ftd_machine.proofs.Few.{few_given, few_added}
 pub has_split : {X : Type 0} (xs ys : List X) (x : X) → Has (xs ++ ys) x → Has xs x ⊎ Has ys x
 has_split [] ys x has = inr has
 has_split (z ∷ xs) ys x (inl is) = inl (inl is)
-has_split (z ∷ xs) ys x (inr has) = elim (has_split xs ys x has) [ inl here ↦ inl (inr here) | inr there ↦ inr there ]
+has_split (z ∷ xs) ys x (inr has) = elim (has_split xs ys x has) [
+  | inl here ↦ inl (inr here)
+  | inr there ↦ inr there
+]
 
 pub has_last : {X : Type 0} (xs : List X) (y x : X) → Has (xs ++ y ∷ []) x → Has xs x ⊎ (x ≡ y)
 has_last xs y x has =
-    elim (has_split xs (y ∷ []) x has) [ inl here ↦ inl here | inr last ↦ elim last [ inl is ↦ inr is | inr none ↦ absurd none ] ]
+    elim (has_split xs (y ∷ []) x has) [
+      | inl here ↦ inl here
+      | inr last ↦ elim last [ inl is ↦ inr is | inr none ↦ absurd none ]
+    ]
 
-pub has_mapped : {X Y : Type 0} (f : X → Y) (xs : List X) (y : Y) → Has (map f xs) y → (x : X) × Has xs x × (y ≡ f x)
+pub has_mapped : {X Y : Type 0} (f : X → Y) (xs : List X) (y : Y) → Has (map f xs) y
+    → (x : X) × Has xs x × (y ≡ f x)
 has_mapped f [] y has = absurd has
 has_mapped f (z ∷ xs) y (inl is) = (z, inl refl, is)
 has_mapped f (z ∷ xs) y (inr has) = let rest = has_mapped f xs y has in (rest.0, inr rest.1, rest.2)
 
-filtered : {X : Type 0} (test : X → Bool) (z : X) (xs : List X) (x : X) (b : Bool) → test z ≡ b → Has (cond b (z ∷ filter test xs) (filter test xs)) x
+filtered : {X : Type 0} (test : X → Bool) (z : X) (xs : List X) (x : X) (b : Bool) → test z ≡ b
+    → Has (cond b (z ∷ filter test xs) (filter test xs)) x
     → (Has (filter test xs) x → Has xs x × (test x ≡ true)) → Has (z ∷ xs) x × (test x ≡ true)
 filtered test z xs x true e (inl is) later = (inl is, ap test is ∙ e)
 filtered test z xs x true e (inr has) later = (inr (later has).0, (later has).1)
 filtered test z xs x false e has later = (inr (later has).0, (later has).1)
 
-pub has_filtered : {X : Type 0} (test : X → Bool) (xs : List X) (x : X) → Has (filter test xs) x → Has xs x × (test x ≡ true)
+pub has_filtered : {X : Type 0} (test : X → Bool) (xs : List X) (x : X) → Has (filter test xs) x
+    → Has xs x × (test x ≡ true)
 has_filtered test [] x has = absurd has
 has_filtered test (z ∷ xs) x has = filtered test z xs x (test z) refl has (has_filtered test xs x)
 
 -- where nothing is found, none meets the test
-unfound : {X Y : Type 0} (f : X → Y) (test : X → Bool) (z : X) (xs : List X) (x : X) (b : Bool) → test z ≡ b
+unfound : {X Y : Type 0} (f : X → Y) (test : X → Bool) (z : X) (xs : List X) (x : X) (b : Bool)
+    → test z ≡ b
     → option_map f (cond b (Some z) (find test xs)) ≡ None → Has (z ∷ xs) x → test x ≡ true
     → (option_map f (find test xs) ≡ None → Has xs x → ⊥) → ⊥
 unfound f test z xs x true e none has is later = absurd cc
 unfound f test z xs x false e none (inl same) is later = true≢false (sym is ∙ ap test same ∙ e)
 unfound f test z xs x false e none (inr has) is later = later none has
 
-pub found_none : {X Y : Type 0} (f : X → Y) (test : X → Bool) (xs : List X) → option_map f (find test xs) ≡ None → (x : X) → Has xs x → test x ≡ true → ⊥
+pub found_none : {X Y : Type 0} (f : X → Y) (test : X → Bool) (xs : List X)
+    → option_map f (find test xs) ≡ None → (x : X) → Has xs x → test x ≡ true → ⊥
 found_none f test [] none x has is = has
-found_none f test (z ∷ xs) none x has is = unfound f test z xs x (test z) refl none has is (λ e h. found_none f test xs e x h is)
+found_none f test (z ∷ xs) none x has is = unfound f test z xs x (test z) refl none has is
+    (λ e h. found_none f test xs e x h is)
 
 -- ---- keys that differ
 
-distinct_more : {X K : Type 0} (key : X → K) (xs : List X) (y : X) → AreDistinct key xs → ((x : X) → Has xs x → key x ≡ key y → ⊥) → AreDistinct key (xs ++ y ∷ [])
+distinct_more : {X K : Type 0} (key : X → K) (xs : List X) (y : X) → AreDistinct key xs
+    → ((x : X) → Has xs x → key x ≡ key y → ⊥) → AreDistinct key (xs ++ y ∷ [])
 distinct_more key [] y apart fresh = ((λ later has. absurd has), tt)
 distinct_more key (x ∷ xs) y apart fresh = (
   (λ later has same. elim (has_last xs y later has) [
@@ -81,7 +104,8 @@ distinct_more key (x ∷ xs) y apart fresh = (
   distinct_more key xs y apart.1 (λ z has. fresh z (inr has)),
 )
 
-distinct_mapped : {X K : Type 0} (key : X → K) (f : X → X) (xs : List X) → ((x : X) → key (f x) ≡ key x) → AreDistinct key xs → AreDistinct key (map f xs)
+distinct_mapped : {X K : Type 0} (key : X → K) (f : X → X) (xs : List X)
+    → ((x : X) → key (f x) ≡ key x) → AreDistinct key xs → AreDistinct key (map f xs)
 distinct_mapped key f [] same apart = tt
 distinct_mapped key f (x ∷ xs) same apart = (
   (λ later has is. (let from = has_mapped f xs later has in
@@ -89,15 +113,19 @@ distinct_mapped key f (x ∷ xs) same apart = (
   distinct_mapped key f xs same apart.1,
 )
 
-distinct_same : {X K : Type 0} (key : X → K) (xs : List X) → AreDistinct key xs → (x y : X) → Has xs x → Has xs y → key y ≡ key x → x ≡ y
+distinct_same : {X K : Type 0} (key : X → K) (xs : List X) → AreDistinct key xs → (x y : X)
+    → Has xs x → Has xs y → key y ≡ key x → x ≡ y
 distinct_same key [] apart x y a b same = absurd a
 distinct_same key (z ∷ xs) apart x y (inl a) (inl b) same = a ∙ sym b
 distinct_same key (z ∷ xs) apart x y (inl a) (inr b) same = absurd (apart.0 y b (same ∙ ap key a))
-distinct_same key (z ∷ xs) apart x y (inr a) (inl b) same = absurd (apart.0 x a (sym same ∙ ap key b))
-distinct_same key (z ∷ xs) apart x y (inr a) (inr b) same = distinct_same key xs apart.1 x y a b same
+distinct_same key (z ∷ xs) apart x y (inr a) (inl b) same =
+    absurd (apart.0 x a (sym same ∙ ap key b))
+distinct_same key (z ∷ xs) apart x y (inr a) (inr b) same =
+    distinct_same key xs apart.1 x y a b same
 
 -- an entry whose key is not taken
-fresh_entry : {X : Type 0} (xs : List (Entry X)) (name : List ℕ) (key : ℕ) (content : X) → kept_at key (filter (is_of name) xs) ≡ None
+fresh_entry : {X : Type 0} (xs : List (Entry X)) (name : List ℕ) (key : ℕ) (content : X)
+    → kept_at key (filter (is_of name) xs) ≡ None
     → AreDistinct place_of xs → AreDistinct place_of (with_entry xs name key content)
 fresh_entry xs name key content none apart =
     distinct_more place_of xs _ apart (λ e has same.
@@ -105,45 +133,60 @@ fresh_entry xs name key content none apart =
     let key_is : e.key ≡ key = ap (λ (p : List ℕ × ℕ). p.1) same in
     let own : is_of name e ≡ true = ap (λ n. bytes_eq n name) name_is ∙ own_name name in
     let keyed : has_key key e ≡ true = ap (λ k. k == key) key_is ∙ same_key key in
-    found_none content_of (has_key key) (filter (is_of name) xs) none e (has_kept (is_of name) xs e has own) keyed))
+    found_none content_of (has_key key) (filter (is_of name) xs) none e
+    (has_kept (is_of name) xs e has own) keyed))
   where
-    kept_head : {X : Type 0} (test : X → Bool) (z : X) (xs : List X) (x : X) (b : Bool) → test z ≡ b → Has (z ∷ xs) x → test x ≡ true
+    kept_head : {X : Type 0} (test : X → Bool) (z : X) (xs : List X) (x : X) (b : Bool) → test z ≡ b
+        → Has (z ∷ xs) x → test x ≡ true
         → (Has xs x → Has (filter test xs) x) → Has (cond b (z ∷ filter test xs) (filter test xs)) x
     kept_head test z xs x true e (inl is) own later = inl is
     kept_head test z xs x true e (inr has) own later = inr (later has)
-    kept_head test z xs x false e (inl is) own later = absurd (true≢false (sym own ∙ ap test is ∙ e))
+    kept_head test z xs x false e (inl is) own later =
+        absurd (true≢false (sym own ∙ ap test is ∙ e))
     kept_head test z xs x false e (inr has) own later = later has
 
-    has_kept : {X : Type 0} (test : X → Bool) (xs : List X) (x : X) → Has xs x → test x ≡ true → Has (filter test xs) x
+    has_kept : {X : Type 0} (test : X → Bool) (xs : List X) (x : X) → Has xs x → test x ≡ true
+        → Has (filter test xs) x
     has_kept test [] x has own = has
-    has_kept test (z ∷ xs) x has own = kept_head test z xs x (test z) refl has own (λ h. has_kept test xs x h own)
+    has_kept test (z ∷ xs) x has own = kept_head test z xs x (test z) refl has own
+        (λ h. has_kept test xs x h own)
 
-fresh_voided : {X : Type 0} (xs : List (Entry (Voidable X))) (name : List ℕ) (key : ℕ) → AreDistinct place_of xs → AreDistinct place_of (with_voided xs name key)
+fresh_voided : {X : Type 0} (xs : List (Entry (Voidable X))) (name : List ℕ) (key : ℕ)
+    → AreDistinct place_of xs → AreDistinct place_of (with_voided xs name key)
 fresh_voided xs name key apart = distinct_mapped place_of (voided_if name key) xs (λ e. refl) apart
 
 -- figures of an account are reported once
-once_of : (xs : List (Entry Cents)) (name : List ℕ) → AreDistinct place_of xs → AreReportedOnce (figures (filter (is_of name) xs))
+once_of : (xs : List (Entry Cents)) (name : List ℕ) → AreDistinct place_of xs
+    → AreReportedOnce (figures (filter (is_of name) xs))
 once_of xs name apart quarter figure other h k =
     let a = has_mapped figure_of (filter (is_of name) xs) (quarter, figure) h in
     let b = has_mapped figure_of (filter (is_of name) xs) (quarter, other) k in
     let c = has_filtered (is_of name) xs a.0 a.1 in
     let d = has_filtered (is_of name) xs b.0 b.1 in
-    let names : b.0.name ≡ a.0.name = same_name b.0.name name d.1 ∙ sym (same_name a.0.name name c.1) in
-    let keys : b.0.key ≡ a.0.key = sym (ap (λ (p : ℕ × Cents). p.0) b.2) ∙ ap (λ (p : ℕ × Cents). p.0) a.2 in
+    let names : b.0.name ≡ a.0.name = same_name b.0.name name d.1
+    ∙ sym (same_name a.0.name name c.1) in
+    let keys : b.0.key ≡ a.0.key = sym (ap (λ (p : ℕ × Cents). p.0) b.2)
+    ∙ ap (λ (p : ℕ × Cents). p.0) a.2 in
     let places : place_of b.0 ≡ place_of a.0 = rw (names, keys) refl in
     let same : a.0 ≡ b.0 = distinct_same place_of xs apart a.0 b.0 c.0 d.0 places in
-    ap (λ (p : ℕ × Cents). p.1) a.2 ∙ ap (λ (e : Entry Cents). e.content) same ∙ sym (ap (λ (p : ℕ × Cents). p.1) b.2)
+    ap (λ (p : ℕ × Cents). p.1) a.2 ∙ ap (λ (e : Entry Cents). e.content) same
+    ∙ sym (ap (λ (p : ℕ × Cents). p.1) b.2)
 
 pub sound_once : (s : State) → IsSound s → (name : List ℕ) → IsOnce (entries_of s name)
-sound_once s sound name = record { quarters = once_of s.reported name sound.reported; years = once_of s.reported_years name sound.reported_years }
+sound_once s sound name = record {
+  quarters = once_of s.reported name sound.reported;
+  years = once_of s.reported_years name sound.reported_years;
+}
 
 -- ---- the changes
 
-sound_account : (s : State) (name : List ℕ) (account : Account) → (entries_of s name).account ≡ None → IsSound s
+sound_account : (s : State) (name : List ℕ) (account : Account) → (entries_of s name).account ≡ None
+    → IsSound s
     → IsSound (record s { accounts = with_account s.accounts name account })
 sound_account s name account none sound = record {
   accounts = distinct_more name_of s.accounts _ sound.accounts
-      (λ e has same. found_none account_of (is_named name) s.accounts none e has (ap (λ n. bytes_eq n name) same ∙ own_name name));
+      (λ e has same. found_none account_of (is_named name) s.accounts none e has
+      (ap (λ n. bytes_eq n name) same ∙ own_name name));
   calendars = sound.calendars;
   reported = sound.reported;
   reported_years = sound.reported_years;
@@ -152,7 +195,8 @@ sound_account s name account none sound = record {
   payments = sound.payments;
   are_calendars = sound.are_calendars;
   opened = sound.opened;
-  enrolled = λ e has. some_still _ _ (λ x. found_append account_of (is_named e.name) s.accounts _ x) (sound.enrolled e has);
+  enrolled = λ e has. some_still _ _ (λ x. found_append account_of (is_named e.name) s.accounts _ x)
+      (sound.enrolled e has);
   in_turn = sound.in_turn;
   paydays = sound.paydays;
   paid_days = sound.paid_days;
@@ -161,15 +205,20 @@ sound_account s name account none sound = record {
 }
 
 given_still : (s : State) (year : ℕ) (days : List ℕ) (other : ℕ) → is_given s other ≡ true
-    → is_given (record s { calendars = s.calendars ++ record { year = year; days = days } ∷ [] }) other ≡ true
-given_still s year days other e = some_still (calendar_at s other) (calendar_at (record s { calendars = s.calendars ++ record { year = year; days = days } ∷ [] }) other) (calendar_still s year days other) e
+    → is_given (record s { calendars = s.calendars ++ record { year = year; days = days } ∷ [] })
+    other ≡ true
+given_still s year days other e = some_still (calendar_at s other)
+    (calendar_at (record s { calendars = s.calendars ++ record { year = year; days = days } ∷ [] })
+    other) (calendar_still s year days other) e
 
-sound_calendar : (s : State) (year : ℕ) (days : List ℕ) → calendar_at s year ≡ None → is_between 2001 2099 year ≡ true → is_calendar year days ≡ true → IsSound s
+sound_calendar : (s : State) (year : ℕ) (days : List ℕ) → calendar_at s year ≡ None
+    → is_between 2001 2099 year ≡ true → is_calendar year days ≡ true → IsSound s
     → IsSound (record s { calendars = s.calendars ++ record { year = year; days = days } ∷ [] })
 sound_calendar s year days none between fits sound = record {
   accounts = sound.accounts;
   calendars = distinct_more year_of_calendar s.calendars _ sound.calendars
-      (λ c has same. found_none days_of (is_year year) s.calendars none c has (ap (λ k. k == year) same ∙ same_key year));
+      (λ c has same. found_none days_of (is_year year) s.calendars none c has
+      (ap (λ k. k == year) same ∙ same_key year));
   reported = sound.reported;
   reported_years = sound.reported_years;
   open_years = sound.open_years;
@@ -177,20 +226,24 @@ sound_calendar s year days none between fits sound = record {
   payments = sound.payments;
   are_calendars = λ c has. elim (has_last s.calendars _ c has) [
     | inl here ↦ sound.are_calendars c here
-    | inr is ↦ subst (λ (g : YearDays). (is_between 2001 2099 g.year ≡ true) × (is_calendar g.year g.days ≡ true)) (sym is) (between, fits)
+    | inr is ↦ subst (λ (g : YearDays). (is_between 2001 2099 g.year ≡ true)
+        × (is_calendar g.year g.days ≡ true)) (sym is) (between, fits)
   ];
-  opened = λ e has. (let was = sound.opened e has in (was.0, given_still s year days e.key was.1, given_still s year days (e.key + 1) was.2));
+  opened = λ e has. (let was = sound.opened e has in
+      (was.0, given_still s year days e.key was.1, given_still s year days (e.key + 1) was.2));
   enrolled = sound.enrolled;
   in_turn = sound.in_turn;
   paydays = sound.paydays;
   paid_days = sound.paid_days;
   added_days = λ d has. given_still s year days (year_of d) (sound.added_days d has);
   few = few_given s sound.few year days fits (λ c has. (sound.are_calendars c has).1)
-      (λ c has same. found_none days_of (is_year year) s.calendars none c has (ap (λ k. k == year) same ∙ same_key year))
+      (λ c has same. found_none days_of (is_year year) s.calendars none c has
+      (ap (λ k. k == year) same ∙ same_key year))
       sound.added_days (ap is_some none);
 }
 
-sound_reported : (s : State) (name : List ℕ) (key : ℕ) (cents : Cents) → kept_at key (entries_of s name).reported ≡ None → IsSound s
+sound_reported : (s : State) (name : List ℕ) (key : ℕ) (cents : Cents)
+    → kept_at key (entries_of s name).reported ≡ None → IsSound s
     → IsSound (record s { reported = with_entry s.reported name key cents })
 sound_reported s name key cents none sound = record {
   accounts = sound.accounts;
@@ -210,7 +263,8 @@ sound_reported s name key cents none sound = record {
   few = sound.few;
 }
 
-sound_reported_year : (s : State) (name : List ℕ) (key : ℕ) (cents : Cents) → kept_at key (entries_of s name).reported_years ≡ None → IsSound s
+sound_reported_year : (s : State) (name : List ℕ) (key : ℕ) (cents : Cents)
+    → kept_at key (entries_of s name).reported_years ≡ None → IsSound s
     → IsSound (record s { reported_years = with_entry s.reported_years name key cents })
 sound_reported_year s name key cents none sound = record {
   accounts = sound.accounts;
@@ -231,7 +285,8 @@ sound_reported_year s name key cents none sound = record {
 }
 
 sound_added : (s : State) (day : ℕ) → is_given s (year_of day) ≡ true
-    → nat_lt (length (days_of_year (calendar_at s (year_of day)) (added_in s (year_of day)))) 60 ≡ true → IsSound s
+    → nat_lt (length (days_of_year (calendar_at s (year_of day)) (added_in s (year_of day)))) 60
+    ≡ true → IsSound s
     → IsSound (record s { added_days = s.added_days ++ day ∷ [] })
 sound_added s day given room sound = record {
   accounts = sound.accounts;
@@ -259,7 +314,8 @@ sound_added s day given room sound = record {
 abbrev key_of : {X : Type 0} → Entry X → ℕ
 key_of e = e.key
 
-from_more : (year first : ℕ) (years : List ℕ) → 1 ≤ year → FollowFrom first years → Has (first ∷ years) (year - 1) → (Has (first ∷ years) year → ⊥)
+from_more : (year first : ℕ) (years : List ℕ) → 1 ≤ year → FollowFrom first years
+    → Has (first ∷ years) (year - 1) → (Has (first ∷ years) year → ⊥)
     → FollowFrom first (years ++ year ∷ [])
 from_more year first [] at_least follow (inl is) fresh = (omega arith, tt)
 from_more year first [] at_least follow (inr none) fresh = absurd none
@@ -268,18 +324,23 @@ from_more year first (next ∷ years) at_least follow (inl is) fresh =
 from_more year first (next ∷ years) at_least follow (inr has) fresh =
     (follow.0, from_more year next years at_least follow.1 has (λ k. fresh (inr k)))
 
-follow_more : (year : ℕ) (years : List ℕ) → 1 ≤ year → Follow years → (years ≡ []) ⊎ Has years (year - 1) → (Has years year → ⊥) → Follow (years ++ year ∷ [])
+follow_more : (year : ℕ) (years : List ℕ) → 1 ≤ year → Follow years → (years ≡ [])
+    ⊎ Has years (year - 1) → (Has years year → ⊥) → Follow (years ++ year ∷ [])
 follow_more year [] at_least follow before fresh = tt
 follow_more year (first ∷ years) at_least follow (inl none) fresh = absurd cc
-follow_more year (first ∷ years) at_least follow (inr has) fresh = from_more year first years at_least follow has fresh
+follow_more year (first ∷ years) at_least follow (inr has) fresh =
+    from_more year first years at_least follow has fresh
 
-found_has : {X : Type 0} (key : ℕ) (e : Entry X) (xs : List (Entry X)) (b : Bool) → (e.key == key) ≡ b
+found_has : {X : Type 0} (key : ℕ) (e : Entry X) (xs : List (Entry X)) (b : Bool)
+    → (e.key == key) ≡ b
     → is_some (option_map content_of (cond b (Some e) (find (has_key key) xs))) ≡ true
-    → (is_some (kept_at key xs) ≡ true → Has (map key_of xs) key) → Has (key_of e ∷ map key_of xs) key
+    → (is_some (kept_at key xs) ≡ true → Has (map key_of xs) key)
+    → Has (key_of e ∷ map key_of xs) key
 found_has key e xs true is there later = inl (sym (eqb-true e.key key is))
 found_has key e xs false is there later = inr (later there)
 
-open_has : {X : Type 0} (key : ℕ) (xs : List (Entry X)) → is_some (kept_at key xs) ≡ true → Has (map key_of xs) key
+open_has : {X : Type 0} (key : ℕ) (xs : List (Entry X)) → is_some (kept_at key xs) ≡ true
+    → Has (map key_of xs) key
 open_has key [] there = absurd cc
 open_has key (e ∷ xs) there = found_has key e xs (e.key == key) refl there (open_has key xs)
 
@@ -293,9 +354,11 @@ either_of false b e = inr e
 
 empty_of : {X : Type 0} (xs : List X) → (length xs == 0) ≡ true → xs ≡ []
 empty_of [] e = refl
-empty_of (x ∷ xs) e = absurd (let l : length (x ∷ xs) ≡ 0 = eqb-true (length (x ∷ xs)) 0 e in omega arith)
+empty_of (x ∷ xs) e = absurd (let l : length (x ∷ xs) ≡ 0 = eqb-true (length (x ∷ xs)) 0 e in
+    omega arith)
 
-mapped_last : {X Y : Type 0} (f : X → Y) (xs : List X) (x : X) → map f (xs ++ x ∷ []) ≡ map f xs ++ f x ∷ []
+mapped_last : {X Y : Type 0} (f : X → Y) (xs : List X) (x : X) → map f (xs ++ x ∷ []) ≡ map f xs
+    ++ f x ∷ []
 mapped_last f [] x = refl
 mapped_last f (y ∷ xs) x = ap (λ ys. f y ∷ ys) (mapped_last f xs x)
 
@@ -306,9 +369,13 @@ at_least_one year e = below year (nat_le 2001 year) refl e
     below year true is e = let l : 2001 ≤ year = leb-true 2001 year is in omega arith
     below year false is e = absurd cc
 
-turn_step : (s : State) (name : List ℕ) (year : ℕ) (other : List ℕ) (b : Bool) → bytes_eq name other ≡ b → 1 ≤ year
-    → (length (entries_of s name).open_years == 0) || is_open (entries_of s name) (year - 1) ≡ true → is_open (entries_of s name) year ≡ false → IsSound s
-    → Follow (map year_of_entry (cond b (filter (is_of other) s.open_years ++ record { name = name; key = year; content = tt } ∷ []) (filter (is_of other) s.open_years)))
+turn_step : (s : State) (name : List ℕ) (year : ℕ) (other : List ℕ) (b : Bool)
+    → bytes_eq name other ≡ b → 1 ≤ year
+    → (length (entries_of s name).open_years == 0) || is_open (entries_of s name) (year - 1) ≡ true
+    → is_open (entries_of s name) year ≡ false → IsSound s
+    → Follow (map year_of_entry
+    (cond b (filter (is_of other) s.open_years ++ record { name = name; key = year; content = tt }
+    ∷ []) (filter (is_of other) s.open_years)))
 turn_step s name year other false e at_least first fresh sound = sound.in_turn other
 turn_step s name year other true e at_least first fresh sound =
     let same : name ≡ other = same_name name other e in
@@ -321,40 +388,57 @@ turn_step s name year other true e at_least first fresh sound =
     ] in
     let apart : Has (map year_of_entry own) year → ⊥ = λ has.
     (let from = has_mapped year_of_entry own year has in
-    found_none content_of (has_key year) own (none_of (kept_at year own) fresh) from.0 from.1 (ap (λ k. k == year) (sym from.2) ∙ same_key year)) in
+    found_none content_of (has_key year) own (none_of (kept_at year own) fresh) from.0 from.1
+    (ap (λ k. k == year) (sym from.2) ∙ same_key year)) in
     let follows : Follow (map year_of_entry (own ++ new ∷ [])) =
-    subst Follow (sym (mapped_last year_of_entry own new)) (follow_more year (map year_of_entry own) at_least (sound.in_turn name) before apart) in
+    subst Follow (sym (mapped_last year_of_entry own new))
+    (follow_more year (map year_of_entry own) at_least (sound.in_turn name) before apart) in
     subst (λ x. Follow (map year_of_entry (filter (is_of x) s.open_years ++ new ∷ []))) same follows
 
-open_still : (s : State) (name : List ℕ) (year : ℕ) (other : List ℕ) (day : ℕ) → is_open (entries_of s other) day ≡ true
-    → is_open (entries_of (record s { open_years = with_entry s.open_years name year tt }) other) day ≡ true
+open_still : (s : State) (name : List ℕ) (year : ℕ) (other : List ℕ) (day : ℕ)
+    → is_open (entries_of s other) day ≡ true
+    → is_open (entries_of (record s { open_years = with_entry s.open_years name year tt }) other)
+    day ≡ true
 open_still s name year other day e =
-    some_still (kept_at day (filter (is_of other) s.open_years)) (kept_at day (filter (is_of other) (with_entry s.open_years name year tt)))
+    some_still (kept_at day (filter (is_of other) s.open_years))
+    (kept_at day (filter (is_of other) (with_entry s.open_years name year tt)))
     (keeps_entry s.open_years name year tt other day) e
 
-sound_open : (s : State) (name : List ℕ) (year : ℕ) → is_some (entries_of s name).account ≡ true → is_between 2001 2098 year ≡ true → is_given s year ≡ true → is_given s (year + 1) ≡ true
-    → (length (entries_of s name).open_years == 0) || is_open (entries_of s name) (year - 1) ≡ true → is_open (entries_of s name) year ≡ false → IsSound s
+sound_open : (s : State) (name : List ℕ) (year : ℕ) → is_some (entries_of s name).account ≡ true
+    → is_between 2001 2098 year ≡ true → is_given s year ≡ true → is_given s (year + 1) ≡ true
+    → (length (entries_of s name).open_years == 0) || is_open (entries_of s name) (year - 1) ≡ true
+    → is_open (entries_of s name) year ≡ false → IsSound s
     → IsSound (record s { open_years = with_entry s.open_years name year tt })
 sound_open s name year there between given next first fresh sound = record {
   accounts = sound.accounts;
   calendars = sound.calendars;
   reported = sound.reported;
   reported_years = sound.reported_years;
-  open_years = fresh_entry s.open_years name year tt (none_of (kept_at year (entries_of s name).open_years) fresh) sound.open_years;
+  open_years = fresh_entry s.open_years name year tt
+      (none_of (kept_at year (entries_of s name).open_years) fresh) sound.open_years;
   runs = sound.runs;
   payments = sound.payments;
   are_calendars = sound.are_calendars;
   opened = λ e has. elim (has_last s.open_years _ e has) [
     | inl here ↦ sound.opened e here
-    | inr is ↦ subst (λ (x : Entry (Unit {0})). (is_between 2001 2098 x.key ≡ true) × (is_given s x.key ≡ true) × (is_given s (x.key + 1) ≡ true)) (sym is) (between, given, next)
+    | inr is ↦ subst (λ (x : Entry (Unit {0})). (is_between 2001 2098 x.key ≡ true)
+        × (is_given s x.key ≡ true) × (is_given s (x.key + 1) ≡ true)) (sym is) (
+          between,
+          given,
+          next,
+        )
   ];
   enrolled = λ e has. elim (has_last s.open_years _ e has) [
     | inl here ↦ sound.enrolled e here
-    | inr is ↦ subst (λ (x : Entry (Unit {0})). is_some (entries_of s x.name).account ≡ true) (sym is) there
+    | inr is ↦ subst (λ (x : Entry (Unit {0})). is_some (entries_of s x.name).account ≡ true)
+        (sym is) there
   ];
   in_turn = λ other.
-      subst (λ xs. Follow (map year_of_entry xs)) (sym (filter_more (is_of other) s.open_years (record { name = name; key = year; content = tt }) (bytes_eq name other) refl))
-      (turn_step s name year other (bytes_eq name other) refl (at_least_one year between) first fresh sound);
+      subst (λ xs. Follow (map year_of_entry xs))
+      (sym (filter_more (is_of other) s.open_years
+      (record { name = name; key = year; content = tt }) (bytes_eq name other) refl))
+      (turn_step s name year other (bytes_eq name other) refl (at_least_one year between) first
+      fresh sound);
   paydays = λ e has. open_still s name year e.name _ (sound.paydays e has);
   paid_days = λ e has. open_still s name year e.name _ (sound.paid_days e has);
   added_days = sound.added_days;
@@ -363,15 +447,18 @@ sound_open s name year there between given next first fresh sound = record {
 
 -- ---- runs and payments
 
-still_value : {X : Type 0} (name : List ℕ) (key : ℕ) (e : Entry (Voidable X)) → (voided_if name key e).content.value ≡ e.content.value
+still_value : {X : Type 0} (name : List ℕ) (key : ℕ) (e : Entry (Voidable X))
+    → (voided_if name key e).content.value ≡ e.content.value
 still_value name key e = value_as (is_under name key e) e.content
   where
     value_as : {X : Type 0} (b : Bool) (v : Voidable X) → (cond b (as_voided v) v).value ≡ v.value
     value_as true v = refl
     value_as false v = refl
 
-sound_run : (s : State) (name : List ℕ) (number : ℕ) (value : PayRun) → kept_at number (entries_of s name).runs ≡ None
-    → is_open (entries_of s name) (year_of value.payday) ≡ true → IsSound s → IsSound (record s { runs = with_entry s.runs name number (taken value) })
+sound_run : (s : State) (name : List ℕ) (number : ℕ) (value : PayRun)
+    → kept_at number (entries_of s name).runs ≡ None
+    → is_open (entries_of s name) (year_of value.payday) ≡ true → IsSound s
+    → IsSound (record s { runs = with_entry s.runs name number (taken value) })
 sound_run s name number value none there sound = record {
   accounts = sound.accounts;
   calendars = sound.calendars;
@@ -386,14 +473,16 @@ sound_run s name number value none there sound = record {
   in_turn = sound.in_turn;
   paydays = λ e has. elim (has_last s.runs _ e has) [
     | inl here ↦ sound.paydays e here
-    | inr is ↦ subst (λ (x : Entry (Voidable PayRun)). is_open (entries_of s x.name) (year_of x.content.value.payday) ≡ true) (sym is) there
+    | inr is ↦ subst (λ (x : Entry (Voidable PayRun)). is_open (entries_of s x.name)
+        (year_of x.content.value.payday) ≡ true) (sym is) there
   ];
   paid_days = sound.paid_days;
   added_days = sound.added_days;
   few = sound.few;
 }
 
-sound_void_run : (s : State) (name : List ℕ) (number : ℕ) → IsSound s → IsSound (record s { runs = with_voided s.runs name number })
+sound_void_run : (s : State) (name : List ℕ) (number : ℕ) → IsSound s
+    → IsSound (record s { runs = with_voided s.runs name number })
 sound_void_run s name number sound = record {
   accounts = sound.accounts;
   calendars = sound.calendars;
@@ -408,18 +497,23 @@ sound_void_run s name number sound = record {
   in_turn = sound.in_turn;
   paydays = λ e has.
       let from = has_mapped (voided_if name number) s.runs e has in
-      let day : year_of (voided_if name number from.0).content.value.payday ≡ year_of from.0.content.value.payday =
+      let day : year_of (voided_if name number from.0).content.value.payday
+      ≡ year_of from.0.content.value.payday =
       ap (λ (x : PayRun). year_of x.payday) (still_value name number from.0) in
-      let was : is_open (entries_of s from.0.name) (year_of (voided_if name number from.0).content.value.payday) ≡ true =
+      let was : is_open (entries_of s from.0.name)
+      (year_of (voided_if name number from.0).content.value.payday) ≡ true =
       ap (is_open (entries_of s from.0.name)) day ∙ sound.paydays from.0 from.1 in
-      subst (λ (x : Entry (Voidable PayRun)). is_open (entries_of s x.name) (year_of x.content.value.payday) ≡ true) (sym from.2) was;
+      subst (λ (x : Entry (Voidable PayRun)). is_open (entries_of s x.name)
+      (year_of x.content.value.payday) ≡ true) (sym from.2) was;
   paid_days = sound.paid_days;
   added_days = sound.added_days;
   few = sound.few;
 }
 
-sound_payment : (s : State) (name : List ℕ) (number : ℕ) (value : Payment) → kept_at number (entries_of s name).payments ≡ None
-    → is_open (entries_of s name) (year_of value.for_day) ≡ true → IsSound s → IsSound (record s { payments = with_entry s.payments name number (taken value) })
+sound_payment : (s : State) (name : List ℕ) (number : ℕ) (value : Payment)
+    → kept_at number (entries_of s name).payments ≡ None
+    → is_open (entries_of s name) (year_of value.for_day) ≡ true → IsSound s
+    → IsSound (record s { payments = with_entry s.payments name number (taken value) })
 sound_payment s name number value none there sound = record {
   accounts = sound.accounts;
   calendars = sound.calendars;
@@ -435,13 +529,15 @@ sound_payment s name number value none there sound = record {
   paydays = sound.paydays;
   paid_days = λ e has. elim (has_last s.payments _ e has) [
     | inl here ↦ sound.paid_days e here
-    | inr is ↦ subst (λ (x : Entry (Voidable Payment)). is_open (entries_of s x.name) (year_of x.content.value.for_day) ≡ true) (sym is) there
+    | inr is ↦ subst (λ (x : Entry (Voidable Payment)). is_open (entries_of s x.name)
+        (year_of x.content.value.for_day) ≡ true) (sym is) there
   ];
   added_days = sound.added_days;
   few = sound.few;
 }
 
-sound_void_payment : (s : State) (name : List ℕ) (number : ℕ) → IsSound s → IsSound (record s { payments = with_voided s.payments name number })
+sound_void_payment : (s : State) (name : List ℕ) (number : ℕ) → IsSound s
+    → IsSound (record s { payments = with_voided s.payments name number })
 sound_void_payment s name number sound = record {
   accounts = sound.accounts;
   calendars = sound.calendars;
@@ -457,11 +553,14 @@ sound_void_payment s name number sound = record {
   paydays = sound.paydays;
   paid_days = λ e has.
       let from = has_mapped (voided_if name number) s.payments e has in
-      let day : year_of (voided_if name number from.0).content.value.for_day ≡ year_of from.0.content.value.for_day =
+      let day : year_of (voided_if name number from.0).content.value.for_day
+      ≡ year_of from.0.content.value.for_day =
       ap (λ (x : Payment). year_of x.for_day) (still_value name number from.0) in
-      let was : is_open (entries_of s from.0.name) (year_of (voided_if name number from.0).content.value.for_day) ≡ true =
+      let was : is_open (entries_of s from.0.name)
+      (year_of (voided_if name number from.0).content.value.for_day) ≡ true =
       ap (is_open (entries_of s from.0.name)) day ∙ sound.paid_days from.0 from.1 in
-      subst (λ (x : Entry (Voidable Payment)). is_open (entries_of s x.name) (year_of x.content.value.for_day) ≡ true) (sym from.2) was;
+      subst (λ (x : Entry (Voidable Payment)). is_open (entries_of s x.name)
+      (year_of x.content.value.for_day) ≡ true) (sym from.2) was;
   added_days = sound.added_days;
   few = sound.few;
 }
@@ -469,7 +568,8 @@ sound_void_payment s name number sound = record {
 -- ---- a step
 
 module _ (s : State) (answer : Answer) (new : State) (sound : IsSound s) where
-  done_sound : (P : List (Option Answer)) (after : State) → Decides (first_of P) s answer new ((answer ≡ Ok Done) × (new ≡ after))
+  done_sound : (P : List (Option Answer)) (after : State) → Decides (first_of P) s answer new
+      ((answer ≡ Ok Done) × (new ≡ after))
       → (first_of P ≡ None → IsSound after) → IsSound new
   done_sound P after step then =
       elim (either (first_of P) s answer new _ step) [
@@ -477,7 +577,8 @@ module _ (s : State) (answer : Answer) (new : State) (sound : IsSound s) where
         | inr done ↦ subst IsSound (sym done.1.1) (then done.0)
       ]
 
-  post_sound : (P : List (Option Answer)) (after : State) (Told : Type 0) → Decides (first_of P) s answer new ((new ≡ after) × Told)
+  post_sound : (P : List (Option Answer)) (after : State) (Told : Type 0)
+      → Decides (first_of P) s answer new ((new ≡ after) × Told)
       → (first_of P ≡ None → IsSound after) → IsSound new
   post_sound P after Told step then =
       elim (either (first_of P) s answer new _ step) [
@@ -485,8 +586,10 @@ module _ (s : State) (answer : Answer) (new : State) (sound : IsSound s) where
         | inr done ↦ subst IsSound (sym done.1.0) (then done.0)
       ]
 
-  void_sound : (P : List (Option Answer)) (after : State) (known : Option (Voidable PayRun)) (Told : Voidable PayRun → Type 0)
-      → Decides (first_of P) s answer new ((run : Voidable PayRun) × (known ≡ Some run) × (new ≡ after) × Told run) → IsSound after → IsSound new
+  void_sound : (P : List (Option Answer)) (after : State) (known : Option (Voidable PayRun))
+      (Told : Voidable PayRun → Type 0)
+      → Decides (first_of P) s answer new ((run : Voidable PayRun) × (known ≡ Some run)
+      × (new ≡ after) × Told run) → IsSound after → IsSound new
   void_sound P after known Told step then =
       elim (either (first_of P) s answer new _ step) [
         | inl same ↦ subst IsSound (sym same.1) sound
@@ -494,15 +597,20 @@ module _ (s : State) (answer : Answer) (new : State) (sound : IsSound s) where
       ]
 
   next_sound : (name : List ℕ) (year : ℕ) → OpensNext s answer new name year
-      → ((length (entries_of s name).open_years == 0) || is_open (entries_of s name) (year - 1) ≡ true → IsSound (record s { open_years = with_entry s.open_years name year tt }))
+      → ((length (entries_of s name).open_years == 0) || is_open (entries_of s name) (year - 1)
+      ≡ true → IsSound (record s { open_years = with_entry s.open_years name year tt }))
       → IsSound new
   next_sound name year (inl missing) then = subst IsSound (sym missing.2.1) sound
   next_sound name year (inr found) then =
-      let first : Gives (may_open (entries_of s name) year) ((length (entries_of s name).open_years == 0) || is_open (entries_of s name) (year - 1) ≡ true) = gives_needs _ _ [] in
+      let first : Gives (may_open (entries_of s name) year)
+      ((length (entries_of s name).open_years == 0) || is_open (entries_of s name) (year - 1)
+      ≡ true) = gives_needs _ _ [] in
       done_sound (may_open (entries_of s name) year) _ found.2 (λ e. then (first.fact e))
 
-  open_sound : (P : List (Option Answer)) (name : List ℕ) (year : ℕ) → Decides (first_of P) s answer new (OpensNext s answer new name year)
-      → (first_of P ≡ None → (length (entries_of s name).open_years == 0) || is_open (entries_of s name) (year - 1) ≡ true
+  open_sound : (P : List (Option Answer)) (name : List ℕ) (year : ℕ)
+      → Decides (first_of P) s answer new (OpensNext s answer new name year)
+      → (first_of P ≡ None → (length (entries_of s name).open_years == 0) || is_open
+      (entries_of s name) (year - 1) ≡ true
       → IsSound (record s { open_years = with_entry s.open_years name year tt }))
       → IsSound new
   open_sound P name year step then =
@@ -511,66 +619,111 @@ module _ (s : State) (answer : Answer) (new : State) (sound : IsSound s) where
         | inr passed ↦ next_sound name year passed.1 (then passed.0)
       ]
 
-pub step_sound : (s : State) (request : Request) (answer : Answer) (next : State) → Step s request answer next → IsSound s → IsSound next
+pub step_sound : (s : State) (request : Request) (answer : Answer) (next : State)
+    → Step s request answer next → IsSound s → IsSound next
 step_sound s (Enrol name start carried form) answer next step sound =
     let account : Account = record { start = start; carried = carried; form = form } in
-    let none : Gives (checks_of s (Enrol name start carried form)) ((entries_of s name).account ≡ None) =
+    let none : Gives (checks_of s (Enrol name start carried form))
+    ((entries_of s name).account ≡ None) =
     skip_needs _ _ _ _ (skip_needs _ _ _ _ (gives_new _ _ _ _)) in
-    done_sound s answer next sound (checks_of s (Enrol name start carried form)) _ step (λ e. sound_account s name account (none.fact e) sound)
+    done_sound s answer next sound (checks_of s (Enrol name start carried form)) _ step
+    (λ e. sound_account s name account (none.fact e) sound)
 step_sound s (Calendar year days) answer next step sound =
     let P = checks_of s (Calendar year days) in
     let between : Gives P (is_between 2001 2099 year ≡ true) = gives_needs _ _ _ in
     let fits : Gives P (is_calendar year days ≡ true) = skip_needs _ _ _ _ (gives_needs _ _ _) in
-    let none : Gives P (calendar_at s year ≡ None) = skip_needs _ _ _ _ (skip_needs _ _ _ _ (gives_new _ _ _ _)) in
-    done_sound s answer next sound P _ step (λ e. sound_calendar s year days (none.fact e) (between.fact e) (fits.fact e) sound)
+    let none : Gives P (calendar_at s year ≡ None) =
+    skip_needs _ _ _ _ (skip_needs _ _ _ _ (gives_new _ _ _ _)) in
+    done_sound s answer next sound P _ step (λ e. sound_calendar s year days (none.fact e)
+    (between.fact e) (fits.fact e) sound)
 step_sound s (AddHoliday day) answer next step sound =
     let P = checks_of s (AddHoliday day) in
-    let given : Gives P (is_given s (year_of day) ≡ true) = skip_needs _ _ _ _ (skip_done _ _ _ (gives_finds _ _ _)) in
-    let room : Gives P (nat_lt (length (days_of_year (calendar_at s (year_of day)) (added_in s (year_of day)))) 60 ≡ true) =
+    let given : Gives P (is_given s (year_of day) ≡ true) =
+    skip_needs _ _ _ _ (skip_done _ _ _ (gives_finds _ _ _)) in
+    let room : Gives P
+    (nat_lt (length (days_of_year (calendar_at s (year_of day)) (added_in s (year_of day)))) 60
+    ≡ true) =
     skip_needs _ _ _ _ (skip_done _ _ _ (skip_finds _ _ _ _ (gives_needs _ _ []))) in
-    done_sound s answer next sound P _ step (λ e. sound_added s day (given.fact e) (room.fact e) sound)
+    done_sound s answer next sound P _ step
+    (λ e. sound_added s day (given.fact e) (room.fact e) sound)
 step_sound s (Report name quarter cents) answer next step sound =
-    let none : Gives (checks_of s (Report name quarter cents)) (kept_at quarter (entries_of s name).reported ≡ None) =
-    skip_needs _ _ _ _ (skip_needs _ _ _ _ (skip_needs _ _ _ _ (skip_finds _ _ _ _ (skip_needs _ _ _ _ (gives_new _ _ _ _))))) in
-    done_sound s answer next sound (checks_of s (Report name quarter cents)) _ step (λ e. sound_reported s name quarter cents (none.fact e) sound)
+    let none : Gives (checks_of s (Report name quarter cents))
+    (kept_at quarter (entries_of s name).reported ≡ None) =
+    skip_needs _ _ _ _
+    (skip_needs _ _ _ _
+    (skip_needs _ _ _ _ (skip_finds _ _ _ _ (skip_needs _ _ _ _ (gives_new _ _ _ _))))) in
+    done_sound s answer next sound (checks_of s (Report name quarter cents)) _ step
+    (λ e. sound_reported s name quarter cents (none.fact e) sound)
 step_sound s (ReportYear name year cents) answer next step sound =
-    let none : Gives (checks_of s (ReportYear name year cents)) (kept_at year (entries_of s name).reported_years ≡ None) =
-    skip_needs _ _ _ _ (skip_needs _ _ _ _ (skip_needs _ _ _ _ (skip_finds _ _ _ _ (skip_needs _ _ _ _ (gives_new _ _ _ _))))) in
-    done_sound s answer next sound (checks_of s (ReportYear name year cents)) _ step (λ e. sound_reported_year s name year cents (none.fact e) sound)
+    let none : Gives (checks_of s (ReportYear name year cents))
+    (kept_at year (entries_of s name).reported_years ≡ None) =
+    skip_needs _ _ _ _
+    (skip_needs _ _ _ _
+    (skip_needs _ _ _ _ (skip_finds _ _ _ _ (skip_needs _ _ _ _ (gives_new _ _ _ _))))) in
+    done_sound s answer next sound (checks_of s (ReportYear name year cents)) _ step
+    (λ e. sound_reported_year s name year cents (none.fact e) sound)
 step_sound s (OpenYear name year) answer next step sound =
     let P = checks_of s (OpenYear name year) in
-    let between : Gives P (is_between 2001 2098 year ≡ true) = skip_needs _ _ _ _ (gives_needs _ _ _) in
-    let fresh : Gives P (is_open (entries_of s name) year ≡ false) = skip_needs _ _ _ _ (skip_needs _ _ _ _ (skip_finds _ _ _ _ (gives_done _ _))) in
-    let there : Gives P (is_some (entries_of s name).account ≡ true) = skip_needs _ _ _ _ (skip_needs _ _ _ _ (gives_finds _ _ _)) in
+    let between : Gives P (is_between 2001 2098 year ≡ true) =
+    skip_needs _ _ _ _ (gives_needs _ _ _) in
+    let fresh : Gives P (is_open (entries_of s name) year ≡ false) =
+    skip_needs _ _ _ _ (skip_needs _ _ _ _ (skip_finds _ _ _ _ (gives_done _ _))) in
+    let there : Gives P (is_some (entries_of s name).account ≡ true) =
+    skip_needs _ _ _ _ (skip_needs _ _ _ _ (gives_finds _ _ _)) in
     let given : Gives P (is_given s year ≡ true) =
-    skip_needs _ _ _ _ (skip_needs _ _ _ _ (skip_finds _ _ _ _ (skip_done _ _ _ (skip_needs _ _ _ _ (gives_needs _ _ _))))) in
+    skip_needs _ _ _ _
+    (skip_needs _ _ _ _
+    (skip_finds _ _ _ _ (skip_done _ _ _ (skip_needs _ _ _ _ (gives_needs _ _ _))))) in
     let next_given : Gives P (is_given s (year + 1) ≡ true) =
-    skip_needs _ _ _ _ (skip_needs _ _ _ _ (skip_finds _ _ _ _ (skip_done _ _ _ (skip_needs _ _ _ _ (skip_needs _ _ _ _ (gives_needs _ _ _)))))) in
+    skip_needs _ _ _ _
+    (skip_needs _ _ _ _
+    (skip_finds _ _ _ _
+    (skip_done _ _ _ (skip_needs _ _ _ _ (skip_needs _ _ _ _ (gives_needs _ _ _)))))) in
     open_sound s answer next sound P name year step
-    (λ e first. sound_open s name year (there.fact e) (between.fact e) (given.fact e) (next_given.fact e) first (fresh.fact e) sound)
+    (λ e first. sound_open s name year (there.fact e) (between.fact e) (given.fact e)
+    (next_given.fact e) first (fresh.fact e) sound)
 step_sound s (Post name number payday fit ss medicare) answer next step sound =
     let run : PayRun = record { payday = payday; fit = fit; ss = ss; medicare = medicare } in
     let P = checks_of s (Post name number payday fit ss medicare) in
     let none : Gives P (kept_at number (entries_of s name).runs ≡ None) =
-    skip_needs _ _ _ _ (skip_needs _ _ _ _ (skip_needs _ _ _ _ (skip_needs _ _ _ _ (skip_finds _ _ _ _ (gives_new _ _ _ _))))) in
+    skip_needs _ _ _ _
+    (skip_needs _ _ _ _
+    (skip_needs _ _ _ _ (skip_needs _ _ _ _ (skip_finds _ _ _ _ (gives_new _ _ _ _))))) in
     let there : Gives P (is_open (entries_of s name) (year_of payday) ≡ true) =
-    skip_needs _ _ _ _ (skip_needs _ _ _ _ (skip_needs _ _ _ _ (skip_needs _ _ _ _ (skip_finds _ _ _ _ (skip_new _ _ _ _ _ (skip_needs _ _ _ _ (gives_needs _ _ _))))))) in
-    post_sound s answer next sound P _ _ step (λ e. sound_run s name number run (none.fact e) (there.fact e) sound)
+    skip_needs _ _ _ _
+    (skip_needs _ _ _ _
+    (skip_needs _ _ _ _
+    (skip_needs _ _ _ _
+    (skip_finds _ _ _ _ (skip_new _ _ _ _ _ (skip_needs _ _ _ _ (gives_needs _ _ _))))))) in
+    post_sound s answer next sound P _ _ step (λ e. sound_run s name number run (none.fact e)
+    (there.fact e) sound)
 step_sound s (Void name number) answer next step sound =
-    void_sound s answer next sound (checks_of s (Void name number)) _ _ _ step (sound_void_run s name number sound)
+    void_sound s answer next sound (checks_of s (Void name number)) _ _ _ step
+    (sound_void_run s name number sound)
 step_sound s (Pay name number paid for_day cents) answer next step sound =
     let payment : Payment = record { paid = paid; for_day = for_day; cents = cents } in
     let P = checks_of s (Pay name number paid for_day cents) in
     let none : Gives P (kept_at number (entries_of s name).payments ≡ None) =
-    skip_needs _ _ _ _ (skip_needs _ _ _ _ (skip_needs _ _ _ _ (skip_needs _ _ _ _ (skip_finds _ _ _ _ (gives_new _ _ _ _))))) in
+    skip_needs _ _ _ _
+    (skip_needs _ _ _ _
+    (skip_needs _ _ _ _ (skip_needs _ _ _ _ (skip_finds _ _ _ _ (gives_new _ _ _ _))))) in
     let there : Gives P (is_open (entries_of s name) (year_of for_day) ≡ true) =
-    skip_needs _ _ _ _ (skip_needs _ _ _ _ (skip_needs _ _ _ _ (skip_needs _ _ _ _ (skip_finds _ _ _ _ (skip_new _ _ _ _ _ (skip_needs _ _ _ _ (gives_needs _ _ _))))))) in
-    done_sound s answer next sound P _ step (λ e. sound_payment s name number payment (none.fact e) (there.fact e) sound)
+    skip_needs _ _ _ _
+    (skip_needs _ _ _ _
+    (skip_needs _ _ _ _
+    (skip_needs _ _ _ _
+    (skip_finds _ _ _ _ (skip_new _ _ _ _ _ (skip_needs _ _ _ _ (gives_needs _ _ _))))))) in
+    done_sound s answer next sound P _ step (λ e. sound_payment s name number payment (none.fact e)
+    (there.fact e) sound)
 step_sound s (VoidPay name number) answer next step sound =
-    done_sound s answer next sound (checks_of s (VoidPay name number)) _ step (λ e. sound_void_payment s name number sound)
-step_sound s (Status name day) answer next step sound = subst IsSound (sym (asked_leaves _ s answer next _ step)) sound
-step_sound s (DueList name quarter as_of) answer next step sound = subst IsSound (sym (asked_leaves _ s answer next _ step)) sound
-step_sound s (ScheduleB name quarter) answer next step sound = subst IsSound (sym (asked_leaves _ s answer next _ step)) sound
+    done_sound s answer next sound (checks_of s (VoidPay name number)) _ step
+    (λ e. sound_void_payment s name number sound)
+step_sound s (Status name day) answer next step sound =
+    subst IsSound (sym (asked_leaves _ s answer next _ step)) sound
+step_sound s (DueList name quarter as_of) answer next step sound =
+    subst IsSound (sym (asked_leaves _ s answer next _ step)) sound
+step_sound s (ScheduleB name quarter) answer next step sound =
+    subst IsSound (sym (asked_leaves _ s answer next _ step)) sound
 
 -- ---- a run
 
@@ -593,11 +746,13 @@ nothing_sound = record {
   few = λ year. omega arith;
 }
 
-goes_sound : (s : State) (request : Request) (answer : Answer) (next : State) → Goes s request answer next → IsSound s → IsSound next
+goes_sound : (s : State) (request : Request) (answer : Answer) (next : State)
+    → Goes s request answer next → IsSound s → IsSound next
 goes_sound s request answer next (inl step) sound = step_sound s request answer next step sound
 goes_sound s request answer next (inr fault) sound = subst IsSound (sym fault.1) sound
 
-pub run_sound : (s : State) (requests : List Request) (answers : List Answer) (end : State) → IsRun s requests answers end → IsSound s → IsSound end
+pub run_sound : (s : State) (requests : List Request) (answers : List Answer) (end : State)
+    → IsRun s requests answers end → IsSound s → IsSound end
 run_sound s [] [] end run sound = subst IsSound (sym run) sound
 run_sound s [] (answer ∷ answers) end run sound = absurd run
 run_sound s (request ∷ requests) [] end run sound = absurd run

@@ -1,5 +1,6 @@
 -- The number of a text, by its first digit and the others.
-use Rattle.std.proofs.Common.{◌≡◌, ◌≤◌, ◌<◌, ◌+◌, ◌-◌, ◌*◌, ◌^◌, ℕ, Bool, true, false, List, [], ◌∷◌, length, Some, None, refl, arith, ap, nat_lt, nat_le}
+use Rattle.std.proofs.Common.{◌≡◌, ◌≤◌, ◌<◌, ◌+◌, ◌-◌, ◌*◌, ◌^◌, ℕ, Bool, true, false, List, []}
+use Rattle.std.proofs.Common.{◌∷◌, length, Some, None, refl, arith, ap, nat_lt, nat_le}
 use Rattle.std.specs.Prelude.{◌&&◌, if◌then◌else◌}
 use Rattle.std.specs.Char.{is_ascii_digit}
 use Rattle.std.specs.Str.{all_ascii_digits}
@@ -8,7 +9,8 @@ use Rattle.ftd_days.specs.Digits.{AreDigits, number_of}
 use Rattle.ftd_messages.specs.Heads.{number_in}
 
 -- what the tests say
-if_so : (text : List ℕ) (b : Bool) → (nat_lt 0 (length text) && nat_le (length text) 10 && all_ascii_digits text) ≡ b
+if_so : (text : List ℕ) (b : Bool)
+    → (nat_lt 0 (length text) && nat_le (length text) 10 && all_ascii_digits text) ≡ b
     → number_in text ≡ (if b then Some (number_of text) else None)
 unfolding number_in
 if_so text b e = ap (λ b. if b then Some (number_of text) else None) e
@@ -30,7 +32,8 @@ pub none_first : (d : ℕ) (ds : List ℕ) → is_ascii_digit d ≡ false → nu
 none_first d ds e = if_so (d ∷ ds) false (and_false _ _ (ap (λ b. b && all_ascii_digits ds) e))
 
 pub none_others : (d : ℕ) (ds : List ℕ) → (AreDigits ds → ⊥) → number_in (d ∷ ds) ≡ None
-none_others d ds others = if_so (d ∷ ds) false (and_false _ _ (and_false _ _ (not_digits (all_ascii_digits ds) others)))
+none_others d ds others = if_so (d ∷ ds) false
+    (and_false _ _ (and_false _ _ (not_digits (all_ascii_digits ds) others)))
   where
     not_digits : (b : Bool) → (b ≡ true → ⊥) → b ≡ false
     not_digits true isnt = absurd (isnt refl)

@@ -30,22 +30,30 @@ module _ (from to : ℕ) (rows patch : List Obligation) where
       ]
 
   pub patch_has : (o : Obligation) → Has patch o → Has After o
-  patch_has o has = has_right (filter (begins_before from) rows) (patch ++ filter (begins_after to) rows) o (has_left patch (filter (begins_after to) rows) o has)
+  patch_has o has = has_right (filter (begins_before from) rows)
+      (patch ++ filter (begins_after to) rows) o
+      (has_left patch (filter (begins_after to) rows) o has)
 
   pub stays_has : (o : Obligation) → Has rows o → BeginsElsewhere from to o → Has After o
   stays_has o has (inl before) =
-      has_left (filter (begins_before from) rows) (patch ++ filter (begins_after to) rows) o (keeps_has (begins_before from) rows o has (lt-ltb o.first from before))
+      has_left (filter (begins_before from) rows) (patch ++ filter (begins_after to) rows) o
+      (keeps_has (begins_before from) rows o has (lt-ltb o.first from before))
   stays_has o has (inr after) =
       has_right (filter (begins_before from) rows) (patch ++ filter (begins_after to) rows) o
-      (has_right patch (filter (begins_after to) rows) o (keeps_has (begins_after to) rows o has (lt-ltb to o.first after)))
+      (has_right patch (filter (begins_after to) rows) o
+      (keeps_has (begins_after to) rows o has (lt-ltb to o.first after)))
 
-  pub has_after : (o : Obligation) → Has After o → Has patch o ⊎ (Has rows o × BeginsElsewhere from to o)
+  pub has_after : (o : Obligation) → Has After o → Has patch o
+      ⊎ (Has rows o × BeginsElsewhere from to o)
   has_after o has =
-      elim (has_append (filter (begins_before from) rows) (patch ++ filter (begins_after to) rows) o has) [
-        | inl front ↦ (let k = has_filtered (begins_before from) rows o front in inr (k.0, inl (ltb-true o.first from k.1)))
+      elim (has_append (filter (begins_before from) rows) (patch ++ filter (begins_after to) rows) o
+      has) [
+        | inl front ↦ (let k = has_filtered (begins_before from) rows o front in
+            inr (k.0, inl (ltb-true o.first from k.1)))
         | inr later ↦ elim (has_append patch (filter (begins_after to) rows) o later) [
           | inl new ↦ inl new
-          | inr back ↦ (let k = has_filtered (begins_after to) rows o back in inr (k.0, inr (ltb-true to o.first k.1)))
+          | inr back ↦ (let k = has_filtered (begins_after to) rows o back in
+              inr (k.0, inr (ltb-true to o.first k.1)))
         ]
       ]
 
@@ -54,8 +62,10 @@ module _ (from to : ℕ) (rows patch : List Obligation) where
   apart o within (inr after) = let l = within.1 in omega arith
 
   -- the rows of the days differ as the whole lists do
-  pub differ_whole : (within : List Obligation) (payday a b removed added : ℕ) → ((o : Obligation) → Has within o ↔ (Has rows o × BeginsWithin from to o))
-      → ((o : Obligation) → Has patch o → BeginsWithin from to o) → Differ within patch payday a b removed added → Differ rows After payday a b removed added
+  pub differ_whole : (within : List Obligation) (payday a b removed added : ℕ)
+      → ((o : Obligation) → Has within o ↔ (Has rows o × BeginsWithin from to o))
+      → ((o : Obligation) → Has patch o → BeginsWithin from to o)
+      → Differ within patch payday a b removed added → Differ rows After payday a b removed added
   differ_whole within payday a b removed added is_within inside d = record {
     gone = d.gone;
     come = d.come;
@@ -64,10 +74,18 @@ module _ (from to : ℕ) (rows patch : List Obligation) where
       all = λ o. (
         (λ has.
             (let k = (d.are_gone.all o).0 has in
-            let own = (is_within o).0 k.0 in
-            (own.0, λ after. elim (has_after o after) [ inl new ↦ k.1 new | inr old ↦ apart o own.1 old.1 ]))),
+            let own = (is_within o).0 k.0 in (
+              own.0,
+              λ after. elim (has_after o after) [
+                | inl new ↦ k.1 new
+                | inr old ↦ apart o own.1 old.1
+              ],
+            ))),
         (λ k. elim (where_begins o) [
-          | inl its ↦ (d.are_gone.all o).1 ((is_within o).1 (k.0, its), λ new. k.1 (patch_has o new))
+          | inl its ↦ (d.are_gone.all o).1 (
+            (is_within o).1 (k.0, its),
+            λ new. k.1 (patch_has o new),
+          )
           | inr its ↦ absurd (k.1 (stays_has o k.0 its))
         ]),
       );
@@ -75,7 +93,8 @@ module _ (from to : ℕ) (rows patch : List Obligation) where
     are_come = record {
       by_first_day = d.are_come.by_first_day;
       all = λ o. (
-        (λ has. (let k = (d.are_come.all o).0 has in (patch_has o k.0, λ old. k.1 ((is_within o).1 (old, inside o k.0))))),
+        (λ has. (let k = (d.are_come.all o).0 has in
+            (patch_has o k.0, λ old. k.1 ((is_within o).1 (old, inside o k.0))))),
         (λ k. elim (has_after o k.0) [
           | inl new ↦ (d.are_come.all o).1 (new, λ own. k.1 ((is_within o).0 own).0)
           | inr old ↦ absurd (k.1 old.0)

@@ -19,10 +19,14 @@ use Rattle.ftd_machine.specs.State.{State, holidays}
 use Rattle.ftd_machine.specs.Sound.{IsSound}
 use Rattle.ftd_posting.specs.Books.{AreHolidaysIn}
 
--- each day from the last one of an obligation to its due date, where the years from one on were read
-pub holidays_near : (s : State) → IsSound s → (form : Form) (lines : List YearLine) (sums : List DaySum) (read : List ℕ) (year : ℕ) (o : Obligation) → AreLines sums lines
-    → ((line : YearLine) → Has lines line → year ≤ line.year → AreHolidaysIn s read line.year × AreHolidaysIn s read (line.year + 1))
-    → year_start year ≤ o.first → IsObligation form lines sums (holidays s) o → EqualHolidays o.last o.due read (holidays s)
+-- each day from the last one of an obligation to its due date, where the years from one on were
+-- read
+pub holidays_near : (s : State) → IsSound s → (form : Form) (lines : List YearLine)
+    (sums : List DaySum) (read : List ℕ) (year : ℕ) (o : Obligation) → AreLines sums lines
+    → ((line : YearLine) → Has lines line → year ≤ line.year → AreHolidaysIn s read line.year
+    × AreHolidaysIn s read (line.year + 1))
+    → year_start year ≤ o.first → IsObligation form lines sums (holidays s) o
+    → EqualHolidays o.last o.due read (holidays s)
 holidays_near s sound form lines sums read year o are read_of begins owed day from to =
     let is = piece_owed form lines sums (holidays s) o owed in
     let y = line_is lines sums is.line are is.open_year in
@@ -38,7 +42,11 @@ holidays_near s sound form lines sums read year o are read_of begins owed day fr
     let low = year_later o.last day from (omega arith) in
     let high = year_later day o.due to in_days in
     let since : year ≤ is.line.year =
-    elim (lt_or_le is.line.year year) [ inr some ↦ some | inl less ↦ absurd (let mono = year_start-mono (is.line.year + 1) year (omega arith) in omega arith) ] in
+    elim (lt_or_le is.line.year year) [
+      | inr some ↦ some
+      | inl less ↦ absurd (let mono = year_start-mono (is.line.year + 1) year (omega arith) in
+          omega arith)
+    ] in
     let known = read_of is.line is.open_year since in
     elim (lt_or_le (year_of day) (is.line.year + 1)) [
       | inl same ↦ known.0 day (omega arith)

@@ -1,5 +1,7 @@
--- The law: where the tables stood for a state, they stand for the state after a change of an account's runs of one day.
-use Rattle.std.proofs.Common.{◌≡◌, ◌≢◌, ◌∙◌, refl, sym, ap, subst, inl, ℕ, ◌+◌, ◌≤◌, Bool, true, false, List, [], ◌++◌, map, Ok, arith}
+-- The law: where the tables stood for a state, they stand for the state after a change of an
+-- account's runs of one day.
+use Rattle.std.proofs.Common.{◌≡◌, ◌≢◌, ◌∙◌, refl, sym, ap, subst, inl, ℕ, ◌+◌, ◌≤◌, Bool, true}
+use Rattle.std.proofs.Common.{false, List, [], ◌++◌, map, Ok, arith}
 use Rattle.std.specs.Prelude.{filter, bytes_eq}
 use Rattle.std.specs.List.Sorted.{IsPermutation}
 use Rattle.std.proofs.lemmas.Bool.{true≢false}
@@ -20,7 +22,10 @@ use Rattle.ftd_rules.proofs.Covering.{line_is}
 use Rattle.ftd_rules.proofs.Earlier.{counterpart}
 use Rattle.ftd_rules.proofs.Opened.{lines_some}
 use Rattle.ftd_rules.proofs.Schedules.{year_facts}
-use Rattle.ftd_schema.specs.declared.TableName.TheVariants.{Accounts, ReportedQuarters, CalendarYears, Holidays, Years, Runs, Payments, Obligations, Forms, ReportedYears, AddedHolidays}
+use Rattle.ftd_schema.specs.declared.TableName.TheVariants.{Accounts, ReportedQuarters}
+use Rattle.ftd_schema.specs.declared.TableName.TheVariants.{CalendarYears, Holidays, Years, Runs}
+use Rattle.ftd_schema.specs.declared.TableName.TheVariants.{Payments, Obligations, Forms}
+use Rattle.ftd_schema.specs.declared.TableName.TheVariants.{ReportedYears, AddedHolidays}
 use Rattle.ftd_schema.specs.Rows.{RunRow, ObligationRow, YearRow}
 use Rattle.ftd_schema.specs.Standing.{Tables, with_rows}
 use Rattle.ftd_sql.specs.Tests.{is_year_of, is_live_run_between}
@@ -62,13 +67,19 @@ abbrev pub with_runs : State → List (Entry (Voidable PayRun)) → State
 with_runs s runs = record s { runs = runs }
 
 -- other runs of one account, which differ on one day alone: the rows are those of the entries
-pub record ChangesRuns (s : State) (name : List ℕ) (day : ℕ) (rows : List RunRow) (runs : List (Entry (Voidable PayRun))) : Type 0 where
+pub record ChangesRuns (s : State) (name : List ℕ) (day : ℕ) (rows : List RunRow)
+    (runs : List (Entry (Voidable PayRun))) : Type 0 where
   pub rows_are : rows ≡ map run_entry runs
-  pub others : (other : List ℕ) → other ≢ name → filter (is_of other) runs ≡ filter (is_of other) s.runs
-  pub same_days : (other : ℕ) → other ≢ day → liability (live_sums (entries_of (with_runs s runs) name)) other other ≡ liability (live_sums (entries_of s name)) other other
+  pub others : (other : List ℕ) → other ≢ name → filter (is_of other) runs ≡ filter
+      (is_of other) s.runs
+  pub same_days : (other : ℕ) → other ≢ day
+      → liability (live_sums (entries_of (with_runs s runs) name)) other other ≡ liability
+      (live_sums (entries_of s name)) other other
 
-module _ (old new : Tables) (s : State) (name : List ℕ) (day : ℕ) (rows : List RunRow) (runs : List (Entry (Voidable PayRun)))
-    (stands : StandsFor old s) (sound : IsSound s) (changes : ChangesRuns s name day rows runs) where
+module _ (old new : Tables) (s : State) (name : List ℕ) (day : ℕ) (rows : List RunRow)
+    (runs : List (Entry (Voidable PayRun)))
+    (stands : StandsFor old s) (sound : IsSound s)
+    (changes : ChangesRuns s name day rows runs) where
   abbrev Next : State
   Next = with_runs s runs
 
@@ -83,7 +94,8 @@ module _ (old new : Tables) (s : State) (name : List ℕ) (day : ℕ) (rows : Li
 
   -- ---- the history before and after
 
-  pub found_after : (others : List YearLine) × (map given others ≡ map given was.lines) × AreLines (live_sums own_after) others
+  pub found_after : (others : List YearLine) × (map given others ≡ map given was.lines)
+      × AreLines (live_sums own_after) others
   found_after = lines_some (live_sums own_after) was.lines was.are_lines.schedules.years
 
   abbrev pub lines_then : List YearLine
@@ -96,26 +108,39 @@ module _ (old new : Tables) (s : State) (name : List ℕ) (day : ℕ) (rows : Li
   after = record { lines = lines_then; sums = live_sums own_after }
 
   pub change : IsChange day before after
-  change = record { is_before = was.are_lines.schedules; is_after = found_after.2; same_years = sym found_after.1; same_days = λ other apart. sym (changes.same_days other apart) }
+  change = record {
+    is_before = was.are_lines.schedules;
+    is_after = found_after.2;
+    same_years =
+        sym found_after.1;
+    same_days = λ other apart. sym (changes.same_days other apart);
+  }
 
   -- the line of the same year before
-  pub line_before : (line : YearLine) → Has lines_then line → (earlier : YearLine) × Has was.lines earlier × (line.year ≡ earlier.year)
+  pub line_before : (line : YearLine) → Has lines_then line → (earlier : YearLine)
+      × Has was.lines earlier × (line.year ≡ earlier.year)
   line_before line has =
       let c = counterpart lines_then was.lines line found_after.1 has in
       (c.0, c.1, ap (λ (z : ℕ × ℕ × Bool). z.0) c.2)
 
   -- the patch is right of this change, by these holidays
   abbrev pub IsRightBy : List ℕ → Patch → Type 0
-  IsRightBy known patch = (fed : Window) × IsPatch (form_of own.account) day before after known fed patch × IsLastNeeded (form_of own.account) day before after fed
+  IsRightBy known patch = (fed : Window) × IsPatch (form_of own.account) day before after known fed
+      patch × IsLastNeeded (form_of own.account) day before after fed
 
-  -- these are the holidays of the years from the day's on, as far as years are open, and of the years after them
+  -- these are the holidays of the years from the day's on, as far as years are open, and of the
+  -- years after them
   abbrev pub AreKnown : List ℕ → Type 0
-  AreKnown known = (line : YearLine) → Has lines_then line → year_of day ≤ line.year → AreHolidaysIn s known line.year × AreHolidaysIn s known (line.year + 1)
+  AreKnown known = (line : YearLine) → Has lines_then line → year_of day ≤ line.year
+      → AreHolidaysIn s known line.year × AreHolidaysIn s known (line.year + 1)
 
   -- ---- where a patch that is right was put in place
 
-  module _ (lines : List YearLine) (known : List ℕ) (IsRight : Patch → Type 0) (difference : Difference) (repatches : Repatches name day lines IsRight difference (with_rows Runs rows old) new)
-      (lines_are : lines ≡ was.lines) (right : IsRightBy known repatches.patch) (read_of : AreKnown known) where
+  module _ (lines : List YearLine) (known : List ℕ) (IsRight : Patch → Type 0)
+      (difference : Difference) (repatches : Repatches name day lines IsRight difference
+      (with_rows Runs rows old) new)
+      (lines_are : lines ≡ was.lines) (right : IsRightBy known repatches.patch)
+      (read_of : AreKnown known) where
     -- the first day of the patch is one of the day's year
     pub since_year : year_start (year_of day) ≤ repatches.patch.from
     since_year =
@@ -134,10 +159,13 @@ module _ (old new : Tables) (s : State) (name : List ℕ) (day : ℕ) (rows : Li
     begins : (o : Obligation) → repatches.patch.from ≤ o.first → year_start (year_of day) ≤ o.first
     begins o l = let low = since_year in omega arith
 
-    right_by_all : IsPatch (form_of own.account) day before after (holidays s) right.0 repatches.patch
+    right_by_all : IsPatch (form_of own.account) day before after (holidays s) right.0
+        repatches.patch
     right_by_all =
-        patch_by_all (form_of own.account) day before after known (holidays s) right.0 repatches.patch found_after.2
-        (λ o l owed. holidays_near s sound (form_of own.account) lines_then (live_sums own_after) known (year_of day) o found_after.2 read_of (begins o l) owed) right.1
+        patch_by_all (form_of own.account) day before after known (holidays s) right.0
+        repatches.patch found_after.2
+        (λ o l owed. holidays_near s sound (form_of own.account) lines_then (live_sums own_after)
+        known (year_of day) o found_after.2 read_of (begins o l) owed) right.1
 
     -- ---- the obligations after
 
@@ -151,11 +179,15 @@ module _ (old new : Tables) (s : State) (name : List ℕ) (day : ℕ) (rows : Li
         let from = p.from in let to = p.to in
         omega arith
 
-    pub are_owed : AreObligations (form_of own.account) lines_then (live_sums own_after) (holidays s) owed_then
+    pub are_owed : AreObligations (form_of own.account) lines_then (live_sums own_after)
+        (holidays s) owed_then
     are_owed =
         let p = right_by_all in
-        let k = patched_are (IsOwed (form_of own.account) before (holidays s)) (IsOwed (form_of own.account) after (holidays s)) repatches.patch.from repatches.patch.to was.owed
-        repatches.patch.rows some_days was.are_owed.by_first_day was.are_owed.all (record { rise = p.rows.by_first_day; all = p.rows.all; elsewhere = p.elsewhere }) in
+        let k = patched_are (IsOwed (form_of own.account) before (holidays s))
+        (IsOwed (form_of own.account) after (holidays s)) repatches.patch.from repatches.patch.to
+        was.owed
+        repatches.patch.rows some_days was.are_owed.by_first_day was.are_owed.all
+        (record { rise = p.rows.by_first_day; all = p.rows.all; elsewhere = p.elsewhere }) in
         record { by_first_day = k.0; all = k.1 }
 
     -- the rows of the patch begin on its first day or later
@@ -163,24 +195,32 @@ module _ (old new : Tables) (s : State) (name : List ℕ) (day : ℕ) (rows : Li
     come_later o has = ((right_by_all.rows.all o).0 has).1
 
     pub are_lines : AreLinesOf own_after lines_then
-    are_lines = lines_of_runs own (filter (is_of name) runs) was.lines lines_then was.are_lines found_after.1 found_after.2
+    are_lines = lines_of_runs own (filter (is_of name) runs) was.lines lines_then was.are_lines
+        found_after.1 found_after.2
 
     pub lines_put : repatches.put.after ≡ lines_then
     lines_put =
-        lines_after day before after repatches.patch.years change right_by_all.years repatches.put.after
-        (subst (λ ls. AreAfter ls repatches.patch.years repatches.put.after) lines_are repatches.put.are_after)
+        lines_after day before after repatches.patch.years change right_by_all.years
+        repatches.put.after
+        (subst (λ ls. AreAfter ls repatches.patch.years repatches.put.after) lines_are
+        repatches.put.are_after)
 
     -- ---- the rows
 
     abbrev rows_then : List ObligationRow
-    rows_then = filter (stays name repatches.patch.from repatches.patch.to) (old Obligations) ++ map (obligation_row name) repatches.patch.rows
+    rows_then = filter (stays name repatches.patch.from repatches.patch.to) (old Obligations) ++ map
+        (obligation_row name) repatches.patch.rows
 
     obligations_are : IsPermutation (new Obligations) rows_then
-    obligations_are = subst (λ (os : List ObligationRow). IsPermutation os rows_then) (sym (repatches.put.puts.only Obligations)) repatches.put.rows.are
+    obligations_are = subst (λ (os : List ObligationRow). IsPermutation os rows_then)
+        (sym (repatches.put.puts.only Obligations)) repatches.put.rows.are
 
     -- so those of an account
-    some_are : (test : ObligationRow → Bool) (os : List ObligationRow) → IsPermutation (filter test rows_then) os → IsPermutation (filter test (new Obligations)) os
-    some_are test os are = IsPermutation-trans (filter test (new Obligations)) (filter test rows_then) os (sifted test (new Obligations) rows_then obligations_are) are
+    some_are : (test : ObligationRow → Bool) (os : List ObligationRow)
+        → IsPermutation (filter test rows_then) os → IsPermutation (filter test (new Obligations))
+        os
+    some_are test os are = IsPermutation-trans (filter test (new Obligations))
+        (filter test rows_then) os (sifted test (new Obligations) rows_then obligations_are) are
 
     settled_own : IsSettled new Next name
     settled_own = record {
@@ -188,10 +228,12 @@ module _ (old new : Tables) (s : State) (name : List ℕ) (day : ℕ) (rows : Li
       are_lines = are_lines;
       owed = owed_then;
       are_owed = are_owed;
-      line_rows = subst (λ ls. IsPermutation (filter (is_year_of name) (new Years)) (map (year_row name) ls)) lines_put repatches.put.puts.has;
+      line_rows = subst (λ ls. IsPermutation (filter (is_year_of name) (new Years))
+          (map (year_row name) ls)) lines_put repatches.put.puts.has;
       owed_rows =
           some_are (is_obligation_of name) (map (obligation_row name) owed_then)
-          (placed_rows name repatches.patch.from repatches.patch.to (old Obligations) was.owed repatches.patch.rows some_days was.owed_rows);
+          (placed_rows name repatches.patch.from repatches.patch.to (old Obligations) was.owed
+          repatches.patch.rows some_days was.owed_rows);
     }
 
     settled_other : (other : List ℕ) → other ≢ name → IsSettled new Next other
@@ -201,15 +243,21 @@ module _ (old new : Tables) (s : State) (name : List ℕ) (day : ℕ) (rows : Li
         let same = sym (changes.others other apart) in
         record {
           lines = its.lines;
-          are_lines = subst (λ rs. AreLinesOf (record theirs { runs = rs }) its.lines) same its.are_lines;
+          are_lines = subst (λ rs. AreLinesOf (record theirs { runs = rs }) its.lines) same
+              its.are_lines;
           owed = its.owed;
-          are_owed = subst (λ rs. AreObligations (form_of theirs.account) its.lines (live_sums (record theirs { runs = rs })) (holidays s) its.owed) same its.are_owed;
-          line_rows = subst (λ (ys : List YearRow). IsPermutation ys (map (year_row other) its.lines))
-              (sym (repatches.put.puts.others other apart ∙ ap (filter (is_year_of other)) (repatches.put.rows.only Years))) its.line_rows;
+          are_owed = subst (λ rs. AreObligations (form_of theirs.account) its.lines
+              (live_sums (record theirs { runs = rs })) (holidays s) its.owed) same its.are_owed;
+          line_rows =
+              subst (λ (ys : List YearRow). IsPermutation ys (map (year_row other) its.lines))
+              (sym (repatches.put.puts.others other apart ∙ ap (filter (is_year_of other))
+              (repatches.put.rows.only Years))) its.line_rows;
           owed_rows =
               some_are (is_obligation_of other) (map (obligation_row other) its.owed)
-              (subst (λ (os : List ObligationRow). IsPermutation os (map (obligation_row other) its.owed))
-              (sym (others_placed name repatches.patch.from repatches.patch.to other apart (old Obligations) repatches.patch.rows)) its.owed_rows);
+              (subst (λ (os : List ObligationRow). IsPermutation os
+              (map (obligation_row other) its.owed))
+              (sym (others_placed name repatches.patch.from repatches.patch.to other apart
+              (old Obligations) repatches.patch.rows)) its.owed_rows);
         }
 
     settled_each : (other : List ℕ) → IsSettled new Next other
@@ -217,25 +265,35 @@ module _ (old new : Tables) (s : State) (name : List ℕ) (day : ℕ) (rows : Li
       where
         by_name : (b : Bool) → bytes_eq other name ≡ b → IsSettled new Next other
         by_name true is = subst (IsSettled new Next) (sym (same_name other name is)) settled_own
-        by_name false is = settled_other other (λ same. true≢false (sym (own_name name) ∙ (ap (λ n. bytes_eq n name) (sym same) ∙ is)))
+        by_name false is =
+            settled_other other
+            (λ same. true≢false (sym (own_name name) ∙ (ap (λ n. bytes_eq n name) (sym same) ∙ is)))
 
     -- the tables stand for the state after the change
     pub placed_stands : StandsFor new Next
     placed_stands = record {
-      accounts = repatches.put.puts.only Accounts ∙ (repatches.put.rows.only Accounts ∙ stands.accounts);
+      accounts = repatches.put.puts.only Accounts
+          ∙ (repatches.put.rows.only Accounts ∙ stands.accounts);
       forms = repatches.put.puts.only Forms ∙ (repatches.put.rows.only Forms ∙ stands.forms);
-      reported = repatches.put.puts.only ReportedQuarters ∙ (repatches.put.rows.only ReportedQuarters ∙ stands.reported);
-      reported_years = repatches.put.puts.only ReportedYears ∙ (repatches.put.rows.only ReportedYears ∙ stands.reported_years);
-      calendars = repatches.put.puts.only CalendarYears ∙ (repatches.put.rows.only CalendarYears ∙ stands.calendars);
-      calendar_days = repatches.put.puts.only Holidays ∙ (repatches.put.rows.only Holidays ∙ stands.calendar_days);
-      added_days = repatches.put.puts.only AddedHolidays ∙ (repatches.put.rows.only AddedHolidays ∙ stands.added_days);
+      reported = repatches.put.puts.only ReportedQuarters
+          ∙ (repatches.put.rows.only ReportedQuarters ∙ stands.reported);
+      reported_years = repatches.put.puts.only ReportedYears
+          ∙ (repatches.put.rows.only ReportedYears ∙ stands.reported_years);
+      calendars = repatches.put.puts.only CalendarYears ∙ (repatches.put.rows.only CalendarYears
+          ∙ stands.calendars);
+      calendar_days = repatches.put.puts.only Holidays
+          ∙ (repatches.put.rows.only Holidays ∙ stands.calendar_days);
+      added_days = repatches.put.puts.only AddedHolidays ∙ (repatches.put.rows.only AddedHolidays
+          ∙ stands.added_days);
       runs = repatches.put.puts.only Runs ∙ (repatches.put.rows.only Runs ∙ changes.rows_are);
-      payments = repatches.put.puts.only Payments ∙ (repatches.put.rows.only Payments ∙ stands.payments);
+      payments = repatches.put.puts.only Payments
+          ∙ (repatches.put.rows.only Payments ∙ stands.payments);
       settled = settled_each;
     }
 
     -- and what is answered is how the obligations differ before and after
-    pub placed_told : IsPosted (holidays s) own own_after day (Ok (Posted difference.from difference.to difference.removed difference.added))
+    pub placed_told : IsPosted (holidays s) own own_after day
+        (Ok (Posted difference.from difference.to difference.removed difference.added))
     placed_told =
         let compared = repatches.compared in
         let p = right_by_all in
@@ -249,8 +307,10 @@ module _ (old new : Tables) (s : State) (name : List ℕ) (day : ℕ) (rows : Li
           removed = difference.removed;
           added = difference.added;
           differ =
-              differ_whole repatches.patch.from repatches.patch.to was.owed repatches.patch.rows compared.gone day difference.from difference.to difference.removed difference.added
-              (gone_are name repatches.patch.from repatches.patch.to (old Obligations) was.owed compared.gone was.owed_rows compared.are_gone.are)
+              differ_whole repatches.patch.from repatches.patch.to was.owed repatches.patch.rows
+              compared.gone day difference.from difference.to difference.removed difference.added
+              (gone_are name repatches.patch.from repatches.patch.to (old Obligations) was.owed
+              compared.gone was.owed_rows compared.are_gone.are)
               (λ o has. (let k = (p.rows.all o).0 has in let high = k.2 in (k.1, omega arith)))
               (compared.differ p.rows.by_first_day);
           told = refl;
@@ -260,28 +320,37 @@ module _ (old new : Tables) (s : State) (name : List ℕ) (day : ℕ) (rows : Li
 
 -- these rows of runs list the day sums of the account's live runs in the window
 abbrev AreLiveRows : List ℕ → Window → List DaySum → List RunRow → Type 0
-AreLiveRows name w sums rows = ListsDaySums RunsRise name (filter (is_live_run_between name (day_number w.from) (day_number w.to)) rows) sums
+AreLiveRows name w sums rows = ListsDaySums RunsRise name
+    (filter (is_live_run_between name (day_number w.from) (day_number w.to)) rows) sums
 
-module _ (old new : Tables) (s : State) (name : List ℕ) (day : ℕ) (rows : List RunRow) (runs : List (Entry (Voidable PayRun))) (difference : Difference)
+module _ (old new : Tables) (s : State) (name : List ℕ) (day : ℕ) (rows : List RunRow)
+    (runs : List (Entry (Voidable PayRun))) (difference : Difference)
     (stands : StandsFor old s) (sound : IsSound s) (changes : ChangesRuns s name day rows runs)
-    (reposted : IsReposted name (form_of (entries_of s name).account) day old (with_rows Runs rows old) new difference) where
+    (reposted : IsReposted name (form_of (entries_of s name).account) day old
+    (with_rows Runs rows old) new difference) where
   abbrev form : Form
   form = form_of (entries_of s name).account
 
   abbrev Right : Patch → Type 0
-  Right patch = Repairs name form day reposted.lines.items reposted.holidays patch (with_rows Runs rows old)
+  Right patch = Repairs name form day reposted.lines.items reposted.holidays patch
+      (with_rows Runs rows old)
 
   lines_listed : reposted.lines.items ≡ (stands.settled name).lines
   lines_listed = lines_known name reposted.lines old s stands reposted.listed (stands.settled name)
 
-  runs_are : RunsAre name form (with_rows Runs rows old) day (before old new s name day rows runs stands sound changes) (after old new s name day rows runs stands sound changes)
+  runs_are : RunsAre name form (with_rows Runs rows old) day
+      (before old new s name day rows runs stands sound changes)
+      (after old new s name day rows runs stands sound changes)
   runs_are w needed sums live a b l m =
       let listed = subst (λ (rs : List RunRow). AreLiveRows name w sums rs) changes.rows_are live in
       sums_listed name w.from w.to runs sums listed a b l m
 
-  right_now : IsRightBy old new s name day rows runs stands sound changes reposted.holidays reposted.repatches.patch
+  right_now : IsRightBy old new s name day rows runs stands sound changes reposted.holidays
+      reposted.repatches.patch
   right_now =
-      reposted.repatches.right (before old new s name day rows runs stands sound changes) (after old new s name day rows runs stands sound changes) (change old new s name day rows runs stands sound changes)
+      reposted.repatches.right (before old new s name day rows runs stands sound changes)
+      (after old new s name day rows runs stands sound changes)
+      (change old new s name day rows runs stands sound changes)
       ([], sym lines_listed) runs_are
 
   known_now : AreKnown old new s name day rows runs stands sound changes reposted.holidays
@@ -290,11 +359,18 @@ module _ (old new : Tables) (s : State) (name : List ℕ) (day : ℕ) (rows : Li
       let listed : Has reposted.lines.items c.0 = subst (λ ls. Has ls c.0) (sym lines_listed) c.1 in
       let read = reposted.read c.0 listed (subst (λ n. year_of day ≤ n) c.2 from) in
       let same = sym c.2 in
-      subst (λ n. AreHolidaysIn s reposted.holidays n × AreHolidaysIn s reposted.holidays (n + 1)) same
-      ((λ d is. holiday_read old s stands sound reposted.holidays c.0.year d read.0 is), (λ d is. holiday_read old s stands sound reposted.holidays (c.0.year + 1) d read.1 is))
+      subst (λ n. AreHolidaysIn s reposted.holidays n × AreHolidaysIn s reposted.holidays (n + 1))
+      same (
+        (λ d is. holiday_read old s stands sound reposted.holidays c.0.year d read.0 is),
+        (λ d is. holiday_read old s stands sound reposted.holidays (c.0.year + 1) d read.1 is),
+      )
 
   pub reposted_stands : StandsFor new (with_runs s runs)
-  reposted_stands = placed_stands old new s name day rows runs stands sound changes reposted.lines.items reposted.holidays Right difference reposted.repatches lines_listed right_now known_now
+  reposted_stands = placed_stands old new s name day rows runs stands sound changes
+      reposted.lines.items reposted.holidays Right difference reposted.repatches lines_listed
+      right_now known_now
 
-  pub reposted_told : IsPosted (holidays s) (entries_of s name) (entries_of (with_runs s runs) name) day (Ok (Posted difference.from difference.to difference.removed difference.added))
-  reposted_told = placed_told old new s name day rows runs stands sound changes reposted.lines.items reposted.holidays Right difference reposted.repatches lines_listed right_now known_now
+  pub reposted_told : IsPosted (holidays s) (entries_of s name) (entries_of (with_runs s runs) name)
+      day (Ok (Posted difference.from difference.to difference.removed difference.added))
+  reposted_told = placed_told old new s name day rows runs stands sound changes reposted.lines.items
+      reposted.holidays Right difference reposted.repatches lines_listed right_now known_now

@@ -1,4 +1,5 @@
--- A patch that is right by some holidays is right by all, where each of its obligations has the same due date by both.
+-- A patch that is right by some holidays is right by all, where each of its obligations has the
+-- same due date by both.
 use Rattle.std.proofs.Common.{◌≡◌, ℕ, ◌≤◌, List, sym, subst, arith}
 use Rattle.ftd_days.specs.Calendar.{last_day}
 use Rattle.ftd_rules.specs.declared.Form.{Form}
@@ -18,7 +19,9 @@ use Rattle.ftd_buckets.specs.Patches.{IsOwed, IsPatch}
 use Rattle.ftd_posting.proofs.Differing.{BeginsElsewhere}
 
 -- an obligation with the due date that other holidays give it
-with_due : (form : Form) (h : History) (some all : List ℕ) (o : Obligation) (due : ℕ) → IsDue all o.rule o.last due → IsOwed form h some o → IsOwed form h all (record o { due = due })
+with_due : (form : Form) (h : History) (some all : List ℕ) (o : Obligation) (due : ℕ)
+    → IsDue all o.rule o.last due → IsOwed form h some o
+    → IsOwed form h all (record o { due = due })
 with_due form h some all o due is owed = record {
   line = owed.line;
   open_year = owed.open_year;
@@ -36,7 +39,8 @@ with_due form h some all o due is owed = record {
 }
 
 -- the last day of an obligation is a day
-pub last_is_day : (form : Form) (h : History) (holidays : List ℕ) (o : Obligation) → IsHistory h → IsOwed form h holidays o → o.last ≤ last_day
+pub last_is_day : (form : Form) (h : History) (holidays : List ℕ) (o : Obligation) → IsHistory h
+    → IsOwed form h holidays o → o.last ≤ last_day
 last_is_day form h holidays o are owed =
     let is = piece_owed form h.lines h.sums holidays o owed in
     let y = line_is h.lines h.sums is.line are is.open_year in
@@ -48,22 +52,30 @@ last_is_day form h holidays o are owed =
     omega arith
 
 -- the due date by holidays that are equal up to it
-due_too : (some all : List ℕ) (o : Obligation) (due : ℕ) → o.last ≤ last_day → EqualHolidays o.last due some all → IsDueBy some o.rule o.last due → IsDueBy all o.rule o.last due
+due_too : (some all : List ℕ) (o : Obligation) (due : ℕ) → o.last ≤ last_day
+    → EqualHolidays o.last due some all → IsDueBy some o.rule o.last due
+    → IsDueBy all o.rule o.last due
 due_too some all o due within same is =
     let from = from_later o.rule o.last within in
     due_same some all o.rule o.last due due (λ day a b. same day (omega arith) b) (omega arith) is
 
 -- what stays, stays by whatever holidays
-stays_by : (form : Form) (before after : History) (some all : List ℕ) (from to : ℕ) → ((o : Obligation) → BeginsElsewhere from to o → IsOwed form before some o → IsOwed form after some o)
-    → (o : Obligation) → BeginsElsewhere from to o → IsOwed form before all o → IsOwed form after all o
+stays_by : (form : Form) (before after : History) (some all : List ℕ) (from to : ℕ)
+    → ((o : Obligation) → BeginsElsewhere from to o → IsOwed form before some o
+    → IsOwed form after some o)
+    → (o : Obligation) → BeginsElsewhere from to o → IsOwed form before all o
+    → IsOwed form after all o
 stays_by form before after some all from to same o apart owed =
     let due = due_some some o.rule o.last in
     let p : Obligation = record o { due = due.0 } in
-    let found : IsOwed form before some p = with_due form before all some o due.0 (due_stated some o.rule o.last due.0 due.1) owed in
+    let found : IsOwed form before some p = with_due form before all some o due.0
+    (due_stated some o.rule o.last due.0 due.1) owed in
     with_due form after some all p o.due owed.due (same p apart found)
 
-pub patch_by_all : (form : Form) (day : ℕ) (before after : History) (some all : List ℕ) (fed : Window) (patch : Patch) → IsHistory after
-    → ((o : Obligation) → patch.from ≤ o.first → IsOwed form after all o → EqualHolidays o.last o.due some all)
+pub patch_by_all : (form : Form) (day : ℕ) (before after : History) (some all : List ℕ)
+    (fed : Window) (patch : Patch) → IsHistory after
+    → ((o : Obligation) → patch.from ≤ o.first → IsOwed form after all o
+    → EqualHolidays o.last o.due some all)
     → IsPatch form day before after some fed patch → IsPatch form day before after all fed patch
 patch_by_all form day before after some all fed patch are agree p = record {
   period = p.period;
@@ -77,16 +89,24 @@ patch_by_all form day before after some all fed patch are agree p = record {
           (let k = (p.rows.all o).0 has in
           let due = due_some all o.rule o.last in
           let other : Obligation = record o { due = due.0 } in
-          let owed : IsOwed form after all other = with_due form after some all o due.0 (due_stated all o.rule o.last due.0 due.1) k.0 in
+          let owed : IsOwed form after all other = with_due form after some all o due.0
+          (due_stated all o.rule o.last due.0 due.1) k.0 in
           let by_some : IsDueBy some o.rule o.last due.0 =
-          due_too all some other due.0 (last_is_day form after some o are k.0) (λ d a b. sym (agree other k.1 owed d a b)) due.1 in
-          let one : due.0 ≡ o.due = due_one some o.rule o.last due.0 o.due by_some (due_by some o.rule o.last o.due k.0.due) in
+          due_too all some other due.0 (last_is_day form after some o are k.0)
+          (λ d a b. sym (agree other k.1 owed d a b)) due.1 in
+          let one : due.0 ≡ o.due = due_one some o.rule o.last due.0 o.due by_some
+          (due_by some o.rule o.last o.due k.0.due) in
           (subst (λ d. IsOwed form after all (record o { due = d })) one owed, k.1, k.2))),
       (λ k.
           (let is = k.0 in
           let by_some : IsDueBy some o.rule o.last o.due =
-          due_too all some o o.due (last_is_day form after all o are is) (λ d a b. sym (agree o k.1 is d a b)) (due_by all o.rule o.last o.due is.due) in
-          (p.rows.all o).1 (with_due form after all some o o.due (due_stated some o.rule o.last o.due by_some) is, k.1, k.2))),
+          due_too all some o o.due (last_is_day form after all o are is)
+          (λ d a b. sym (agree o k.1 is d a b)) (due_by all o.rule o.last o.due is.due) in
+          (p.rows.all o).1 (
+            with_due form after all some o o.due (due_stated some o.rule o.last o.due by_some) is,
+            k.1,
+            k.2,
+          ))),
     );
   };
   years = p.years;

@@ -1,5 +1,6 @@
 -- A due list that is printed from the desk's rows as they come.
-use Rattle.std.proofs.Common.{◌≡◌, inl, inr, ℕ, ◌+◌, ◌≤◌, Bool, List, [], ◌∷◌, ◌++◌, Option, Result, Ok, Err, sym, ap, ◌∙◌, subst, arith, append_assoc, append-nil}
+use Rattle.std.proofs.Common.{◌≡◌, inl, inr, ℕ, ◌+◌, ◌≤◌, Bool, List, [], ◌∷◌, ◌++◌, Option, Result}
+use Rattle.std.proofs.Common.{Ok, Err, sym, ap, ◌∙◌, subst, arith, append_assoc, append-nil}
 use Rattle.std.specs.List.{sum_by}
 use Rattle.std.proofs.lemmas.List.Sums.{sum_by-append, sum_by-cons}
 use Rattle.ftd_ports.specs.Writing.{WritesPrefix}
@@ -19,31 +20,45 @@ use Rattle.ftd_questions.specs.Telling.{HasTaken, Tells}
 use Rattle.ftd_questions.specs.declared.faults.DueFault.{DueFault}
 use Rattle.ftd_questions.specs.declared.faults.DueFault.TheVariants.{Refused, Sink}
 
-module _ {W : Type 0} (taken : W → Option (List ℕ)) (start : Option (List ℕ)) (account : List ℕ) (quarter as_of : ℕ) where
+module _ {W : Type 0} (taken : W → Option (List ℕ)) (start : Option (List ℕ)) (account : List ℕ)
+    (quarter as_of : ℕ) where
   abbrev Has : List DueRow → LateDueText W → Type 0
   Has rows text = HasRows taken start account quarter as_of rows text
 
   -- the rows that the text took go with it
-  has_more : (done rows : List DueRow) (before after : LateDueText W) → Has done before → HasTaken (TakesRow taken) before rows after → Has (done ++ rows) after
-  has_more done [] before after has same = subst (λ t. Has (done ++ []) t) (sym same) (subst (λ z. Has z before) (sym (append-nil done)) has)
+  has_more : (done rows : List DueRow) (before after : LateDueText W) → Has done before
+      → HasTaken (TakesRow taken) before rows after → Has (done ++ rows) after
+  has_more done [] before after has same = subst (λ t. Has (done ++ []) t) (sym same)
+      (subst (λ z. Has z before) (sym (append-nil done)) has)
   has_more done (row ∷ rows) before after has (next, takes, later) =
-      subst (λ z. Has z after) (append_assoc done (row ∷ []) rows) (has_more (done ++ row ∷ []) rows next after (takes start account quarter as_of done has) later)
+      subst (λ z. Has z after) (append_assoc done (row ∷ []) rows)
+      (has_more (done ++ row ∷ []) rows next after (takes start account quarter as_of done has)
+      later)
 
-  pub has_taken : (rows : List DueRow) (before after : LateDueText W) → Has [] before → HasTaken (TakesRow taken) before rows after → Has rows after
+  pub has_taken : (rows : List DueRow) (before after : LateDueText W) → Has [] before
+      → HasTaken (TakesRow taken) before rows after → Has rows after
   has_taken rows before after has took = has_more [] rows before after has took
 
   -- the first of the rows were written
-  pub has_first : (first rest : List DueRow) (before after : LateDueText W) → Has [] before → HasTaken (TakesRow taken) before first after
-      → WritesPrefix start (taken (writer_of after)) (due_text account quarter as_of (first ++ rest))
-  has_first first rest before after has took = first_part taken start account quarter as_of first after (has_taken first before after has took) rest
+  pub has_first : (first rest : List DueRow) (before after : LateDueText W) → Has [] before
+      → HasTaken (TakesRow taken) before first after
+      → WritesPrefix start (taken (writer_of after))
+      (due_text account quarter as_of (first ++ rest))
+  has_first first rest before after has took = first_part taken start account quarter as_of first
+      after (has_taken first before after has took) rest
 
   -- the text failed at a row
-  pub has_broken : (failed : W → Bool) (first rest : List DueRow) (row : DueRow) (before mid after : LateDueText W) → Has [] before → HasTaken (TakesRow taken) before first mid → BreaksAt taken failed mid row after
+  pub has_broken : (failed : W → Bool) (first rest : List DueRow) (row : DueRow)
+      (before mid after : LateDueText W) → Has [] before
+      → HasTaken (TakesRow taken) before first mid → BreaksAt taken failed mid row after
       → BreaksIn taken failed start account quarter as_of first row rest after
-  has_broken failed first rest row before mid after has took broke = broke start account quarter as_of first rest (has_taken first before mid has took)
+  has_broken failed first rest row before mid after has took broke =
+      broke start account quarter as_of first rest (has_taken first before mid has took)
 
 -- the amounts of the rows come to the bound
-pub come_to : (first rest : List DueRow) (row : DueRow) → amounts_end ≤ sum_by amount_of first + amount_of row → amounts_end ≤ sum_by amount_of (first ++ row ∷ rest)
+pub come_to : (first rest : List DueRow) (row : DueRow)
+    → amounts_end ≤ sum_by amount_of first + amount_of row → amounts_end ≤ sum_by amount_of
+    (first ++ row ∷ rest)
 come_to first rest row over =
     let parts = sum_by-append amount_of first (row ∷ rest) in
     let one = sum_by-cons amount_of row rest in
@@ -59,9 +74,16 @@ fault_status refusal (inl memory) = ap status_in memory
 fault_status refusal (inr store) = ap status_in store
 
 -- what is told of a list that was refused, or at which the sink failed
-module _ {K : Type 0} (took broke : K → DueRow → K → Type 0) (s : State) (name : List ℕ) (quarter as_of : ℕ) (old new : K) (r : Result (Unit {0}) DueFault) (f : DueFault) (is : r ≡ Err f) where
-  pub as_refused : (refusal : Refusal) → f ≡ Refused refusal → Tells took broke s name quarter as_of old new r → Tells took broke s name quarter as_of old new (Err (Refused refusal))
-  as_refused refusal which tells = subst (λ x. Tells took broke s name quarter as_of old new x) (is ∙ ap Err which) tells
+module _ {K : Type 0} (took broke : K → DueRow → K → Type 0) (s : State) (name : List ℕ)
+    (quarter as_of : ℕ) (old new : K) (r : Result (Unit {0}) DueFault) (f : DueFault)
+    (is : r ≡ Err f) where
+  pub as_refused : (refusal : Refusal) → f ≡ Refused refusal
+      → Tells took broke s name quarter as_of old new r
+      → Tells took broke s name quarter as_of old new (Err (Refused refusal))
+  as_refused refusal which tells = subst (λ x. Tells took broke s name quarter as_of old new x)
+      (is ∙ ap Err which) tells
 
-  pub as_sink : f ≡ Sink → Tells took broke s name quarter as_of old new r → Tells took broke s name quarter as_of old new (Err Sink)
-  as_sink which tells = subst (λ x. Tells took broke s name quarter as_of old new x) (is ∙ ap Err which) tells
+  pub as_sink : f ≡ Sink → Tells took broke s name quarter as_of old new r
+      → Tells took broke s name quarter as_of old new (Err Sink)
+  as_sink which tells = subst (λ x. Tells took broke s name quarter as_of old new x)
+      (is ∙ ap Err which) tells

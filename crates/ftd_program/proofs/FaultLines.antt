@@ -9,8 +9,11 @@ pub record_is : (number field : ℕ) → record_line number field ≡ fault_line
 unfolding record_line
 record_is number field =
     ap (λ z. codes "record " ++ z)
-    (sym (append_assoc (decimal number) (codes " malformed field " ++ decimal field) (10 ∷ []) ∙ ap (λ z. decimal number ++ z) (append_assoc (codes " malformed field ") (decimal field) (10 ∷ []))))
+    (sym (append_assoc (decimal number) (codes " malformed field " ++ decimal field) (10 ∷ [])
+    ∙ ap (λ z. decimal number ++ z) (append_assoc (codes " malformed field ") (decimal field)
+    (10 ∷ []))))
 
 pub run_is : (number : ℕ) → run_line number ≡ fault_line (RunDiffers number)
 unfolding run_line
-run_is number = ap (λ z. codes "run " ++ z) (sym (append_assoc (decimal number) (codes " differs") (10 ∷ [])))
+run_is number = ap (λ z. codes "run " ++ z)
+    (sym (append_assoc (decimal number) (codes " differs") (10 ∷ [])))

@@ -1,5 +1,6 @@
 -- The liability of a quarter by day: what is answered, and that it is the machine's answer.
-use Rattle.std.proofs.Common.{◌≡◌, ℕ, Bool, true, List, Option, None, Some, Ok, Vec, refl, ap, ◌∙◌, ◌+◌}
+use Rattle.std.proofs.Common.{◌≡◌, ℕ, Bool, true, List, Option, None, Some, Ok, Vec, refl, ap, ◌∙◌}
+use Rattle.std.proofs.Common.{◌+◌}
 use Rattle.std.specs.Prelude.{nat_le}
 use Rattle.std.proofs.lemmas.Bool.{leb-true}
 use Rattle.ftd_days.specs.Calendar.{quarter_year, quarter_start}
@@ -33,21 +34,32 @@ module _ (name : List ℕ) (quarter : ℕ) where
     checks = first_of (schedule_b_checks name quarter known.0 known.1)
 
     checks_are : (t : Tables) (s : State) → StandsFor t s → Knows known t
-        → first_of (schedule_b_checks name quarter (entries_of s name).account (is_open (entries_of s name) (quarter_year quarter))) ≡ checks
+        → first_of (schedule_b_checks name quarter (entries_of s name).account
+        (is_open (entries_of s name) (quarter_year quarter))) ≡ checks
     checks_are t s stands knows =
-        ap (λ a. first_of (schedule_b_checks name quarter a (is_open (entries_of s name) (quarter_year quarter)))) (knows.0 s stands)
+        ap (λ a. first_of
+        (schedule_b_checks name quarter a (is_open (entries_of s name) (quarter_year quarter))))
+        (knows.0 s stands)
         ∙ ap (λ b. first_of (schedule_b_checks name quarter known.0 b)) (knows.1 s stands)
 
     -- a check decides
-    pub days_decided : (answer : Answer) → checks ≡ Some answer → (t : Tables) (s : State) → StandsFor t s → IsSound s → Knows known t → Step s (ScheduleB name quarter) answer s
-    days_decided answer is t s stands sound knows = decided _ s answer _ (checks_are t s stands knows ∙ is)
+    pub days_decided : (answer : Answer) → checks ≡ Some answer → (t : Tables) (s : State)
+        → StandsFor t s → IsSound s → Knows known t → Step s (ScheduleB name quarter) answer s
+    days_decided answer is t s stands sound knows = decided _ s answer _
+        (checks_are t s stands knows ∙ is)
 
     -- all checks pass
-    pub days_told : {A : Type 0} (last : ℕ) (sums : Vec DaySum A) → last + 1 ≡ quarter_start (quarter + 1) → checks ≡ None
-        → (t : Tables) (s : State) → StandsFor t s → IsSound s → Knows known t × ListsLiability name (quarter_start quarter) last sums t → Step s (ScheduleB name quarter) (Ok (Days sums.items)) s
+    pub days_told : {A : Type 0} (last : ℕ) (sums : Vec DaySum A) → last + 1 ≡ quarter_start
+        (quarter + 1) → checks ≡ None
+        → (t : Tables) (s : State) → StandsFor t s → IsSound s → Knows known t × ListsLiability name
+        (quarter_start quarter) last sums t → Step s (ScheduleB name quarter) (Ok (Days sums.items))
+        s
     days_told last sums is_last is t s stands sound knows =
-        let within : Gives (schedule_b_checks name quarter known.0 known.1) (is_between 2001 2098 (quarter_year quarter) ≡ true) = skip_needs _ _ _ _ (gives_needs _ _ _) in
-        let early = leb-true (quarter_year quarter) 2098 (both (nat_le 2001 (quarter_year quarter)) (nat_le (quarter_year quarter) 2098) (within.fact is)).1 in
+        let within : Gives (schedule_b_checks name quarter known.0 known.1)
+        (is_between 2001 2098 (quarter_year quarter) ≡ true) =
+        skip_needs _ _ _ _ (gives_needs _ _ _) in
+        let early = leb-true (quarter_year quarter) 2098 (both (nat_le 2001 (quarter_year quarter))
+        (nat_le (quarter_year quarter) 2098) (within.fact is)).1 in
         passed _ s (Ok (Days sums.items)) s _ (checks_are t s stands knows.0 ∙ is) (
           refl,
           record {

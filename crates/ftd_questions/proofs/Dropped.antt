@@ -16,8 +16,10 @@ use Rattle.ftd_questions.specs.declared.asking.KnownReturn.{KnownReturn}
 use Rattle.ftd_questions.proofs.Walked.{clean_before, stood}
 
 -- from what was seen before it to its end: as it began, as it was dropped, and afterwards
-module _ (a b m e : database.State) (entered : CrashKeeps a b) (begun : HasCleanDisk b → Begins a b) (crash : CrashKeeps b m) (kept : HasCleanDisk m → KeepsCommit b m)
-    (undone : HasCleanDisk e → IsTrue e.is_open → EndsAs e m.committed) (left : CrashKeeps m e) (opens : HasCleanDisk e → IsTrue e.is_open → IsTrue m.is_open) where
+module _ (a b m e : database.State) (entered : CrashKeeps a b) (begun : HasCleanDisk b → Begins a b)
+    (crash : CrashKeeps b m) (kept : HasCleanDisk m → KeepsCommit b m)
+    (undone : HasCleanDisk e → IsTrue e.is_open → EndsAs e m.committed) (left : CrashKeeps m e)
+    (opens : HasCleanDisk e → IsTrue e.is_open → IsTrue m.is_open) where
   pub dropped_stays : Stays a e
   dropped_stays = record {
     rows = λ clean.
@@ -25,8 +27,10 @@ module _ (a b m e : database.State) (entered : CrashKeeps a b) (begun : HasClean
         let began = begun (clean_before b m crash clean_m) in
         record {
           was_open = λ on. began.shows.was_open;
-          now_is = λ on. (undone_all a b m e began.shows (kept clean_m) (opens clean on) (undone clean on) began.settled).0;
-          committed_is = λ on. (undone_all a b m e began.shows (kept clean_m) (opens clean on) (undone clean on) began.settled).1;
+          now_is = λ on. (undone_all a b m e began.shows (kept clean_m) (opens clean on)
+              (undone clean on) began.settled).0;
+          committed_is = λ on. (undone_all a b m e began.shows (kept clean_m) (opens clean on)
+              (undone clean on) began.settled).1;
         };
     crash = crash_then a b e entered (crash_then b m e crash left);
   }
@@ -35,10 +39,13 @@ module _ (a b m e : database.State) (entered : CrashKeeps a b) (begun : HasClean
   pub stood_in_it : IsSeen e → (t : Tables) → Stands e.now t → Stands b.now t
   stood_in_it is t stands =
       let clean_b = clean_before b m crash (clean_before m e left is.0) in
-      subst (λ (db : Database). Stands db t) (sym (begun clean_b).shows.now_is) (stood a e dropped_stays is t stands)
+      subst (λ (db : Database). Stands db t) (sym (begun clean_b).shows.now_is)
+      (stood a e dropped_stays is t stands)
 
 -- what was read in it, with no fault
-pub answered : (name : List ℕ) (quarter as_of : ℕ) (t : Tables) (asked : Result KnownReturn Refusal) → KnowsAsked name quarter as_of asked t
-    → MatchResult asked (λ known. KnowsAsked name quarter as_of (Ok known) t) (λ refusal. IsFault (Err refusal) ⊎ KnowsAsked name quarter as_of (Err refusal) t)
+pub answered : (name : List ℕ) (quarter as_of : ℕ) (t : Tables) (asked : Result KnownReturn Refusal)
+    → KnowsAsked name quarter as_of asked t
+    → MatchResult asked (λ known. KnowsAsked name quarter as_of (Ok known) t)
+    (λ refusal. IsFault (Err refusal) ⊎ KnowsAsked name quarter as_of (Err refusal) t)
 answered name quarter as_of t (Ok known) knows = knows
 answered name quarter as_of t (Err refusal) knows = inr knows

@@ -1,5 +1,6 @@
 -- Sums over the rows that a test keeps.
-use Rattle.std.proofs.Common.{◌≡◌, ℕ, pos, ◌+◌, cond, not, inl, inr, List, ◌∷◌, Bool, true, false, refl, arith}
+use Rattle.std.proofs.Common.{◌≡◌, ℕ, pos, ◌+◌, cond, not, inl, inr, List, ◌∷◌, Bool, true, false}
+use Rattle.std.proofs.Common.{refl, arith}
 use Rattle.std.specs.Prelude.{filter}
 use Rattle.std.specs.Ordering.{int_eq}
 use Rattle.std.specs.List.{sum_by}
@@ -8,7 +9,8 @@ use Rattle.std.proofs.lemmas.List.Sums.{sum_by-cons}
 use Rattle.ftd_rows.specs.Cells.{flag_number}
 
 -- what one more row adds
-pub kept_sum : {X : Type 0} (p : X → Bool) (f : X → ℕ) (x : X) (xs : List X) → sum_by f (filter p (x ∷ xs)) ≡ cond (p x) (f x) 0 + sum_by f (filter p xs)
+pub kept_sum : {X : Type 0} (p : X → Bool) (f : X → ℕ) (x : X) (xs : List X)
+    → sum_by f (filter p (x ∷ xs)) ≡ cond (p x) (f x) 0 + sum_by f (filter p xs)
 kept_sum p f x xs = elim (cases_Bool (p x)) [
   | inl kept ↦ rw kept (sum_by-cons f x (filter p xs))
   | inr left ↦ rw left (omega arith)

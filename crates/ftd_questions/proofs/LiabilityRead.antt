@@ -15,7 +15,9 @@ use Rattle.ftd_entries.specs.Standing.{StandsFor}
 use Rattle.ftd_questions.proofs.LiableDays.{liable_in, sum_is}
 
 -- the liability of days that hold all sums is their amount
-all_within : (sums : List DaySum) (first last : ℕ) → ((x : DaySum) → Has sums x → (first ≤ x.day) × (x.day ≤ last)) → liability sums first last ≡ sum_by cents_of sums
+all_within : (sums : List DaySum) (first last : ℕ)
+    → ((x : DaySum) → Has sums x → (first ≤ x.day) × (x.day ≤ last))
+    → liability sums first last ≡ sum_by cents_of sums
 all_within [] first last within = refl
 all_within (x ∷ sums) first last within =
     let its = within x (inl refl) in
@@ -25,8 +27,12 @@ all_within (x ∷ sums) first last within =
     let right = sum_by-cons cents_of x sums in
     omega arith
 
-pub liability_known : {A : Type 0} (name : List ℕ) (first last : ℕ) (sums : Vec DaySum A) (t : Tables) → ListsLiability name first last sums t
-    → (s : State) → StandsFor t s → sum_by cents_of sums.items ≡ liability (live_sums (entries_of s name)) first last
+pub liability_known : {A : Type 0} (name : List ℕ) (first last : ℕ) (sums : Vec DaySum A)
+    (t : Tables) → ListsLiability name first last sums t
+    → (s : State) → StandsFor t s → sum_by cents_of sums.items ≡ liability
+    (live_sums (entries_of s name)) first last
 liability_known name first last sums t lists s stands =
-    sym (all_within sums.items first last (λ x has. let its = sum_is name first last sums t s stands lists x has in (its.0, its.1)))
-    ∙ runs_same (live_sums (entries_of s name)) sums.items first last (λ day low high. liable_in name first last sums t s stands lists day low high)
+    sym (all_within sums.items first last
+    (λ x has. let its = sum_is name first last sums t s stands lists x has in (its.0, its.1)))
+    ∙ runs_same (live_sums (entries_of s name)) sums.items first last
+    (λ day low high. liable_in name first last sums t s stands lists day low high)

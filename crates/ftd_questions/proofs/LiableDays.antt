@@ -1,5 +1,7 @@
 -- The day sums that were read are the liability of the account's live runs, day by day.
-use Rattle.std.proofs.Common.{◌≡◌, ◌⊎◌, ◌↔◌, ℕ, ℤ, pos, ◌+◌, ◌*◌, ◌<◌, ◌≤◌, ◌==◌, ◌&&◌, not, cond, Bool, true, false, List, [], ◌∷◌, map, Vec, inl, inr, refl, sym, ap, subst, ◌∙◌, arith}
+use Rattle.std.proofs.Common.{◌≡◌, ◌⊎◌, ◌↔◌, ℕ, ℤ, pos, ◌+◌, ◌*◌, ◌<◌, ◌≤◌, ◌==◌, ◌&&◌, not, cond}
+use Rattle.std.proofs.Common.{Bool, true, false, List, [], ◌∷◌, map, Vec, inl, inr, refl, sym, ap}
+use Rattle.std.proofs.Common.{subst, ◌∙◌, arith}
 use Rattle.std.specs.Prelude.{filter, bytes_eq, int_le}
 use Rattle.std.specs.Ordering.{int_eq}
 use Rattle.std.specs.List.{sum_by}
@@ -56,36 +58,50 @@ module _ (name : List ℕ) (from to day : ℕ) where
 
   -- what a row adds to the day
   abbrev row_owed : RunRow → ℕ
-  row_owed r = cond (int_eq r.payday (day_number day)) (whole r.fit + whole r.ss + whole r.medicare) 0
+  row_owed r = cond (int_eq r.payday (day_number day)) (whole r.fit + whole r.ss + whole r.medicare)
+      0
 
-  row_is : (number : ℤ) (r : PayRun) (voided : Bool) → row_owed (run_row name number r voided) ≡ owed_on day r
+  row_is : (number : ℤ) (r : PayRun) (voided : Bool) → row_owed (run_row name number r voided)
+      ≡ owed_on day r
   row_is number r voided = rw (same_day r.payday day) refl
 
-  row_shared : (e : Entry (Voidable PayRun)) → row_owed (run_entry e) ≡ share day day (liability_of e.content.value)
-  row_shared e = row_is (pos e.key) e.content.value e.content.voided ∙ sym (owed_is day e.content.value)
+  row_shared : (e : Entry (Voidable PayRun)) → row_owed (run_entry e) ≡ share day day
+      (liability_of e.content.value)
+  row_shared e = row_is (pos e.key) e.content.value e.content.voided
+      ∙ sym (owed_is day e.content.value)
 
-  same_of : (a b c d : Bool) (n : ℕ) → b ≡ true → c ≡ true → cond (a && (b && (c && d))) n 0 ≡ cond a (cond d n 0) 0
+  same_of : (a b c d : Bool) (n : ℕ) → b ≡ true → c ≡ true → cond (a && (b && (c && d))) n 0
+      ≡ cond a (cond d n 0) 0
   same_of true b c d n eb ec = rw (eb, ec) refl
   same_of false b c d n eb ec = refl
 
   -- on a day between the two
   run_in : from ≤ day → day ≤ to → (e : Entry (Voidable PayRun))
-      → cond (Test (run_entry e)) (row_owed (run_entry e)) 0 ≡ cond (is_of name e) (cond (is_live e) (share day day (liability_of e.content.value)) 0) 0
+      → cond (Test (run_entry e)) (row_owed (run_entry e)) 0 ≡ cond (is_of name e)
+      (cond (is_live e) (share day day (liability_of e.content.value)) 0) 0
   run_in low high e = elim (cases_Bool (e.content.value.payday == day)) [
     | inl its ↦
         let same : e.content.value.payday ≡ day = eqb-true e.content.value.payday day its in
-        same_of (bytes_eq e.name name) _ _ _ (row_owed (run_entry e)) (le_cells from e.content.value.payday (omega arith)) (le_cells e.content.value.payday to (omega arith))
-        ∙ ap (λ b. cond (bytes_eq e.name name) (cond b (row_owed (run_entry e)) 0) 0) (live_cell e.content.voided)
+        same_of (bytes_eq e.name name) _ _ _ (row_owed (run_entry e))
+        (le_cells from e.content.value.payday (omega arith))
+        (le_cells e.content.value.payday to (omega arith))
+        ∙ ap (λ b. cond (bytes_eq e.name name) (cond b (row_owed (run_entry e)) 0) 0)
+        (live_cell e.content.voided)
         ∙ ap (λ n. cond (bytes_eq e.name name) (cond (not e.content.voided) n 0) 0) (row_shared e)
     | inr other ↦
-        let none : row_owed (run_entry e) ≡ 0 = ap (λ b. cond b (whole (run_entry e).fit + whole (run_entry e).ss + whole (run_entry e).medicare) 0) (same_day e.content.value.payday day ∙ other) in
+        let none : row_owed (run_entry e) ≡ 0 =
+        ap (λ b. cond b (whole (run_entry e).fit + whole (run_entry e).ss + whole
+        (run_entry e).medicare) 0) (same_day e.content.value.payday day ∙ other) in
         let shared : share day day (liability_of e.content.value) ≡ 0 = sym (row_shared e) ∙ none in
         none_of (Test (run_entry e)) (row_owed (run_entry e)) none
-        ∙ sym (none_of (is_of name e) (cond (is_live e) (share day day (liability_of e.content.value)) 0) (none_of (is_live e) (share day day (liability_of e.content.value)) shared))
+        ∙ sym (none_of (is_of name e)
+        (cond (is_live e) (share day day (liability_of e.content.value)) 0)
+        (none_of (is_live e) (share day day (liability_of e.content.value)) shared))
   ]
 
   -- on another day
-  run_out : (day < from) ⊎ (to < day) → (e : Entry (Voidable PayRun)) → cond (Test (run_entry e)) (row_owed (run_entry e)) 0 ≡ 0
+  run_out : (day < from) ⊎ (to < day) → (e : Entry (Voidable PayRun)) → cond (Test (run_entry e))
+      (row_owed (run_entry e)) 0 ≡ 0
   run_out outside e = elim (cases_Bool (e.content.value.payday == day)) [
     | inl its ↦ elim (cases_Bool (Test (run_entry e))) [
       | inl passes ↦
@@ -100,7 +116,8 @@ module _ (name : List ℕ) (from to day : ℕ) where
     ]
     | inr other ↦
         none_of (Test (run_entry e)) (row_owed (run_entry e))
-        (ap (λ b. cond b (whole (run_entry e).fit + whole (run_entry e).ss + whole (run_entry e).medicare) 0) (same_day e.content.value.payday day ∙ other))
+        (ap (λ b. cond b (whole (run_entry e).fit + whole (run_entry e).ss + whole
+        (run_entry e).medicare) 0) (same_day e.content.value.payday day ∙ other))
   ]
 
   -- ---- all runs
@@ -109,24 +126,31 @@ module _ (name : List ℕ) (from to day : ℕ) where
   own_sums es = map liability_of (live (filter (is_of name) es))
 
   one_more : (e : Entry (Voidable PayRun)) (es : List (Entry (Voidable PayRun)))
-      → liability (own_sums (e ∷ es)) day day ≡ cond (is_of name e) (cond (is_live e) (share day day (liability_of e.content.value)) 0) 0 + liability (own_sums es) day day
+      → liability (own_sums (e ∷ es)) day day ≡ cond (is_of name e)
+      (cond (is_live e) (share day day (liability_of e.content.value)) 0) 0 + liability
+      (own_sums es) day day
   one_more e es = elim (cases_Bool (is_of name e)) [
     | inl own ↦ elim (cases_Bool (is_live e)) [
-      | inl lives ↦ rw (own, lives) (sum_by-cons (share day day) (liability_of e.content.value) (own_sums es))
+      | inl lives ↦ rw (own, lives) (sum_by-cons (share day day) (liability_of e.content.value)
+          (own_sums es))
       | inr dead ↦ rw (own, dead) (omega arith)
     ]
     | inr apart ↦ rw apart (omega arith)
   ]
 
-  sums_in : from ≤ day → day ≤ to → (es : List (Entry (Voidable PayRun))) → sum_by row_owed (filter Test (map run_entry es)) ≡ liability (own_sums es) day day
+  sums_in : from ≤ day → day ≤ to → (es : List (Entry (Voidable PayRun)))
+      → sum_by row_owed (filter Test (map run_entry es)) ≡ liability (own_sums es) day day
   sums_in low high [] = refl
   sums_in low high (e ∷ es) =
       kept_sum Test row_owed (run_entry e) (map run_entry es)
       ∙ ap (λ n. n + sum_by row_owed (filter Test (map run_entry es))) (run_in low high e)
-      ∙ ap (λ n. cond (is_of name e) (cond (is_live e) (share day day (liability_of e.content.value)) 0) 0 + n) (sums_in low high es)
+      ∙ ap (λ n. cond (is_of name e)
+      (cond (is_live e) (share day day (liability_of e.content.value)) 0) 0 + n)
+      (sums_in low high es)
       ∙ sym (one_more e es)
 
-  paired_sum : (rows : List RunRow) (runs : List PayRun) → Pairs (IsLiveRun name) rows runs → sum_by row_owed rows ≡ sum_by (owed_on day) runs
+  paired_sum : (rows : List RunRow) (runs : List PayRun) → Pairs (IsLiveRun name) rows runs
+      → sum_by row_owed rows ≡ sum_by (owed_on day) runs
   paired_sum [] [] pairs = refl
   paired_sum [] (r ∷ runs) pairs = absurd pairs
   paired_sum (row ∷ rows) [] pairs = absurd pairs
@@ -137,7 +161,8 @@ module _ (name : List ℕ) (from to day : ℕ) where
       let right = sum_by-cons (owed_on day) r runs in
       omega arith
 
-  sums_out : (day < from) ⊎ (to < day) → (es : List (Entry (Voidable PayRun))) → sum_by row_owed (filter Test (map run_entry es)) ≡ 0
+  sums_out : (day < from) ⊎ (to < day) → (es : List (Entry (Voidable PayRun)))
+      → sum_by row_owed (filter Test (map run_entry es)) ≡ 0
   sums_out outside [] = refl
   sums_out outside (e ∷ es) =
       let first = kept_sum Test row_owed (run_entry e) (map run_entry es) in
@@ -145,18 +170,22 @@ module _ (name : List ℕ) (from to day : ℕ) where
       let rest = sums_out outside es in
       omega arith
 
-module _ {A : Type 0} (name : List ℕ) (from to : ℕ) (sums : Vec DaySum A) (t : Tables) (s : State) (stands : StandsFor t s) (lists : ListsLiability name from to sums t) where
+module _ {A : Type 0} (name : List ℕ) (from to : ℕ) (sums : Vec DaySum A) (t : Tables) (s : State)
+    (stands : StandsFor t s) (lists : ListsLiability name from to sums t) where
   abbrev Of : List DaySum
   Of = live_sums (entries_of s name)
 
-  by_rows : (day : ℕ) → liability sums.items day day ≡ sum_by (row_owed name from to day) (filter (Test name from to day) (map run_entry s.runs))
+  by_rows : (day : ℕ) → liability sums.items day day ≡ sum_by (row_owed name from to day)
+      (filter (Test name from to day) (map run_entry s.runs))
   by_rows day =
       lists.total day
       ∙ sym (paired_sum name from to day lists.listed.ordered lists.runs lists.listed.pairs)
       ∙ sum_by-IsPermutation (row_owed name from to day) _ lists.listed.ordered lists.listed.same
-      ∙ ap (λ rows. sum_by (row_owed name from to day) (filter (Test name from to day) rows)) stands.runs
+      ∙ ap (λ rows. sum_by (row_owed name from to day) (filter (Test name from to day) rows))
+      stands.runs
 
-  pub liable_in : (day : ℕ) → from ≤ day → day ≤ to → liability sums.items day day ≡ liability Of day day
+  pub liable_in : (day : ℕ) → from ≤ day → day ≤ to → liability sums.items day day ≡ liability Of
+      day day
   liable_in day low high = by_rows day ∙ sums_in name from to day low high s.runs
 
   liable_out : (day : ℕ) → (day < from) ⊎ (to < day) → liability sums.items day day ≡ 0
@@ -166,9 +195,11 @@ module _ {A : Type 0} (name : List ℕ) (from to : ℕ) (sums : Vec DaySum A) (t
   rise = keys_rise day_of_sum sums.items lists.rise
 
   -- a sum is of a day between the two, and is its liability
-  pub sum_is : (x : DaySum) → Has sums.items x → (from ≤ x.day) × (x.day ≤ to) × (x.cents.0 ≡ liability Of x.day x.day) × (0 < x.cents.0)
+  pub sum_is : (x : DaySum) → Has sums.items x → (from ≤ x.day) × (x.day ≤ to)
+      × (x.cents.0 ≡ liability Of x.day x.day) × (0 < x.cents.0)
   sum_is x has =
-      let some : 0 < x.cents.0 = has_all (λ (y : DaySum). 0 < y.cents.0) sums.items lists.positive x has in
+      let some : 0 < x.cents.0 = has_all (λ (y : DaySum). 0 < y.cents.0) sums.items lists.positive x
+      has in
       let its = sum_of_its_day sums.items rise x has in
       elim (lt_or_le x.day from) [
         | inl before ↦ absurd (let none = liable_out x.day (inl before) in omega arith)
@@ -179,37 +210,52 @@ module _ {A : Type 0} (name : List ℕ) (from to : ℕ) (sums : Vec DaySum A) (t
       ]
 
   -- each day between the two that has liability has its sum
-  pub is_sum : (x : DaySum) → from ≤ x.day → x.day ≤ to → x.cents.0 ≡ liability Of x.day x.day → 0 < x.cents.0 → Has sums.items x
+  pub is_sum : (x : DaySum) → from ≤ x.day → x.day ≤ to → x.cents.0 ≡ liability Of x.day x.day
+      → 0 < x.cents.0 → Has sums.items x
   is_sum x low high is some =
       let here = liable_in x.day low high in
       let found = sum_of_day sums.items x.day (omega arith) in
       let its = sum_of_its_day sums.items rise found.0 found.1 in
-      let cents : x.cents.0 ≡ found.0.cents.0 = is ∙ sym here ∙ ap (λ d. liability sums.items d d) (sym found.2) ∙ its in
-      let same : x ≡ found.0 = λ i. record { day = sym found.2 i; cents = record { 0 = cents i } } in
+      let cents : x.cents.0 ≡ found.0.cents.0 = is ∙ sym here ∙ ap (λ d. liability sums.items d d)
+      (sym found.2) ∙ its in
+      let same : x ≡ found.0 = λ i. record {
+        day = sym found.2 i;
+        cents = record { 0 = cents i };
+      } in
       subst (Has sums.items) (sym same) found.1
 
 -- the sums of a quarter's days are its liable days
-module _ {A : Type 0} (name : List ℕ) (quarter last : ℕ) (sums : Vec DaySum A) (t : Tables) (s : State) (stands : StandsFor t s) (is_last : last + 1 ≡ quarter_start (quarter + 1)) (lists : ListsLiability name (quarter_start quarter) last sums t) where
-  in_quarter : (day : ℕ) → quarter_year quarter ≤ 2098 → quarter_of day ≡ quarter → (quarter_start quarter ≤ day) × (day ≤ last)
+module _ {A : Type 0} (name : List ℕ) (quarter last : ℕ) (sums : Vec DaySum A) (t : Tables)
+    (s : State) (stands : StandsFor t s) (is_last : last + 1 ≡ quarter_start (quarter + 1))
+    (lists : ListsLiability name (quarter_start quarter) last sums t) where
+  in_quarter : (day : ℕ) → quarter_year quarter ≤ 2098 → quarter_of day ≡ quarter
+      → (quarter_start quarter ≤ day) × (day ≤ last)
   in_quarter day early is =
       let within = day_in_years day (omega arith) in
       let days = quarter_is day within in
       let low = days.0 in let high = days.1 in
       let first : quarter_start (quarter_of day) ≡ quarter_start quarter = ap quarter_start is in
-      let next : month_start (3 * quarter_of day + 3) ≡ quarter_start (quarter + 1) = ap month_start (omega arith) in
+      let next : month_start (3 * quarter_of day + 3) ≡ quarter_start (quarter + 1) =
+      ap month_start (omega arith) in
       (omega arith, omega arith)
 
-  of_quarter : (day : ℕ) → quarter_year quarter ≤ 2098 → quarter_start quarter ≤ day → day ≤ last → quarter_of day ≡ quarter
+  of_quarter : (day : ℕ) → quarter_year quarter ≤ 2098 → quarter_start quarter ≤ day → day ≤ last
+      → quarter_of day ≡ quarter
   of_quarter day early low high =
-      let next : month_start (3 * quarter + 3) ≡ quarter_start (quarter + 1) = ap month_start (omega arith) in
+      let next : month_start (3 * quarter + 3) ≡ quarter_start (quarter + 1) =
+      ap month_start (omega arith) in
       let top = month_start-mono (3 * quarter + 3) 3600 (omega arith) in
       let end = month_start-end in
       quarter_only day quarter (omega arith) low (omega arith)
 
-  pub liable_days : quarter_year quarter ≤ 2098 → (x : DaySum) → Has sums.items x ↔ IsLiableDay (entries_of s name) quarter x
+  pub liable_days : quarter_year quarter ≤ 2098 → (x : DaySum) → Has sums.items x ↔ IsLiableDay
+      (entries_of s name) quarter x
   liable_days early x = (
-    (λ has. (let is = sum_is name (quarter_start quarter) last sums t s stands lists x has in (of_quarter x.day early is.0 is.1, is.2, is.3))),
-    (λ is. (let within = in_quarter x.day early is.0 in is_sum name (quarter_start quarter) last sums t s stands lists x within.0 within.1 is.1 is.2)),
+    (λ has. (let is = sum_is name (quarter_start quarter) last sums t s stands lists x has in
+        (of_quarter x.day early is.0 is.1, is.2, is.3))),
+    (λ is. (let within = in_quarter x.day early is.0 in
+        is_sum name (quarter_start quarter) last sums t s stands lists x within.0 within.1 is.1
+        is.2)),
   )
 
   pub days_rise : KeysRise day_of_sum sums.items

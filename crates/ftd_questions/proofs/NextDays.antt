@@ -1,5 +1,6 @@
 -- Whether an obligation that begins in a return period is a next-day one, by the period's quarters.
-use Rattle.std.proofs.Common.{◌≡◌, ◌↔◌, ℕ, ◌+◌, ◌-◌, ◌%◌, ◌<◌, ◌≤◌, ◌==◌, ◌&&◌, Bool, true, false, inl, inr, List, [], ◌∷◌, refl, sym, ap, ◌∙◌, arith}
+use Rattle.std.proofs.Common.{◌≡◌, ◌↔◌, ℕ, ◌+◌, ◌-◌, ◌%◌, ◌<◌, ◌≤◌, ◌==◌, ◌&&◌, Bool, true, false}
+use Rattle.std.proofs.Common.{inl, inr, List, [], ◌∷◌, refl, sym, ap, ◌∙◌, arith}
 use Rattle.std.specs.Prelude.{filter}
 use Rattle.std.specs.List.{list_any}
 use Rattle.std.proofs.lemmas.Bool.{cases_Bool, true≢false, eqb-true, eq-eqb}
@@ -18,45 +19,62 @@ use Rattle.ftd_store.proofs.Sifted.{keeps_has}
 
 -- ---- the quarters of a return period
 
-pub of_941 : (quarter day : ℕ) → quarter_year quarter ≤ 2098 → (return_period_of F941 day ≡ return_period F941 quarter) ↔ ((quarter ≤ quarter_of day) × (quarter_of day < quarter + 1))
-of_941 quarter day early = let its = quarter_begins quarter early in ((λ e. (omega arith, omega arith)), (λ h. let low = h.0 in let high = h.1 in omega arith))
+pub of_941 : (quarter day : ℕ) → quarter_year quarter ≤ 2098
+    → (return_period_of F941 day ≡ return_period F941 quarter) ↔ ((quarter ≤ quarter_of day)
+    × (quarter_of day < quarter + 1))
+of_941 quarter day early = let its = quarter_begins quarter early in
+    ((λ e. (omega arith, omega arith)), (λ h. let low = h.0 in let high = h.1 in omega arith))
 
 pub of_943 : (quarter day : ℕ) → quarter_year quarter ≤ 2098
-    → (return_period_of F943 day ≡ return_period F943 quarter) ↔ ((quarter - quarter % 4 ≤ quarter_of day) × (quarter_of day < quarter - quarter % 4 + 4))
-of_943 quarter day early = let its = quarter_begins quarter early in ((λ e. (omega arith, omega arith)), (λ h. let low = h.0 in let high = h.1 in omega arith))
+    → (return_period_of F943 day ≡ return_period F943 quarter)
+    ↔ ((quarter - quarter % 4 ≤ quarter_of day) × (quarter_of day < quarter - quarter % 4 + 4))
+of_943 quarter day early = let its = quarter_begins quarter early in
+    ((λ e. (omega arith, omega arith)), (λ h. let low = h.0 in let high = h.1 in omega arith))
 
 -- ---- one of a list
 
-any_has : {X : Type 0} (p : X → Bool) (xs : List X) → list_any p xs ≡ true → (x : X) × Has xs x × (p x ≡ true)
+any_has : {X : Type 0} (p : X → Bool) (xs : List X) → list_any p xs ≡ true → (x : X) × Has xs x
+    × (p x ≡ true)
 any_has p [] some = absurd (true≢false (sym some))
 any_has p (x ∷ xs) some = elim (cases_Bool (p x)) [
   | inl here ↦ (x, inl refl, here)
   | inr other ↦ (let rest = any_has p xs (rw other at some) in (rest.0, inr rest.1, rest.2))
 ]
 
-has_any : {X : Type 0} (p : X → Bool) (xs : List X) (x : X) → Has xs x → p x ≡ true → list_any p xs ≡ true
+has_any : {X : Type 0} (p : X → Bool) (xs : List X) (x : X) → Has xs x → p x ≡ true
+    → list_any p xs ≡ true
 has_any p [] x has passes = absurd has
-has_any p (y ∷ xs) x (inl is) passes = let here : p y ≡ true = sym (ap p is) ∙ passes in rw here refl
-has_any p (y ∷ xs) x (inr has) passes = elim (cases_Bool (p y)) [ inl here ↦ rw here refl | inr other ↦ rw other (has_any p xs x has passes) ]
+has_any p (y ∷ xs) x (inl is) passes = let here : p y ≡ true = sym (ap p is) ∙ passes in
+    rw here refl
+has_any p (y ∷ xs) x (inr has) passes = elim (cases_Bool (p y)) [
+  | inl here ↦ rw here refl
+  | inr other ↦ rw other (has_any p xs x has passes)
+]
 
--- ---- some obligations, and the quarters from the first to the end, which are those of a return period
+-- ---- some obligations, and the quarters from the first to the end, which are those of a return
+-- period
 
-module _ (form : Form) (number first end : ℕ) (owed : List Obligation) (same : (day : ℕ) → (return_period_of form day ≡ number) ↔ ((first ≤ quarter_of day) × (quarter_of day < end))) where
+module _ (form : Form) (number first end : ℕ) (owed : List Obligation) (same : (day : ℕ)
+    → (return_period_of form day ≡ number) ↔ ((first ≤ quarter_of day)
+    × (quarter_of day < end))) where
   abbrev counts : Obligation → Bool
   counts o = (return_period_of form o.first == number) && is_next_day_row o
 
   -- one begins in one of the quarters
-  pub some_begins : (quarter : ℕ) → first ≤ quarter → quarter < end → list_any is_next_day_row (filter (begins_in quarter) owed) ≡ true → has_next_day form owed number ≡ true
+  pub some_begins : (quarter : ℕ) → first ≤ quarter → quarter < end → list_any is_next_day_row
+      (filter (begins_in quarter) owed) ≡ true → has_next_day form owed number ≡ true
   some_begins quarter low high some =
       let found = any_has is_next_day_row (filter (begins_in quarter) owed) some in
       let o : Obligation = found.0 in
       let its = has_filtered (begins_in quarter) owed o found.1 in
       let within : quarter_of o.first ≡ quarter = eqb-true (quarter_of o.first) quarter its.1 in
-      let period : (return_period_of form o.first == number) ≡ true = eq-eqb (return_period_of form o.first) number ((same o.first).1 (omega arith, omega arith)) in
+      let period : (return_period_of form o.first == number) ≡ true =
+      eq-eqb (return_period_of form o.first) number ((same o.first).1 (omega arith, omega arith)) in
       has_any counts owed o its.0 (rw (period, found.2) refl)
 
   -- none begins in any of them
-  pub none_begins : ((quarter : ℕ) → first ≤ quarter → quarter < end → list_any is_next_day_row (filter (begins_in quarter) owed) ≡ false) → has_next_day form owed number ≡ false
+  pub none_begins : ((quarter : ℕ) → first ≤ quarter → quarter < end → list_any is_next_day_row
+      (filter (begins_in quarter) owed) ≡ false) → has_next_day form owed number ≡ false
   none_begins none = elim (cases_Bool (has_next_day form owed number)) [
     | inr is ↦ is
     | inl some ↦
@@ -64,6 +82,9 @@ module _ (form : Form) (number first end : ℕ) (owed : List Obligation) (same :
         let o : Obligation = found.0 in
         let tests = both (return_period_of form o.first == number) (is_next_day_row o) found.2 in
         let days = (same o.first).0 (eqb-true (return_period_of form o.first) number tests.0) in
-        let has = keeps_has (begins_in (quarter_of o.first)) owed o found.1 (eq-eqb (quarter_of o.first) (quarter_of o.first) refl) in
-        absurd (true≢false (sym (has_any is_next_day_row (filter (begins_in (quarter_of o.first)) owed) o has tests.1) ∙ none (quarter_of o.first) days.0 days.1)))
+        let has = keeps_has (begins_in (quarter_of o.first)) owed o found.1
+        (eq-eqb (quarter_of o.first) (quarter_of o.first) refl) in
+        absurd (true≢false
+        (sym (has_any is_next_day_row (filter (begins_in (quarter_of o.first)) owed) o has tests.1)
+        ∙ none (quarter_of o.first) days.0 days.1)))
   ]

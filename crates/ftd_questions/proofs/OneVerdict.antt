@@ -1,10 +1,12 @@
 -- There is one verdict on a case, and one row of an obligation.
-use Rattle.std.proofs.Common.{◌≡◌, ◌↔◌, ℕ, zero, suc, Bool, true, false, inl, inr, refl, sym, ap, ◌∙◌, arith}
+use Rattle.std.proofs.Common.{◌≡◌, ◌↔◌, ℕ, zero, suc, Bool, true, false, inl, inr, refl, sym, ap}
+use Rattle.std.proofs.Common.{◌∙◌, arith}
 use Rattle.std.specs.Prelude.{IsTrue}
 use Rattle.std.proofs.lemmas.Bool.{true≢false}
 use Rattle.ftd_rules.specs.declared.verdict.Case.{Case}
 use Rattle.ftd_rules.specs.declared.verdict.Verdict.{Verdict}
-use Rattle.ftd_rules.specs.declared.verdict.Verdict.TheVariants.{Met, WithReturn, Open, MadeUp, Short, Late}
+use Rattle.ftd_rules.specs.declared.verdict.Verdict.TheVariants.{Met, WithReturn, Open, MadeUp}
+use Rattle.ftd_rules.specs.declared.verdict.Verdict.TheVariants.{Short, Late}
 use Rattle.ftd_rules.specs.Verdicts.{place_of, IsVerdict}
 use Rattle.ftd_rules.proofs.Cuts.{lt_or_le}
 

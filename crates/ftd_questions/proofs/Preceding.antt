@@ -10,10 +10,14 @@ use Rattle.ftd_machine.specs.Asking.{preceding}
 use Rattle.ftd_entries.proofs.Kept.{kept_reported}
 use Rattle.ftd_questions.specs.Returns.{KnowsPreceding}
 
-pub on_941 : (name : List ℕ) (form : Form) (quarter before : ℕ) (found : Option Cents) (t : Tables) → form ≡ F941 → before ≡ quarter - 1 → FindsReported name before found t → KnowsPreceding name form quarter found t
+pub on_941 : (name : List ℕ) (form : Form) (quarter before : ℕ) (found : Option Cents) (t : Tables)
+    → form ≡ F941 → before ≡ quarter - 1 → FindsReported name before found t
+    → KnowsPreceding name form quarter found t
 on_941 name form quarter before found t is same finds s stands =
     ap (λ f. preceding f (entries_of s name) quarter) is
-    ∙ (ap (λ q. kept_at q (entries_of s name).reported) (sym same) ∙ kept_reported name t s stands before found finds)
+    ∙ (ap (λ q. kept_at q (entries_of s name).reported) (sym same)
+    ∙ kept_reported name t s stands before found finds)
 
-pub on_943 : (name : List ℕ) (form : Form) (quarter : ℕ) (t : Tables) → form ≡ F943 → KnowsPreceding name form quarter None t
+pub on_943 : (name : List ℕ) (form : Form) (quarter : ℕ) (t : Tables) → form ≡ F943
+    → KnowsPreceding name form quarter None t
 on_943 name form quarter t is s stands = ap (λ f. preceding f (entries_of s name) quarter) is

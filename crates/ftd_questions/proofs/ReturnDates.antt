@@ -1,15 +1,19 @@
 -- The dates of a return and of a makeup, by holidays that agree in the year and the next.
-use Rattle.std.proofs.Common.{◌≡◌, ℕ, ◌+◌, ◌-◌, ◌*◌, ◌<◌, ◌≤◌, true, not, ◌&&◌, List, inl, inr, sym, ap, ◌∙◌, subst, arith}
+use Rattle.std.proofs.Common.{◌≡◌, ℕ, ◌+◌, ◌-◌, ◌*◌, ◌<◌, ◌≤◌, true, not, ◌&&◌, List, inl, inr, sym}
+use Rattle.std.proofs.Common.{ap, ◌∙◌, subst, arith}
 use Rattle.std.specs.Prelude.{min, nat_lt}
 use Rattle.ftd_days.specs.Business.{is_business, is_holiday, IsOnOrAfter}
-use Rattle.ftd_days.specs.Calendar.{last_day, year_of, year_start, quarter_of, quarter_year, weekday_of}
+use Rattle.ftd_days.specs.Calendar.{last_day, year_of, year_start, quarter_of, quarter_year}
+use Rattle.ftd_days.specs.Calendar.{weekday_of}
 use Rattle.ftd_days.specs.Holidays.{AreFew}
 use Rattle.ftd_days.proofs.Business.{some_business, on_or_after_one}
-use Rattle.ftd_days.proofs.Months.{in_month, month_start-mono, month_start_grows, year_begins, year_ends}
+use Rattle.ftd_days.proofs.Months.{in_month, month_start-mono, month_start_grows, year_begins}
+use Rattle.ftd_days.proofs.Months.{year_ends}
 use Rattle.ftd_rules.specs.declared.Form.{Form}
 use Rattle.ftd_rules.specs.declared.Rule.{Rule}
 use Rattle.ftd_rules.specs.declared.Rule.TheVariants.{Monthly, Semiweekly, NextDay}
-use Rattle.ftd_rules.specs.Returns.{return_month, month_after_ends, IsReturnDue, IsFirstWednesdayOrFriday, IsEarlierMakeup, IsMakeup}
+use Rattle.ftd_rules.specs.Returns.{return_month, month_after_ends, IsReturnDue}
+use Rattle.ftd_rules.specs.Returns.{IsFirstWednesdayOrFriday, IsEarlierMakeup, IsMakeup}
 use Rattle.ftd_rules.specs.Due.{fifteenth_after}
 use Rattle.ftd_rules.proofs.Cuts.{lt_or_le}
 use Rattle.ftd_rules.proofs.Near.{return_near}
@@ -17,7 +21,8 @@ use Rattle.ftd_rules.proofs.ReturnDates.{rolled_before, return_month_is}
 use Rattle.ftd_rules.proofs.Schedules.{year_start-mono}
 
 -- the month after a quarter ends in the year of the quarter or later
-ends_after : (form : Form) (quarter year : ℕ) → year ≡ quarter_year quarter → year_start year ≤ month_after_ends form quarter
+ends_after : (form : Form) (quarter year : ℕ) → year ≡ quarter_year quarter
+    → year_start year ≤ month_after_ends form quarter
 ends_after form quarter year y =
     let k : ℕ = 12 * (year - 1900) in
     let month = month_start_grows k 1 in
@@ -27,24 +32,31 @@ ends_after form quarter year y =
 
 -- of the days of the year and of the next the same are holidays in both
 abbrev pub AgreeIn : ℕ → List ℕ → List ℕ → Type 0
-AgreeIn year read all = (day : ℕ) → year_start year ≤ day → day < year_start (year + 1 + 1) → is_holiday all day ≡ is_holiday read day
+AgreeIn year read all = (day : ℕ) → year_start year ≤ day → day < year_start (year + 1 + 1)
+    → is_holiday all day ≡ is_holiday read day
 
-module _ (read all : List ℕ) (year : ℕ) (from_2001 : 2001 ≤ year) (to_2098 : year ≤ 2098) (few : AreFew all) (agree : AgreeIn year read all) where
-  business_same : (day : ℕ) → year_start year ≤ day → day < year_start (year + 1 + 1) → is_business all day ≡ is_business read day
+module _ (read all : List ℕ) (year : ℕ) (from_2001 : 2001 ≤ year) (to_2098 : year ≤ 2098)
+    (few : AreFew all) (agree : AgreeIn year read all) where
+  business_same : (day : ℕ) → year_start year ≤ day → day < year_start (year + 1 + 1)
+      → is_business all day ≡ is_business read day
   business_same day low high = ap (λ h. nat_lt (weekday_of day) 5 && not h) (agree day low high)
 
-  roll_same : (day rolled : ℕ) → year_start year ≤ day → rolled < year_start (year + 1 + 1) → IsOnOrAfter read day rolled → IsOnOrAfter all day rolled
+  roll_same : (day rolled : ℕ) → year_start year ≤ day → rolled < year_start (year + 1 + 1)
+      → IsOnOrAfter read day rolled → IsOnOrAfter all day rolled
   roll_same day rolled low high on =
       let after = on.after in
       record {
         after = on.after;
         business = business_same rolled (omega arith) high ∙ on.business;
-        least = λ e since before. business_same e (omega arith) (omega arith) ∙ on.least e since before;
+        least = λ e since before. business_same e (omega arith) (omega arith)
+            ∙ on.least e since before;
       }
 
   -- the date of the return of a quarter of the year is the same by both, and lies in the two years
-  pub return_same : (form : Form) (quarter day : ℕ) → quarter_year quarter ≡ year → IsReturnDue form read quarter day
-      → IsReturnDue form all quarter day × (day < year_start (year + 1 + 1)) × (year_start year ≤ day)
+  pub return_same : (form : Form) (quarter day : ℕ) → quarter_year quarter ≡ year
+      → IsReturnDue form read quarter day
+      → IsReturnDue form all quarter day × (day < year_start (year + 1 + 1))
+      × (year_start year ≤ day)
   return_same form quarter day its on =
       let from : ℕ = month_after_ends form quarter in
       let low = ends_after form quarter year (sym its) in
@@ -55,22 +67,28 @@ module _ (read all : List ℕ) (year : ℕ) (from_2001 : 2001 ≤ year) (to_2098
       let near1 = near.1.0 in let in_days = near.1.1 in
       let to = (in_month due in_days).1 in
       let year_end = year_ends due in_days in
-      let ends : year_start (year_of due + 1) ≤ year_start (year + 1 + 1) = year_start-mono (year_of due + 1) (year + 1 + 1) (omega arith) in
+      let ends : year_start (year_of due + 1) ≤ year_start (year + 1 + 1) =
+      year_start-mono (year_of due + 1) (year + 1 + 1) (omega arith) in
       let within : due < year_start (year + 1 + 1) = omega arith in
       let after = is.after in
-      let business : is_business read due ≡ true = sym (business_same due (omega arith) within) ∙ is.business in
+      let business : is_business read due ≡ true = sym (business_same due (omega arith) within)
+      ∙ is.business in
       let soon = rolled_before read due from day business is.after on in
       let late = on.after in
       (roll_same from day low (omega arith) on, omega arith, omega arith)
 
-  earlier_same : (form : Form) (last due makeup : ℕ) → year_of last ≡ year → last ≤ last_day → last ≤ due → due ≤ last_day → IsEarlierMakeup form read last due makeup → IsEarlierMakeup form all last due makeup
+  earlier_same : (form : Form) (last due makeup : ℕ) → year_of last ≡ year → last ≤ last_day
+      → last ≤ due → due ≤ last_day → IsEarlierMakeup form read last due makeup
+      → IsEarlierMakeup form all last due makeup
   earlier_same form last due makeup its within later due_within m =
       let of_return = return_same form (quarter_of last) m.return_due (omega arith) m.is_return in
       let soon = of_return.1 in let not_early = of_return.2 in
-      let begins : year_start year ≤ last = subst (λ y. year_start y ≤ last) its (year_begins last within) in
+      let begins : year_start year ≤ last = subst (λ y. year_start y ≤ last) its
+      (year_begins last within) in
       let month = (in_month due due_within).1 in
       let weekday = m.is_weekday.after in
-      let top = rolled_before read m.return_due (min m.return_due m.weekday) makeup m.is_return.business (omega arith) m.rolled in
+      let top = rolled_before read m.return_due (min m.return_due m.weekday) makeup
+      m.is_return.business (omega arith) m.rolled in
       record {
         return_due = m.return_due;
         is_return = of_return.0;
@@ -80,14 +98,20 @@ module _ (read all : List ℕ) (year : ℕ) (from_2001 : 2001 ≤ year) (to_2098
       }
 
   -- so is a makeup date for days of the year
-  pub makeup_same : (form : Form) (rule : Rule) (last due makeup : ℕ) → year_of last ≡ year → last ≤ last_day → last ≤ due → due ≤ last_day → IsMakeup form read rule last due makeup → IsMakeup form all rule last due makeup
-  makeup_same form Monthly last due makeup its within later due_within m = (return_same form (quarter_of last) makeup (omega arith) m).0
-  makeup_same form Semiweekly last due makeup its within later due_within m = earlier_same form last due makeup its within later due_within m
-  makeup_same form NextDay last due makeup its within later due_within m = earlier_same form last due makeup its within later due_within m
+  pub makeup_same : (form : Form) (rule : Rule) (last due makeup : ℕ) → year_of last ≡ year
+      → last ≤ last_day → last ≤ due → due ≤ last_day → IsMakeup form read rule last due makeup
+      → IsMakeup form all rule last due makeup
+  makeup_same form Monthly last due makeup its within later due_within m =
+      (return_same form (quarter_of last) makeup (omega arith) m).0
+  makeup_same form Semiweekly last due makeup its within later due_within m =
+      earlier_same form last due makeup its within later due_within m
+  makeup_same form NextDay last due makeup its within later due_within m =
+      earlier_same form last due makeup its within later due_within m
 
 -- ---- there is one of each
 
-pub weekday_one : (from d e : ℕ) → IsFirstWednesdayOrFriday from d → IsFirstWednesdayOrFriday from e → d ≡ e
+pub weekday_one : (from d e : ℕ) → IsFirstWednesdayOrFriday from d → IsFirstWednesdayOrFriday from e
+    → d ≡ e
 weekday_one from d e g h =
     elim (lt_or_le d e) [
       | inl less ↦ absurd (h.least d g.after less g.is_one)
@@ -97,16 +121,22 @@ weekday_one from d e g h =
       ]
     ]
 
-earlier_one : (form : Form) (holidays : List ℕ) (last due d e : ℕ) → IsEarlierMakeup form holidays last due d → IsEarlierMakeup form holidays last due e → d ≡ e
+earlier_one : (form : Form) (holidays : List ℕ) (last due d e : ℕ)
+    → IsEarlierMakeup form holidays last due d → IsEarlierMakeup form holidays last due e → d ≡ e
 earlier_one form holidays last due d e g h =
-    let of_return : g.return_due ≡ h.return_due = on_or_after_one holidays (month_after_ends form (quarter_of last)) g.return_due h.return_due g.is_return h.is_return in
-    let weekday : g.weekday ≡ h.weekday = weekday_one (fifteenth_after due) g.weekday h.weekday g.is_weekday h.is_weekday in
+    let of_return : g.return_due ≡ h.return_due = on_or_after_one holidays
+    (month_after_ends form (quarter_of last)) g.return_due h.return_due g.is_return h.is_return in
+    let weekday : g.weekday ≡ h.weekday = weekday_one (fifteenth_after due) g.weekday h.weekday
+    g.is_weekday h.is_weekday in
     let other : IsOnOrAfter holidays (min g.return_due g.weekday) e =
-    subst (λ r. IsOnOrAfter holidays (min r g.weekday) e) (sym of_return) (subst (λ w. IsOnOrAfter holidays (min h.return_due w) e) (sym weekday) h.rolled) in
+    subst (λ r. IsOnOrAfter holidays (min r g.weekday) e) (sym of_return)
+    (subst (λ w. IsOnOrAfter holidays (min h.return_due w) e) (sym weekday) h.rolled) in
     on_or_after_one holidays (min g.return_due g.weekday) d e g.rolled other
 
 -- there is one makeup date
-pub makeup_one : (form : Form) (holidays : List ℕ) (rule : Rule) (last due d e : ℕ) → IsMakeup form holidays rule last due d → IsMakeup form holidays rule last due e → d ≡ e
-makeup_one form holidays Monthly last due d e g h = on_or_after_one holidays (month_after_ends form (quarter_of last)) d e g h
+pub makeup_one : (form : Form) (holidays : List ℕ) (rule : Rule) (last due d e : ℕ)
+    → IsMakeup form holidays rule last due d → IsMakeup form holidays rule last due e → d ≡ e
+makeup_one form holidays Monthly last due d e g h = on_or_after_one holidays
+    (month_after_ends form (quarter_of last)) d e g h
 makeup_one form holidays Semiweekly last due d e g h = earlier_one form holidays last due d e g h
 makeup_one form holidays NextDay last due d e g h = earlier_one form holidays last due d e g h

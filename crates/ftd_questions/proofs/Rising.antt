@@ -1,5 +1,6 @@
 -- Day sums whose days rise.
-use Rattle.std.proofs.Common.{◌≡◌, ℕ, ◌+◌, ◌<◌, List, [], ◌∷◌, suc, inl, inr, refl, sym, subst, arith}
+use Rattle.std.proofs.Common.{◌≡◌, ℕ, ◌+◌, ◌<◌, List, [], ◌∷◌, suc, inl, inr, refl, sym, subst}
+use Rattle.std.proofs.Common.{arith}
 use Rattle.ftd_tables.specs.Order.{EachToNext}
 use Rattle.ftd_rules.specs.declared.DaySum.{DaySum}
 use Rattle.ftd_rules.specs.Liability.{share, liability}
@@ -13,11 +14,14 @@ module _ {X : Type 0} (key : X → ℕ) where
   Less a b = key a < key b
 
   later_rise : (x : X) (xs : List X) → EachToNext Less (x ∷ xs) → EachToNext Less xs
-  later_rise x xs each = λ k d low. (let next : suc k + 1 ≡ suc (k + 1) = omega arith in rw next at (each (suc k) d (omega (arith, low))))
+  later_rise x xs each = λ k d low. (let next : suc k + 1 ≡ suc (k + 1) = omega arith in
+      rw next at (each (suc k) d (omega (arith, low))))
 
-  first_least : (x : X) (xs : List X) → EachToNext Less (x ∷ xs) → (later : X) → Has xs later → key x < key later
+  first_least : (x : X) (xs : List X) → EachToNext Less (x ∷ xs) → (later : X) → Has xs later
+      → key x < key later
   first_least x [] each later has = absurd has
-  first_least x (y ∷ ys) each later (inl is) = subst (λ z. key x < key z) (sym is) (each 0 x (omega arith))
+  first_least x (y ∷ ys) each later (inl is) = subst (λ z. key x < key z) (sym is)
+      (each 0 x (omega arith))
   first_least x (y ∷ ys) each later (inr has) =
       let one = each 0 x (omega arith) in
       let more = first_least y ys (later_rise x (y ∷ ys) each) later has in
@@ -29,7 +33,8 @@ module _ {X : Type 0} (key : X → ℕ) where
   keys_rise (x ∷ xs) each = (first_least x xs each, keys_rise xs (later_rise x xs each))
 
 -- no sum is of a day before all of them
-none_before : (day : ℕ) (sums : List DaySum) → ((x : DaySum) → Has sums x → day < x.day) → liability sums day day ≡ 0
+none_before : (day : ℕ) (sums : List DaySum) → ((x : DaySum) → Has sums x → day < x.day)
+    → liability sums day day ≡ 0
 none_before day [] late = refl
 none_before day (x ∷ sums) late =
     let first = late x (inl refl) in
@@ -39,7 +44,8 @@ none_before day (x ∷ sums) late =
     omega arith
 
 -- the liability of the day of a sum is the sum
-pub sum_of_its_day : (sums : List DaySum) → KeysRise day_of_sum sums → (x : DaySum) → Has sums x → liability sums x.day x.day ≡ x.cents.0
+pub sum_of_its_day : (sums : List DaySum) → KeysRise day_of_sum sums → (x : DaySum) → Has sums x
+    → liability sums x.day x.day ≡ x.cents.0
 sum_of_its_day [] rise x has = absurd has
 sum_of_its_day (y ∷ sums) rise x (inl is) =
     let here : liability (y ∷ sums) y.day y.day ≡ y.cents.0 =
@@ -56,7 +62,8 @@ sum_of_its_day (y ∷ sums) rise x (inr has) =
     omega arith
 
 -- a day that has liability has a sum
-pub sum_of_day : (sums : List DaySum) (day : ℕ) → 0 < liability sums day day → (x : DaySum) × Has sums x × (x.day ≡ day)
+pub sum_of_day : (sums : List DaySum) (day : ℕ) → 0 < liability sums day day → (x : DaySum)
+    × Has sums x × (x.day ≡ day)
 sum_of_day [] day some = absurd (omega arith)
 sum_of_day (y ∷ sums) day some =
     elim (lt_or_le y.day day) [
@@ -67,7 +74,8 @@ sum_of_day (y ∷ sums) day some =
       ]
     ]
   where
-    later : (0 < liability sums day day → (x : DaySum) × Has sums x × (x.day ≡ day)) → share day day y ≡ 0 → (x : DaySum) × Has (y ∷ sums) x × (x.day ≡ day)
+    later : (0 < liability sums day day → (x : DaySum) × Has sums x × (x.day ≡ day))
+        → share day day y ≡ 0 → (x : DaySum) × Has (y ∷ sums) x × (x.day ≡ day)
     later more none =
         let cons = liability-cons y sums day day in
         let found = more (omega arith) in

@@ -1,5 +1,6 @@
 -- The deposit schedule of a day, and why: what is answered, and that it is the machine's answer.
-use Rattle.std.proofs.Common.{◌≡◌, ◌⊎◌, ℕ, ◌+◌, ◌-◌, ◌<◌, ◌==◌, ◌&&◌, Bool, true, List, Option, None, Some, inl, inr, refl, sym, ap, subst, ◌∙◌, arith}
+use Rattle.std.proofs.Common.{◌≡◌, ◌⊎◌, ℕ, ◌+◌, ◌-◌, ◌<◌, ◌==◌, ◌&&◌, Bool, true, List, Option}
+use Rattle.std.proofs.Common.{None, Some, inl, inr, refl, sym, ap, subst, ◌∙◌, arith}
 use Rattle.std.specs.Prelude.{is_some, nat_lt, IsSome, IsSomeAnd, MatchOption}
 use Rattle.std.specs.Borrow.{Bor}
 use Rattle.std.specs.List.{list_any, find}
@@ -32,10 +33,14 @@ use Rattle.ftd_questions.proofs.Searching.{found, not_found, some_pass}
 
 -- ---- the line of a year
 
-pub line_found : (lines : List YearLine) (year : ℕ) (o : Option (Bor YearLine)) → option_map (λ (y : Bor YearLine). y.now) o ≡ find (is_line_of year) lines
-    → MatchOption o ((line : YearLine) → Has lines line → line.year ≡ year → ⊥) (λ line. Has lines line.now × (line.now.year ≡ year))
-line_found lines year None is = λ line has same. not_found (is_line_of year) lines (sym is) line has (eq-eqb line.year year same)
-line_found lines year (Some b) is = let its = found (is_line_of year) lines b.now (sym is) in (its.0, eqb-true b.now.year year its.1)
+pub line_found : (lines : List YearLine) (year : ℕ) (o : Option (Bor YearLine))
+    → option_map (λ (y : Bor YearLine). y.now) o ≡ find (is_line_of year) lines
+    → MatchOption o ((line : YearLine) → Has lines line → line.year ≡ year → ⊥)
+    (λ line. Has lines line.now × (line.now.year ≡ year))
+line_found lines year None is = λ line has same. not_found (is_line_of year) lines (sym is) line has
+    (eq-eqb line.year year same)
+line_found lines year (Some b) is = let its = found (is_line_of year) lines b.now (sym is) in
+    (its.0, eqb-true b.now.year year its.1)
 
 -- ---- the turn of the year before
 
@@ -49,7 +54,8 @@ module _ (lines : List YearLine) (line : YearLine) (year : ℕ) (same : line.yea
       let turned : is_some b.turn ≡ true = ap is_some before.3 in
       not_found (turns_into year) lines none b before.1 (rw (less, one, turned) refl)
 
-  pub turn_found : (b : YearLine) → find (turns_into year) lines ≡ Some b → MatchOption b.turn (HasNoTurnBefore lines line) (IsTurnBefore lines line)
+  pub turn_found : (b : YearLine) → find (turns_into year) lines ≡ Some b
+      → MatchOption b.turn (HasNoTurnBefore lines line) (IsTurnBefore lines line)
   turn_found b is =
       let its = found (turns_into year) lines b is in
       let parts = both (nat_lt b.year year) ((year - b.year == 1) && is_some b.turn) its.1 in
@@ -58,20 +64,27 @@ module _ (lines : List YearLine) (line : YearLine) (year : ℕ) (same : line.yea
       let one = eqb-true (year - b.year) 1 rest.0 in
       told b.turn refl rest.1 (omega arith) its.0
     where
-      told : (turn : Option ℕ) → b.turn ≡ turn → is_some turn ≡ true → b.year + 1 ≡ line.year → Has lines b → MatchOption turn (HasNoTurnBefore lines line) (IsTurnBefore lines line)
+      told : (turn : Option ℕ) → b.turn ≡ turn → is_some turn ≡ true → b.year + 1 ≡ line.year
+          → Has lines b → MatchOption turn (HasNoTurnBefore lines line) (IsTurnBefore lines line)
       told None turned some next has = absurd (true≢false (sym some))
       told (Some day) turned some next has = (b, has, next, turned)
 
 -- ---- why
 
--- an account that is semiweekly by neither its lookback total nor the turn of the year before was carried into the year,
+-- an account that is semiweekly by neither its lookback total nor the turn of the year before was
+-- carried into the year,
 -- or the year has a turn
-pub carried_why : (lines : List YearLine) (line : YearLine) (kind : Kind) (day : ℕ) (L : ℕ → ℕ → ℕ) → (kind ≡ Monthly → ⊥) → (5_000_000 < line.lookback.0 → ⊥) → HasNoTurnBefore lines line
-    → (line.carried ≡ true) ⊎ (line.turn ≡ None) → HasSchedule lines L line → HasStatusOn line day kind
+pub carried_why : (lines : List YearLine) (line : YearLine) (kind : Kind) (day : ℕ) (L : ℕ → ℕ → ℕ)
+    → (kind ≡ Monthly → ⊥) → (5_000_000 < line.lookback.0 → ⊥) → HasNoTurnBefore lines line
+    → (line.carried ≡ true) ⊎ (line.turn ≡ None) → HasSchedule lines L line
+    → HasStatusOn line day kind
     → (IsByLookback line kind → ⊥) × HasNoTurnBefore lines line × (line.carried ≡ true)
-carried_why lines line Monthly day L semiweekly little none either schedule status = absurd (semiweekly refl)
-carried_why lines line Semiweekly day L semiweekly little none (inl carried) schedule status = (little, none, carried)
-carried_why lines line Semiweekly day L semiweekly little none (inr turnless) schedule status = (little, none, opened schedule status)
+carried_why lines line Monthly day L semiweekly little none either schedule status =
+    absurd (semiweekly refl)
+carried_why lines line Semiweekly day L semiweekly little none (inl carried) schedule status =
+    (little, none, carried)
+carried_why lines line Semiweekly day L semiweekly little none (inr turnless) schedule status =
+    (little, none, opened schedule status)
   where
     no_turn : (o : Option ℕ) → o ≡ None → IsSomeAnd o (λ turn. turn < day) → ⊥
     no_turn (Some turn) is some = absurd cc
@@ -86,18 +99,26 @@ carried_why lines line Semiweekly day L semiweekly little none (inr turnless) sc
       | inl much ↦ absurd (little much)
       | inr other ↦ elim other [
         | inl carried ↦ carried
-        | inr before ↦ absurd (let turn = some_turn before.0.turn before.3 in none turn.0 (before.0, before.1, before.2, turn.1))
+        | inr before ↦ absurd (let turn = some_turn before.0.turn before.3 in
+            none turn.0 (before.0, before.1, before.2, turn.1))
       ]
     ]
-    opened (inr h) (inl semi) = absurd (let both_kinds : Monthly ≡ Semiweekly = sym h.0 ∙ semi in cc)
+    opened (inr h) (inl semi) = absurd (let both_kinds : Monthly ≡ Semiweekly = sym h.0 ∙ semi in
+        cc)
     opened (inr h) (inr turned) = absurd (no_turn line.turn turnless turned)
 
 -- ---- the answer
 
-pub none_by : (lines : List YearLine) (day : ℕ) (answer : Answer) → list_any (is_line_of (year_of day)) lines ≡ true → ((line : YearLine) → Has lines line → line.year ≡ year_of day → ⊥) → IsStatusBy lines day answer
-none_by lines day answer some none = let its = some_pass (is_line_of (year_of day)) lines some in absurd (none its.0 its.1 (eqb-true its.0.year (year_of day) its.2))
+pub none_by : (lines : List YearLine) (day : ℕ) (answer : Answer)
+    → list_any (is_line_of (year_of day)) lines ≡ true
+    → ((line : YearLine) → Has lines line → line.year ≡ year_of day → ⊥)
+    → IsStatusBy lines day answer
+none_by lines day answer some none = let its = some_pass (is_line_of (year_of day)) lines some in
+    absurd (none its.0 its.1 (eqb-true its.0.year (year_of day) its.2))
 
-module _ (name : List ℕ) (day : ℕ) (account : Option Account) (lines : List YearLine) (t : Tables) (s : State) (stands : StandsFor t s) (account_is : (entries_of s name).account ≡ account) (lines_are : lines ≡ (stands.settled name).lines) where
+module _ (name : List ℕ) (day : ℕ) (account : Option Account) (lines : List YearLine) (t : Tables)
+    (s : State) (stands : StandsFor t s) (account_is : (entries_of s name).account ≡ account)
+    (lines_are : lines ≡ (stands.settled name).lines) where
   abbrev own : Entries
   own = entries_of s name
 
@@ -107,17 +128,23 @@ module _ (name : List ℕ) (day : ℕ) (account : Option Account) (lines : List 
   are : AreLinesOf own lines
   are = subst (AreLinesOf own) (sym lines_are) (stands.settled name).are_lines
 
-  checks_are : first_of (status_checks name day own.account (is_open own (year_of day))) ≡ first_of (status_checks name day account there)
+  checks_are : first_of (status_checks name day own.account (is_open own (year_of day))) ≡ first_of
+      (status_checks name day account there)
   checks_are =
       ap (λ a. first_of (status_checks name day a (is_open own (year_of day)))) account_is
-      ∙ ap (λ b. first_of (status_checks name day account b)) (open_lines (year_of day) lines own.open_years are.years)
+      ∙ ap (λ b. first_of (status_checks name day account b))
+      (open_lines (year_of day) lines own.open_years are.years)
 
-  pub status_decided : (answer : Answer) → first_of (status_checks name day account there) ≡ Some answer → Step s (Status name day) answer s
+  pub status_decided : (answer : Answer) → first_of (status_checks name day account there)
+      ≡ Some answer → Step s (Status name day) answer s
   status_decided answer is = decided _ s answer _ (checks_are ∙ is)
 
-  pub status_told : (answer : Answer) → first_of (status_checks name day account there) ≡ None → (there ≡ true → AreScheduled lines → IsStatusBy lines day answer) → Step s (Status name day) answer s
+  pub status_told : (answer : Answer) → first_of (status_checks name day account there) ≡ None
+      → (there ≡ true → AreScheduled lines → IsStatusBy lines day answer)
+      → Step s (Status name day) answer s
   status_told answer is tells =
-      let opens : Gives (status_checks name day account there) (there ≡ true) = skip_needs _ _ _ _ (skip_needs _ _ _ _ (skip_finds _ _ _ _ (gives_needs _ _ _))) in
+      let opens : Gives (status_checks name day account there) (there ≡ true) =
+      skip_needs _ _ _ _ (skip_needs _ _ _ _ (skip_finds _ _ _ _ (gives_needs _ _ _))) in
       let told = tells (opens.fact is) (liability (live_sums own), are.schedules.schedules) in
       passed _ s answer s _ (checks_are ∙ is) (
         refl,

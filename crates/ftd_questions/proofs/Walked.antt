@@ -1,5 +1,6 @@
 -- What a walk over an account's obligations leaves, and what it tells.
-use Rattle.std.proofs.Common.{◌≡◌, ℕ, ◌+◌, ◌-◌, List, [], ◌∷◌, ◌++◌, Option, Some, None, refl, sym, ◌∙◌, subst, arith, inl, inr, Bool, true, false}
+use Rattle.std.proofs.Common.{◌≡◌, ℕ, ◌+◌, ◌-◌, List, [], ◌∷◌, ◌++◌, Option, Some, None, refl, sym}
+use Rattle.std.proofs.Common.{◌∙◌, subst, arith, inl, inr, Bool, true, false}
 use Rattle.std.specs.List.{list_any}
 use Rattle.std.proofs.lemmas.Bool.{cases_Bool, true≢false}
 use Rattle.sqlite.specs.Store as store
@@ -32,7 +33,14 @@ clean_before a b crash clean = omega (arith, crash.clean)
 pub stays_none : (a : database.State) → Stays a a
 stays_none a = record {
   rows = λ clean. record { was_open = λ on. on; now_is = λ on. refl; committed_is = λ on. refl };
-  crash = record { clean = omega arith; shield = λ h. h; counts = omega arith; limit = refl; closes = λ clean h. inl h; crash = λ clean db h. inl h };
+  crash = record {
+    clean = omega arith;
+    shield = λ h. h;
+    counts = omega arith;
+    limit = refl;
+    closes = λ clean h. inl h;
+    crash = λ clean db h. inl h;
+  };
 }
 
 pub stays_then : (a b c : database.State) → Stays a b → Stays b c → Stays a c
@@ -48,21 +56,30 @@ stays_then a b c p q = record {
   crash = crash_then a b c p.crash q.crash;
 }
 
-pub stays_same : (a b : database.State) → (HasCleanDisk b → IsUnchanged a b) → CrashKeeps a b → Stays a b
+pub stays_same : (a b : database.State) → (HasCleanDisk b → IsUnchanged a b) → CrashKeeps a b
+    → Stays a b
 stays_same a b same crash = record {
-  rows = λ clean. (let shows = (same clean).0 in record { was_open = λ on. shows.was_open; now_is = λ on. shows.now_is; committed_is = λ on. shows.committed_is });
+  rows = λ clean. (let shows = (same clean).0 in
+      record {
+        was_open = λ on. shows.was_open;
+        now_is = λ on. shows.now_is;
+        committed_is =
+            λ on. shows.committed_is;
+      });
   crash = crash;
 }
 
 pub settled_then : (a b : database.State) → HasCleanDisk b → Stays a b → IsSettled a → IsSettled b
 settled_then a b clean stays settled on =
-    let left = stays.rows clean in left.now_is on ∙ settled (left.was_open on) ∙ sym (left.committed_is on)
+    let left = stays.rows clean in
+    left.now_is on ∙ settled (left.was_open on) ∙ sym (left.committed_is on)
 
 -- a walk over rows that were begun, and what it leaves where it fails
 pub stays_if : (a b : database.State) → Stays a b → StaysIfSettled a b
 stays_if a b stays = record { rows = λ clean settled. stays.rows clean; crash = stays.crash }
 
-pub then_fails : (a b c : database.State) → Stays a b → (HasCleanDisk c → IsSettled b → LeavesRows b c) → CrashKeeps b c → StaysIfSettled a c
+pub then_fails : (a b c : database.State) → Stays a b
+    → (HasCleanDisk c → IsSettled b → LeavesRows b c) → CrashKeeps b c → StaysIfSettled a c
 then_fails a b c stays left crash = record {
   rows = λ clean settled.
       let clean_b = clean_before b c crash clean in
@@ -76,80 +93,127 @@ then_fails a b c stays left crash = record {
   crash = crash_then a b c stays.crash crash;
 }
 
-pub begun_then : (a b c : database.State) → (HasCleanDisk b → IsUnchanged a b) → CrashKeeps a b → (HasCleanDisk b → IsSettled b) → StaysIfSettled b c → Stays a c
+pub begun_then : (a b c : database.State) → (HasCleanDisk b → IsUnchanged a b) → CrashKeeps a b
+    → (HasCleanDisk b → IsSettled b) → StaysIfSettled b c → Stays a c
 begun_then a b c same crash settled walked =
-    stays_then a b c (stays_same a b same crash) (record { rows = λ clean. walked.rows clean (settled (clean_before b c walked.crash clean)); crash = walked.crash })
+    stays_then a b c (stays_same a b same crash)
+    (record {
+      rows = λ clean. walked.rows clean (settled (clean_before b c walked.crash clean));
+      crash = walked.crash;
+    })
 
 pub seen_before : (a b : database.State) → Stays a b → IsSeen b → IsSeen a
 seen_before a b stays is = (clean_before a b stays.crash is.0, (stays.rows is.0).was_open is.1)
 
 -- rows that the tables have now they had before
-pub stood : (a b : database.State) → Stays a b → IsSeen b → (t : Tables) → Stands b.now t → Stands a.now t
-stood a b stays is t stands = subst (λ (db : Database). Stands db t) ((stays.rows is.0).now_is is.1) stands
+pub stood : (a b : database.State) → Stays a b → IsSeen b → (t : Tables) → Stands b.now t
+    → Stands a.now t
+stood a b stays is t stands = subst (λ (db : Database). Stands db t) ((stays.rows is.0).now_is is.1)
+    stands
 
 -- and the reverse
-pub stands_still : (a b : database.State) → Stays a b → IsSeen b → (t : Tables) → Stands a.now t → Stands b.now t
-stands_still a b stays is t stands = subst (λ (db : Database). Stands db t) (sym ((stays.rows is.0).now_is is.1)) stands
+pub stands_still : (a b : database.State) → Stays a b → IsSeen b → (t : Tables) → Stands a.now t
+    → Stands b.now t
+stands_still a b stays is t stands = subst (λ (db : Database). Stands db t)
+    (sym ((stays.rows is.0).now_is is.1)) stands
 
 -- ---- what a walk tells
 
 -- so far a walk from here has given these
-abbrev pub HasWalked : {S : Type 0} (g : store.Ghosts S) → Rows S g → Rows S g → List Obligation → Type 0
-HasWalked g old new listed = HasCleanDisk (walked g new) → (name : List ℕ) (quarter : ℕ) → HasListed g name quarter old [] → HasListed g name quarter new listed
+abbrev pub HasWalked : {S : Type 0} (g : store.Ghosts S) → Rows S g → Rows S g → List Obligation
+    → Type 0
+HasWalked g old new listed = HasCleanDisk (walked g new) → (name : List ℕ) (quarter : ℕ)
+    → HasListed g name quarter old [] → HasListed g name quarter new listed
 
 -- they are the first of the account's obligations that begin in the quarter
 abbrev pub AreFirst : List ℕ → ℕ → List Obligation → Tables → Type 0
-AreFirst name quarter listed t = (s : State) (stands : StandsFor t s) → (rest : List Obligation) × (begun stands name quarter ≡ listed ++ rest)
+AreFirst name quarter listed t = (s : State) (stands : StandsFor t s) → (rest : List Obligation)
+    × (begun stands name quarter ≡ listed ++ rest)
 
-pub first_known : (name : List ℕ) (quarter : ℕ) (listed : List Obligation) (t : Tables) → ListsFirst ObligationsRise (IsObligation name) (rows_in name quarter t) listed → AreFirst name quarter listed t
+pub first_known : (name : List ℕ) (quarter : ℕ) (listed : List Obligation) (t : Tables)
+    → ListsFirst ObligationsRise (IsObligation name) (rows_in name quarter t) listed
+    → AreFirst name quarter listed t
 first_known name quarter listed t lists s stands =
     let its = stands.settled name in
-    let first = first_listed name (quarter_start quarter) (quarter_start (quarter + 1) - 1) (t Obligations) its.owed listed its.are_owed.by_first_day its.owed_rows lists in
+    let first = first_listed name (quarter_start quarter) (quarter_start (quarter + 1) - 1)
+    (t Obligations) its.owed listed its.are_owed.by_first_day its.owed_rows lists in
     (first.0, sym (of_quarter name t s stands quarter) ∙ first.1)
 
-pub all_known : (name : List ℕ) (quarter : ℕ) (listed : List Obligation) (t : Tables) → Lists ObligationsRise (IsObligation name) (rows_in name quarter t) listed
+pub all_known : (name : List ℕ) (quarter : ℕ) (listed : List Obligation) (t : Tables)
+    → Lists ObligationsRise (IsObligation name) (rows_in name quarter t) listed
     → (s : State) (stands : StandsFor t s) → begun stands name quarter ≡ listed
 all_known name quarter listed t lists s stands =
     let its = stands.settled name in
-    sym (obligations_listed name (quarter_start quarter) (quarter_start (quarter + 1) - 1) (t Obligations) its.owed listed its.are_owed.by_first_day its.owed_rows lists ∙ of_quarter name t s stands quarter)
+    sym (obligations_listed name (quarter_start quarter) (quarter_start (quarter + 1) - 1)
+    (t Obligations) its.owed listed its.are_owed.by_first_day its.owed_rows lists
+    ∙ of_quarter name t s stands quarter)
 
 -- what a call of `next` tells of a walk
-abbrev pub NextTells : {S : Type 0} (g : store.Ghosts S) → Rows S g → Rows S g → Option Obligation → Type 0
-NextTells g mid new next = HasCleanDisk (walked g new) → (name : List ℕ) (quarter : ℕ) (listed : List Obligation) → HasListed g name quarter mid listed → Continues g name quarter new listed next
+abbrev pub NextTells : {S : Type 0} (g : store.Ghosts S) → Rows S g → Rows S g → Option Obligation
+    → Type 0
+NextTells g mid new next = HasCleanDisk (walked g new) → (name : List ℕ) (quarter : ℕ)
+    (listed : List Obligation) → HasListed g name quarter mid listed
+    → Continues g name quarter new listed next
 
-module _ {S : Type 0} (g : store.Ghosts S) (old mid new : Rows S g) (listed : List Obligation) (so_far : HasWalked g old mid listed) (crash : CrashKeeps (walked g mid) (walked g new)) (next : Option Obligation) (tells : NextTells g mid new next) where
-  tells_so : (found : Option Obligation) → next ≡ found → HasCleanDisk (walked g new) → (name : List ℕ) (quarter : ℕ) → HasListed g name quarter old [] → Continues g name quarter new listed found
+module _ {S : Type 0} (g : store.Ghosts S) (old mid new : Rows S g) (listed : List Obligation)
+    (so_far : HasWalked g old mid listed) (crash : CrashKeeps (walked g mid) (walked g new))
+    (next : Option Obligation) (tells : NextTells g mid new next) where
+  tells_so : (found : Option Obligation) → next ≡ found → HasCleanDisk (walked g new)
+      → (name : List ℕ) (quarter : ℕ) → HasListed g name quarter old []
+      → Continues g name quarter new listed found
   tells_so found is clean name quarter has =
-      subst (λ (o : Option Obligation). Continues g name quarter new listed o) is (tells clean name quarter listed (so_far (clean_before (walked g mid) (walked g new) crash clean) name quarter has))
+      subst (λ (o : Option Obligation). Continues g name quarter new listed o) is
+      (tells clean name quarter listed
+      (so_far (clean_before (walked g mid) (walked g new) crash clean) name quarter has))
 
   -- one more was given
   pub more_walked : (o : Obligation) → next ≡ Some o → HasWalked g old new (listed ++ o ∷ [])
   more_walked o is clean name quarter has = (tells_so (Some o) is clean name quarter has).0
 
-  pub more_known : (o : Obligation) → next ≡ Some o → HasCleanDisk (walked g new) → (name : List ℕ) (quarter : ℕ) → HasListed g name quarter old []
+  pub more_known : (o : Obligation) → next ≡ Some o → HasCleanDisk (walked g new)
+      → (name : List ℕ) (quarter : ℕ) → HasListed g name quarter old []
       → (t : Tables) → Stands (walked g new).now t → AreFirst name quarter (listed ++ o ∷ []) t
-  more_known o is clean name quarter has t stands = first_known name quarter (listed ++ o ∷ []) t ((tells_so (Some o) is clean name quarter has).1 t stands)
+  more_known o is clean name quarter has t stands = first_known name quarter (listed ++ o ∷ []) t
+      ((tells_so (Some o) is clean name quarter has).1 t stands)
 
   -- those were all
-  pub all_walked : next ≡ None → HasCleanDisk (walked g new) → (name : List ℕ) (quarter : ℕ) → HasListed g name quarter old []
-      → (t : Tables) → Stands (walked g new).now t → (s : State) (stands : StandsFor t s) → begun stands name quarter ≡ listed
-  all_walked is clean name quarter has t stands = all_known name quarter listed t (tells_so None is clean name quarter has t stands)
+  pub all_walked : next ≡ None → HasCleanDisk (walked g new) → (name : List ℕ) (quarter : ℕ)
+      → HasListed g name quarter old []
+      → (t : Tables) → Stands (walked g new).now t → (s : State) (stands : StandsFor t s)
+      → begun stands name quarter ≡ listed
+  all_walked is clean name quarter has t stands = all_known name quarter listed t
+      (tells_so None is clean name quarter has t stands)
 
 -- a walk from here has given these, which are the first
-pub record WalksTo {S : Type 0} (g : store.Ghosts S) (old new : Rows S g) (listed : List Obligation) : Type 0 where
+pub record WalksTo {S : Type 0} (g : store.Ghosts S) (old new : Rows S g)
+    (listed : List Obligation) : Type 0 where
   pub given : HasWalked g old new listed
-  pub first : IsSeen (walked g new) → (name : List ℕ) (quarter : ℕ) → HasListed g name quarter old [] → (t : Tables) → Stands (walked g new).now t → AreFirst name quarter listed t
+  pub first : IsSeen (walked g new) → (name : List ℕ) (quarter : ℕ)
+      → HasListed g name quarter old [] → (t : Tables) → Stands (walked g new).now t
+      → AreFirst name quarter listed t
 
 -- it begins
 pub walks_none : {S : Type 0} (g : store.Ghosts S) (old : Rows S g) → WalksTo g old old []
-walks_none g old = record { given = λ clean name quarter has. has; first = λ is name quarter has t stands s stands_for. (begun stands_for name quarter, refl) }
+walks_none g old = record {
+  given = λ clean name quarter has. has;
+  first = λ is name quarter has t stands s stands_for. (begun stands_for name quarter, refl);
+}
 
 -- ---- a next-day obligation among those that were given
 
-pub any_more : {X : Type 0} (p : X → Bool) (xs : List X) (x : X) (ys : List X) → p x ≡ true → list_any p ((xs ++ x ∷ []) ++ ys) ≡ true
+pub any_more : {X : Type 0} (p : X → Bool) (xs : List X) (x : X) (ys : List X) → p x ≡ true
+    → list_any p ((xs ++ x ∷ []) ++ ys) ≡ true
 any_more p [] x ys is = rw is refl
-any_more p (y ∷ xs) x ys is = elim (cases_Bool (p y)) [ inl here ↦ rw here refl | inr other ↦ rw other (any_more p xs x ys is) ]
+any_more p (y ∷ xs) x ys is = elim (cases_Bool (p y)) [
+  | inl here ↦ rw here refl
+  | inr other ↦ rw other (any_more p xs x ys is)
+]
 
-pub none_more : {X : Type 0} (p : X → Bool) (xs : List X) (x : X) → list_any p xs ≡ false → p x ≡ false → list_any p (xs ++ x ∷ []) ≡ false
+pub none_more : {X : Type 0} (p : X → Bool) (xs : List X) (x : X) → list_any p xs ≡ false
+    → p x ≡ false → list_any p (xs ++ x ∷ []) ≡ false
 none_more p [] x none fails = rw fails refl
-none_more p (y ∷ xs) x none fails = elim (cases_Bool (p y)) [ inl here ↦ absurd (true≢false (rw here at none)) | inr other ↦ rw other (none_more p xs x (rw other at none) fails) ]
+none_more p (y ∷ xs) x none fails =
+    elim (cases_Bool (p y)) [
+      | inl here ↦ absurd (true≢false (rw here at none))
+      | inr other ↦ rw other (none_more p xs x (rw other at none) fails)
+    ]

@@ -1,5 +1,6 @@
 -- Obligations that rise, and those that are not among others.
-use Rattle.std.proofs.Common.{◌≡◌, ℕ, zero, suc, ◌+◌, ◌<◌, inl, inr, List, [], ◌∷◌, ◌++◌, map, take, length, get_or, refl, sym, ap, subst, ◌∙◌, arith}
+use Rattle.std.proofs.Common.{◌≡◌, ℕ, zero, suc, ◌+◌, ◌<◌, inl, inr, List, [], ◌∷◌, ◌++◌, map, take}
+use Rattle.std.proofs.Common.{length, get_or, refl, sym, ap, subst, ◌∙◌, arith}
 use Rattle.std.specs.List.Sorted.{IsPermutation}
 use Rattle.ftd_rules.specs.declared.Obligation.{Obligation}
 use Rattle.ftd_rules.specs.Lists.{Has}
@@ -12,10 +13,12 @@ use Rattle.ftd_store.proofs.Items.{has_at, has_more, has_still, has_now}
 -- ---- by first day
 
 -- a row that begins before the first of some
-pub rise_before : (o p : Obligation) (rows : List Obligation) → o.first < p.first → ByFirstDay (p ∷ rows) → ByFirstDay (o ∷ p ∷ rows)
+pub rise_before : (o p : Obligation) (rows : List Obligation) → o.first < p.first
+    → ByFirstDay (p ∷ rows) → ByFirstDay (o ∷ p ∷ rows)
 rise_before o p rows less rise = (
   (λ later has. elim has [
-    | inl here ↦ (let first : later.first ≡ p.first = ap (λ (z : Obligation). z.first) here in omega arith)
+    | inl here ↦ (let first : later.first ≡ p.first = ap (λ (z : Obligation). z.first) here in
+        omega arith)
     | inr more ↦ (let after = rise.0 later more in omega arith)
   ]),
   rise,
@@ -27,7 +30,8 @@ rise_single [] few = tt
 rise_single (o ∷ []) few = ((λ later has. absurd has), tt)
 rise_single (o ∷ p ∷ rows) few = absurd (omega arith)
 
-earlier : (rows : List Obligation) (i : ℕ) (x o : Obligation) → ByFirstDay rows → i < length rows → x ≡ get_or rows i x → Has (take i rows) o → o.first < x.first
+earlier : (rows : List Obligation) (i : ℕ) (x o : Obligation) → ByFirstDay rows → i < length rows
+    → x ≡ get_or rows i x → Has (take i rows) o → o.first < x.first
 earlier [] i x o h some is has = absurd (omega arith)
 earlier (y ∷ rows) zero x o h some is has = absurd has
 earlier (y ∷ rows) (suc i) x o h some is (inl here) =
@@ -36,12 +40,14 @@ earlier (y ∷ rows) (suc i) x o h some is (inl here) =
     omega arith
 earlier (y ∷ rows) (suc i) x o h some is (inr more) = earlier rows i x o h.1 (omega arith) is more
 
-by_first_push : (rows : List Obligation) (x : Obligation) → ByFirstDay rows → ((o : Obligation) → Has rows o → o.first < x.first) → ByFirstDay (rows ++ x ∷ [])
+by_first_push : (rows : List Obligation) (x : Obligation) → ByFirstDay rows
+    → ((o : Obligation) → Has rows o → o.first < x.first) → ByFirstDay (rows ++ x ∷ [])
 by_first_push [] x h before = ((λ later has. absurd has), tt)
 by_first_push (y ∷ rows) x h before = (
   (λ later has. elim (has_append rows (x ∷ []) later has) [
     | inl one ↦ h.0 later one
-    | inr (inl last) ↦ (let first : later.first ≡ x.first = ap (λ (z : Obligation). z.first) last in let less = before y (inl refl) in omega arith)
+    | inr (inl last) ↦ (let first : later.first ≡ x.first = ap (λ (z : Obligation). z.first) last in
+        let less = before y (inl refl) in omega arith)
     | inr (inr never) ↦ absurd never
   ]),
   by_first_push rows x h.1 (λ o has. before o (inr has)),
@@ -50,16 +56,23 @@ by_first_push (y ∷ rows) x h before = (
 -- ---- those that are not among the others
 
 pub only_none : (others : List Obligation) → AreOnlyIn [] others []
-only_none others = record { by_first_day = tt; all = λ o. ((λ never. absurd never), (λ never. absurd never.0)) }
+only_none others =
+    record { by_first_day = tt; all = λ o. ((λ never. absurd never), (λ never. absurd never.0)) }
 
-pub only_more : (rows others only : List Obligation) (i : ℕ) (x : Obligation) → ByFirstDay rows → i < length rows → x ≡ get_or rows i x → (Has others x → ⊥)
+pub only_more : (rows others only : List Obligation) (i : ℕ) (x : Obligation) → ByFirstDay rows
+    → i < length rows → x ≡ get_or rows i x → (Has others x → ⊥)
     → AreOnlyIn (take i rows) others only → AreOnlyIn (take (i + 1) rows) others (only ++ x ∷ [])
 only_more rows others only i x rise some is other h = record {
-  by_first_day = by_first_push only x h.by_first_day (λ o has. earlier rows i x o rise some is ((h.all o).0 has).0);
+  by_first_day = by_first_push only x h.by_first_day (λ o has. earlier rows i x o rise some is
+      ((h.all o).0 has).0);
   all = λ o. (
     (λ has. elim (has_append only (x ∷ []) o has) [
       | inl before ↦ (let k = (h.all o).0 before in (has_still rows i x o some is k.0, k.1))
-      | inr (inl here) ↦ (subst (λ (z : Obligation). Has (take (i + 1) rows) z) (sym here) (has_now rows i x some is), λ among. other (subst (λ (z : Obligation). Has others z) here among))
+      | inr (inl here) ↦ (
+        subst (λ (z : Obligation). Has (take (i + 1) rows) z) (sym here)
+            (has_now rows i x some is),
+        λ among. other (subst (λ (z : Obligation). Has others z) here among),
+      )
       | inr (inr never) ↦ absurd never
     ]),
     (λ k. elim (has_more rows i x o some is k.0) [
@@ -69,7 +82,8 @@ only_more rows others only i x rise some is other h = record {
   );
 }
 
-pub only_same : (rows others only : List Obligation) (i : ℕ) (x : Obligation) → i < length rows → x ≡ get_or rows i x → Has others x
+pub only_same : (rows others only : List Obligation) (i : ℕ) (x : Obligation) → i < length rows
+    → x ≡ get_or rows i x → Has others x
     → AreOnlyIn (take i rows) others only → AreOnlyIn (take (i + 1) rows) others only
 only_same rows others only i x some is among h = record {
   by_first_day = h.by_first_day;
@@ -84,12 +98,17 @@ only_same rows others only i x some is among h = record {
 
 -- ---- rows that were listed
 
-paired : {X Y : Type 0} (row : Y → X) (xs : List X) (ys : List Y) → Pairs (λ x y. x ≡ row y) xs ys → xs ≡ map row ys
+paired : {X Y : Type 0} (row : Y → X) (xs : List X) (ys : List Y) → Pairs (λ x y. x ≡ row y) xs ys
+    → xs ≡ map row ys
 paired row [] [] pairs = refl
 paired row [] (y ∷ ys) pairs = absurd pairs
 paired row (x ∷ xs) [] pairs = absurd pairs
-paired row (x ∷ xs) (y ∷ ys) pairs = ap (λ r. r ∷ xs) pairs.0 ∙ ap (λ rs. row y ∷ rs) (paired row xs ys pairs.1)
+paired row (x ∷ xs) (y ∷ ys) pairs = ap (λ r. r ∷ xs) pairs.0
+    ∙ ap (λ rs. row y ∷ rs) (paired row xs ys pairs.1)
 
 -- they are those of the values that were listed
-pub are_listed : {X Y : Type 0} (Rise : X → X → Type 0) (row : Y → X) (rows : List X) (listed : List Y) → Lists Rise (λ x y. x ≡ row y) rows listed → IsPermutation rows (map row listed)
-are_listed {X = X} Rise row rows listed l = subst (λ (xs : List X). IsPermutation rows xs) (paired row l.ordered listed l.pairs) l.same
+pub are_listed : {X Y : Type 0} (Rise : X → X → Type 0) (row : Y → X) (rows : List X)
+    (listed : List Y) → Lists Rise (λ x y. x ≡ row y) rows listed
+    → IsPermutation rows (map row listed)
+are_listed {X = X} Rise row rows listed l = subst (λ (xs : List X). IsPermutation rows xs)
+    (paired row l.ordered listed l.pairs) l.same

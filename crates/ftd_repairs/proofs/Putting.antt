@@ -1,5 +1,7 @@
 -- A patch is put line by line.
-use Rattle.std.proofs.Common.{◌≡◌, ℕ, ◌+◌, ◌<◌, inl, inr, List, [], ◌∷◌, ◌++◌, append_assoc, append-nil, take, drop, set, length, get_or, map, refl, sym, ap, ◌∙◌, subst, arith}
+use Rattle.std.proofs.Common.{◌≡◌, ℕ, ◌+◌, ◌<◌, inl, inr, List, [], ◌∷◌, ◌++◌, append_assoc}
+use Rattle.std.proofs.Common.{append-nil, take, drop, set, length, get_or, map, refl, sym, ap, ◌∙◌}
+use Rattle.std.proofs.Common.{subst, arith}
 use Rattle.std.proofs.Math.Seq.{set-append_seam}
 use Rattle.std.proofs.lemmas.List.{get_or-append_right, get_or-drop, length-take-le}
 use Rattle.std.specs.Prelude.{filter}
@@ -15,35 +17,49 @@ use Rattle.ftd_schema.proofs.OneOfAll.{set_twice, set_own}
 use Rattle.ftd_sql.specs.Tests.{is_year_of}
 use Rattle.ftd_rows.specs.Rows.{year_row}
 use Rattle.ftd_store.specs.Changes.{with_year}
-use Rattle.ftd_repairs.specs.Rescheduled.{IsAfter, IsRescheduled, IsUnnamed, AreAfter, HasLines, PutsLines, PutsRows, PutsPatch, PutsInto}
+use Rattle.ftd_repairs.specs.Rescheduled.{IsAfter, IsRescheduled, IsUnnamed, AreAfter, HasLines}
+use Rattle.ftd_repairs.specs.Rescheduled.{PutsLines, PutsRows, PutsPatch, PutsInto}
 use Rattle.ftd_store.proofs.Items.{taken, pairs_more, pairs_length}
 use Rattle.ftd_repairs.proofs.YearRows.{put, put_has, put_others}
 
 -- ---- lines one after the other
 
 -- nothing is put yet
-pub puts_none : (account : List ℕ) (lines : List YearLine) (t : Tables) → IsPermutation (filter (is_year_of account) (t Years)) (map (year_row account) lines) → PutsLines account lines t t
-puts_none account lines t has = record { has = has; others = λ other apart. refl; only = set_own Years (t Years) t refl }
+pub puts_none : (account : List ℕ) (lines : List YearLine) (t : Tables)
+    → IsPermutation (filter (is_year_of account) (t Years)) (map (year_row account) lines)
+    → PutsLines account lines t t
+puts_none account lines t has = record {
+  has = has;
+  others = λ other apart. refl;
+  only = set_own Years (t Years) t refl;
+}
 
 -- one line is put in the place of another one of its year
-pub puts_one : (account : List ℕ) (xs : List YearLine) (b line : YearLine) (ys : List YearLine) (first : ℕ) (base t : Tables) → YearsFrom first (xs ++ b ∷ ys) → b.year ≡ line.year
-    → PutsLines account (xs ++ b ∷ ys) base t → PutsLines account (xs ++ line ∷ ys) base (with_year account line t)
+pub puts_one : (account : List ℕ) (xs : List YearLine) (b line : YearLine) (ys : List YearLine)
+    (first : ℕ) (base t : Tables) → YearsFrom first (xs ++ b ∷ ys) → b.year ≡ line.year
+    → PutsLines account (xs ++ b ∷ ys) base t → PutsLines account (xs ++ line ∷ ys) base
+    (with_year account line t)
 puts_one account xs b line ys first base t years year h =
     let rows : List YearRow = put account line (t Years) in record {
       has = put_has account (t Years) xs b line ys first years year h.has;
-      others = λ other apart. put_others account other (t Years) xs b line ys apart year h.has ∙ h.others other apart;
+      others = λ other apart. put_others account other (t Years) xs b line ys apart year h.has
+          ∙ h.others other apart;
       only = λ n.
           (let same : t ≡ with_rows Years (t Years) base = λ i m. h.only m i in
-          ap (λ (u : Tables). with_rows Years rows u n) same ∙ set_twice Years (t Years) rows base n);
+          ap (λ (u : Tables). with_rows Years rows u n) same
+          ∙ set_twice Years (t Years) rows base n);
     }
 
 -- a line with its own year and another schedule keeps the years in turn
-years_put : (first : ℕ) (xs : List YearLine) (b line : YearLine) (ys : List YearLine) → b.year ≡ line.year → YearsFrom first (xs ++ b ∷ ys) → YearsFrom first (xs ++ line ∷ ys)
+years_put : (first : ℕ) (xs : List YearLine) (b line : YearLine) (ys : List YearLine)
+    → b.year ≡ line.year → YearsFrom first (xs ++ b ∷ ys) → YearsFrom first (xs ++ line ∷ ys)
 years_put first [] b line ys same years = (sym same ∙ years.0, years.1)
-years_put first (x ∷ xs) b line ys same years = (years.0, years_put (first + 1) xs b line ys same years.1)
+years_put first (x ∷ xs) b line ys same years =
+    (years.0, years_put (first + 1) xs b line ys same years.1)
 
 -- the patch is put as far as the first lines: they are so now, those after them as they were
-pub record PutSoFar (account : List ℕ) (lines : List YearLine) (patch : Patch) (i : ℕ) (now : List YearLine) (old new : Tables) : Type 0 where
+pub record PutSoFar (account : List ℕ) (lines : List YearLine) (patch : Patch) (i : ℕ)
+    (now : List YearLine) (old new : Tables) : Type 0 where
   pub placed : Tables
   pub rows : PutsRows account patch old placed
   pub front : List YearLine
@@ -53,7 +69,9 @@ pub record PutSoFar (account : List ℕ) (lines : List YearLine) (patch : Patch)
   pub years : YearsFrom first now
   pub puts : PutsLines account now placed new
 
-pub put_none : (account : List ℕ) (lines : List YearLine) (patch : Patch) (t u : Tables) → PutsRows account patch t u → HasLines account lines t → PutSoFar account lines patch 0 lines t u
+pub put_none : (account : List ℕ) (lines : List YearLine) (patch : Patch) (t u : Tables)
+    → PutsRows account patch t u → HasLines account lines t
+    → PutSoFar account lines patch 0 lines t u
 put_none account lines patch t u rows had = record {
   placed = u;
   rows = rows;
@@ -62,46 +80,71 @@ put_none account lines patch t u rows had = record {
   now_is = refl;
   first = had.1.0;
   years = had.1.2;
-  puts = puts_none account lines u (subst (λ (years : List YearRow). IsPermutation (filter (is_year_of account) years) (map (year_row account) lines)) (sym (rows.only Years)) had.0);
+  puts = puts_none account lines u
+      (subst (λ (years : List YearRow). IsPermutation (filter (is_year_of account) years)
+      (map (year_row account) lines)) (sym (rows.only Years)) had.0);
 }
 
 -- the lines that are put are as many as were gone through
-put_count : (account : List ℕ) (lines : List YearLine) (patch : Patch) (i : ℕ) (now : List YearLine) (t u : Tables) → i < length lines → (h : PutSoFar account lines patch i now t u) → length h.front ≡ i
-put_count account lines patch i now t u some h = sym (pairs_length (IsAfter patch.years) (take i lines) h.front h.are_after) ∙ length-take-le i lines (omega arith)
+put_count : (account : List ℕ) (lines : List YearLine) (patch : Patch) (i : ℕ) (now : List YearLine)
+    (t u : Tables) → i < length lines → (h : PutSoFar account lines patch i now t u)
+    → length h.front ≡ i
+put_count account lines patch i now t u some h =
+    sym (pairs_length (IsAfter patch.years) (take i lines) h.front h.are_after)
+    ∙ length-take-le i lines (omega arith)
 
 -- the next line is as it was
-put_next : (account : List ℕ) (lines : List YearLine) (patch : Patch) (i : ℕ) (now : List YearLine) (x : YearLine) (t u : Tables) → i < length lines → x ≡ get_or now i x → PutSoFar account lines patch i now t u → x ≡ get_or lines i x
+put_next : (account : List ℕ) (lines : List YearLine) (patch : Patch) (i : ℕ) (now : List YearLine)
+    (x : YearLine) (t u : Tables) → i < length lines → x ≡ get_or now i x
+    → PutSoFar account lines patch i now t u → x ≡ get_or lines i x
 put_next account lines patch i now x t u some is h =
     let count = put_count account lines patch i now t u some h in
-    is ∙ (ap (λ (ls : List YearLine). get_or ls i x) h.now_is ∙ (get_or-append_right h.front (drop i lines) i i x count (omega arith) ∙ (ap (λ (n : ℕ). get_or (drop i lines) n x) (omega arith) ∙ (get_or-drop i lines 0 x ∙ ap (λ (n : ℕ). get_or lines n x) (omega arith)))))
+    is ∙ (ap (λ (ls : List YearLine). get_or ls i x) h.now_is
+    ∙ (get_or-append_right h.front (drop i lines) i i x count (omega arith)
+    ∙ (ap (λ (n : ℕ). get_or (drop i lines) n x) (omega arith)
+    ∙ (get_or-drop i lines 0 x ∙ ap (λ (n : ℕ). get_or lines n x) (omega arith)))))
 
 -- one line more, which is put
-pub put_more : (account : List ℕ) (lines : List YearLine) (patch : Patch) (i : ℕ) (now : List YearLine) (x after : YearLine) (t u : Tables) → i < length lines → x ≡ get_or now i x → IsRescheduled patch.years x after
-    → PutSoFar account lines patch i now t u → PutSoFar account lines patch (i + 1) (set now i after) t (with_year account after u)
+pub put_more : (account : List ℕ) (lines : List YearLine) (patch : Patch) (i : ℕ)
+    (now : List YearLine) (x after : YearLine) (t u : Tables) → i < length lines
+    → x ≡ get_or now i x → IsRescheduled patch.years x after
+    → PutSoFar account lines patch i now t u → PutSoFar account lines patch (i + 1)
+    (set now i after) t (with_year account after u)
 put_more account lines patch i now x after t u some here scheduled h =
     let is = put_next account lines patch i now x t u some here h in
     let rest : List YearLine = drop (i + 1) lines in
-    let cut : now ≡ h.front ++ x ∷ rest = h.now_is ∙ ap (λ (ls : List YearLine). h.front ++ ls) (drop_item lines i x is some) in
+    let cut : now ≡ h.front ++ x ∷ rest = h.now_is ∙ ap (λ (ls : List YearLine). h.front ++ ls)
+    (drop_item lines i x is some) in
     let same : x.year ≡ after.year = sym (ap (λ (l : YearLine). l.year) scheduled.3) in
     let base : Tables = h.placed in
     let years : YearsFrom h.first (h.front ++ x ∷ rest) = subst (YearsFrom h.first) cut h.years in
-    let puts : PutsLines account (h.front ++ x ∷ rest) base u = subst (λ (ls : List YearLine). PutsLines account ls base u) cut h.puts in
+    let puts : PutsLines account (h.front ++ x ∷ rest) base u =
+    subst (λ (ls : List YearLine). PutsLines account ls base u) cut h.puts in
     let count : length h.front ≡ i = put_count account lines patch i now t u some h in
     let written : set now i after ≡ h.front ++ after ∷ rest =
-    ap (λ (ls : List YearLine). set ls i after) cut ∙ (ap (λ (n : ℕ). set (h.front ++ x ∷ rest) n after) (sym count) ∙ set-append_seam h.front x rest after) in
+    ap (λ (ls : List YearLine). set ls i after) cut
+    ∙ (ap (λ (n : ℕ). set (h.front ++ x ∷ rest) n after) (sym count)
+    ∙ set-append_seam h.front x rest after) in
     record {
       placed = h.placed;
       rows = h.rows;
       front = h.front ++ after ∷ [];
-      are_after = subst (λ (ls : List YearLine). AreAfter ls patch.years (h.front ++ after ∷ [])) (sym (taken lines i x some is)) (pairs_more (IsAfter patch.years) (take i lines) h.front x after h.are_after (inl scheduled));
+      are_after = subst (λ (ls : List YearLine). AreAfter ls patch.years (h.front ++ after ∷ []))
+          (sym (taken lines i x some is))
+          (pairs_more (IsAfter patch.years) (take i lines) h.front x after h.are_after
+          (inl scheduled));
       now_is = written ∙ sym (append_assoc h.front (after ∷ []) rest);
       first = h.first;
-      years = subst (YearsFrom h.first) (sym written) (years_put h.first h.front x after rest same years);
-      puts = subst (λ (ls : List YearLine). PutsLines account ls base (with_year account after u)) (sym written) (puts_one account h.front x after rest h.first base u years same puts);
+      years = subst (YearsFrom h.first) (sym written)
+          (years_put h.first h.front x after rest same years);
+      puts = subst (λ (ls : List YearLine). PutsLines account ls base (with_year account after u))
+          (sym written) (puts_one account h.front x after rest h.first base u years same puts);
     }
 
 -- one line more, which stays
-pub put_same : (account : List ℕ) (lines : List YearLine) (patch : Patch) (i : ℕ) (now : List YearLine) (x : YearLine) (t u : Tables) → i < length lines → x ≡ get_or now i x → IsUnnamed patch.years x
+pub put_same : (account : List ℕ) (lines : List YearLine) (patch : Patch) (i : ℕ)
+    (now : List YearLine) (x : YearLine) (t u : Tables) → i < length lines → x ≡ get_or now i x
+    → IsUnnamed patch.years x
     → PutSoFar account lines patch i now t u → PutSoFar account lines patch (i + 1) now t u
 put_same account lines patch i now x t u some here unnamed h =
     let is = put_next account lines patch i now x t u some here h in
@@ -110,17 +153,24 @@ put_same account lines patch i now x t u some here unnamed h =
       placed = h.placed;
       rows = h.rows;
       front = h.front ++ x ∷ [];
-      are_after = subst (λ (ls : List YearLine). AreAfter ls patch.years (h.front ++ x ∷ [])) (sym (taken lines i x some is)) (pairs_more (IsAfter patch.years) (take i lines) h.front x x h.are_after (inr (refl, unnamed)));
-      now_is = h.now_is ∙ (ap (λ (ls : List YearLine). h.front ++ ls) (drop_item lines i x is some) ∙ sym (append_assoc h.front (x ∷ []) rest));
+      are_after = subst (λ (ls : List YearLine). AreAfter ls patch.years (h.front ++ x ∷ []))
+          (sym (taken lines i x some is))
+          (pairs_more (IsAfter patch.years) (take i lines) h.front x x h.are_after
+          (inr (refl, unnamed)));
+      now_is = h.now_is ∙ (ap (λ (ls : List YearLine). h.front ++ ls) (drop_item lines i x is some)
+          ∙ sym (append_assoc h.front (x ∷ []) rest));
       first = h.first;
       years = h.years;
       puts = h.puts;
     }
 
 -- all lines are through
-pub put_all : (account : List ℕ) (lines : List YearLine) (patch : Patch) (i : ℕ) (now : List YearLine) (t u : Tables) → take i lines ≡ lines → drop i lines ≡ [] → PutSoFar account lines patch i now t u → PutsInto account lines patch now t u
+pub put_all : (account : List ℕ) (lines : List YearLine) (patch : Patch) (i : ℕ)
+    (now : List YearLine) (t u : Tables) → take i lines ≡ lines → drop i lines ≡ []
+    → PutSoFar account lines patch i now t u → PutsInto account lines patch now t u
 put_all account lines patch i now t u front back h =
-    let all : now ≡ h.front = h.now_is ∙ (ap (λ (ls : List YearLine). h.front ++ ls) back ∙ append-nil h.front) in
+    let all : now ≡ h.front = h.now_is ∙ (ap (λ (ls : List YearLine). h.front ++ ls) back
+    ∙ append-nil h.front) in
     let put : PutsPatch account lines patch t u = record {
       after = h.front;
       are_after = subst (λ (ls : List YearLine). AreAfter ls patch.years h.front) front h.are_after;

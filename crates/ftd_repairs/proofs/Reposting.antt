@@ -25,35 +25,53 @@ use Rattle.ftd_repairs.proofs.Differing.{are_listed}
 use Rattle.ftd_store.proofs.Turning.{reads_turn, turns_then}
 
 -- the rows are those of the lines that were read, and stay so where only other tables change
-has_lines : (account : List ℕ) (day : ℕ) (known : KnownYears) (t u : Tables) → KnowsYears account day known t → u Years ≡ t Years → HasLines account known.lines.items u
+has_lines : (account : List ℕ) (day : ℕ) (known : KnownYears) (t u : Tables)
+    → KnowsYears account day known t → u Years ≡ t Years → HasLines account known.lines.items u
 has_lines account day known t u told same =
     let rows : List YearRow = map (year_row account) known.lines.items in (
-      subst (λ (years : List YearRow). IsPermutation (filter (is_year_of account) years) rows) (sym same) (are_listed YearsRise (year_row account) _ known.lines.items told.listed.listed),
+      subst (λ (years : List YearRow). IsPermutation (filter (is_year_of account) years) rows)
+          (sym same) (are_listed YearsRise (year_row account) _ known.lines.items
+          told.listed.listed),
       told.listed.whole,
     )
 
 -- a patch that is right was put in place, by which these are the lines now
-pub repatched : (account : List ℕ) (day : ℕ) (lines after : List YearLine) (IsRight : Patch → Type 0) (patch : Patch) (d : Difference) (t u : Tables)
-    → IsRight patch → Places account day lines patch after d t u → (done : Repatches account day lines IsRight d t u) × (after ≡ done.put.after)
-repatched account day lines after IsRight patch d t u right places = (record { patch = patch; right = right; compared = places.compared; put = places.put.0 }, places.put.1)
+pub repatched : (account : List ℕ) (day : ℕ) (lines after : List YearLine) (IsRight : Patch
+    → Type 0) (patch : Patch) (d : Difference) (t u : Tables)
+    → IsRight patch → Places account day lines patch after d t u
+    → (done : Repatches account day lines IsRight d t u) × (after ≡ done.put.after)
+repatched account day lines after IsRight patch d t u right places = (
+  record { patch = patch; right = right; compared = places.compared; put = places.put.0 },
+  places.put.1,
+)
 
-module _ {S A : Type 0} (g : store.Ghosts S) (account : List ℕ) (form : Form) (day : ℕ) (change : Tables → Tables) where
-  pub reposts : (old read mid new : Tx S) (known : KnownYears) (x : A) (d : Difference) → ((t : Tables) → change t Years ≡ t Years)
-      → Reads g old read (Ok known) (KnowsYears account day) → Turns g read mid (Ok x) (λ y t u. u ≡ change t)
+module _ {S A : Type 0} (g : store.Ghosts S) (account : List ℕ) (form : Form) (day : ℕ)
+    (change : Tables → Tables) where
+  pub reposts : (old read mid new : Tx S) (known : KnownYears) (x : A) (d : Difference)
+      → ((t : Tables) → change t Years ≡ t Years)
+      → Reads g old read (Ok known) (KnowsYears account day) → Turns g read mid (Ok x)
+      (λ y t u. u ≡ change t)
       → Turns g mid new (Ok d) (RepairsRows account form day known)
       → Turns g old new (Ok d) (λ e t u. IsReposted account form day t (change t) u e)
   reposts old read mid new known x d keeps p q r =
-      let Changed : Tables → Tables → Type 0 = λ t u. KnowsYears account day known t × (u ≡ change t) in
+      let Changed : Tables → Tables → Type 0 = λ t u. KnowsYears account day known t
+      × (u ≡ change t) in
       let begun : Turns g old mid (Ok known) (λ k. Changed) =
-      turns_then g old read mid known x known (λ k t u. KnowsYears account day k t × (u ≡ t)) (λ y t u. u ≡ change t) (λ k. Changed)
-      (λ t u v told is. (told.0, subst (λ (z : Tables). v ≡ change z) told.1 is)) (reads_turn g old read known (KnowsYears account day) p) q in
-      turns_then g old mid new known d d (λ k. Changed) (RepairsRows account form day known) (λ e t u. IsReposted account form day t (change t) u e)
+      turns_then g old read mid known x known (λ k t u. KnowsYears account day k t × (u ≡ t))
+      (λ y t u. u ≡ change t) (λ k. Changed)
+      (λ t u v told is. (told.0, subst (λ (z : Tables). v ≡ change z) told.1 is))
+      (reads_turn g old read known (KnowsYears account day) p) q in
+      turns_then g old mid new known d d (λ k. Changed) (RepairsRows account form day known)
+      (λ e t u. IsReposted account form day t (change t) u e)
       (λ t u v told repairs. record {
         lines = known.lines;
         listed = told.0.listed;
         holidays = holidays_of known.holidays;
         read = told.0.read;
-        repatches = subst (λ (z : Tables). Repatches account day known.lines.items (λ p. Repairs account form day known.lines.items (holidays_of known.holidays) p z) d z v) told.1
-            (repairs (has_lines account day known t u told.0 (ap (λ (z : Tables). z Years) told.1 ∙ keeps t)));
+        repatches = subst (λ (z : Tables). Repatches account day known.lines.items
+            (λ p. Repairs account form day known.lines.items (holidays_of known.holidays) p z) d z
+            v) told.1
+            (repairs (has_lines account day known t u told.0 (ap (λ (z : Tables). z Years) told.1
+            ∙ keeps t)));
       })
       begun r

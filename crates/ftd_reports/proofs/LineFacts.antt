@@ -1,5 +1,7 @@
 -- The pieces of a line, joined.
-use Rattle.std.proofs.Common.{◌≡◌, ℕ, ◌+◌, ◌-◌, ◌/◌, ◌%◌, ◌<◌, ◌≤◌, List, [], ◌∷◌, ◌++◌, length, drop, get_or, suc, add-one, drop-cons, refl, sym, ap, ◌∙◌, arith, append_assoc, length-append}
+use Rattle.std.proofs.Common.{◌≡◌, ℕ, ◌+◌, ◌-◌, ◌/◌, ◌%◌, ◌<◌, ◌≤◌, List, [], ◌∷◌, ◌++◌, length}
+use Rattle.std.proofs.Common.{drop, get_or, suc, add-one, drop-cons, refl, sym, ap, ◌∙◌, arith}
+use Rattle.std.proofs.Common.{append_assoc, length-append}
 use Rattle.std.specs.Prelude.{replicate}
 use Rattle.std.specs.List.{join_with_byte, concat, flat_map, sum_by}
 use Rattle.std.specs.Fmt.{decimal}
@@ -14,8 +16,10 @@ use Rattle.ftd_rules.specs.Verdicts.{amount_of}
 use Rattle.ftd_reports.specs.DueLists.{due_line, total_line}
 
 -- spaces, dollars, and the point with the cents are an amount in its column
-pub amount_parts : (amount width : ℕ) (spaces : List ℕ) → width ≡ 14 - length (decimal (amount / 100)) → spaces ≡ replicate width 32
-    → spaces ++ decimal (amount / 100) ++ (46 ∷ digit (amount % 100 / 10) ∷ digit (amount % 100) ∷ []) ≡ amount_in amount
+pub amount_parts : (amount width : ℕ) (spaces : List ℕ)
+    → width ≡ 14 - length (decimal (amount / 100)) → spaces ≡ replicate width 32
+    → spaces ++ decimal (amount / 100) ++ (46 ∷ digit (amount % 100 / 10) ∷ digit (amount % 100)
+    ∷ []) ≡ amount_in amount
 unfolding amount_in
 amount_parts amount width spaces w s =
     let cents = two_same amount in
@@ -23,37 +27,51 @@ amount_parts amount width spaces w s =
     rw (s, cents, long) (append_assoc (replicate width 32) (decimal (amount / 100)) _)
 
 -- a column, a space and what follows to the end of the line
-column : (a others end line : List ℕ) → others ++ end ≡ line → (a ++ (32 ∷ others)) ++ end ≡ a ++ ((32 ∷ []) ++ line)
+column : (a others end line : List ℕ) → others ++ end ≡ line → (a ++ (32 ∷ others)) ++ end ≡ a
+    ++ ((32 ∷ []) ++ line)
 column a others end line e = append_assoc a (32 ∷ others) end ∙ ap (λ z. a ++ (32 ∷ z)) e
 
 -- a column of three pieces
-three : (s d c others end line : List ℕ) → others ++ end ≡ line → ((s ++ d ++ c) ++ (32 ∷ others)) ++ end ≡ s ++ (d ++ (c ++ ((32 ∷ []) ++ line)))
-three s d c others end line e = column (s ++ d ++ c) others end line e ∙ (append_assoc (s ++ d) c (32 ∷ line) ∙ append_assoc s d (c ++ (32 ∷ line)))
+three : (s d c others end line : List ℕ) → others ++ end ≡ line → ((s ++ d ++ c) ++ (32 ∷ others))
+    ++ end ≡ s ++ (d ++ (c ++ ((32 ∷ []) ++ line)))
+three s d c others end line e = column (s ++ d ++ c) others end line e
+    ∙ (append_assoc (s ++ d) c (32 ∷ line) ∙ append_assoc s d (c ++ (32 ∷ line)))
 
 -- the pieces of a row's line are its columns, with one space between
 pub row_parts : (a b r s d c u m t e f v : List ℕ) →
     join_with_byte 32 (a ∷ b ∷ r ∷ (s ++ d ++ c) ∷ u ∷ m ∷ (t ++ e ++ f) ∷ v ∷ []) ++ (10 ∷ [])
-    ≡ concat (a ∷ (32 ∷ []) ∷ b ∷ (32 ∷ []) ∷ r ∷ (32 ∷ []) ∷ s ∷ d ∷ c ∷ (32 ∷ []) ∷ u ∷ (32 ∷ []) ∷ m ∷ (32 ∷ []) ∷ t ∷ e ∷ f ∷ (32 ∷ []) ∷ v ∷ (10 ∷ []) ∷ [])
+    ≡ concat (a ∷ (32 ∷ []) ∷ b ∷ (32 ∷ []) ∷ r ∷ (32 ∷ []) ∷ s ∷ d ∷ c ∷ (32 ∷ []) ∷ u ∷ (32 ∷ [])
+    ∷ m ∷ (32 ∷ []) ∷ t ∷ e ∷ f ∷ (32 ∷ []) ∷ v ∷ (10 ∷ []) ∷ [])
 row_parts a b r s d c u m t e f v =
-    column a _ _ _ (column b _ _ _ (column r _ _ _ (three s d c _ _ _ (column u _ _ _ (column m _ _ _ (three t e f _ _ _ refl))))))
+    column a _ _ _
+    (column b _ _ _
+    (column r _ _ _ (three s d c _ _ _ (column u _ _ _ (column m _ _ _ (three t e f _ _ _ refl))))))
 
 -- the rows from one on are it and those after it
-row_on : (rows : List DueRow) (i : ℕ) (row : DueRow) → i < length rows → row ≡ get_or rows i row → drop i rows ≡ row ∷ drop (i + 1) rows
-row_on rows i row h is = rw add-one (drop-cons rows i row h ∙ ap (λ (z : DueRow). z ∷ drop (suc i) rows) (sym is))
+row_on : (rows : List DueRow) (i : ℕ) (row : DueRow) → i < length rows → row ≡ get_or rows i row
+    → drop i rows ≡ row ∷ drop (i + 1) rows
+row_on rows i row h is = rw add-one (drop-cons rows i row h
+    ∙ ap (λ (z : DueRow). z ∷ drop (suc i) rows) (sym is))
 
 -- so are their lines, and their amounts
-pub rows_at : (rows : List DueRow) (i : ℕ) (row : DueRow) (last : List ℕ) → i < length rows → row ≡ get_or rows i row
-    → flat_map due_line (drop i rows) ++ last ≡ due_line row ++ (flat_map due_line (drop (i + 1) rows) ++ last)
+pub rows_at : (rows : List DueRow) (i : ℕ) (row : DueRow) (last : List ℕ) → i < length rows
+    → row ≡ get_or rows i row
+    → flat_map due_line (drop i rows) ++ last ≡ due_line row
+    ++ (flat_map due_line (drop (i + 1) rows) ++ last)
 rows_at rows i row last h is =
-    ap (λ (z : List DueRow). flat_map due_line z ++ last) (row_on rows i row h is) ∙ append_assoc (due_line row) (flat_map due_line (drop (i + 1) rows)) last
+    ap (λ (z : List DueRow). flat_map due_line z ++ last) (row_on rows i row h is)
+    ∙ append_assoc (due_line row) (flat_map due_line (drop (i + 1) rows)) last
 
-pub amounts_at : (rows : List DueRow) (i : ℕ) (row : DueRow) → i < length rows → row ≡ get_or rows i row
+pub amounts_at : (rows : List DueRow) (i : ℕ) (row : DueRow) → i < length rows
+    → row ≡ get_or rows i row
     → sum_by amount_of (drop i rows) ≡ amount_of row + sum_by amount_of (drop (i + 1) rows)
 amounts_at rows i row h is =
-    ap (λ (z : List DueRow). sum_by amount_of z) (row_on rows i row h is) ∙ sum_by-cons amount_of row (drop (i + 1) rows)
+    ap (λ (z : List DueRow). sum_by amount_of z) (row_on rows i row h is)
+    ∙ sum_by-cons amount_of row (drop (i + 1) rows)
 
 -- after the last row the last line is left, of the whole total
-pub rows_end : (rows : List DueRow) (i total : ℕ) → length rows ≤ i → total + sum_by amount_of (drop i rows) ≡ sum_by amount_of rows
+pub rows_end : (rows : List DueRow) (i total : ℕ) → length rows ≤ i → total + sum_by amount_of
+    (drop i rows) ≡ sum_by amount_of rows
     → flat_map due_line (drop i rows) ++ total_line (sum_by amount_of rows) ≡ total_line total
 rows_end rows i total h e =
     let none = drop_all i rows h in

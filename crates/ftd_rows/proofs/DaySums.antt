@@ -24,5 +24,6 @@ owed_is day r =
     elim (cases_order r.payday day) [
       | inl same ↦ rw (eq_same r.payday day same) (share_in s day day (omega arith) (omega arith))
       | inr (inl before) ↦ rw (eq_not r.payday day (omega arith)) (share_before s day day before)
-      | inr (inr after) ↦ rw (eq_not r.payday day (omega arith)) (share_after s day day (omega arith) after)
+      | inr (inr after) ↦ rw (eq_not r.payday day (omega arith))
+          (share_after s day day (omega arith) after)
     ]

@@ -1,5 +1,6 @@
 -- What a holiday that is added does to due dates.
-use Rattle.std.proofs.Common.{◌≡◌, ◌≢◌, ℕ, zero, suc, ◌+◌, ◌-◌, ◌<◌, ◌≤◌, ◌↔◌, ◌⊎◌, inl, inr, List, Bool, true, false, not, ◌&&◌, ◌||◌, refl, sym, ap, ◌∙◌, arith}
+use Rattle.std.proofs.Common.{◌≡◌, ◌≢◌, ℕ, zero, suc, ◌+◌, ◌-◌, ◌<◌, ◌≤◌, ◌↔◌, ◌⊎◌, inl, inr, List}
+use Rattle.std.proofs.Common.{Bool, true, false, not, ◌&&◌, ◌||◌, refl, sym, ap, ◌∙◌, arith}
 use Rattle.std.specs.Prelude.{nat_lt}
 use Rattle.std.proofs.lemmas.Bool.{false≢true, cases_Bool}
 use Rattle.ftd_days.specs.Calendar.{weekday_of, month_of, month_start, last_day}
@@ -27,12 +28,18 @@ and_false true = refl
 and_false false = refl
 
 -- another day is a business day as before, and the added one is none
-other_day : (before after : List ℕ) (added e : ℕ) → IsWithHoliday before added after → added ≢ e → is_business after e ≡ is_business before e
-other_day before after added e with n = ap (λ h. nat_lt (weekday_of e) 5 && not h) (with e ∙ (ap (λ z. is_holiday before e || z) (eq_not added e n) ∙ or_false (is_holiday before e)))
+other_day : (before after : List ℕ) (added e : ℕ) → IsWithHoliday before added after → added ≢ e
+    → is_business after e ≡ is_business before e
+other_day before after added e with n = ap (λ h. nat_lt (weekday_of e) 5 && not h)
+    (with e ∙ (ap (λ z. is_holiday before e || z) (eq_not added e n)
+    ∙ or_false (is_holiday before e)))
 
-added_day : (before after : List ℕ) (added : ℕ) → IsWithHoliday before added after → is_business after added ≡ false
+added_day : (before after : List ℕ) (added : ℕ) → IsWithHoliday before added after
+    → is_business after added ≡ false
 added_day before after added with =
-    ap (λ h. nat_lt (weekday_of added) 5 && not h) (with added ∙ (ap (λ z. is_holiday before added || z) (eq_same added added refl) ∙ or_true (is_holiday before added)))
+    ap (λ h. nat_lt (weekday_of added) 5 && not h)
+    (with added ∙ (ap (λ z. is_holiday before added || z) (eq_same added added refl)
+    ∙ or_true (is_holiday before added)))
     ∙ and_false (nat_lt (weekday_of added) 5)
 
 -- the days from a to b are business days as before
@@ -45,7 +52,8 @@ same_unless : (before after : List ℕ) (added a b : ℕ) → IsWithHoliday befo
 same_unless before after added a b with =
     elim (cases_Bool (is_business before added)) [
       | inr closed ↦ inr (λ e l m. elim (same_or_not added e) [
-        | inl same ↦ ap (is_business after) (sym same) ∙ (added_day before after added with ∙ (sym closed ∙ ap (is_business before) same))
+        | inl same ↦ ap (is_business after) (sym same)
+            ∙ (added_day before after added with ∙ (sym closed ∙ ap (is_business before) same))
         | inr n ↦ other_day before after added e with n
       ])
       | inl opened ↦ elim (lt_or_le added a) [
@@ -57,53 +65,65 @@ same_unless before after added a b with =
       ]
     ]
 
-count_as_before : (before after : List ℕ) (day k : ℕ) → AreSame before after (day + 1) (day + k) → business_days after day k ≡ business_days before day k
+count_as_before : (before after : List ℕ) (day k : ℕ) → AreSame before after (day + 1) (day + k)
+    → business_days after day k ≡ business_days before day k
 count_as_before before after day zero same = refl
 count_as_before before after day (suc k) same =
     let less = count_as_before before after day k (λ e l m. same e l (omega arith)) in
     rw (less, same (day + suc k) (omega arith) (omega arith)) refl
 
-count_one_less : (before after : List ℕ) (added day k : ℕ) → IsWithHoliday before added after → is_business before added ≡ true → day + 1 ≤ added → added ≤ day + k
+count_one_less : (before after : List ℕ) (added day k : ℕ) → IsWithHoliday before added after
+    → is_business before added ≡ true → day + 1 ≤ added → added ≤ day + k
     → business_days before day k ≡ business_days after day k + 1
 count_one_less before after added day zero with opened l m = omega arith
 count_one_less before after added day (suc k) with opened l m =
     elim (same_or_not added (day + suc k)) [
       | inl here ↦
-          let less = count_as_before before after day k (λ e a b. other_day before after added e with (λ same. omega arith)) in
-          let was : is_business before (day + suc k) ≡ true = ap (is_business before) (sym here) ∙ opened in
-          let is : is_business after (day + suc k) ≡ false = ap (is_business after) (sym here) ∙ added_day before after added with in
+          let less = count_as_before before after day k
+          (λ e a b. other_day before after added e with (λ same. omega arith)) in
+          let was : is_business before (day + suc k) ≡ true = ap (is_business before) (sym here)
+          ∙ opened in
+          let is : is_business after (day + suc k) ≡ false = ap (is_business after) (sym here)
+          ∙ added_day before after added with in
           rw (was, is) (omega arith)
       | inr n ↦
           let less = count_one_less before after added day k with opened l (omega arith) in
           rw (other_day before after added (day + suc k) with n) (omega arith)
     ]
 
-on_as_before : (before after : List ℕ) (day due : ℕ) → AreSame before after day due → IsOnOrAfter before day due → IsOnOrAfter after day due
+on_as_before : (before after : List ℕ) (day due : ℕ) → AreSame before after day due
+    → IsOnOrAfter before day due → IsOnOrAfter after day due
 on_as_before before after day due same h = record {
   after = h.after;
   business = (let a = h.after in same due a (omega arith) ∙ h.business);
   least = λ e l m. same e l (omega arith) ∙ h.least e l m;
 }
 
-nth_as_before : (before after : List ℕ) (day n due : ℕ) → AreSame before after (day + 1) due → IsNthAfter before day n due → IsNthAfter after day n due
+nth_as_before : (before after : List ℕ) (day n due : ℕ) → AreSame before after (day + 1) due
+    → IsNthAfter before day n due → IsNthAfter after day n due
 nth_as_before before after day n due same h =
     let from = h.after in
     record {
       after = from;
-      counts = count_as_before before after day (due - day) (λ e l m. same e l (omega arith)) ∙ h.counts;
+      counts = count_as_before before after day (due - day) (λ e l m. same e l (omega arith))
+          ∙ h.counts;
       least = λ e l is.
           elim (lt_or_le e due) [
             | inr late ↦ late
-            | inl early ↦ h.least e l (sym (count_as_before before after day (e - day) (λ d a b. same d a (omega arith))) ∙ is)
+            | inl early ↦ h.least e l
+                (sym (count_as_before before after day (e - day) (λ d a b. same d a (omega arith)))
+                ∙ is)
           ];
     }
 
-on_moves : (before after : List ℕ) (added day due new : ℕ) → IsWithHoliday before added after → IsOnOrAfter before day due → IsOnOrAfter after day new
+on_moves : (before after : List ℕ) (added day due new : ℕ) → IsWithHoliday before added after
+    → IsOnOrAfter before day due → IsOnOrAfter after day new
     → (new ≡ due → ⊥) ↔ ((is_business before added ≡ true) × (day ≤ added) × (added ≤ due))
 on_moves before after added day due new with h k = (
   (λ n. elim (same_unless before after added day due with) [
     | inl counted ↦ counted
-    | inr same ↦ absurd (n (on_or_after_one after day new due k (on_as_before before after day due same h)))
+    | inr same ↦
+        absurd (n (on_or_after_one after day new due k (on_as_before before after day due same h)))
   ]),
   (λ counted e.
       let opened = counted.0 in let from = counted.1 in let to = counted.2 in
@@ -111,37 +131,50 @@ on_moves before after added day due new with h k = (
         | inl early ↦ false≢true (sym (h.least added from early) ∙ opened)
         | inr late ↦
             let here : added ≡ new = omega arith in
-            false≢true (sym (added_day before after added with) ∙ (ap (is_business after) here ∙ k.business))
+            false≢true (sym (added_day before after added with)
+            ∙ (ap (is_business after) here ∙ k.business))
       ]),
 )
 
-nth_moves : (before after : List ℕ) (added day n due new : ℕ) → IsWithHoliday before added after → IsNthAfter before day n due → IsNthAfter after day n new
+nth_moves : (before after : List ℕ) (added day n due new : ℕ) → IsWithHoliday before added after
+    → IsNthAfter before day n due → IsNthAfter after day n new
     → (new ≡ due → ⊥) ↔ ((is_business before added ≡ true) × (day + 1 ≤ added) × (added ≤ due))
 nth_moves before after added day n due new with h k = (
   (λ differs. elim (same_unless before after added (day + 1) due with) [
     | inl counted ↦ counted
-    | inr same ↦ absurd (differs (nth_after_one after day n new due k (nth_as_before before after day n due same h)))
+    | inr same ↦
+        absurd (differs
+        (nth_after_one after day n new due k (nth_as_before before after day n due same h)))
   ]),
   (λ counted e.
       let opened = counted.0 in let from = counted.1 in let to = counted.2 in
       let start = h.after in
       let less = count_one_less before after added day (due - day) with opened from (omega arith) in
       let was = h.counts in
-      let is : business_days after day (due - day) ≡ n = ap (λ z. business_days after day (z - day)) (sym e) ∙ k.counts in
+      let is : business_days after day (due - day) ≡ n = ap (λ z. business_days after day (z - day))
+      (sym e) ∙ k.counts in
       absurd (omega arith)),
 )
 
-pub due_moves : (before after : List ℕ) (added : ℕ) (rule : Rule) (last due new : ℕ) → IsWithHoliday before added after → IsDueBy before rule last due → IsDueBy after rule last new
+pub due_moves : (before after : List ℕ) (added : ℕ) (rule : Rule) (last due new : ℕ)
+    → IsWithHoliday before added after → IsDueBy before rule last due → IsDueBy after rule last new
     → (new ≡ due → ⊥) ↔ IsCountedBy before rule last due added
-due_moves before after added Monthly last due new with h k = on_moves before after added (month_start (month_of last + 1) + 14) due new with h k
-due_moves before after added Semiweekly last due new with h k = nth_moves before after added (interval_close last) 3 due new with h k
-due_moves before after added NextDay last due new with h k = nth_moves before after added last 1 due new with h k
+due_moves before after added Monthly last due new with h k = on_moves before after added
+    (month_start (month_of last + 1) + 14) due new with h k
+due_moves before after added Semiweekly last due new with h k = nth_moves before after added
+    (interval_close last) 3 due new with h k
+due_moves before after added NextDay last due new with h k =
+    nth_moves before after added last 1 due new with h k
 
 -- a day before the last one or after the due date moves nothing
-pub due_stays : (before after : List ℕ) (added : ℕ) (rule : Rule) (last due : ℕ) → IsWithHoliday before added after → last ≤ last_day → (added < last) ⊎ (due < added)
+pub due_stays : (before after : List ℕ) (added : ℕ) (rule : Rule) (last due : ℕ)
+    → IsWithHoliday before added after → last ≤ last_day → (added < last) ⊎ (due < added)
     → IsDueBy before rule last due → IsDueBy after rule last due
 due_stays before after added rule last due with within out h =
     let from = from_later rule last within in
     due_same before after rule last due due
-    (λ e l m. with e ∙ (ap (λ z. is_holiday before e || z) (eq_not added e (λ same. elim out [ inl early ↦ omega arith | inr late ↦ omega arith ])) ∙ or_false (is_holiday before e)))
+    (λ e l m. with e
+    ∙ (ap (λ z. is_holiday before e || z)
+    (eq_not added e (λ same. elim out [ inl early ↦ omega arith | inr late ↦ omega arith ]))
+    ∙ or_false (is_holiday before e)))
     (omega arith) h

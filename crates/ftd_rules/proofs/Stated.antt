@@ -1,6 +1,8 @@
--- The definitions in the words of the walk: stops, status, deposit periods, obligations and lookback totals.
+-- The definitions in the words of the walk: stops, status, deposit periods, obligations and
+-- lookback totals.
 use Rattle.ftd_rules.specs.declared.Form.{Form}
-use Rattle.std.proofs.Common.{◌≡◌, ℕ, ◌+◌, ◌<◌, ◌≤◌, ◌↔◌, ◌⊎◌, inl, inr, List, [], ◌∷◌, refl, sym, ◌∙◌, subst, arith}
+use Rattle.std.proofs.Common.{◌≡◌, ℕ, ◌+◌, ◌<◌, ◌≤◌, ◌↔◌, ◌⊎◌, inl, inr, List, [], ◌∷◌, refl, sym}
+use Rattle.std.proofs.Common.{◌∙◌, subst, arith}
 use Rattle.std.specs.Prelude.{nat_lt, MatchBool}
 use Rattle.std.proofs.lemmas.Bool.{lt-ltb, le-ltb}
 use Rattle.ftd_days.specs.Calendar.{month_of, year_start}
@@ -38,17 +40,22 @@ use Rattle.ftd_rules.proofs.Schedules.{cases_turn, from_semiweekly, from_turn, f
 has_from : (a b : ℕ) (stops : List ℕ) (s : ℕ) → Rise a b stops → Has stops s → a ≤ s
 has_from a b [] s h k = absurd k
 has_from a b (x ∷ stops) s h (inl e) = let h0 = h.0 in omega arith
-has_from a b (x ∷ stops) s h (inr k) = let h0 = h.0 in let rest = has_from (x + 1) b stops s h.2 k in omega arith
+has_from a b (x ∷ stops) s h (inr k) = let h0 = h.0 in
+    let rest = has_from (x + 1) b stops s h.2 k in omega arith
 
 -- where the recursion begins to count is where the count begins
-count_is : (a b : ℕ) (stops : List ℕ) (t : ℕ) → Rise a b stops → IsCountStart a stops t (counted_from a stops t)
+count_is : (a b : ℕ) (stops : List ℕ) (t : ℕ) → Rise a b stops
+    → IsCountStart a stops t (counted_from a stops t)
 count_is a b [] t h = inr ((λ s k l. k), refl)
 count_is a b (x ∷ stops) t h =
     elim (lt_or_le x t) [
       | inr past ↦
           rw (le-ltb x t past)
           (inr (
-            (λ s k l. elim k [ inl e ↦ omega arith | inr later ↦ (let from = has_from (x + 1) b stops s h.2 later in omega arith) ]),
+            (λ s k l. elim k [
+              | inl e ↦ omega arith
+              | inr later ↦ (let from = has_from (x + 1) b stops s h.2 later in omega arith)
+            ]),
             refl,
           ))
       | inl before ↦
@@ -60,7 +67,13 @@ count_is a b (x ∷ stops) t h =
               record {
                 is_stop = inr found.1.is_stop;
                 before = found.1.before;
-                latest = λ other k l. elim k [ inl e ↦ (let from = has_from (x + 1) b stops found.0 h.2 found.1.is_stop in omega arith) | inr later ↦ found.1.latest other later l ];
+                latest = λ other k l.
+                    elim k [
+                      | inl e ↦
+                          (let from = has_from (x + 1) b stops found.0 h.2 found.1.is_stop in
+                          omega arith)
+                      | inr later ↦ found.1.latest other later l
+                    ];
               },
               found.2,
             )
@@ -69,7 +82,10 @@ count_is a b (x ∷ stops) t h =
               record {
                 is_stop = inl refl;
                 before = before;
-                latest = λ other k l. elim k [ inl e ↦ omega arith | inr later ↦ absurd (none.0 other later l) ];
+                latest = λ other k l. elim k [
+                  | inl e ↦ omega arith
+                  | inr later ↦ absurd (none.0 other later l)
+                ];
               },
               none.1,
             )
@@ -77,7 +93,8 @@ count_is a b (x ∷ stops) t h =
     ]
 
 -- and it begins at one place
-count_one : (a : ℕ) (stops : List ℕ) (t from other : ℕ) → IsCountStart a stops t from → IsCountStart a stops t other → from ≡ other
+count_one : (a : ℕ) (stops : List ℕ) (t from other : ℕ) → IsCountStart a stops t from
+    → IsCountStart a stops t other → from ≡ other
 count_one a stops t from other (inl x) (inl y) =
     let up = x.1.latest y.0 y.1.is_stop y.1.before in
     let down = y.1.latest x.0 x.1.is_stop x.1.before in
@@ -87,15 +104,18 @@ count_one a stops t from other (inl x) (inr y) = absurd (y.0 x.0 x.1.is_stop x.1
 count_one a stops t from other (inr x) (inl y) = absurd (x.0 y.0 y.1.is_stop y.1.before)
 count_one a stops t from other (inr x) (inr y) = x.1 ∙ sym y.1
 
-pub stops_stated : (L : ℕ → ℕ → ℕ) (a b : ℕ) (stops : List ℕ) → IsStops L a b stops → AreStops L a b stops
+pub stops_stated : (L : ℕ → ℕ → ℕ) (a b : ℕ) (stops : List ℕ) → IsStops L a b stops
+    → AreStops L a b stops
 stops_stated L a b stops h = record {
   rise = h.rise;
   exact = λ t from l m start.
-      (let one : from ≡ counted_from a stops t = count_one a stops t from (counted_from a stops t) start (count_is a b stops t h.rise) in
+      (let one : from ≡ counted_from a stops t = count_one a stops t from (counted_from a stops t)
+      start (count_is a b stops t h.rise) in
       rw one (h.exact t l m));
 }
 
-pub stops_counted : (L : ℕ → ℕ → ℕ) (a b : ℕ) (stops : List ℕ) → AreStops L a b stops → IsStops L a b stops
+pub stops_counted : (L : ℕ → ℕ → ℕ) (a b : ℕ) (stops : List ℕ) → AreStops L a b stops
+    → IsStops L a b stops
 stops_counted L a b stops h = record {
   rise = h.rise;
   exact = λ t l m. h.exact t (counted_from a stops t) l m (count_is a b stops t h.rise);
@@ -107,7 +127,8 @@ cases_kind : (k : Kind) → (k ≡ kind.Semiweekly) ⊎ (k ≡ kind.Monthly)
 cases_kind kind.Semiweekly = inl refl
 cases_kind kind.Monthly = inr refl
 
-pub semiweekly_is : (line : YearLine) (day : ℕ) → year_start line.year ≤ day → day ≤ year_last line.year → IsSemiweeklyOn line day ↔ (semiweekly_from line ≤ day)
+pub semiweekly_is : (line : YearLine) (day : ℕ) → year_start line.year ≤ day
+    → day ≤ year_last line.year → IsSemiweeklyOn line day ↔ (semiweekly_from line ≤ day)
 semiweekly_is line day l m = (
   (λ h. elim h [
     | inl opens ↦ (let e = from_semiweekly line opens in omega arith)
@@ -125,7 +146,8 @@ semiweekly_is line day l m = (
     | inl semi ↦ inl semi
     | inr monthly ↦ elim (cases_turn line.turn) [
       | inl none ↦ absurd (let e = from_none line monthly none in omega arith)
-      | inr some ↦ (let e = from_turn line some.0 monthly some.1 in let past : some.0 < day = omega arith in inr (rw some.1 past))
+      | inr some ↦ (let e = from_turn line some.0 monthly some.1 in
+          let past : some.0 < day = omega arith in inr (rw some.1 past))
     ]
   ]),
 )
@@ -136,7 +158,8 @@ rule_before from day l = rw (lt-ltb day from l) refl
 rule_after : (from day : ℕ) → from ≤ day → rule_on from day ≡ Semiweekly
 rule_after from day l = rw (le-ltb day from l) refl
 
-pub status_is : (line : YearLine) (day : ℕ) (status : Kind) → year_start line.year ≤ day → day ≤ year_last line.year
+pub status_is : (line : YearLine) (day : ℕ) (status : Kind) → year_start line.year ≤ day
+    → day ≤ year_last line.year
     → HasStatusOn line day status ↔ (rule_on (semiweekly_from line) day ≡ rule_of status)
 status_is line day kind.Semiweekly l m =
     let is = semiweekly_is line day l m in (
@@ -155,14 +178,24 @@ status_is line day kind.Monthly l m =
       (λ h s. let k = rule_after (semiweekly_from line) day (is.0 s) in absurd cc),
     )
 
-pub status_some : (line : YearLine) (day : ℕ) → year_start line.year ≤ day → day ≤ year_last line.year → (status : Kind) × HasStatusOn line day status
+pub status_some : (line : YearLine) (day : ℕ) → year_start line.year ≤ day
+    → day ≤ year_last line.year → (status : Kind) × HasStatusOn line day status
 status_some line day l m =
     elim (lt_or_le day (semiweekly_from line)) [
-      | inl early ↦ (kind.Monthly, (status_is line day kind.Monthly l m).1 (rule_before (semiweekly_from line) day early))
-      | inr late ↦ (kind.Semiweekly, (status_is line day kind.Semiweekly l m).1 (rule_after (semiweekly_from line) day late))
+      | inl early ↦ (
+        kind.Monthly,
+        (status_is line day kind.Monthly l m).1
+            (rule_before (semiweekly_from line) day early),
+      )
+      | inr late ↦ (
+        kind.Semiweekly,
+        (status_is line day kind.Semiweekly l m).1
+            (rule_after (semiweekly_from line) day late),
+      )
     ]
 
-pub status_ruled : (lines : List YearLine) (day : ℕ) (status : Kind) → HasStatus lines day status ↔ HasRule lines day (rule_of status)
+pub status_ruled : (lines : List YearLine) (day : ℕ) (status : Kind)
+    → HasStatus lines day status ↔ HasRule lines day (rule_of status)
 status_ruled lines day status = (
   (λ h. (h.0, h.1, h.2, h.3, (status_is h.0 day status h.2 h.3).0 h.4)),
   (λ h. (h.0, h.1, h.2, h.3, (status_is h.0 day status h.2 h.3).1 h.4)),
@@ -170,8 +203,10 @@ status_ruled lines day status = (
 
 -- ---- deposit periods
 
-run_is : (line : YearLine) (a b : ℕ) (status : Kind) → year_start line.year ≤ a → a ≤ year_last line.year → HasStatusOn line a status → SameRun status a b
-    → MatchBool (nat_lt a (semiweekly_from line)) (month_of b ≡ month_of a) (interval_start b ≡ interval_start a)
+run_is : (line : YearLine) (a b : ℕ) (status : Kind) → year_start line.year ≤ a
+    → a ≤ year_last line.year → HasStatusOn line a status → SameRun status a b
+    → MatchBool (nat_lt a (semiweekly_from line)) (month_of b ≡ month_of a)
+    (interval_start b ≡ interval_start a)
 run_is line a b kind.Monthly l m h same =
     elim (lt_or_le a (semiweekly_from line)) [
       | inl early ↦ rw (lt-ltb a (semiweekly_from line) early) same
@@ -179,17 +214,21 @@ run_is line a b kind.Monthly l m h same =
     ]
 run_is line a b kind.Semiweekly l m h same =
     let late = (semiweekly_is line a l m).0 h in
-    let one : interval_close b ≡ interval_close a = sym (close_only b same.0 same.2) ∙ close_only a same.0 same.1 in
+    let one : interval_close b ≡ interval_close a = sym (close_only b same.0 same.2)
+    ∙ close_only a same.0 same.1 in
     rw (le-ltb a (semiweekly_from line) late) ((interval_ends a b).0 one)
 
-pub share_run : (form : Form) (line : YearLine) (a b : ℕ) → IsDayOf line a → IsDayOf line b → SharePeriod form line a b → ShareRun form (semiweekly_from line) a b
+pub share_run : (form : Form) (line : YearLine) (a b : ℕ) → IsDayOf line a → IsDayOf line b
+    → SharePeriod form line a b → ShareRun form (semiweekly_from line) a b
 share_run form line a b in_a in_b h = (
   h.return_period,
-  (status_is line b h.status in_b.0 in_b.1).0 h.second ∙ sym ((status_is line a h.status in_a.0 in_a.1).0 h.first),
+  (status_is line b h.status in_b.0 in_b.1).0 h.second
+      ∙ sym ((status_is line a h.status in_a.0 in_a.1).0 h.first),
   run_is line a b h.status in_a.0 in_a.1 h.first h.run,
 )
 
-pub run_shared : (form : Form) (line : YearLine) (a b : ℕ) → IsDayOf line a → IsDayOf line b → ShareRun form (semiweekly_from line) a b → SharePeriod form line a b
+pub run_shared : (form : Form) (line : YearLine) (a b : ℕ) → IsDayOf line a → IsDayOf line b
+    → ShareRun form (semiweekly_from line) a b → SharePeriod form line a b
 run_shared form line a b in_a in_b h =
     elim (lt_or_le a (semiweekly_from line)) [
       | inl early ↦
@@ -213,57 +252,82 @@ run_shared form line a b in_a in_b h =
           }
     ]
 
-pub period_run : (form : Form) (line : YearLine) (a b : ℕ) → IsPeriod form line a b → IsRun form line a b
+pub period_run : (form : Form) (line : YearLine) (a b : ℕ) → IsPeriod form line a b
+    → IsRun form line a b
 period_run form line a b h =
     let some = h.0 in let from = h.1 in let to = h.2 in
     let first : IsDayOf line a = (from, omega arith) in (
       some,
       from,
       to,
-      λ day l m. (let e = h.3 day l m in ((λ s. e.0 (run_shared form line a day first (l, m) s)), (λ w. share_run form line a day first (l, m) (e.1 w)))),
+      λ day l m. (let e = h.3 day l m in (
+        (λ s. e.0 (run_shared form line a day first (l, m) s)),
+        (λ w. share_run form line a day first (l, m) (e.1 w)),
+      )),
     )
 
-pub run_period : (form : Form) (line : YearLine) (a b : ℕ) → IsRun form line a b → IsPeriod form line a b
+pub run_period : (form : Form) (line : YearLine) (a b : ℕ) → IsRun form line a b
+    → IsPeriod form line a b
 run_period form line a b h =
     let some = h.0 in let from = h.1 in let to = h.2 in
     let first : IsDayOf line a = (from, omega arith) in (
       some,
       from,
       to,
-      λ day l m. (let e = h.3 day l m in ((λ s. e.0 (share_run form line a day first (l, m) s)), (λ w. run_shared form line a day first (l, m) (e.1 w)))),
+      λ day l m. (let e = h.3 day l m in (
+        (λ s. e.0 (share_run form line a day first (l, m) s)),
+        (λ w. run_shared form line a day first (l, m) (e.1 w)),
+      )),
     )
 
 -- ---- due dates
 
-pub due_by : (holidays : List ℕ) (rule : Rule) (last due : ℕ) → IsDue holidays rule last due → IsDueBy holidays rule last due
+pub due_by : (holidays : List ℕ) (rule : Rule) (last due : ℕ) → IsDue holidays rule last due
+    → IsDueBy holidays rule last due
 due_by holidays Monthly last due h = h
-due_by holidays Semiweekly last due h = let one = close_only last h.0 h.1 in subst (λ (z : ℕ). IsNthAfter holidays z 3 due) one h.2
+due_by holidays Semiweekly last due h = let one = close_only last h.0 h.1 in
+    subst (λ (z : ℕ). IsNthAfter holidays z 3 due) one h.2
 due_by holidays NextDay last due h = h
 
-pub due_stated : (holidays : List ℕ) (rule : Rule) (last due : ℕ) → IsDueBy holidays rule last due → IsDue holidays rule last due
+pub due_stated : (holidays : List ℕ) (rule : Rule) (last due : ℕ) → IsDueBy holidays rule last due
+    → IsDue holidays rule last due
 due_stated holidays Monthly last due h = h
 due_stated holidays Semiweekly last due h = (interval_close last, close_is last, h)
 due_stated holidays NextDay last due h = h
 
-first_is : (rule : Rule) (last day : ℕ) → ((first : ℕ) × IsFirstCounted rule last first × (first ≤ day)) ↔ (first_counted rule last ≤ day)
-first_is Monthly last day = ((λ h. let e = h.1 in let l = h.2 in omega arith), (λ l. (first_counted Monthly last, refl, l)))
+first_is : (rule : Rule) (last day : ℕ)
+    → ((first : ℕ) × IsFirstCounted rule last first × (first ≤ day))
+    ↔ (first_counted rule last ≤ day)
+first_is Monthly last day = (
+  (λ h. let e = h.1 in let l = h.2 in
+      omega arith),
+  (λ l. (first_counted Monthly last, refl, l)),
+)
 first_is Semiweekly last day = (
   (λ h. let l = h.2 in let e = h.1.2 in let one = close_only last h.1.0 h.1.1 in omega arith),
   (λ l. (interval_close last + 1, (interval_close last, close_is last, refl), l)),
 )
-first_is NextDay last day = ((λ h. let e = h.1 in let l = h.2 in omega arith), (λ l. (last + 1, refl, l)))
+first_is NextDay last day = (
+  (λ h. let e = h.1 in let l = h.2 in
+      omega arith),
+  (λ l. (last + 1, refl, l)),
+)
 
-pub counted_stated : (holidays : List ℕ) (rule : Rule) (last due day : ℕ) → IsCountedBy holidays rule last due day ↔ IsCountedBusiness holidays rule last due day
+pub counted_stated : (holidays : List ℕ) (rule : Rule) (last due day : ℕ)
+    → IsCountedBy holidays rule last due day ↔ IsCountedBusiness holidays rule last due day
 counted_stated holidays rule last due day =
     let is = first_is rule last day in
     ((λ h. (h.0, is.1 h.1, h.2)), (λ h. (h.0, is.0 h.1, h.2)))
 
 -- ---- obligations
 
-pub piece_owed : (form : Form) (lines : List YearLine) (sums : List DaySum) (holidays : List ℕ) (o : Obligation) → IsObligation form lines sums holidays o → IsOwedPiece form lines sums holidays o
+pub piece_owed : (form : Form) (lines : List YearLine) (sums : List DaySum) (holidays : List ℕ)
+    (o : Obligation) → IsObligation form lines sums holidays o
+    → IsOwedPiece form lines sums holidays o
 piece_owed form lines sums holidays o h =
     let some = h.period.0 in let from = h.period.1 in let to = h.period.2 in
-    let rule : rule_of h.status ≡ rule_on (semiweekly_from h.line) h.period_first = sym ((status_is h.line h.period_first h.status from (omega arith)).0 h.has_status) in
+    let rule : rule_of h.status ≡ rule_on (semiweekly_from h.line) h.period_first =
+    sym ((status_is h.line h.period_first h.status from (omega arith)).0 h.has_status) in
     record {
       line = h.line;
       open_year = h.open_year;
@@ -272,17 +336,21 @@ piece_owed form lines sums holidays o h =
       period = period_run form h.line h.period_first h.period_last h.period;
       stops = h.stops;
       are_stops = stops_counted (liability sums) h.period_first h.period_last h.stops h.are_stops;
-      piece = subst (λ (r : Rule). Has (pieces r h.period_first h.period_last h.stops) (o.first, o.last, o.rule)) rule h.piece;
+      piece = subst (λ (r : Rule). Has (pieces r h.period_first h.period_last h.stops)
+          (o.first, o.last, o.rule)) rule h.piece;
       amount = h.amount;
       positive = h.positive;
       due = due_by holidays o.rule o.last o.due h.due;
     }
 
-pub owed_stated : (form : Form) (lines : List YearLine) (sums : List DaySum) (holidays : List ℕ) (o : Obligation) → IsOwedPiece form lines sums holidays o → IsObligation form lines sums holidays o
+pub owed_stated : (form : Form) (lines : List YearLine) (sums : List DaySum) (holidays : List ℕ)
+    (o : Obligation) → IsOwedPiece form lines sums holidays o
+    → IsObligation form lines sums holidays o
 owed_stated form lines sums holidays o h =
     let some = h.period.0 in let from = h.period.1 in let to = h.period.2 in
     let status = status_some h.line h.first from (omega arith) in
-    let rule : rule_on (semiweekly_from h.line) h.first ≡ rule_of status.0 = (status_is h.line h.first status.0 from (omega arith)).0 status.1 in
+    let rule : rule_on (semiweekly_from h.line) h.first ≡ rule_of status.0 =
+    (status_is h.line h.first status.0 from (omega arith)).0 status.1 in
     record {
       line = h.line;
       open_year = h.open_year;
@@ -293,40 +361,68 @@ owed_stated form lines sums holidays o h =
       has_status = status.1;
       stops = h.stops;
       are_stops = stops_stated (liability sums) h.first h.last h.stops h.are_stops;
-      piece = subst (λ (r : Rule). Has (pieces r h.first h.last h.stops) (o.first, o.last, o.rule)) rule h.piece;
+      piece = subst (λ (r : Rule). Has (pieces r h.first h.last h.stops) (o.first, o.last, o.rule))
+          rule h.piece;
       amount = h.amount;
       positive = h.positive;
       due = due_stated holidays o.rule o.last o.due h.due;
     }
 
-pub rows_owed : (form : Form) (lines : List YearLine) (sums : List DaySum) (holidays : List ℕ) (rows : List Obligation) → AreObligations form lines sums holidays rows → AreOwedPieces form lines sums holidays rows
+pub rows_owed : (form : Form) (lines : List YearLine) (sums : List DaySum) (holidays : List ℕ)
+    (rows : List Obligation) → AreObligations form lines sums holidays rows
+    → AreOwedPieces form lines sums holidays rows
 rows_owed form lines sums holidays rows h = record {
   by_first_day = h.by_first_day;
-  all = λ o. ((λ k. piece_owed form lines sums holidays o ((h.all o).0 k)), (λ k. (h.all o).1 (owed_stated form lines sums holidays o k)));
+  all = λ o. (
+    (λ k. piece_owed form lines sums holidays o ((h.all o).0 k)),
+    (λ k. (h.all o).1 (owed_stated form lines sums holidays o k)),
+  );
 }
 
-pub rows_stated : (form : Form) (lines : List YearLine) (sums : List DaySum) (holidays : List ℕ) (rows : List Obligation) → AreOwedPieces form lines sums holidays rows → AreObligations form lines sums holidays rows
+pub rows_stated : (form : Form) (lines : List YearLine) (sums : List DaySum) (holidays : List ℕ)
+    (rows : List Obligation) → AreOwedPieces form lines sums holidays rows
+    → AreObligations form lines sums holidays rows
 rows_stated form lines sums holidays rows h = record {
   by_first_day = h.by_first_day;
-  all = λ o. ((λ k. owed_stated form lines sums holidays o ((h.all o).0 k)), (λ k. (h.all o).1 (piece_owed form lines sums holidays o k)));
+  all = λ o. (
+    (λ k. owed_stated form lines sums holidays o ((h.all o).0 k)),
+    (λ k. (h.all o).1 (piece_owed form lines sums holidays o k)),
+  );
 }
 
 -- ---- lookback totals
 
-pub lookback_together : (reported : List (ℕ × Cents)) (start year total : ℕ) → IsLookback reported start year total → CountTogether reported start (lookback_quarters year) total
+pub lookback_together : (reported : List (ℕ × Cents)) (start year total : ℕ)
+    → IsLookback reported start year total → CountTogether reported start (lookback_quarters year)
+    total
 lookback_together reported start year total h =
     let all = h.adds_up in (
       h.first,
       h.second.0 + h.third.0 + h.fourth.0,
       h.count.0,
-      (h.second, h.third.0 + h.fourth.0, h.count.1, (h.third, h.fourth.0, h.count.2, (h.fourth, 0, h.count.3, refl, omega arith), refl), omega arith),
+      (
+        h.second,
+        h.third.0 + h.fourth.0,
+        h.count.1,
+        (h.third, h.fourth.0, h.count.2, (h.fourth, 0, h.count.3, refl, omega arith), refl),
+        omega arith,
+      ),
       omega arith,
     )
 
-pub together_stated : (reported : List (ℕ × Cents)) (start year total : ℕ) → CountTogether reported start (lookback_quarters year) total → IsLookback reported start year total
+pub together_stated : (reported : List (ℕ × Cents)) (start year total : ℕ)
+    → CountTogether reported start (lookback_quarters year) total
+    → IsLookback reported start year total
 together_stated reported start year total h =
     let b = h.3 in
     let c = b.3 in
     let d = c.3 in
     let e0 = h.4 in let e1 = b.4 in let e2 = c.4 in let e3 = d.4 in let none = d.3 in
-    record { first = h.0; second = b.0; third = c.0; fourth = d.0; count = (h.2, b.2, c.2, d.2); adds_up = omega arith }
+    record {
+      first = h.0;
+      second = b.0;
+      third = c.0;
+      fourth = d.0;
+      count = (h.2, b.2, c.2, d.2);
+      adds_up = omega arith;
+    }

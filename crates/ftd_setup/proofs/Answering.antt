@@ -17,21 +17,31 @@ use Rattle.ftd_setup.specs.declared.opening.OpenFault.TheVariants.{NotOurs, Newe
 use Rattle.ftd_setup.specs.Versions.{ReadsVersion, HasVersion, IsStoreFault, Opens, OpensByReading}
 use Rattle.ftd_setup.proofs.Readings.{has_version, reads_version}
 
-opens_as : (old new : State) (metas : List MetaRow) (rows : List Row) (taken : Bool) (r : Result (Unit {0}) OpenFault) → IsPermutation (map meta_shown metas) rows → Opens old new (ReadsVersion rows) taken r → Opens old new (HasVersion metas) taken r
-opens_as old new metas rows taken (Ok opened) moved (inl h) = inl (has_version metas rows 2 moved h.0, h.1)
-opens_as old new metas rows taken (Ok opened) moved (inr h) = inr (has_version metas rows 1 moved h.0, h.1, h.2, h.3)
-opens_as old new metas rows taken (Err (Newer version)) moved h = (h.0, has_version metas rows version moved h.1)
-opens_as old new metas rows taken (Err NotOurs) moved h = λ version some has. h version some (reads_version metas rows version moved has)
+opens_as : (old new : State) (metas : List MetaRow) (rows : List Row) (taken : Bool)
+    (r : Result (Unit {0}) OpenFault) → IsPermutation (map meta_shown metas) rows
+    → Opens old new (ReadsVersion rows) taken r → Opens old new (HasVersion metas) taken r
+opens_as old new metas rows taken (Ok opened) moved (inl h) =
+    inl (has_version metas rows 2 moved h.0, h.1)
+opens_as old new metas rows taken (Ok opened) moved (inr h) =
+    inr (has_version metas rows 1 moved h.0, h.1, h.2, h.3)
+opens_as old new metas rows taken (Err (Newer version)) moved h =
+    (h.0, has_version metas rows version moved h.1)
+opens_as old new metas rows taken (Err NotOurs) moved h = λ version some has. h version some
+    (reads_version metas rows version moved has)
 opens_as old new metas rows taken (Err (Store fault)) moved h = tt
 
-fault_opens : (old new : State) (Is : ℕ → Type 0) (taken : Bool) (r : Result (Unit {0}) OpenFault) → IsErrAnd r IsStoreFault → Opens old new Is taken r
+fault_opens : (old new : State) (Is : ℕ → Type 0) (taken : Bool) (r : Result (Unit {0}) OpenFault)
+    → IsErrAnd r IsStoreFault → Opens old new Is taken r
 fault_opens old new Is taken (Ok opened) h = absurd h
 fault_opens old new Is taken (Err (Newer version)) h = absurd h
 fault_opens old new Is taken (Err NotOurs) h = absurd h
 fault_opens old new Is taken (Err (Store fault)) h = tt
 
 -- where ftd_meta stands, its rows say what the opening answers
-pub opens_rows : {acted : Bool} (old new : State) (metas : List MetaRow) (r : Result (Unit {0}) OpenFault) → Holds acted old.now (name_of Metas) (table_of Metas) (cells_of Metas) metas → OpensByReading old new r
+pub opens_rows : {acted : Bool} (old new : State) (metas : List MetaRow)
+    (r : Result (Unit {0}) OpenFault) → Holds acted old.now (name_of Metas) (table_of Metas)
+    (cells_of Metas) metas → OpensByReading old new r
     → Opens old new (HasVersion metas) (has_any later_names old.now.schema) r
 opens_rows old new metas r l (inl h) = fault_opens old new (HasVersion metas) _ r h
-opens_rows old new metas r l (inr h) = opens_as old new metas h.0 _ r (shows_metas old old h.0 metas l h.1) h.2
+opens_rows old new metas r l (inr h) = opens_as old new metas h.0 _ r
+    (shows_metas old old h.0 metas l h.1) h.2

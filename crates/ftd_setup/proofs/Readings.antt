@@ -1,5 +1,6 @@
 -- What is read of ftd_meta tells what its rows are.
-use Rattle.std.proofs.Common.{◌≡◌, ℕ, ℤ, pos, negsuc, nat_abs, arith, length, Bool, false, true, List, [], ◌∷◌, codes, map, refl, sym, ap, subst}
+use Rattle.std.proofs.Common.{◌≡◌, ℕ, ℤ, pos, negsuc, nat_abs, arith, length, Bool, false, true}
+use Rattle.std.proofs.Common.{List, [], ◌∷◌, codes, map, refl, sym, ap, subst}
 use Rattle.std.specs.Int.{FitsUnsignedBits}
 use Rattle.std.proofs.lemmas.Int.{ints}
 use Rattle.std.specs.Prelude.{not}
@@ -32,7 +33,9 @@ pub whole_number : (z : ℤ) (n : ℕ) → FitsUnsignedBits 64 z → n ≡ nat_a
 whole_number (pos m) n fits h = ap pos (sym h)
 whole_number (negsuc m) n fits h = absurd (omega (arith, ints, fits))
 
-pub both_cells : (row : Row) (tag : List ℕ) (z : ℤ) (n : ℕ) → tag ≡ codes "ftd" → length row ≡ 2 → Text tag ≡ column row 0 → Int z ≡ column row 1 → z ≡ pos n → row ≡ Text (codes "ftd") ∷ Int (pos n) ∷ []
+pub both_cells : (row : Row) (tag : List ℕ) (z : ℤ) (n : ℕ) → tag ≡ codes "ftd" → length row ≡ 2
+    → Text tag ≡ column row 0 → Int z ≡ column row 1 → z ≡ pos n → row ≡ Text (codes "ftd") ∷ Int
+    (pos n) ∷ []
 both_cells [] tag z n same two a b whole = absurd (omega arith)
 both_cells (x ∷ []) tag z n same two a b whole = absurd (omega arith)
 both_cells (x ∷ y ∷ []) tag z n same two a b whole = rw (← a, ← b, same, whole) refl
@@ -40,7 +43,9 @@ both_cells (x ∷ y ∷ w ∷ more) tag z n same two a b whole = absurd (omega a
 
 -- ---- the rows
 
-one_tag : (metas : List MetaRow) (version : ℕ) → map meta_shown metas ≡ (Text (codes "ftd") ∷ Int (pos version) ∷ []) ∷ [] → HasVersion metas version
+one_tag : (metas : List MetaRow) (version : ℕ)
+    → map meta_shown metas ≡ (Text (codes "ftd") ∷ Int (pos version) ∷ []) ∷ []
+    → HasVersion metas version
 one_tag [] version h = absurd cc
 one_tag (m ∷ []) version h =
     let tag : m.tag ≡ codes "ftd" = cc in
@@ -48,22 +53,43 @@ one_tag (m ∷ []) version h =
     rw (← tag, ← number) refl
 one_tag (m ∷ n ∷ metas) version h = absurd cc
 
-pub has_version : (metas : List MetaRow) (rows : List Row) (version : ℕ) → IsPermutation (map meta_shown metas) rows → ReadsVersion rows version → HasVersion metas version
-has_version metas rows version moved is = one_tag metas version (one_permutation _ _ (IsPermutation-sym _ _ (subst (IsPermutation (map meta_shown metas)) is moved)))
+pub has_version : (metas : List MetaRow) (rows : List Row) (version : ℕ)
+    → IsPermutation (map meta_shown metas) rows → ReadsVersion rows version
+    → HasVersion metas version
+has_version metas rows version moved is = one_tag metas version
+    (one_permutation _ _
+    (IsPermutation-sym _ _ (subst (IsPermutation (map meta_shown metas)) is moved)))
 
-pub reads_version : (metas : List MetaRow) (rows : List Row) (version : ℕ) → IsPermutation (map meta_shown metas) rows → HasVersion metas version → ReadsVersion rows version
-reads_version metas rows version moved is = one_permutation _ _ (subst (λ ms. IsPermutation (map meta_shown ms) rows) is moved)
+pub reads_version : (metas : List MetaRow) (rows : List Row) (version : ℕ)
+    → IsPermutation (map meta_shown metas) rows → HasVersion metas version
+    → ReadsVersion rows version
+reads_version metas rows version moved is =
+    one_permutation _ _ (subst (λ ms. IsPermutation (map meta_shown ms) rows) is moved)
 
 -- where ftd_meta stands, it is there to be read
-pub tagged : {acted : Bool} (db : Database) (metas : List MetaRow) → Holds acted db (name_of Metas) (table_of Metas) (cells_of Metas) metas → is_tagged db.schema ≡ true
+pub tagged : {acted : Bool} (db : Database) (metas : List MetaRow) → Holds acted db (name_of Metas)
+    (table_of Metas) (cells_of Metas) metas → is_tagged db.schema ≡ true
 unfolding everything
 tagged db metas l = rw (l.place.named, l.place.listed) refl
 
 -- what a reading shows that changes nothing, it would show again
-pub shown_before : (text : List ℕ) (params : Row) (old new : State) (rows : List Row) → IsReadText text → IsUnchanged old new → Shown text params old new rows → Shown text params old old rows
+pub shown_before : (text : List ℕ) (params : Row) (old new : State) (rows : List Row)
+    → IsReadText text → IsUnchanged old new → Shown text params old new rows
+    → Shown text params old old rows
 unfolding Shown
 shown_before text params old new rows t same h =
     let bare = subst IsPlain h.1.is (select_plain old.now.schema text t.0 t.1 h.0 h.1.is) in
     let shows = rw bare.0 at h.2 in
-    let again : IsUnchanged old old = (record { was_open = same.0.was_open; is_open = same.0.was_open; now_is = refl; committed_is = refl; mode = refl }, record { changes = refl; last_rowid = refl }, refl) in
+    let again : IsUnchanged old old = (
+      record {
+        was_open = same.0.was_open;
+        is_open = same.0.was_open;
+        now_is = refl;
+        committed_is =
+            refl;
+        mode = refl;
+      },
+      record { changes = refl; last_rowid = refl },
+      refl,
+    ) in
     (h.0, h.1, rw bare.0 (shows.0, shows.1, shows.2, again))

@@ -12,7 +12,9 @@ use Rattle.ftd_sql.specs.States.{CrashKeeps, ShowsAgain}
 use Rattle.ftd_setup.specs.declared.opening.Change.{Change}
 use Rattle.ftd_setup.specs.Versions.{Becomes, MayBecome}
 
-pub becoming_survives : (how : Change) (old last end : State) → CrashKeeps old last → (HasCleanDisk last → Becomes how old.now last.now) → Survives last end (λ left. left ≡ last.now.trees) → Survives old end (MayBecome how old.now)
+pub becoming_survives : (how : Change) (old last end : State) → CrashKeeps old last
+    → (HasCleanDisk last → Becomes how old.now last.now)
+    → Survives last end (λ left. left ≡ last.now.trees) → Survives old end (MayBecome how old.now)
 becoming_survives how old last end inside made committed =
     survives_then old last end _ _ (MayBecome how old.now) (λ _ db none. absurd none)
     (λ clean db is.
@@ -20,7 +22,9 @@ becoming_survives how old last end inside made committed =
     (last.now, is, made clean_last)) inside committed
 
 -- after a reading
-pub reading_survives : (how : Change) (old mid end : State) → CrashKeeps old mid → (HasCleanDisk mid → mid.now ≡ old.now) → Survives mid end (MayBecome how mid.now) → Survives old end (MayBecome how old.now)
+pub reading_survives : (how : Change) (old mid end : State) → CrashKeeps old mid
+    → (HasCleanDisk mid → mid.now ≡ old.now) → Survives mid end (MayBecome how mid.now)
+    → Survives old end (MayBecome how old.now)
 reading_survives how old mid end read same then =
     survives_then old mid end _ _ (MayBecome how old.now) (λ _ db none. absurd none)
     (λ clean db is.
@@ -28,11 +32,15 @@ reading_survives how old mid end read same then =
     subst (λ (d : Database). MayBecome how d db) (same clean_mid) is) read then
 
 -- `transaction` commits nothing
-pub kept_begin : {S : Type 0} (g : store.Ghosts S) (old : Held S) (new : State) → KeepsCommit (state g (record old { in_transaction = true })) new → KeepsCommit (state g old) new
+pub kept_begin : {S : Type 0} (g : store.Ghosts S) (old : Held S) (new : State)
+    → KeepsCommit (state g (record old { in_transaction = true })) new
+    → KeepsCommit (state g old) new
 kept_begin g old new k = record { was_open = k.was_open; committed = k.committed }
 
 -- a commit that fails leaves what was seen before the transaction
-pub undone : (old last end : State) (e : Error) → (IsTrue old.is_open → old.now ≡ old.committed) → KeepsCommit old last → last.in_transaction ≡ true → IsTrue end.is_open → FailsToCommit last end e → ShowsAgain old end
+pub undone : (old last end : State) (e : Error) → (IsTrue old.is_open → old.now ≡ old.committed)
+    → KeepsCommit old last → last.in_transaction ≡ true → IsTrue end.is_open
+    → FailsToCommit last end e → ShowsAgain old end
 undone old last end e settled kept busy opened (inl failed) =
     let back = failed.3 in
     let on : IsTrue last.is_open = back.was_open opened in

@@ -42,9 +42,14 @@ indexes_payments = record {
 }
 
 -- the rows are the same beside the index, and every table is there still
-pub indexes : (n : TableName) (text : List ℕ) → Indexes n text → (old new : State) (count : ℕ) (t : Tables) → Stands old.now t → Executes text [] old new (Ok count) → Stands new.now t × KeepsTables old.now new.now
+pub indexes : (n : TableName) (text : List ℕ) → Indexes n text → (old new : State) (count : ℕ)
+    (t : Tables) → Stands old.now t → Executes text [] old new (Ok count) → Stands new.now t
+    × KeepsTables old.now new.now
 indexes n text a old new count t stands h =
     let l = stands n in
     let made = a.defines l.tree in
-    let beside = indexes_any old new text a.definition (table_of n l.tree) l.at made.0 count a.reads (rw a.named l.place) made.1 h in
-    ((λ m. holds_beside old.now new.now _ _ _ _ (cells_of m) (t m) beside (stands m)), beside_keeps old.now new.now beside)
+    let beside = indexes_any old new text a.definition (table_of n l.tree) l.at made.0 count a.reads
+    (rw a.named l.place) made.1 h in (
+      (λ m. holds_beside old.now new.now _ _ _ _ (cells_of m) (t m) beside (stands m)),
+      beside_keeps old.now new.now beside,
+    )

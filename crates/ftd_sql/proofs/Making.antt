@@ -1,5 +1,6 @@
 -- Making the desk's tables one by one, in a database that may have others.
-use Rattle.std.proofs.Common.{◌≡◌, ◌++◌, ◌<◌, ◌+◌, ℕ, zero, suc, List, [], ◌∷◌, take, get_or, length, IsTrue, Ok, None, refl, ap, subst, true, false, arith}
+use Rattle.std.proofs.Common.{◌≡◌, ◌++◌, ◌<◌, ◌+◌, ℕ, zero, suc, List, [], ◌∷◌, take, get_or}
+use Rattle.std.proofs.Common.{length, IsTrue, Ok, None, refl, ap, subst, true, false, arith}
 use Rattle.std.specs.Prelude.{slice_index_or}
 use Rattle.std.specs.List.{All, AllByRecursion}
 use Rattle.std.proofs.lemmas.List.Elements.{All-append}
@@ -13,9 +14,13 @@ use Rattle.sqlite_tied.specs.Compute.{everything}
 use Rattle.ftd_tables.specs.Places.{Holds, HasNoAction, IsUnnamed, KeepsTables}
 use Rattle.ftd_tables.specs.TextKinds.{IsReadAs}
 use Rattle.ftd_tables.proofs.Creating.{Defines, creates_any}
-use Rattle.ftd_tables.proofs.Grown.{Grown, grown_one, grown_then, grown_keeps, grown_self, lacks_kept, starts, holds_on}
+use Rattle.ftd_tables.proofs.Grown.{Grown, grown_one, grown_then, grown_keeps, grown_self}
+use Rattle.ftd_tables.proofs.Grown.{lacks_kept, starts, holds_on}
 use Rattle.ftd_schema.specs.declared.TableName.{TableName}
-use Rattle.ftd_schema.specs.declared.TableName.TheVariants.{Metas, Accounts, ReportedQuarters, CalendarYears, Holidays, Years, Runs, Payments, Obligations, Forms, ReportedYears, AddedHolidays}
+use Rattle.ftd_schema.specs.declared.TableName.TheVariants.{Metas, Accounts, ReportedQuarters}
+use Rattle.ftd_schema.specs.declared.TableName.TheVariants.{CalendarYears, Holidays, Years, Runs}
+use Rattle.ftd_schema.specs.declared.TableName.TheVariants.{Payments, Obligations, Forms}
+use Rattle.ftd_schema.specs.declared.TableName.TheVariants.{ReportedYears, AddedHolidays}
 use Rattle.ftd_schema.specs.Names.{name_of, all_names, later_names}
 use Rattle.ftd_schema.specs.Rows.{cells_of}
 use Rattle.ftd_schema.specs.Layout.{table_of, references_of, is_rewritten}
@@ -24,22 +29,71 @@ use Rattle.ftd_sql.specs.Making.{create_of, AreFree, AreEmpty}
 
 -- what the text says, with no look at a schema
 Says : TableName → Type 0
-Says n = (d : Definition) × IsReadAs (create_of n) (written.CreateTable d) × Defines d (table_of n 0)
+Says n = (d : Definition) × IsReadAs (create_of n) (written.CreateTable d)
+    × Defines d (table_of n 0)
 
 says : (n : TableName) → Says n
 unfolding everything Says
-says Metas = (_, record { read = _; is = refl; said = refl; untimed = refl; whole = refl }, record { fresh = refl; must = refl; is = refl; whole = refl })
-says Accounts = (_, record { read = _; is = refl; said = refl; untimed = refl; whole = refl }, record { fresh = refl; must = refl; is = refl; whole = refl })
-says ReportedQuarters = (_, record { read = _; is = refl; said = refl; untimed = refl; whole = refl }, record { fresh = refl; must = refl; is = refl; whole = refl })
-says CalendarYears = (_, record { read = _; is = refl; said = refl; untimed = refl; whole = refl }, record { fresh = refl; must = refl; is = refl; whole = refl })
-says Holidays = (_, record { read = _; is = refl; said = refl; untimed = refl; whole = refl }, record { fresh = refl; must = refl; is = refl; whole = refl })
-says Years = (_, record { read = _; is = refl; said = refl; untimed = refl; whole = refl }, record { fresh = refl; must = refl; is = refl; whole = refl })
-says Runs = (_, record { read = _; is = refl; said = refl; untimed = refl; whole = refl }, record { fresh = refl; must = refl; is = refl; whole = refl })
-says Payments = (_, record { read = _; is = refl; said = refl; untimed = refl; whole = refl }, record { fresh = refl; must = refl; is = refl; whole = refl })
-says Obligations = (_, record { read = _; is = refl; said = refl; untimed = refl; whole = refl }, record { fresh = refl; must = refl; is = refl; whole = refl })
-says Forms = (_, record { read = _; is = refl; said = refl; untimed = refl; whole = refl }, record { fresh = refl; must = refl; is = refl; whole = refl })
-says ReportedYears = (_, record { read = _; is = refl; said = refl; untimed = refl; whole = refl }, record { fresh = refl; must = refl; is = refl; whole = refl })
-says AddedHolidays = (_, record { read = _; is = refl; said = refl; untimed = refl; whole = refl }, record { fresh = refl; must = refl; is = refl; whole = refl })
+says Metas = (
+  _,
+  record { read = _; is = refl; said = refl; untimed = refl; whole = refl },
+  record { fresh = refl; must = refl; is = refl; whole = refl },
+)
+says Accounts = (
+  _,
+  record { read = _; is = refl; said = refl; untimed = refl; whole = refl },
+  record { fresh = refl; must = refl; is = refl; whole = refl },
+)
+says ReportedQuarters = (
+  _,
+  record { read = _; is = refl; said = refl; untimed = refl; whole = refl },
+  record { fresh = refl; must = refl; is = refl; whole = refl },
+)
+says CalendarYears = (
+  _,
+  record { read = _; is = refl; said = refl; untimed = refl; whole = refl },
+  record { fresh = refl; must = refl; is = refl; whole = refl },
+)
+says Holidays = (
+  _,
+  record { read = _; is = refl; said = refl; untimed = refl; whole = refl },
+  record { fresh = refl; must = refl; is = refl; whole = refl },
+)
+says Years = (
+  _,
+  record { read = _; is = refl; said = refl; untimed = refl; whole = refl },
+  record { fresh = refl; must = refl; is = refl; whole = refl },
+)
+says Runs = (
+  _,
+  record { read = _; is = refl; said = refl; untimed = refl; whole = refl },
+  record { fresh = refl; must = refl; is = refl; whole = refl },
+)
+says Payments = (
+  _,
+  record { read = _; is = refl; said = refl; untimed = refl; whole = refl },
+  record { fresh = refl; must = refl; is = refl; whole = refl },
+)
+says Obligations = (
+  _,
+  record { read = _; is = refl; said = refl; untimed = refl; whole = refl },
+  record { fresh = refl; must = refl; is = refl; whole = refl },
+)
+says Forms = (
+  _,
+  record { read = _; is = refl; said = refl; untimed = refl; whole = refl },
+  record { fresh = refl; must = refl; is = refl; whole = refl },
+)
+says ReportedYears = (
+  _,
+  record { read = _; is = refl; said = refl; untimed = refl; whole = refl },
+  record { fresh = refl; must = refl; is = refl; whole = refl },
+)
+says AddedHolidays = (
+  _,
+  record { read = _; is = refl; said = refl; untimed = refl; whole = refl },
+  record { fresh = refl; must = refl; is = refl; whole = refl },
+)
 
 -- no foreign key of the tables has an action
 acts_not : (n : TableName) → AllByRecursion HasNoAction (references_of n)
@@ -72,17 +126,23 @@ pub none_made : (old : Database) → AreMade [] old old
 none_made old = record { grown = grown_self old; empty = λ k d low. absurd (omega (arith, low)) }
 
 -- one more
-pub one_made : (names : List TableName) (n : TableName) (old : Database) (a b : State) (count : ℕ) → (IsTrue (is_rewritten n) → IsUnnamed old.schema (name_of n)) → lacks_sequence old.schema ≡ false
-    → AreMade names old a.now → Executes (create_of n) [] a b (Ok count) → AreMade (names ++ n ∷ []) old b.now × (table_named a.now.schema (name_of n) ≡ None)
+pub one_made : (names : List TableName) (n : TableName) (old : Database) (a b : State) (count : ℕ)
+    → (IsTrue (is_rewritten n) → IsUnnamed old.schema (name_of n))
+    → lacks_sequence old.schema ≡ false
+    → AreMade names old a.now → Executes (create_of n) [] a b (Ok count)
+    → AreMade (names ++ n ∷ []) old b.now × (table_named a.now.schema (name_of n) ≡ None)
 unfolding Says
 one_made names n old a b count unnamed counted so h =
     let s = says n in
-    let m = creates_any a b (create_of n) s.0 (table_of n 0) count s.1 s.2 (lacks_kept a.now.schema (table_of n 0) refl (so.grown.counted counted)) h in
+    let m = creates_any a b (create_of n) s.0 (table_of n 0) count s.1 s.2
+    (lacks_kept a.now.schema (table_of n 0) refl (so.grown.counted counted)) h in
     let one = grown_one a.now b.now (table_of n 0) m (acts_not n) refl in
-    let new = starts a.now b.now _ _ _ _ (cells_of n) m (self_named n) (acts_not n) (λ acts. so.grown.unnamed _ (unnamed acts)) in (
+    let new = starts a.now b.now _ _ _ _ (cells_of n) m (self_named n) (acts_not n)
+    (λ acts. so.grown.unnamed _ (unnamed acts)) in (
       record {
         grown = grown_then old a.now b.now so.grown one;
-        empty = All-append (IsEmpty b.now) names (n ∷ []) (λ k d low. holds_on a.now b.now _ _ _ _ (cells_of (slice_index_or names k d)) [] one (so.empty k d low)) (alone new);
+        empty = All-append (IsEmpty b.now) names (n ∷ []) (λ k d low. holds_on a.now b.now _ _ _ _
+            (cells_of (slice_index_or names k d)) [] one (so.empty k d low)) (alone new);
       },
       m.free,
     )
@@ -95,15 +155,20 @@ one_made names n old a b count unnamed counted so h =
     alone new (suc k) d low = absurd (omega (arith, low))
 
 -- the next of a list
-pub next_made : (names : List TableName) (i : ℕ) (text : List ℕ) (old : Database) (a b : State) (count : ℕ) → i < length names → text ≡ create_of (get_or names i Metas) → AreFree names old.schema
-    → AreMade (take i names) old a.now → Executes text [] a b (Ok count) → AreMade (take (i + 1) names) old b.now
+pub next_made : (names : List TableName) (i : ℕ) (text : List ℕ) (old : Database) (a b : State)
+    (count : ℕ) → i < length names → text ≡ create_of (get_or names i Metas)
+    → AreFree names old.schema
+    → AreMade (take i names) old a.now → Executes text [] a b (Ok count)
+    → AreMade (take (i + 1) names) old b.now
 next_made names i text old a b count low is free so h =
     let n = get_or names i Metas in
     let unnamed = free.unnamed i Metas low in
-    let made = one_made (take i names) n old a b count unnamed free.counted so (subst (λ sql. Executes sql [] a b (Ok count)) is h) in
+    let made = one_made (take i names) n old a b count unnamed free.counted so
+    (subst (λ sql. Executes sql [] a b (Ok count)) is h) in
     subst (λ ns. AreMade ns old b.now) (take_more names i Metas low) made.0
   where
-    take_more : {X : Type 0} (xs : List X) (i : ℕ) (d : X) → i < length xs → take i xs ++ get_or xs i d ∷ [] ≡ take (i + 1) xs
+    take_more : {X : Type 0} (xs : List X) (i : ℕ) (d : X) → i < length xs
+        → take i xs ++ get_or xs i d ∷ [] ≡ take (i + 1) xs
     take_more [] i d low = absurd (omega (arith, low))
     take_more (x ∷ xs) zero d low = refl
     take_more (x ∷ xs) (suc i) d low =
@@ -111,7 +176,8 @@ next_made names i text old a b count low is free so h =
         rw e (ap (λ more. x ∷ more) (take_more xs i d (omega (arith, low))))
 
 -- all of them
-pub all_made : (old now : Database) → AreMade all_names old now → Stands now no_rows × KeepsTables old now
+pub all_made : (old now : Database) → AreMade all_names old now → Stands now no_rows
+    × KeepsTables old now
 all_made old now h = (each, grown_keeps old now h.grown)
   where
     each : Stands now no_rows
@@ -129,10 +195,12 @@ all_made old now h = (each, grown_keeps old now h.grown)
     each AddedHolidays = h.empty 11 Metas (omega arith)
 
 -- the three later ones, beside the nine of version 1
-pub later_made : (old now : Database) (t : Tables) → StandsAsFirst old t → AreMade later_names old now → Stands now (first_rows t) × KeepsTables old now
+pub later_made : (old now : Database) (t : Tables) → StandsAsFirst old t
+    → AreMade later_names old now → Stands now (first_rows t) × KeepsTables old now
 later_made old now t first h = (each, grown_keeps old now h.grown)
   where
-    kept : (n : TableName) → IsFirst n → Holds (is_rewritten n) now (name_of n) (table_of n) (cells_of n) (t n)
+    kept : (n : TableName) → IsFirst n → Holds (is_rewritten n) now (name_of n) (table_of n)
+        (cells_of n) (t n)
     kept n here = holds_on old now _ _ _ _ (cells_of n) (t n) h.grown (first n here)
 
     each : Stands now (first_rows t)

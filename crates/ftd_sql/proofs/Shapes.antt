@@ -1,5 +1,7 @@
--- The parts of which the statements are made: columns, tests and orders, as they are written and as they are computed.
-use Rattle.std.proofs.Common.{ℕ, zero, suc, pos, negsuc, List, [], ◌∷◌, codes, map, Bool, false, Option, Some, None}
+-- The parts of which the statements are made: columns, tests and orders, as they are written and as
+-- they are computed.
+use Rattle.std.proofs.Common.{ℕ, zero, suc, pos, negsuc, List, [], ◌∷◌, codes, map, Bool, false}
+use Rattle.std.proofs.Common.{Option, Some, None}
 use Rattle.sqlite.specs.declared.types.Value.TheVariants.{Int, Null}
 use Rattle.sqlite.specs.Collation.TheVariants.{Binary}
 use Rattle.sqlite.specs.Query.{inner, end}
@@ -43,7 +45,11 @@ pub record Test : Type 0 where
   pub other : Other
 
 abbrev pub test_on : List ℕ → ℕ → Relation → Other → Test
-test_on name at relation other = record { column = place name at; relation = relation; other = other }
+test_on name at relation other = record {
+  column = place name at;
+  relation = relation;
+  other = other;
+}
 
 -- ---- as they are written
 
@@ -93,7 +99,8 @@ other_of (Value (suc n)) = col 0 n
 other_of Zero = lit (Int (pos 0))
 
 abbrev pub filters_of : List Test → List Term
-filters_of tests = map (λ (t : Test). op2 (relation_of t.relation) (col 1 t.column.at) (other_of t.other)) tests
+filters_of tests = map (λ (t : Test). op2 (relation_of t.relation) (col 1 t.column.at)
+    (other_of t.other)) tests
 
 abbrev pub project_of : List Place → List Term
 project_of places = map (λ (p : Place). col 1 p.at) places
@@ -105,7 +112,8 @@ abbrev pub keys_of : List Place → List (Term × Key)
 keys_of places = map (λ (p : Place). (col 1 p.at, rising)) places
 
 abbrev pub draft_of : List Place → List Test → List Place → ℕ → Draft
-draft_of columns tests order tree = ungrouped (Inner tree ∷ []) (filters_of tests) (outs_of columns) false (keys_of order) page.0 page.1
+draft_of columns tests order tree = ungrouped (Inner tree ∷ []) (filters_of tests)
+    (outs_of columns) false (keys_of order) page.0 page.1
 
 -- ---- counting
 
@@ -114,13 +122,30 @@ abbrev ungrouped_count : ℕ
 ungrouped_count = 18446744073709551615
 
 abbrev pub count_out : Output
-count_out = record { name = codes "COUNT(*)"; is_alias = false; is_column = false; term = col ungrouped_count 0; carried = record { collation = None; is_written = false } }
+count_out = record {
+  name = codes "COUNT(*)";
+  is_alias = false;
+  is_column = false;
+  term = col ungrouped_count 0;
+  carried = record { collation = None; is_written = false };
+}
 
 abbrev pub count_draft : List Test → ℕ → Draft
 count_draft tests tree = record {
   from = inner tree end;
   filter = filters_of tests;
-  group = Some (record { keys = []; collations = []; aggregates = record { op = CountRows; distinct = false; collation = Binary; argument = lit Null } ∷ []; having = [] });
+  group = Some
+      (record {
+        keys = [];
+        collations = [];
+        aggregates = record {
+          op = CountRows;
+          distinct = false;
+          collation = Binary;
+          argument = lit Null;
+        } ∷ [];
+        having = [];
+      });
   project = col 1 0 ∷ [];
   distinct = false;
   collations = [];

@@ -1,5 +1,7 @@
 -- The holidays of years are added to those of the years before them.
-use Rattle.std.proofs.Common.{◌≡◌, ◌≢◌, ◌⊎◌, ℕ, ◌+◌, ◌<◌, ◌≤◌, ◌==◌, ◌||◌, Bool, true, false, inl, inr, List, [], ◌∷◌, ◌++◌, take, length, get_or, refl, sym, ap, ◌∙◌, subst, arith}
+use Rattle.std.proofs.Common.{◌≡◌, ◌≢◌, ◌⊎◌, ℕ, ◌+◌, ◌<◌, ◌≤◌, ◌==◌, ◌||◌, Bool, true, false, inl}
+use Rattle.std.proofs.Common.{inr, List, [], ◌∷◌, ◌++◌, take, length, get_or, refl, sym, ap, ◌∙◌}
+use Rattle.std.proofs.Common.{subst, arith}
 use Rattle.std.specs.Prelude.{All}
 use Rattle.std.specs.List.{list_any}
 use Rattle.std.proofs.lemmas.Bool.{cases_Bool, eqb-true}
@@ -26,26 +28,36 @@ or_more false true c d = refl
 or_more false false c d = refl
 
 -- the holidays of one more year
-pub year_added : (given : List YearDays) (year : ℕ) (days : List ℕ) (day : ℕ) → is_holiday (holidays_of (given ++ (record { year = year; days = days }) ∷ [])) day ≡ (is_holiday (holidays_of given) day || (is_holiday days day || is_holiday [] day))
+pub year_added : (given : List YearDays) (year : ℕ) (days : List ℕ) (day : ℕ)
+    → is_holiday (holidays_of (given ++ (record { year = year; days = days }) ∷ [])) day
+    ≡ (is_holiday (holidays_of given) day || (is_holiday days day || is_holiday [] day))
 year_added given year days day =
     let one : List YearDays = (record { year = year; days = days }) ∷ [] in
     let days_of : YearDays → List ℕ = λ g. g.days in
     let p : ℕ → Bool = λ holiday. holiday == day in
     ap (λ (hs : List ℕ). list_any p hs) (flat_map-append days_of given one)
-    ∙ (list_any-append p (holidays_of given) (days ++ []) ∙ ap (λ b. is_holiday (holidays_of given) day || b) (list_any-append p days []))
+    ∙ (list_any-append p (holidays_of given) (days ++ [])
+    ∙ ap (λ b. is_holiday (holidays_of given) day || b) (list_any-append p days []))
 
 -- one more day of the year
-pub day_added : (old given added : List ℕ) (i x day : ℕ) (so_far now : Bool) → i < length added → x ≡ get_or added i x
-    → so_far ≡ (is_holiday old day || (is_holiday given day || is_holiday (take i added) day)) → now ≡ (so_far || (x == day))
+pub day_added : (old given added : List ℕ) (i x day : ℕ) (so_far now : Bool) → i < length added
+    → x ≡ get_or added i x
+    → so_far ≡ (is_holiday old day || (is_holiday given day || is_holiday (take i added) day))
+    → now ≡ (so_far || (x == day))
     → now ≡ (is_holiday old day || (is_holiday given day || is_holiday (take (i + 1) added) day))
 day_added old given added i x day so_far now some is had more =
     let p : ℕ → Bool = λ holiday. holiday == day in
     let last : is_holiday (take (i + 1) added) day ≡ (is_holiday (take i added) day || (x == day)) =
-    ap (λ (hs : List ℕ). is_holiday hs day) (taken added i x some is) ∙ (list_any-append p (take i added) (x ∷ []) ∙ ap (λ b. is_holiday (take i added) day || b) (or_false (x == day))) in
-    more ∙ (ap (λ b. b || (x == day)) had ∙ (or_more (is_holiday old day) (is_holiday given day) (is_holiday (take i added) day) (x == day) ∙ ap (λ b. is_holiday old day || (is_holiday given day || b)) (sym last)))
+    ap (λ (hs : List ℕ). is_holiday hs day) (taken added i x some is)
+    ∙ (list_any-append p (take i added) (x ∷ []) ∙ ap (λ b. is_holiday (take i added) day || b)
+    (or_false (x == day))) in
+    more ∙ (ap (λ b. b || (x == day)) had
+    ∙ (or_more (is_holiday old day) (is_holiday given day) (is_holiday (take i added) day)
+    (x == day) ∙ ap (λ b. is_holiday old day || (is_holiday given day || b)) (sym last)))
 
 -- a day of another year is none of the days of a year
-none_elsewhere : (year day : ℕ) (days : List ℕ) → All (λ d. year_of d ≡ year) days → year_of day ≢ year → is_holiday days day ≡ false
+none_elsewhere : (year day : ℕ) (days : List ℕ) → All (λ d. year_of d ≡ year) days
+    → year_of day ≢ year → is_holiday days day ≡ false
 none_elsewhere year day [] all other = refl
 none_elsewhere year day (d ∷ days) all other =
     let P : ℕ → Type 0 = λ x. year_of x ≡ year in
@@ -55,8 +67,11 @@ none_elsewhere year day (d ∷ days) all other =
       | inr apart ↦ rw apart rest
     ]
 
-pub both_elsewhere : (year : ℕ) (given added : List ℕ) → All (λ d. year_of d ≡ year) given → All (λ d. year_of d ≡ year) added → (day : ℕ) → year_of day ≢ year → (is_holiday given day || is_holiday added day) ≡ false
-both_elsewhere year given added all_given all_added day other = ap (λ b. b || is_holiday added day) (none_elsewhere year day given all_given other) ∙ none_elsewhere year day added all_added other
+pub both_elsewhere : (year : ℕ) (given added : List ℕ) → All (λ d. year_of d ≡ year) given
+    → All (λ d. year_of d ≡ year) added → (day : ℕ) → year_of day ≢ year
+    → (is_holiday given day || is_holiday added day) ≡ false
+both_elsewhere year given added all_given all_added day other = ap (λ b. b || is_holiday added day)
+    (none_elsewhere year day given all_given other) ∙ none_elsewhere year day added all_added other
 
 -- ---- year by year
 
@@ -66,20 +81,24 @@ pub record ReadSoFar (first year : ℕ) (holidays : List ℕ) (t : Tables) : Typ
   pub none_yet : (day : ℕ) → year ≤ year_of day → is_holiday holidays day ≡ false
   pub had : (earlier : ℕ) → first ≤ earlier → earlier < year → HasHolidays t holidays earlier
 
-pub none_read : (first : ℕ) (holidays : List ℕ) (t : Tables) → first ≤ 2100 → holidays ≡ [] → ReadSoFar first first holidays t
+pub none_read : (first : ℕ) (holidays : List ℕ) (t : Tables) → first ≤ 2100 → holidays ≡ []
+    → ReadSoFar first first holidays t
 none_read first holidays t early none = record {
   early = early;
   none_yet = λ day late. ap (λ (hs : List ℕ). is_holiday hs day) none;
   had = λ earlier low high. absurd (omega arith);
 }
 
-pub one_more_read : (first year : ℕ) (old new : List ℕ) (t : Tables) → ReadSoFar first year old t → AddsYear year old new t → ReadSoFar first (year + 1) new t
+pub one_more_read : (first year : ℕ) (old new : List ℕ) (t : Tables) → ReadSoFar first year old t
+    → AddsYear year old new t → ReadSoFar first (year + 1) new t
 one_more_read first year old new t so_far adds = record {
   early = let to = adds.to in omega arith;
   none_yet = λ day late.
       (let before = so_far.none_yet day (omega arith) in
       let here = adds.elsewhere day (λ same. absurd (omega arith)) in
-      adds.same day ∙ (ap (λ b. b || (is_holiday adds.given.items day || is_holiday adds.added.items day)) before ∙ here));
+      adds.same day
+      ∙ (ap (λ b. b || (is_holiday adds.given.items day || is_holiday adds.added.items day)) before
+      ∙ here));
   had = λ earlier low high. elim (cases_last earlier year (omega arith)) [
     | inl before ↦
         (let k = so_far.had earlier low before in
@@ -90,7 +109,8 @@ one_more_read first year old new t so_far adds = record {
           are_added = k.are_added;
           same = λ day in_year.
               (let here = adds.elsewhere day (λ same. absurd (omega arith)) in
-              adds.same day ∙ (ap (λ b. is_holiday old day || b) here ∙ (or_false (is_holiday old day) ∙ k.same day in_year)));
+              adds.same day ∙ (ap (λ b. is_holiday old day || b) here
+              ∙ (or_false (is_holiday old day) ∙ k.same day in_year)));
         })
     | inr last ↦ subst (λ y. HasHolidays t new y) (sym last) (record {
       given = adds.given;
@@ -99,14 +119,20 @@ one_more_read first year old new t so_far adds = record {
       are_added = adds.are_added;
       same = λ day in_year.
           (let before = so_far.none_yet day (omega arith) in
-          adds.same day ∙ ap (λ b. b || (is_holiday adds.given.items day || is_holiday adds.added.items day)) before);
+          adds.same day
+          ∙ ap (λ b. b || (is_holiday adds.given.items day || is_holiday adds.added.items day))
+          before);
     })
   ];
 }
   where
     cases_last : (a b : ℕ) → a < b + 1 → (a < b) ⊎ (a ≡ b)
-    cases_last a b h = elim (cases_Bool (a == b)) [ inl same ↦ inr (eqb-true a b same) | inr apart ↦ inl (grind (arith, nat_tests)) ]
+    cases_last a b h = elim (cases_Bool (a == b)) [
+      | inl same ↦ inr (eqb-true a b same)
+      | inr apart ↦ inl (grind (arith, nat_tests))
+    ]
 
 -- all years are through
-pub all_read : (first last year : ℕ) (holidays : List ℕ) (t : Tables) → last < year → ReadSoFar first year holidays t → HasYears first last holidays t
+pub all_read : (first last year : ℕ) (holidays : List ℕ) (t : Tables) → last < year
+    → ReadSoFar first year holidays t → HasYears first last holidays t
 all_read first last year holidays t through so_far y low high = so_far.had y low (omega arith)

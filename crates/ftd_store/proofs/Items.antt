@@ -1,23 +1,27 @@
 -- The items of a list as far as a loop has come.
-use Rattle.std.proofs.Common.{◌≡◌, ◌⊎◌, ℕ, zero, suc, ◌+◌, ◌<◌, inl, inr, List, [], ◌∷◌, ◌++◌, take, length, get_or, refl, sym, ap, ◌∙◌, arith}
+use Rattle.std.proofs.Common.{◌≡◌, ◌⊎◌, ℕ, zero, suc, ◌+◌, ◌<◌, inl, inr, List, [], ◌∷◌, ◌++◌, take}
+use Rattle.std.proofs.Common.{length, get_or, refl, sym, ap, ◌∙◌, arith}
 use Rattle.std.proofs.lemmas.List.{take_more}
 use Rattle.ftd_rules.specs.Lists.{Has}
 use Rattle.ftd_rules.proofs.Owed.{has_append, has_left, has_right}
 use Rattle.ftd_rows.specs.Lists.{Pairs}
 
 -- one item more
-pub taken : {X : Type 0} (xs : List X) (i : ℕ) (x : X) → i < length xs → x ≡ get_or xs i x → take (i + 1) xs ≡ take i xs ++ x ∷ []
+pub taken : {X : Type 0} (xs : List X) (i : ℕ) (x : X) → i < length xs → x ≡ get_or xs i x
+    → take (i + 1) xs ≡ take i xs ++ x ∷ []
 taken {X = X} xs i x some is = take_more xs i x some ∙ ap (λ (y : X). take i xs ++ y ∷ []) (sym is)
 
 -- one pair more
-pub pairs_more : {X Y : Type 0} (R : X → Y → Type 0) (xs : List X) (ys : List Y) (x : X) (y : Y) → Pairs R xs ys → R x y → Pairs R (xs ++ x ∷ []) (ys ++ y ∷ [])
+pub pairs_more : {X Y : Type 0} (R : X → Y → Type 0) (xs : List X) (ys : List Y) (x : X) (y : Y)
+    → Pairs R xs ys → R x y → Pairs R (xs ++ x ∷ []) (ys ++ y ∷ [])
 pairs_more R [] [] x y h r = (r, tt)
 pairs_more R [] (b ∷ ys) x y h r = absurd h
 pairs_more R (a ∷ xs) [] x y h r = absurd h
 pairs_more R (a ∷ xs) (b ∷ ys) x y h r = (h.0, pairs_more R xs ys x y h.1 r)
 
 -- pairs have as many items on either side
-pub pairs_length : {X Y : Type 0} (R : X → Y → Type 0) (xs : List X) (ys : List Y) → Pairs R xs ys → length xs ≡ length ys
+pub pairs_length : {X Y : Type 0} (R : X → Y → Type 0) (xs : List X) (ys : List Y) → Pairs R xs ys
+    → length xs ≡ length ys
 pairs_length R [] [] h = refl
 pairs_length R [] (b ∷ ys) h = absurd h
 pairs_length R (a ∷ xs) [] h = absurd h
@@ -25,12 +29,14 @@ pairs_length R (a ∷ xs) (b ∷ ys) h = let rest = pairs_length R xs ys h.1 in 
 
 -- ---- what stands in a list
 
-pub has_at : {X : Type 0} (xs : List X) (i : ℕ) (x : X) → i < length xs → x ≡ get_or xs i x → Has xs x
+pub has_at : {X : Type 0} (xs : List X) (i : ℕ) (x : X) → i < length xs → x ≡ get_or xs i x
+    → Has xs x
 has_at [] i x some is = absurd (omega arith)
 has_at (y ∷ xs) zero x some is = inl is
 has_at (y ∷ xs) (suc i) x some is = inr (has_at xs i x (omega arith) is)
 
-pub has_more : {X : Type 0} (xs : List X) (i : ℕ) (x y : X) → i < length xs → x ≡ get_or xs i x → Has (take (i + 1) xs) y → Has (take i xs) y ⊎ (y ≡ x)
+pub has_more : {X : Type 0} (xs : List X) (i : ℕ) (x y : X) → i < length xs → x ≡ get_or xs i x
+    → Has (take (i + 1) xs) y → Has (take i xs) y ⊎ (y ≡ x)
 has_more {X = X} xs i x y some is has =
     let more = rw (taken xs i x some is) at has in
     elim (has_append (take i xs) (x ∷ []) y more) [
@@ -39,10 +45,12 @@ has_more {X = X} xs i x y some is has =
       | inr (inr never) ↦ absurd never
     ]
 
-pub has_still : {X : Type 0} (xs : List X) (i : ℕ) (x y : X) → i < length xs → x ≡ get_or xs i x → Has (take i xs) y → Has (take (i + 1) xs) y
+pub has_still : {X : Type 0} (xs : List X) (i : ℕ) (x y : X) → i < length xs → x ≡ get_or xs i x
+    → Has (take i xs) y → Has (take (i + 1) xs) y
 has_still xs i x y some is has = rw (taken xs i x some is) (has_left (take i xs) (x ∷ []) y has)
 
-pub has_now : {X : Type 0} (xs : List X) (i : ℕ) (x : X) → i < length xs → x ≡ get_or xs i x → Has (take (i + 1) xs) x
+pub has_now : {X : Type 0} (xs : List X) (i : ℕ) (x : X) → i < length xs → x ≡ get_or xs i x
+    → Has (take (i + 1) xs) x
 has_now xs i x some is = rw (taken xs i x some is) (has_right (take i xs) (x ∷ []) x (inl refl))
 
 pub has_middle : {X : Type 0} (xs : List X) (x : X) (ys : List X) → Has (xs ++ x ∷ ys) x

@@ -20,18 +20,29 @@ use Rattle.ftd_store.proofs.Going.{then_goes, then_fails}
 use Rattle.ftd_store.proofs.YearRows.{put_last}
 
 -- the row that is added where none was changed is the one that is put
-same_rows : (y : YearRow) (t : Tables) → filter (is_year y.account y.year) (t Years) ≡ [] → (n : TableName)
-    → adding Years y (with_rows Years (t Years) t) n ≡ with_rows Years (put_among (filter (is_year y.account y.year) (t Years)) y (t Years)) t n
-same_rows y t none n = set_twice Years (t Years) (t Years ++ y ∷ []) t n ∙ ap (λ rows. with_rows Years rows t n) (put_last y (t Years) none)
+same_rows : (y : YearRow) (t : Tables) → filter (is_year y.account y.year) (t Years) ≡ []
+    → (n : TableName)
+    → adding Years y (with_rows Years (t Years) t) n ≡ with_rows Years
+    (put_among (filter (is_year y.account y.year) (t Years)) y (t Years)) t n
+same_rows y t none n = set_twice Years (t Years) (t Years ++ y ∷ []) t n
+    ∙ ap (λ rows. with_rows Years rows t n) (put_last y (t Years) none)
 
-pub puts_after : {S A : Type 0} (g : store.Ghosts S) (old mid new : Tx S) (x : A) (result : Result (Unit {0}) StoreFault) (y : YearRow) → Frame g old mid (Ok x)
-    → (HasCleanDisk (shown g mid) → Executes SET_YEAR.now (cells_of Years y) (shown g old) (shown g mid) (Ok 0)) → Writes g mid new result (adding Years y)
-    → Writes g old new result (λ t. with_rows Years (put_among (filter (is_year y.account y.year) (t Years)) y (t Years)) t)
+pub puts_after : {S A : Type 0} (g : store.Ghosts S) (old mid new : Tx S) (x : A)
+    (result : Result (Unit {0}) StoreFault) (y : YearRow) → Frame g old mid (Ok x)
+    → (HasCleanDisk (shown g mid) → Executes SET_YEAR.now (cells_of Years y) (shown g old)
+    (shown g mid) (Ok 0)) → Writes g mid new result (adding Years y)
+    → Writes g old new result
+    (λ t. with_rows Years (put_among (filter (is_year y.account y.year) (t Years)) y (t Years)) t)
 puts_after g old mid new x (Ok z) y p ran q = record {
   frame = then_goes g old mid new x z z p q.frame;
   does = λ clean t stands.
-      let one = (figures_set y (shown g old) (shown g mid) t stands).1 (ran (omega (arith, q.frame.crash.clean))) in
-      let two = q.does clean (with_rows Years (t Years) t) one.0.0 in
-      (stands_same (shown g new).now _ _ (same_rows y t one.1) two.0, foreign_then (shown g old).now (shown g mid).now (shown g new).now one.0.1 two.1);
+      let one = (figures_set y (shown g old) (shown g mid) t stands).1
+      (ran (omega (arith, q.frame.crash.clean))) in
+      let two = q.does clean (with_rows Years (t Years) t) one.0.0 in (
+        stands_same (shown g new).now _ _ (same_rows y t one.1) two.0,
+        foreign_then (shown g old).now
+            (shown g mid).now (shown g new).now one.0.1 two.1,
+      );
 }
-puts_after g old mid new x (Err e) y p ran q = record { frame = then_fails g old mid new x e p q.frame; does = λ clean. tt }
+puts_after g old mid new x (Err e) y p ran q =
+    record { frame = then_fails g old mid new x e p q.frame; does = λ clean. tt }

@@ -13,16 +13,22 @@ use Rattle.ftd_store.proofs.Going.{goes_on, then_goes, then_call, then_fails}
 
 module _ {S : Type 0} (g : store.Ghosts S) where
   -- a call that gives up
-  pub gave_up : {A : Type 0} (old new : Tx S) (result : Result A StoreFault) (Does : A → State → State → Tables → Type 0) → Frame g old new result → is_err result ≡ true → Calls g old new result Does
+  pub gave_up : {A : Type 0} (old new : Tx S) (result : Result A StoreFault) (Does : A → State
+      → State → Tables → Type 0) → Frame g old new result → is_err result ≡ true
+      → Calls g old new result Does
   gave_up old new (Ok x) Does frame fails = absurd cc
   gave_up old new (Err e) Does frame fails = record { frame = frame; does = λ clean. tt }
 
   -- a call that gives up after another
-  pub gave_up_after : {A B : Type 0} (old mid new : Tx S) (x : A) (result : Result B StoreFault) (Does : B → State → State → Tables → Type 0) → Frame g old mid (Ok x) → Frame g mid new result → is_err result ≡ true → Calls g old new result Does
-  gave_up_after old mid new x result Does first frame fails = gave_up old new result Does (then_call g old mid new x result first frame) fails
+  pub gave_up_after : {A B : Type 0} (old mid new : Tx S) (x : A) (result : Result B StoreFault)
+      (Does : B → State → State → Tables → Type 0) → Frame g old mid (Ok x) → Frame g mid new result
+      → is_err result ≡ true → Calls g old new result Does
+  gave_up_after old mid new x result Does first frame fails = gave_up old new result Does
+      (then_call g old mid new x result first frame) fails
 
   -- a reading leaves the rows
-  pub reads_turn : {A : Type 0} (old new : Tx S) (x : A) (Fact : A → Tables → Type 0) → Reads g old new (Ok x) Fact → Turns g old new (Ok x) (λ y t u. Fact y t × (u ≡ t))
+  pub reads_turn : {A : Type 0} (old new : Tx S) (x : A) (Fact : A → Tables → Type 0)
+      → Reads g old new (Ok x) Fact → Turns g old new (Ok x) (λ y t u. Fact y t × (u ≡ t))
   reads_turn old new x Fact r = record {
     frame = r.frame;
     does = λ clean t stands.
@@ -30,38 +36,67 @@ module _ {S : Type 0} (g : store.Ghosts S) where
         let same = told.1.0.now_is in (
           t,
           (told.0, refl),
-          (subst (λ db. Stands db t) (sym same) stands, subst (λ db. KeepsForeign (shown g old).now db) (sym same) (λ name table at place other. (place, refl))),
+          (
+            subst (λ db. Stands db t) (sym same) stands,
+            subst (λ db. KeepsForeign (shown g old).now db) (sym same)
+                (λ name table at place other. (place, refl)),
+          ),
         );
   }
 
   -- a change makes the rows that it says
-  pub writes_turn : {A : Type 0} (old new : Tx S) (x : A) (change : Tables → Tables) → Writes g old new (Ok x) change → Turns g old new (Ok x) (λ y t u. u ≡ change t)
-  writes_turn old new x change w = record { frame = w.frame; does = λ clean t stands. (change t, refl, w.does clean t stands) }
+  pub writes_turn : {A : Type 0} (old new : Tx S) (x : A) (change : Tables → Tables)
+      → Writes g old new (Ok x) change → Turns g old new (Ok x) (λ y t u. u ≡ change t)
+  writes_turn old new x change w =
+      record { frame = w.frame; does = λ clean t stands. (change t, refl, w.does clean t stands) }
 
-  pub one_turns : {A X : Type 0} (old new : Tx S) (x : A) (found : Tables → List X) (change : Tables → Tables) → WritesOne g old new (Ok x) found change → Turns g old new (Ok x) (λ y t u. u ≡ change t)
-  one_turns old new x found change w = record { frame = w.frame; does = λ clean t stands. (change t, refl, (w.does clean t stands).1) }
+  pub one_turns : {A X : Type 0} (old new : Tx S) (x : A) (found : Tables → List X) (change : Tables
+      → Tables) → WritesOne g old new (Ok x) found change
+      → Turns g old new (Ok x) (λ y t u. u ≡ change t)
+  one_turns old new x found change w =
+      record {
+        frame = w.frame;
+        does = λ clean t stands. (change t, refl, (w.does clean t stands).1);
+      }
 
   -- what follows of a change
-  pub turns_on : {A B : Type 0} (old new : Tx S) (x : A) (y : B) (So : A → Tables → Tables → Type 0) (More : B → Tables → Tables → Type 0) → ((t u : Tables) → So x t u → More y t u) → Turns g old new (Ok x) So → Turns g old new (Ok y) More
+  pub turns_on : {A B : Type 0} (old new : Tx S) (x : A) (y : B) (So : A → Tables → Tables → Type 0)
+      (More : B → Tables → Tables → Type 0) → ((t u : Tables) → So x t u → More y t u)
+      → Turns g old new (Ok x) So → Turns g old new (Ok y) More
   turns_on old new x y So More tells p = record {
     frame = goes_on g old new x y p.frame;
     does = λ clean t stands. let one = p.does clean t stands in (one.0, tells t one.0 one.1, one.2);
   }
 
   -- two changes, one after the other
-  pub turns_then : {A B C : Type 0} (old mid new : Tx S) (x : A) (y : B) (z : C) (First : A → Tables → Tables → Type 0) (Second : B → Tables → Tables → Type 0) (Both : C → Tables → Tables → Type 0)
-      → ((t u v : Tables) → First x t u → Second y u v → Both z t v) → Turns g old mid (Ok x) First → Turns g mid new (Ok y) Second → Turns g old new (Ok z) Both
+  pub turns_then : {A B C : Type 0} (old mid new : Tx S) (x : A) (y : B) (z : C) (First : A → Tables
+      → Tables → Type 0) (Second : B → Tables → Tables → Type 0) (Both : C → Tables → Tables
+      → Type 0)
+      → ((t u v : Tables) → First x t u → Second y u v → Both z t v) → Turns g old mid (Ok x) First
+      → Turns g mid new (Ok y) Second → Turns g old new (Ok z) Both
   turns_then old mid new x y z First Second Both tells p q = record {
     frame = then_goes g old mid new x y z p.frame q.frame;
     does = λ clean t stands.
         let one = p.does (omega (arith, q.frame.crash.clean)) t stands in
-        let two = q.does clean one.0 one.2.0 in
-        (two.0, tells t one.0 two.0 one.1 two.1, (two.2.0, foreign_then (shown g old).now (shown g mid).now (shown g new).now one.2.1 two.2.1));
+        let two = q.does clean one.0 one.2.0 in (
+          two.0,
+          tells t one.0 two.0 one.1 two.1,
+          (
+            two.2.0,
+            foreign_then (shown g old).now (shown g mid).now (shown g new).now one.2.1
+                two.2.1,
+          ),
+        );
   }
 
   -- rows are read, and then others made of them
-  pub read_then_turn : {A B : Type 0} (old mid new : Tx S) (x : A) (result : Result B StoreFault) (Fact : A → Tables → Type 0) (So All : B → Tables → Tables → Type 0)
-      → ((y : B) (t u : Tables) → Fact x t → So y t u → All y t u) → Reads g old mid (Ok x) Fact → Turns g mid new result So → Turns g old new result All
+  pub read_then_turn : {A B : Type 0} (old mid new : Tx S) (x : A) (result : Result B StoreFault)
+      (Fact : A → Tables → Type 0) (So All : B → Tables → Tables → Type 0)
+      → ((y : B) (t u : Tables) → Fact x t → So y t u → All y t u) → Reads g old mid (Ok x) Fact
+      → Turns g mid new result So → Turns g old new result All
   read_then_turn old mid new x (Ok y) Fact So All tells r w =
-      turns_then old mid new x y y (λ z t u. Fact z t × (u ≡ t)) So All (λ t u v known so. tells y t v known.0 (subst (λ (z : Tables). So y z v) known.1 so)) (reads_turn old mid x Fact r) w
-  read_then_turn old mid new x (Err e) Fact So All tells r w = record { frame = then_fails g old mid new x e r.frame w.frame; does = λ clean. tt }
+      turns_then old mid new x y y (λ z t u. Fact z t × (u ≡ t)) So All
+      (λ t u v known so. tells y t v known.0 (subst (λ (z : Tables). So y z v) known.1 so))
+      (reads_turn old mid x Fact r) w
+  read_then_turn old mid new x (Err e) Fact So All tells r w =
+      record { frame = then_fails g old mid new x e r.frame w.frame; does = λ clean. tt }

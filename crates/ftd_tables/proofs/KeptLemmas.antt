@@ -1,5 +1,7 @@
 -- What SQL makes of a table that is a list of typed rows.
-use Rattle.std.proofs.Common.{negsuc, Option, None, Some, slice_get, unwrap_or, nat_le, ◌-◌, ◌^◌, ◌≡◌, ℕ, ℤ, pos, List, [], ◌∷◌, map, Bool, true, false, cond, refl, sym, ap, subst, ◌∙◌, is_eq}
+use Rattle.std.proofs.Common.{negsuc, Option, None, Some, slice_get, unwrap_or, nat_le, ◌-◌, ◌^◌}
+use Rattle.std.proofs.Common.{◌≡◌, ℕ, ℤ, pos, List, [], ◌∷◌, map, Bool, true, false, cond, refl}
+use Rattle.std.proofs.Common.{sym, ap, subst, ◌∙◌, is_eq}
 use Rattle.std.specs.Prelude.{filter, flat_map, ◌&&◌, bytes_eq}
 use Rattle.std.specs.List.{list_all}
 use Rattle.std.proofs.lemmas.Map.Text.{is_eq-slice_cmp}
@@ -25,26 +27,34 @@ use Rattle.ftd_tables.specs.Kept.{stored}
 
 -- the ways to fill a query over one table
 abbrev pub scan : List Term → Row → List Row → List Env
-scan filters params = flat_map (λ r. cond (list_all (holds (params ∷ r ∷ [])) filters) ((params ∷ r ∷ []) ∷ []) [])
+scan filters params = flat_map (λ r. cond (list_all (holds (params ∷ r ∷ [])) filters)
+    ((params ∷ r ∷ []) ∷ []) [])
 
 -- the rows that pass a WHERE are those of the typed rows that pass a test
 pub scanned : {X : Type 0} (cells : X → Row) (test : X → Bool) (filters : List Term) (params : Row)
     → ((p : ℤ × X) → list_all (holds (params ∷ stored cells p ∷ [])) filters ≡ test p.1)
-    → (kept : List (ℤ × X)) → scan filters params (map (stored cells) kept) ≡ map (λ p. params ∷ stored cells p ∷ []) (filter (λ p. test p.1) kept)
+    → (kept : List (ℤ × X)) → scan filters params (map (stored cells) kept) ≡ map
+    (λ p. params ∷ stored cells p ∷ []) (filter (λ p. test p.1) kept)
 scanned cells test filters params same [] = refl
-scanned cells test filters params same (p ∷ kept) = go (test p.1) refl (scanned cells test filters params same kept)
+scanned cells test filters params same (p ∷ kept) =
+    go (test p.1) refl (scanned cells test filters params same kept)
   where
-    go : (b : Bool) → test p.1 ≡ b → scan filters params (map (stored cells) kept) ≡ map (λ p. params ∷ stored cells p ∷ []) (filter (λ p. test p.1) kept)
-        → scan filters params (map (stored cells) (p ∷ kept)) ≡ map (λ p. params ∷ stored cells p ∷ []) (filter (λ p. test p.1) (p ∷ kept))
+    go : (b : Bool) → test p.1 ≡ b → scan filters params (map (stored cells) kept) ≡ map
+        (λ p. params ∷ stored cells p ∷ []) (filter (λ p. test p.1) kept)
+        → scan filters params (map (stored cells) (p ∷ kept)) ≡ map
+        (λ p. params ∷ stored cells p ∷ []) (filter (λ p. test p.1) (p ∷ kept))
     go true is more = rw (same p, is) (ap (λ all. (params ∷ stored cells p ∷ []) ∷ all) more)
     go false is more = rw (same p, is) more
 
-pub filter_typed : {X : Type 0} (test : X → Bool) (kept : List (ℤ × X)) → map (λ p. p.1) (filter (λ p. test p.1) kept) ≡ filter test (map (λ p. p.1) kept)
+pub filter_typed : {X : Type 0} (test : X → Bool) (kept : List (ℤ × X))
+    → map (λ p. p.1) (filter (λ p. test p.1) kept) ≡ filter test (map (λ p. p.1) kept)
 filter_typed test [] = refl
 filter_typed test (p ∷ kept) = go (test p.1) refl (filter_typed test kept)
   where
-    go : (b : Bool) → test p.1 ≡ b → map (λ p. p.1) (filter (λ p. test p.1) kept) ≡ filter test (map (λ p. p.1) kept)
-        → map (λ p. p.1) (filter (λ p. test p.1) (p ∷ kept)) ≡ filter test (map (λ p. p.1) (p ∷ kept))
+    go : (b : Bool) → test p.1 ≡ b → map (λ p. p.1) (filter (λ p. test p.1) kept) ≡ filter test
+        (map (λ p. p.1) kept)
+        → map (λ p. p.1) (filter (λ p. test p.1) (p ∷ kept)) ≡ filter test
+        (map (λ p. p.1) (p ∷ kept))
     go true is more = rw is (ap (λ all. p.1 ∷ all) more)
     go false is more = rw is more
 
@@ -52,7 +62,8 @@ filter_typed test (p ∷ kept) = go (test p.1) refl (filter_typed test kept)
 pub same_text : (a b : List ℕ) → is_eq (value_cmp (Text a) (Text b)) ≡ bytes_eq a b
 same_text a b = ap is_eq (value_cmp-Text a b) ∙ is_eq-slice_cmp a b
 
-pub map_map : {A B C : Type 0} (f : B → C) (g : A → B) (xs : List A) → map f (map g xs) ≡ map (λ x. f (g x)) xs
+pub map_map : {A B C : Type 0} (f : B → C) (g : A → B) (xs : List A)
+    → map f (map g xs) ≡ map (λ x. f (g x)) xs
 map_map f g [] = refl
 map_map f g (x ∷ xs) = ap (λ all. f (g x) ∷ all) (map_map f g xs)
 
@@ -75,21 +86,30 @@ plain_query tree filters project order = record {
 pub same_tree : (db : Trees) (t : ℕ) → overlay db [] t ≡ db t
 same_tree db t = go (nat_le (2 ^ 31) t)
   where
-    go : (b : Bool) → unwrap_or (cond b (slice_get {X = List Row} [] (t - 2 ^ 31)) None) (db t) ≡ db t
+    go : (b : Bool) → unwrap_or (cond b (slice_get {X = List Row} [] (t - 2 ^ 31)) None) (db t)
+        ≡ db t
     go true = refl
     go false = refl
 
 -- an answer in no order is a permutation of the rows that pass
-pub answer_unordered : (tree : ℕ) (filters project : List Term) (db : Trees) (params : Row) (rows : List Row)
+pub answer_unordered : (tree : ℕ) (filters project : List Term) (db : Trees) (params : Row)
+    (rows : List Row)
     → IsAnswer (plain_query tree filters project []) (overlay db []) params rows
     → IsPermutation (map (eval_all project) (scan filters params (db tree))) rows
 answer_unordered tree filters project db params rows a =
     let q = plain_query tree filters project [] in
-    let staged : a.staged ≡ scan filters params (db tree) = a.grouped ∙ ap (scan filters params) (same_tree db tree) in
-    let kept : a.kept ≡ map (output q) (scan filters params (db tree)) = a.distinct ∙ ap (map (output q)) staged in
-    let moved : IsPermutation (map (output q) (scan filters params (db tree))) a.ordered = subst (λ k. IsPermutation k a.ordered) kept a.same in
-    let shown : IsPermutation (map (λ (o : Output). o.1) (map (output q) (scan filters params (db tree)))) (map (λ (o : Output). o.1) a.ordered) = IsPermutation-map (λ (o : Output). o.1) _ _ moved in
-    subst (IsPermutation (map (eval_all project) (scan filters params (db tree)))) (sym a.shown) (subst (λ l. IsPermutation l (map (λ (o : Output). o.1) a.ordered)) (map_map (λ (o : Output). o.1) (output q) (scan filters params (db tree))) shown)
+    let staged : a.staged ≡ scan filters params (db tree) = a.grouped ∙ ap (scan filters params)
+    (same_tree db tree) in
+    let kept : a.kept ≡ map (output q) (scan filters params (db tree)) = a.distinct
+    ∙ ap (map (output q)) staged in
+    let moved : IsPermutation (map (output q) (scan filters params (db tree))) a.ordered =
+    subst (λ k. IsPermutation k a.ordered) kept a.same in
+    let shown : IsPermutation
+    (map (λ (o : Output). o.1) (map (output q) (scan filters params (db tree))))
+    (map (λ (o : Output). o.1) a.ordered) = IsPermutation-map (λ (o : Output). o.1) _ _ moved in
+    subst (IsPermutation (map (eval_all project) (scan filters params (db tree)))) (sym a.shown)
+    (subst (λ l. IsPermutation l (map (λ (o : Output). o.1) a.ordered))
+    (map_map (λ (o : Output). o.1) (output q) (scan filters params (db tree))) shown)
 
 pub truth_is : (b : Bool) → is_true (from_truth (Some b)) ≡ b
 truth_is true = refl

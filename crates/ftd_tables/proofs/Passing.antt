@@ -1,7 +1,9 @@
 -- The tests of a WHERE on texts and whole numbers.
-use Rattle.std.proofs.Common.{inl, inr, ◌≡◌, ℤ, pos, negsuc, false, refl, sym, ap, ◌∙◌, Some, int_cmp, is_eq, arith}
+use Rattle.std.proofs.Common.{inl, inr, ◌≡◌, ℤ, pos, negsuc, false, refl, sym, ap, ◌∙◌, Some}
+use Rattle.std.proofs.Common.{int_cmp, is_eq, arith}
 use Rattle.std.specs.Prelude.{int_le, int_lt, ◌≤ℤ◌, ◌<ℤ◌, ◌⊎◌, List, ℕ, Bool, true, ◌&&◌}
-use Rattle.std.specs.Ordering.{is_ge, is_le, is_lt, int_eq, nat_cmp, ordering_then, ordering_reverse}
+use Rattle.std.specs.Ordering.{is_ge, is_le, is_lt, int_eq, nat_cmp, ordering_then}
+use Rattle.std.specs.Ordering.{ordering_reverse}
 use Rattle.std.proofs.lemmas.Int.{ints}
 use Rattle.std.proofs.lemmas.Bool.Decides.{nat_tests}
 use Rattle.sqlite.specs.declared.types.Value.TheVariants.{Int, Text}
@@ -40,19 +42,23 @@ less_is (negsuc m) (negsuc n) = grind (arith, nat_tests)
 
 pub whole_is : (m n : ℤ) → is_true (binary (Compare Eq Binary) (Int m) (Int n)) ≡ int_eq m n
 unfolding binary
-whole_is m n = ap (λ o. is_true (from_truth (Some (is_eq o)))) (value_cmp-Int m n) ∙ truth_is (int_eq m n)
+whole_is m n = ap (λ o. is_true (from_truth (Some (is_eq o)))) (value_cmp-Int m n)
+    ∙ truth_is (int_eq m n)
 
 pub below_is : (m n : ℤ) → is_true (binary (Compare Lt Binary) (Int m) (Int n)) ≡ int_lt m n
 unfolding binary
-below_is m n = ap (λ o. is_true (from_truth (Some (is_lt o)))) (value_cmp-Int m n) ∙ truth_is (is_lt (int_cmp m n)) ∙ less_is m n
+below_is m n = ap (λ o. is_true (from_truth (Some (is_lt o)))) (value_cmp-Int m n)
+    ∙ truth_is (is_lt (int_cmp m n)) ∙ less_is m n
 
 pub at_least_is : (m n : ℤ) → is_true (binary (Compare Ge Binary) (Int m) (Int n)) ≡ int_le n m
 unfolding binary
-at_least_is m n = ap (λ o. is_true (from_truth (Some (is_ge o)))) (value_cmp-Int m n) ∙ truth_is (is_ge (int_cmp m n)) ∙ from_is m n
+at_least_is m n = ap (λ o. is_true (from_truth (Some (is_ge o)))) (value_cmp-Int m n)
+    ∙ truth_is (is_ge (int_cmp m n)) ∙ from_is m n
 
 pub at_most_is : (m n : ℤ) → is_true (binary (Compare Le Binary) (Int m) (Int n)) ≡ int_le m n
 unfolding binary
-at_most_is m n = ap (λ o. is_true (from_truth (Some (is_le o)))) (value_cmp-Int m n) ∙ truth_is (is_le (int_cmp m n)) ∙ to_is m n
+at_most_is m n = ap (λ o. is_true (from_truth (Some (is_le o)))) (value_cmp-Int m n)
+    ∙ truth_is (is_le (int_cmp m n)) ∙ to_is m n
 
 le_if : (m n : ℤ) → is_lt (int_cmp n m) ≡ false → m ≤ℤ n
 le_if (pos m) (pos n) h = grind (arith, nat_tests, ints)
@@ -67,10 +73,12 @@ one_passes a x e = and_true a ∙ e
 pub two_pass : (a b x y : Bool) → a ≡ x → b ≡ y → (a && (b && true)) ≡ (x && y)
 two_pass a b x y e f = rw (e, f, and_true y) refl
 
-pub three_pass : (a b c x y z : Bool) → a ≡ x → b ≡ y → c ≡ z → (a && (b && (c && true))) ≡ (x && (y && z))
+pub three_pass : (a b c x y z : Bool) → a ≡ x → b ≡ y → c ≡ z
+    → (a && (b && (c && true))) ≡ (x && (y && z))
 three_pass a b c x y z e f g = rw (e, f, g, and_true z) refl
 
-pub four_pass : (a b c d x y z w : Bool) → a ≡ x → b ≡ y → c ≡ z → d ≡ w → (a && (b && (c && (d && true)))) ≡ (x && (y && (z && w)))
+pub four_pass : (a b c d x y z w : Bool) → a ≡ x → b ≡ y → c ≡ z → d ≡ w
+    → (a && (b && (c && (d && true)))) ≡ (x && (y && (z && w)))
 four_pass a b c d x y z w e f g h = rw (e, f, g, h, and_true w) refl
 
 -- ---- what an order says of two rows that follow one another
@@ -87,22 +95,34 @@ pub one_rises : (a b : ℤ) → is_lt (ordering_then (value_cmp (Int b) (Int a))
 one_rises a b h = whole_rises a b (sym (ap is_lt (then-Equal (value_cmp (Int b) (Int a)))) ∙ h)
 
 -- where what comes first does not come after, the second decides where it is the same
-then_by : (o : Ordering) (m n : ℤ) → is_lt (ordering_then o (ordering_then (value_cmp (Int n) (Int m)) Equal)) ≡ false → (o ≡ Greater) ⊎ ((o ≡ Equal) × (m ≤ℤ n))
+then_by : (o : Ordering) (m n : ℤ)
+    → is_lt (ordering_then o (ordering_then (value_cmp (Int n) (Int m)) Equal)) ≡ false
+    → (o ≡ Greater) ⊎ ((o ≡ Equal) × (m ≤ℤ n))
 then_by Less m n h = absurd cc
 then_by Equal m n h = inr (refl, one_rises m n h)
 then_by Greater m n h = inl refl
 
 -- by two numbers
-pub two_rise : (a b m n : ℤ) → is_lt (ordering_then (value_cmp (Int b) (Int a)) (ordering_then (value_cmp (Int n) (Int m)) Equal)) ≡ false → (a <ℤ b) ⊎ ((a ≡ b) × (m ≤ℤ n))
+pub two_rise : (a b m n : ℤ)
+    → is_lt (ordering_then (value_cmp (Int b) (Int a))
+    (ordering_then (value_cmp (Int n) (Int m)) Equal)) ≡ false → (a <ℤ b) ⊎ ((a ≡ b) × (m ≤ℤ n))
 two_rise a b m n h = elim (then_by (value_cmp (Int b) (Int a)) m n h) [
   | inl after ↦ inl (int_ranked b a Greater (sym after ∙ value_cmp-Int b a))
   | inr same ↦ inr (sym (int_ranked b a Equal (sym same.0 ∙ value_cmp-Int b a)), same.1)
 ]
 
 -- by a text and a number
-pub text_then_number : (a b : List ℕ) (m n : ℤ) → is_lt (ordering_then (value_cmp (Text b) (Text a)) (ordering_then (value_cmp (Int n) (Int m)) Equal)) ≡ false
+pub text_then_number : (a b : List ℕ) (m n : ℤ)
+    → is_lt (ordering_then (value_cmp (Text b) (Text a))
+    (ordering_then (value_cmp (Int n) (Int m)) Equal)) ≡ false
     → (slice_cmp nat_cmp a b ≡ Less) ⊎ ((a ≡ b) × (m ≤ℤ n))
 text_then_number a b m n h = elim (then_by (value_cmp (Text b) (Text a)) m n h) [
-  | inl after ↦ inl (nat_list_cmp_total.antisymm a b ∙ ap ordering_reverse (sym (value_cmp-Text b a) ∙ after))
-  | inr same ↦ inr (sym (slice_cmp-IsAntisymmetric nat_cmp-IsAntisymmetric b a (sym (value_cmp-Text b a) ∙ same.0)), same.1)
+  | inl after ↦ inl (nat_list_cmp_total.antisymm a b ∙ ap ordering_reverse (sym (value_cmp-Text b a)
+      ∙ after))
+  | inr same ↦
+      inr (
+        sym (slice_cmp-IsAntisymmetric nat_cmp-IsAntisymmetric b a (sym (value_cmp-Text b a)
+            ∙ same.0)),
+        same.1,
+      )
 ]

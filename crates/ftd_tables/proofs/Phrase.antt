@@ -1,6 +1,8 @@
 -- Expressions whose meaning does not turn on where their table stands.
-use Rattle.std.proofs.Common.{◌≡◌, ℕ, zero, suc, List, [], ◌∷◌, codes, Option, Some, None, Ok, Err, refl, sym, ap, cond, ◌∙◌, Bool, true, false, slice_get}
-use Rattle.std.specs.Prelude.{is_some, ◌&&◌, option_and_then, option_map, unwrap_or, if◌then◌else◌, ◌==◌}
+use Rattle.std.proofs.Common.{◌≡◌, ℕ, zero, suc, List, [], ◌∷◌, codes, Option, Some, None, Ok, Err}
+use Rattle.std.proofs.Common.{refl, sym, ap, cond, ◌∙◌, Bool, true, false, slice_get}
+use Rattle.std.specs.Prelude.{is_some, ◌&&◌, option_and_then, option_map, unwrap_or, if◌then◌else◌}
+use Rattle.std.specs.Prelude.{◌==◌}
 use Rattle.sqlite.specs.Schema.{Schema}
 use Rattle.sqlite.specs.Table.{Table}
 use Rattle.sqlite.specs.Term.{Term, lit, col, op1, op2, case}
@@ -15,12 +17,15 @@ use Rattle.sqlite_resolve.specs.declared.state.Carried.{Carried}
 use Rattle.sqlite_resolve.specs.declared.scope.Output.{Output}
 use Rattle.sqlite_resolve.specs.declared.scope.Bound.{Bound}
 use Rattle.sqlite_resolve.specs.declared.scope.Level.{Level}
-use Rattle.sqlite_resolve.specs.Lowering.{Checked, and_then, Lowering, ◌>>=◌, ◌>>◌, pure, spend, begin, finish, last, chosen}
+use Rattle.sqlite_resolve.specs.Lowering.{Checked, and_then, Lowering, ◌>>=◌, ◌>>◌, pure, spend}
+use Rattle.sqlite_resolve.specs.Lowering.{begin, finish, last, chosen}
 use Rattle.sqlite_resolve.specs.Scope.{Name, Context, column}
-use Rattle.sqlite_resolve.specs.Compare.{of_column, compared, affinity_of, at_place, of_declared, or_else}
+use Rattle.sqlite_resolve.specs.Compare.{of_column, compared, affinity_of, at_place, of_declared}
+use Rattle.sqlite_resolve.specs.Compare.{or_else}
 use Rattle.sqlite_resolve.specs.declared.compare.Affinity.{Affinity}
 use Rattle.sqlite_resolve.specs.declared.compare.Affinity.TheVariants as affinity
-use Rattle.sqlite_resolve.specs.Expr.{lower_to, node, opened, passes, both, combine, operation, wanted_truth, tests_truth, tests_alias}
+use Rattle.sqlite_resolve.specs.Expr.{lower_to, node, opened, passes, both, combine, operation}
+use Rattle.sqlite_resolve.specs.Expr.{wanted_truth, tests_truth, tests_alias}
 use Rattle.sqlite_sql.specs.declared.ops.BinaryOp.{BinaryOp}
 use Rattle.sqlite_tied.specs.Compute.{everything}
 
@@ -69,15 +74,30 @@ knows t (Two op a b) = knows t a && knows t b
 -- ---- the table, at its place and alone
 
 abbrev pub here : Schema → ℕ → Name → List Output → Bool → Context
-here s at name shown may = record { schema = s; levels = (let l : Level = record { tables = (let b : Bound = record { name = name; table = at; slot = 1; shared = [] } in b) ∷ []; shown = shown } in l) ∷ []; may_aggregate = may; may_alias = true }
+here s at name shown may =
+    record {
+      schema = s;
+      levels = (let l : Level =
+          record {
+            tables =
+                (let b : Bound = record { name = name; table = at; slot = 1; shared = [] } in
+                b) ∷ [];
+            shown = shown;
+          } in l) ∷ [];
+      may_aggregate = may;
+      may_alias = true;
+    }
 
 abbrev pub alone : Table → Schema
 alone t = record { tables = t ∷ []; indexes = []; views = [] }
 
 -- ---- steps
 
-pub bind_same : {A B : Type 0} (p q : Lowering A) (f g : A → Lowering B) → ((st : State) → p st ≡ q st) → ((a : A) (st : State) → f a st ≡ g a st) → (st : State) → (p >>= f) st ≡ (q >>= g) st
-bind_same {A = A} {B = B} p q f g same each st = ap (λ r. and_then r (λ x. f x.0 x.1)) (same st) ∙ go (q st)
+pub bind_same : {A B : Type 0} (p q : Lowering A) (f g : A → Lowering B)
+    → ((st : State) → p st ≡ q st) → ((a : A) (st : State) → f a st ≡ g a st) → (st : State)
+    → (p >>= f) st ≡ (q >>= g) st
+bind_same {A = A} {B = B} p q f g same each st = ap (λ r. and_then r (λ x. f x.0 x.1)) (same st)
+    ∙ go (q st)
   where
     go : (r : Checked (A × State)) → and_then r (λ x. f x.0 x.1) ≡ and_then r (λ x. g x.0 x.1)
     go (Ok x) = each x.0 x.1
@@ -94,39 +114,56 @@ pub and_right : (a b : Bool) → (a && b) ≡ true → b ≡ true
 and_right true b h = h
 and_right false b h = absurd cc
 
-module _ (s : Schema) (at : ℕ) (t : Table) (listed : slice_get s.tables at ≡ Some t) (name : Name) (shown : List Output) (may : Bool) where
-  column_by : (c : Name) (st : State) (o : Option ℕ) → column_named t c ≡ o → is_some o ≡ true → column (here s at name shown may) None c st ≡ column (here (alone t) 0 name shown may) None c st
+module _ (s : Schema) (at : ℕ) (t : Table) (listed : slice_get s.tables at ≡ Some t) (name : Name)
+    (shown : List Output) (may : Bool) where
+  column_by : (c : Name) (st : State) (o : Option ℕ) → column_named t c ≡ o → is_some o ≡ true
+      → column (here s at name shown may) None c st ≡ column (here (alone t) 0 name shown may) None
+      c st
   unfolding everything
   column_by c st (Some k) is h = rw (listed, is, listed) refl
   column_by c st None is h = absurd cc
 
-  pub column_same : (c : Name) → is_some (column_named t c) ≡ true → Alike (column (here s at name shown may) None c) (column (here (alone t) 0 name shown may) None c)
+  pub column_same : (c : Name) → is_some (column_named t c) ≡ true
+      → Alike (column (here s at name shown may) None c)
+      (column (here (alone t) 0 name shown may) None c)
   column_same c known st = column_by c st (column_named t c) refl known
 
   place_same : (k : ℕ) → at_place s at k ≡ at_place (alone t) 0 k
   place_same zero = refl
-  place_same (suc k) = ap (λ o. unwrap_or (option_map of_declared (option_and_then (λ (t : Table). slice_get t.columns k) o)) affinity.None) listed
+  place_same (suc k) =
+      ap (λ o. unwrap_or
+      (option_map of_declared (option_and_then (λ (t : Table). slice_get t.columns k) o))
+      affinity.None) listed
 
   abbrev in_slot : Bool → Schema → ℕ → ℕ → Affinity
-  in_slot b s' at' k = unwrap_or (option_map (λ table. at_place s' table k) (or_else (option_map (λ (b : Bound). b.table) (cond b (Some (record { name = name; table = at'; slot = 1; shared = [] })) None)) None)) affinity.None
+  in_slot b s' at' k =
+      unwrap_or (option_map (λ table. at_place s' table k)
+      (or_else (option_map (λ (b : Bound). b.table)
+      (cond b (Some (record { name = name; table = at'; slot = 1; shared = [] })) None)) None))
+      affinity.None
 
   place_by : (b : Bool) (k : ℕ) → in_slot b s at k ≡ in_slot b (alone t) 0 k
   place_by true k = place_same k
   place_by false k = refl
 
-  affinity_same : (x : Term) → affinity_of (here s at name shown may) x ≡ affinity_of (here (alone t) 0 name shown may) x
+  affinity_same : (x : Term) → affinity_of (here s at name shown may) x ≡ affinity_of
+      (here (alone t) 0 name shown may) x
   unfolding affinity_of of_column
   affinity_same (lit v) = refl
-  affinity_same (col slot k) = ap (λ x. if slot == 0 && k == 0 then affinity.None else x) (place_by (1 == slot) k)
+  affinity_same (col slot k) = ap (λ x. if slot == 0 && k == 0 then affinity.None else x)
+      (place_by (1 == slot) k)
   affinity_same (op1 op a) = refl
   affinity_same (op2 op a b) = refl
   affinity_same (case x a b) = refl
 
-  compared_same : (op : BinaryOp) (x y : Term) → compared (here s at name shown may) op x y ≡ compared (here (alone t) 0 name shown may) op x y
+  compared_same : (op : BinaryOp) (x y : Term) → compared (here s at name shown may) op x y
+      ≡ compared (here (alone t) 0 name shown may) op x y
   unfolding compared
   compared_same op x y = rw (affinity_same x, affinity_same y) refl
 
-  combine_same : (op : Op) (how : Collation) (x y : Term) → Alike (combine (here s at name shown may) (word op) how x y) (combine (here (alone t) 0 name shown may) (word op) how x y)
+  combine_same : (op : Op) (how : Collation) (x y : Term)
+      → Alike (combine (here s at name shown may) (word op) how x y)
+      (combine (here (alone t) 0 name shown may) (word op) how x y)
   unfolding combine
   combine_same And how x y st = refl
   combine_same Eq how x y st = ap (λ z. Ok (z, st)) (compared_same _ x y)
@@ -137,9 +174,13 @@ module _ (s : Schema) (at : ℕ) (t : Table) (listed : slice_get s.tables at ≡
   combine_same Ge how x y st = ap (λ z. Ok (z, st)) (compared_same _ x y)
 
 abbrev sides : (Context → Expr → Lowering Term) → Context → Op → Expr → Expr → Lowering Term
-sides lower cx op a b = lower cx a >>= (λ x. last >>= (λ p. lower cx b >>= (λ y. last >>= (λ q. combine cx (word op) (chosen p q) x y))))
+sides lower cx op a b =
+    lower cx a >>=
+    (λ x. last >>=
+    (λ p. lower cx b >>= (λ y. last >>= (λ q. combine cx (word op) (chosen p q) x y))))
 
-operation_is : (lower : Context → Expr → Lowering Term) (cx : Context) (op : Op) (a b : Expr) → Alike (operation lower cx (word op) a b) (sides lower cx op a b)
+operation_is : (lower : Context → Expr → Lowering Term) (cx : Context) (op : Op) (a b : Expr)
+    → Alike (operation lower cx (word op) a b) (sides lower cx op a b)
 unfolding operation both wanted_truth tests_truth tests_alias
 operation_is lower cx And a b st = refl
 operation_is lower cx Eq a b st = refl
@@ -149,22 +190,35 @@ operation_is lower cx Le a b st = refl
 operation_is lower cx Gt a b st = refl
 operation_is lower cx Ge a b st = refl
 
-node_same : (f g : Context → Expr → Lowering Term) (cx dx : Context) (x : Expr) → Alike (opened f cx x) (opened g dx x) → Alike (node f cx x) (node g dx x)
+node_same : (f g : Context → Expr → Lowering Term) (cx dx : Context) (x : Expr)
+    → Alike (opened f cx x) (opened g dx x) → Alike (node f cx x) (node g dx x)
 unfolding node
 node_same f g cx dx x same =
     let rest = λ (outer : Option Collation) (t : Term). finish outer (passes x) >> pure t in
-    let tail : (outer : Option Collation) → Alike (opened f cx x >>= rest outer) (opened g dx x >>= rest outer) = λ outer. bind_same (opened f cx x) (opened g dx x) (rest outer) (rest outer) same (λ v st. refl) in
-    bind_same (spend 1) (spend 1) (λ _. begin >>= (λ outer. opened f cx x >>= rest outer)) (λ _. begin >>= (λ outer. opened g dx x >>= rest outer)) (λ st. refl)
-    (λ _. bind_same begin begin (λ outer. opened f cx x >>= rest outer) (λ outer. opened g dx x >>= rest outer) (λ st. refl) tail)
+    let tail : (outer : Option Collation) → Alike (opened f cx x >>= rest outer)
+    (opened g dx x >>= rest outer) = λ outer. bind_same (opened f cx x) (opened g dx x) (rest outer)
+    (rest outer) same (λ v st. refl) in
+    bind_same (spend 1) (spend 1) (λ _. begin >>= (λ outer. opened f cx x >>= rest outer))
+    (λ _. begin >>= (λ outer. opened g dx x >>= rest outer)) (λ st. refl)
+    (λ _. bind_same begin begin (λ outer. opened f cx x >>= rest outer)
+    (λ outer. opened g dx x >>= rest outer) (λ st. refl) tail)
 
-module _ (s : Schema) (at : ℕ) (t : Table) (listed : slice_get s.tables at ≡ Some t) (name : Name) (shown : List Output) (may : Bool) where
-  pub lower_same : (d : ℕ) (p : Phrase) → knows t p ≡ true → Alike (lower_to d (here s at name shown may) (say p)) (lower_to d (here (alone t) 0 name shown may) (say p))
+module _ (s : Schema) (at : ℕ) (t : Table) (listed : slice_get s.tables at ≡ Some t) (name : Name)
+    (shown : List Output) (may : Bool) where
+  pub lower_same : (d : ℕ) (p : Phrase) → knows t p ≡ true
+      → Alike (lower_to d (here s at name shown may) (say p))
+      (lower_to d (here (alone t) 0 name shown may) (say p))
   unfolding lower_to opened everything
   lower_same zero p known = λ st. refl
-  lower_same (suc d) (Column c) known = node_same (lower_to d) (lower_to d) (here s at name shown may) (here (alone t) 0 name shown may) (say (Column c)) (column_same s at t listed name shown may c known)
-  lower_same (suc d) (Given n) known = node_same (lower_to d) (lower_to d) (here s at name shown may) (here (alone t) 0 name shown may) (say (Given n)) (λ st. refl)
-  lower_same (suc d) (Whole text) known = node_same (lower_to d) (lower_to d) (here s at name shown may) (here (alone t) 0 name shown may) (say (Whole text)) (λ st. refl)
-  lower_same (suc d) Rows known = node_same (lower_to d) (lower_to d) (here s at name shown may) (here (alone t) 0 name shown may) (say Rows) (λ st. refl)
+  lower_same (suc d) (Column c) known = node_same (lower_to d) (lower_to d)
+      (here s at name shown may) (here (alone t) 0 name shown may) (say (Column c))
+      (column_same s at t listed name shown may c known)
+  lower_same (suc d) (Given n) known = node_same (lower_to d) (lower_to d)
+      (here s at name shown may) (here (alone t) 0 name shown may) (say (Given n)) (λ st. refl)
+  lower_same (suc d) (Whole text) known = node_same (lower_to d) (lower_to d)
+      (here s at name shown may) (here (alone t) 0 name shown may) (say (Whole text)) (λ st. refl)
+  lower_same (suc d) Rows known = node_same (lower_to d) (lower_to d) (here s at name shown may)
+      (here (alone t) 0 name shown may) (say Rows) (λ st. refl)
   lower_same (suc d) (Two op a b) known =
       let cx = here s at name shown may in
       let dx = here (alone t) 0 name shown may in
@@ -172,11 +226,17 @@ module _ (s : Schema) (at : ℕ) (t : Table) (listed : slice_get s.tables at ≡
       let right = lower_same d b (and_right (knows t a) (knows t b) known) in
       let f = λ (y : Phrase). lower_to d cx (say y) in
       let g = λ (y : Phrase). lower_to d dx (say y) in
-      let done = λ (k : Context) (x : Term) (p : Carried) (y : Term) (q : Carried). combine k (word op) (chosen p q) x y in
-      let next = λ (h : Phrase → Lowering Term) (k : Context) (x : Term) (p : Carried). h b >>= (λ y. last >>= done k x p y) in
-      let inner : Alike (sides (lower_to d) cx op (say a) (say b)) (sides (lower_to d) dx op (say a) (say b)) =
+      let done = λ (k : Context) (x : Term) (p : Carried) (y : Term) (q : Carried). combine k
+      (word op) (chosen p q) x y in
+      let next = λ (h : Phrase → Lowering Term) (k : Context) (x : Term) (p : Carried).
+      h b >>= (λ y. last >>= done k x p y) in
+      let inner : Alike (sides (lower_to d) cx op (say a) (say b))
+      (sides (lower_to d) dx op (say a) (say b)) =
       bind_same (f a) (g a) (λ x. last >>= next f cx x) (λ x. last >>= next g dx x) left
       (λ x. bind_same last last (next f cx x) (next g dx x) (λ st. refl)
       (λ p. bind_same (f b) (g b) (λ y. last >>= done cx x p y) (λ y. last >>= done dx x p y) right
-      (λ y. bind_same last last (done cx x p y) (done dx x p y) (λ st. refl) (λ q. combine_same s at t listed name shown may op (chosen p q) x y)))) in
-      node_same (lower_to d) (lower_to d) cx dx (say (Two op a b)) (λ st. operation_is (lower_to d) cx op (say a) (say b) st ∙ inner st ∙ sym (operation_is (lower_to d) dx op (say a) (say b) st))
+      (λ y. bind_same last last (done cx x p y) (done dx x p y) (λ st. refl)
+      (λ q. combine_same s at t listed name shown may op (chosen p q) x y)))) in
+      node_same (lower_to d) (lower_to d) cx dx (say (Two op a b))
+      (λ st. operation_is (lower_to d) cx op (say a) (say b) st ∙ inner st
+      ∙ sym (operation_is (lower_to d) dx op (say a) (say b) st))

@@ -1,5 +1,8 @@
--- What one INSERT, UPDATE or DELETE does to the trees, for any table with no counter, whose rows no foreign key acts on.
-use Rattle.std.proofs.Common.{◌≡◌, ◌⊎◌, inl, inr, ℕ, List, [], ◌∷◌, map, slice_get, Bool, true, false, cond, Some, None, Option, Ok, Err, Result, refl, sym, ap, subst, ◌∙◌, length, append-nil, ◌≢◌, arith, drop, unwrap_or}
+-- What one INSERT, UPDATE or DELETE does to the trees, for any table with no counter, whose rows no
+-- foreign key acts on.
+use Rattle.std.proofs.Common.{◌≡◌, ◌⊎◌, inl, inr, ℕ, List, [], ◌∷◌, map, slice_get, Bool, true}
+use Rattle.std.proofs.Common.{false, cond, Some, None, Option, Ok, Err, Result, refl, sym, ap}
+use Rattle.std.proofs.Common.{subst, ◌∙◌, length, append-nil, ◌≢◌, arith, drop, unwrap_or}
 use Rattle.std.specs.Prelude.{flat_map, ◌/◌, ◌&&◌, ◌==◌}
 use Rattle.std.specs.List.{filter_map}
 use Rattle.sqlite.specs.Order.{Row}
@@ -40,7 +43,8 @@ and_false : (b : Bool) → (b && false) ≡ false
 and_false true = refl
 and_false false = refl
 
-pub went : {B E R : Type 0} {b : B} {Stops : E → Type 0} → ((stop : E) × Stops stop × (Ok b ≡ Err stop)) ⊎ R → R
+pub went : {B E R : Type 0} {b : B} {Stops : E → Type 0}
+    → ((stop : E) × Stops stop × (Ok b ≡ Err stop)) ⊎ R → R
 went (inl stopped) = absurd (let e = stopped.2 in cc)
 went (inr on) = on
 
@@ -48,79 +52,128 @@ pub same_value : {B E : Type 0} {a b : B} → ◌≡◌ {A = Result B E} (Ok a) 
 same_value e = cc
 
 -- where no row goes, no foreign key acts
-no_moves : (depth tree : ℕ) (child : Table) (ref : Reference) (deed : Option Deed) (key : Option ParentKey) → work_by depth tree [] child ref deed key ≡ None
+no_moves : (depth tree : ℕ) (child : Table) (ref : Reference) (deed : Option Deed)
+    (key : Option ParentKey) → work_by depth tree [] child ref deed key ≡ None
 no_moves depth tree child ref None key = refl
 no_moves depth tree child ref (Some deed) None = refl
-no_moves depth tree child ref (Some deed) (Some key) = ap (λ b. cond b (Some (record { depth = depth; child = child; ref = ref; places = key.1; order = key.2; deed = deed; moves = [] })) None) (and_false (key.0 == tree))
+no_moves depth tree child ref (Some deed) (Some key) =
+    ap (λ b. cond b
+    (Some (record {
+      depth = depth;
+      child = child;
+      ref = ref;
+      places = key.1;
+      order = key.2;
+      deed = deed;
+      moves = [];
+    })) None) (and_false (key.0 == tree))
 
-none_at : {X Y : Type 0} (f : X → Option Y) → ((x : X) → f x ≡ None) → (xs : List X) → filter_map f xs ≡ []
+none_at : {X Y : Type 0} (f : X → Option Y) → ((x : X) → f x ≡ None) → (xs : List X)
+    → filter_map f xs ≡ []
 none_at f none [] = refl
 none_at f none (x ∷ xs) = rw (none x) (none_at f none xs)
 
-pub no_works : (schema : Schema) (keys : Keys) (depth tree : ℕ) (news : List Row) → works schema keys depth tree [] news ≡ []
-no_works schema keys depth tree news = flat_map_none (λ (child : Table). filter_map (work_for schema keys depth tree [] news child) child.references)
-    (λ child. none_at (work_for schema keys depth tree [] news child) (λ ref. no_moves depth tree child ref _ _) child.references) schema.tables
+pub no_works : (schema : Schema) (keys : Keys) (depth tree : ℕ) (news : List Row)
+    → works schema keys depth tree [] news ≡ []
+no_works schema keys depth tree news =
+    flat_map_none (λ (child : Table). filter_map (work_for schema keys depth tree [] news child)
+    child.references)
+    (λ child. none_at (work_for schema keys depth tree [] news child)
+    (λ ref. no_moves depth tree child ref _ _) child.references) schema.tables
 
-pub inserted : (old new : State) (at width : ℕ) (name : List ℕ) (columns : List Column) (key : List ℕ) (references : List Reference) (tree : ℕ) (terms : List Term) (text : List ℕ) (params : Row) (count : ℕ)
+pub inserted : (old new : State) (at width : ℕ) (name : List ℕ) (columns : List Column)
+    (key : List ℕ) (references : List Reference) (tree : ℕ) (terms : List Term) (text : List ℕ)
+    (params : Row) (count : ℕ)
     → slice_get old.now.schema.tables at ≡ Some (a_table name columns key references tree)
     → Writes old new None (Insert at (Values terms width)) text params count
     → (next : Trees) × (new.now ≡ record { schema = old.now.schema; trees = next })
-    × Applies old.now.schema Enforced old.now.trees (edit_of old.now.trees (a_table name columns key references tree) [] Chosen 0 (value_rows params width (length terms / width) terms)) next
+    × Applies old.now.schema Enforced old.now.trees
+    (edit_of old.now.trees (a_table name columns key references tree) [] Chosen 0
+    (value_rows params width (length terms / width) terms)) next
 inserted old new at width name columns key references tree terms text params count there w =
     let table = a_table name columns key references tree in
     let db = old.now.trees in
     let schema = old.now.schema in
     let done = went (rw there at w.changed) in
-    let after : new.now ≡ record { schema = schema; trees = done.0.trees } = ap (λ (p : Tally × Database). p.1) (same_value (went (went done.2).2).2) in
+    let after : new.now ≡ record { schema = schema; trees = done.0.trees } =
+    ap (λ (p : Tally × Database). p.1) (same_value (went (went done.2).2).2) in
     let given = went done.1 in
     let counter = went given.2 in
     let written = went counter.2 in
     let counted = went written.2 in
     let kept : counted.0 ≡ written.0 = same_value counted.1 in
-    let next : done.0.trees ≡ written.0 = ap (λ (it : Written). it.trees) (same_value counted.2) ∙ kept in
-    let rows : given.0 ≡ value_rows params width (length terms / width) terms = given.1.1 ∙ ap (λ ps. value_rows ps width (length terms / width) terms) (append-nil params) in
+    let next : done.0.trees ≡ written.0 = ap (λ (it : Written). it.trees) (same_value counted.2)
+    ∙ kept in
+    let rows : given.0 ≡ value_rows params width (length terms / width) terms = given.1.1
+    ∙ ap (λ ps. value_rows ps width (length terms / width) terms) (append-nil params) in
     let edit : Edit = edit_of db table [] Chosen 0 given.0 in
     let writes : WritesEdit schema Enforced db edit (Ok written.0) = written.1 in
-    let step = one_step schema Enforced db written.0 edit (no_works schema Enforced 0 table.tree edit.news) writes in
-    (written.0, after ∙ ap (λ ts. (let d : Database = record { schema = schema; trees = ts } in d)) next, subst (λ rs. Applies schema Enforced db (edit_of db table [] Chosen 0 rs) written.0) rows step)
+    let step = one_step schema Enforced db written.0 edit
+    (no_works schema Enforced 0 table.tree edit.news) writes in (
+      written.0,
+      after ∙ ap (λ ts. (let d : Database = record { schema = schema; trees = ts } in
+          d)) next,
+      subst (λ rs. Applies schema Enforced db (edit_of db table [] Chosen 0 rs) written.0) rows
+          step,
+    )
 
 -- ---- rows that are taken out or changed
 
-not_here : (tree : ℕ) (child : Table) (ref : Reference) (moves : List (Row × Row)) (deed : Option Deed) (key : Option ParentKey)
+not_here : (tree : ℕ) (child : Table) (ref : Reference) (moves : List (Row × Row))
+    (deed : Option Deed) (key : Option ParentKey)
     → ((k : ParentKey) → key ≡ Some k → k.0 ≢ tree) → work_by 0 tree moves child ref deed key ≡ None
 not_here tree child ref moves None key away = refl
 not_here tree child ref moves (Some deed) None away = refl
-not_here tree child ref moves (Some deed) (Some key) away = rw (ne_eqb key.0 tree (away key refl)) refl
+not_here tree child ref moves (Some deed) (Some key) away =
+    rw (ne_eqb key.0 tree (away key refl)) refl
 
 pub quiet_others : (schema : Schema) (tree : ℕ) (olds news : List Row) (tables : List Table)
-    → AllByRecursion (λ t. AllByRecursion (λ r. (k : ParentKey) → parent_key schema.tables r ≡ Some k → k.0 ≢ tree) t.references) tables
-    → flat_map (λ (child : Table). filter_map (work_for schema Enforced 0 tree olds news child) child.references) tables ≡ []
+    → AllByRecursion
+    (λ t. AllByRecursion (λ r. (k : ParentKey) → parent_key schema.tables r ≡ Some k → k.0 ≢ tree)
+    t.references) tables
+    → flat_map (λ (child : Table). filter_map (work_for schema Enforced 0 tree olds news child)
+    child.references) tables ≡ []
 quiet_others schema tree olds news [] h = refl
-quiet_others schema tree olds news (t ∷ more) h = rw (each t.references h.0, quiet_others schema tree olds news more h.1) refl
+quiet_others schema tree olds news (t ∷ more) h =
+    rw (each t.references h.0, quiet_others schema tree olds news more h.1) refl
   where
-    each : (refs : List Reference) → AllByRecursion (λ r. (k : ParentKey) → parent_key schema.tables r ≡ Some k → k.0 ≢ tree) refs → filter_map (work_for schema Enforced 0 tree olds news t) refs ≡ []
+    each : (refs : List Reference)
+        → AllByRecursion (λ r. (k : ParentKey) → parent_key schema.tables r ≡ Some k → k.0 ≢ tree)
+        refs → filter_map (work_for schema Enforced 0 tree olds news t) refs ≡ []
     each [] none = refl
-    each (r ∷ refs) none = rw (not_here tree t r (pairs olds news) (deed_for Enforced (length news == 0) r) (parent_key schema.tables r) none.0) (each refs none.1)
+    each (r ∷ refs) none =
+        rw (not_here tree t r (pairs olds news) (deed_for Enforced (length news == 0) r)
+        (parent_key schema.tables r) none.0) (each refs none.1)
 
-pub deleted : (old new : State) (at : ℕ) (name : List ℕ) (columns : List Column) (key : List ℕ) (references : List Reference) (tree : ℕ) (q : Query) (text : List ℕ) (params : Row) (count : ℕ)
+pub deleted : (old new : State) (at : ℕ) (name : List ℕ) (columns : List Column) (key : List ℕ)
+    (references : List Reference) (tree : ℕ) (q : Query) (text : List ℕ) (params : Row) (count : ℕ)
     → slice_get old.now.schema.tables at ≡ Some (a_table name columns key references tree)
     → ((olds : List Row) → works old.now.schema Enforced 0 tree olds [] ≡ [])
     → Writes old new None (Delete at (record { lets = []; body = q })) text params count
-    → (next : Trees) × (rows : List Row) × IsAnswer q (overlay old.now.trees []) params rows × (new.now ≡ record { schema = old.now.schema; trees = next })
-    × Applies old.now.schema Enforced old.now.trees (edit_of old.now.trees (a_table name columns key references tree) (ids_of rows) Given 0 []) next
+    → (next : Trees) × (rows : List Row) × IsAnswer q (overlay old.now.trees []) params rows
+    × (new.now ≡ record { schema = old.now.schema; trees = next })
+    × Applies old.now.schema Enforced old.now.trees
+    (edit_of old.now.trees (a_table name columns key references tree) (ids_of rows) Given 0 []) next
 deleted old new at name columns key references tree q text params count there quiet w =
     let table = a_table name columns key references tree in
     let db = old.now.trees in
     let schema = old.now.schema in
     let done = went (rw there at w.changed) in
-    let after : new.now ≡ record { schema = schema; trees = done.0.trees } = ap (λ (p : Tally × Database). p.1) (same_value (went (went done.2).2).2) in
+    let after : new.now ≡ record { schema = schema; trees = done.0.trees } =
+    ap (λ (p : Tally × Database). p.1) (same_value (went (went done.2).2).2) in
     let found = went done.1 in
     let edit : Edit = edit_of db table (ids_of found.0) Given 0 [] in
     let written = went found.2 in
     let next : done.0.trees ≡ written.0 = ap (λ (it : Written). it.trees) (same_value written.2) in
     let writes : WritesEdit schema Enforced db edit (Ok written.0) = written.1 in
-    let step = one_step schema Enforced db written.0 edit (quiet (taken_by db edit)) writes in
-    (written.0, found.0, found.1.answer Null, after ∙ ap (λ ts. (let d : Database = record { schema = schema; trees = ts } in d)) next, step)
+    let step = one_step schema Enforced db written.0 edit (quiet (taken_by db edit)) writes in (
+      written.0,
+      found.0,
+      found.1.answer Null,
+      after
+          ∙ ap (λ ts. (let d : Database = record { schema = schema; trees = ts } in d)) next,
+      step,
+    )
 
 numbered_given : (rows sources : List Row) → numbered Given rows sources ≡ sources
 numbered_given rows [] = refl
@@ -131,19 +184,25 @@ alone_in [] one = absurd (omega arith)
 alone_in (x ∷ []) one = (x, refl)
 alone_in (x ∷ y ∷ more) one = absurd (omega arith)
 
-updates : (old new : State) (at : ℕ) (name : List ℕ) (columns : List Column) (key : List ℕ) (references : List Reference) (tree : ℕ) (q : Query) (text : List ℕ) (params : Row) (count : ℕ)
+updates : (old new : State) (at : ℕ) (name : List ℕ) (columns : List Column) (key : List ℕ)
+    (references : List Reference) (tree : ℕ) (q : Query) (text : List ℕ) (params : Row) (count : ℕ)
     → slice_get old.now.schema.tables at ≡ Some (a_table name columns key references tree)
     → Writes old new None (Update at (record { lets = []; body = q })) text params count
-    → (next : Trees) × (rows : List Row) × IsAnswer q (overlay old.now.trees []) params rows × (new.now ≡ record { schema = old.now.schema; trees = next })
-    × WritesEdit old.now.schema Enforced old.now.trees (edit_of old.now.trees (a_table name columns key references tree) (ids_of rows) Given 1 rows) (Ok next)
-    × (count ≡ length (edit_of old.now.trees (a_table name columns key references tree) (ids_of rows) Given 1 rows).news)
+    → (next : Trees) × (rows : List Row) × IsAnswer q (overlay old.now.trees []) params rows
+    × (new.now ≡ record { schema = old.now.schema; trees = next })
+    × WritesEdit old.now.schema Enforced old.now.trees
+    (edit_of old.now.trees (a_table name columns key references tree) (ids_of rows) Given 1 rows)
+    (Ok next)
+    × (count ≡ length (edit_of old.now.trees (a_table name columns key references tree)
+    (ids_of rows) Given 1 rows).news)
 updates old new at name columns key references tree q text params count there w =
     let table = a_table name columns key references tree in
     let db = old.now.trees in
     let schema = old.now.schema in
     let done = went (rw there at w.changed) in
     let last = same_value (went (went done.2).2).2 in
-    let after : new.now ≡ record { schema = schema; trees = done.0.trees } = ap (λ (p : Tally × Database). p.1) last in
+    let after : new.now ≡ record { schema = schema; trees = done.0.trees } =
+    ap (λ (p : Tally × Database). p.1) last in
     let found = went done.1 in
     let written = went found.2 in
     let is = same_value written.2 in
@@ -153,34 +212,45 @@ updates old new at name columns key references tree q text params count there w 
       found.1.answer Null,
       after ∙ ap (λ ts. (let d : Database = record { schema = schema; trees = ts } in d)) next,
       written.1,
-      w.counted ∙ ap (λ (p : Tally × Database). unwrap_or p.0.rows 0) last ∙ ap (λ (it : Written). length it.rows) is,
+      w.counted ∙ ap (λ (p : Tally × Database). unwrap_or p.0.rows 0) last
+          ∙ ap (λ (it : Written). length it.rows) is,
     )
 
-pub updated_one : (old new : State) (at : ℕ) (name : List ℕ) (columns : List Column) (key : List ℕ) (references : List Reference) (tree : ℕ) (q : Query) (text : List ℕ) (params : Row)
+pub updated_one : (old new : State) (at : ℕ) (name : List ℕ) (columns : List Column) (key : List ℕ)
+    (references : List Reference) (tree : ℕ) (q : Query) (text : List ℕ) (params : Row)
     → slice_get old.now.schema.tables at ≡ Some (a_table name columns key references tree)
     → ((olds : List Row) (row : Row) → works old.now.schema Enforced 0 tree olds (row ∷ []) ≡ [])
     → Writes old new None (Update at (record { lets = []; body = q })) text params 1
-    → (next : Trees) × (row : Row) × IsAnswer q (overlay old.now.trees []) params (row ∷ []) × (new.now ≡ record { schema = old.now.schema; trees = next })
-    × (next tree ≡ put_row (cast_row (a_table name columns key references tree) (drop 1 row)) (without_rowid (id_in (rowid row)) (old.now.trees tree)))
+    → (next : Trees) × (row : Row) × IsAnswer q (overlay old.now.trees []) params (row ∷ [])
+    × (new.now ≡ record { schema = old.now.schema; trees = next })
+    × (next tree ≡ put_row (cast_row (a_table name columns key references tree) (drop 1 row))
+    (without_rowid (id_in (rowid row)) (old.now.trees tree)))
     × AllByRecursion (λ t. t.tree ≢ tree → next t.tree ≡ old.now.trees t.tree) old.now.schema.tables
 updated_one old new at name columns key references tree q text params there quiet w =
     let table = a_table name columns key references tree in
     let db = old.now.trees in
     let schema = old.now.schema in
     let u = updates old new at name columns key references tree q text params 1 there w in
-    let one = alone_in u.1 (sym (u.5 ∙ ap length (numbered_given _ (map (λ (s : Row). cast_row table (drop 1 s)) u.1)) ∙ length-map u.1 (λ (s : Row). cast_row table (drop 1 s)))) in
+    let one = alone_in u.1
+    (sym (u.5 ∙ ap length (numbered_given _ (map (λ (s : Row). cast_row table (drop 1 s)) u.1))
+    ∙ length-map u.1 (λ (s : Row). cast_row table (drop 1 s)))) in
     let row = one.0 in
     let edit : Edit = edit_of db table (ids_of (row ∷ [])) Given 1 (row ∷ []) in
-    let writes : WritesEdit schema Enforced db edit (Ok u.0) = subst (λ rs. WritesEdit schema Enforced db (edit_of db table (ids_of rs) Given 1 rs) (Ok u.0)) one.1 u.4 in
-    let step = one_step schema Enforced db u.0 edit (quiet (taken_by db edit) (cast_row table (drop 1 row))) writes in
+    let writes : WritesEdit schema Enforced db edit (Ok u.0) =
+    subst (λ rs. WritesEdit schema Enforced db (edit_of db table (ids_of rs) Given 1 rs) (Ok u.0))
+    one.1 u.4 in
+    let step = one_step schema Enforced db u.0 edit
+    (quiet (taken_by db edit) (cast_row table (drop 1 row))) writes in
     (u.0, row, subst (IsAnswer q (overlay db []) params) one.1 u.2, u.3, step.rows, step.tables)
 
 -- an UPDATE that finds no row changes none
-pub updated_none : (old new : State) (at : ℕ) (name : List ℕ) (columns : List Column) (key : List ℕ) (references : List Reference) (tree : ℕ) (q : Query) (text : List ℕ) (params : Row)
+pub updated_none : (old new : State) (at : ℕ) (name : List ℕ) (columns : List Column) (key : List ℕ)
+    (references : List Reference) (tree : ℕ) (q : Query) (text : List ℕ) (params : Row)
     → slice_get old.now.schema.tables at ≡ Some (a_table name columns key references tree)
     → ((olds : List Row) → works old.now.schema Enforced 0 tree olds [] ≡ [])
     → Writes old new None (Update at (record { lets = []; body = q })) text params 0
-    → (next : Trees) × IsAnswer q (overlay old.now.trees []) params [] × (new.now ≡ record { schema = old.now.schema; trees = next })
+    → (next : Trees) × IsAnswer q (overlay old.now.trees []) params []
+    × (new.now ≡ record { schema = old.now.schema; trees = next })
     × (next tree ≡ old.now.trees tree)
     × AllByRecursion (λ t. t.tree ≢ tree → next t.tree ≡ old.now.trees t.tree) old.now.schema.tables
 updated_none old new at name columns key references tree q text params there quiet w =
@@ -188,9 +258,14 @@ updated_none old new at name columns key references tree q text params there qui
     let db = old.now.trees in
     let schema = old.now.schema in
     let u = updates old new at name columns key references tree q text params 0 there w in
-    let bare = none_in u.1 (sym (u.5 ∙ ap length (numbered_given _ (map (λ (s : Row). cast_row table (drop 1 s)) u.1)) ∙ length-map u.1 (λ (s : Row). cast_row table (drop 1 s)))) in
+    let bare =
+    none_in u.1
+    (sym (u.5 ∙ ap length (numbered_given _ (map (λ (s : Row). cast_row table (drop 1 s)) u.1))
+    ∙ length-map u.1 (λ (s : Row). cast_row table (drop 1 s)))) in
     let edit : Edit = edit_of db table [] Given 1 [] in
-    let writes : WritesEdit schema Enforced db edit (Ok u.0) = subst (λ rs. WritesEdit schema Enforced db (edit_of db table (ids_of rs) Given 1 rs) (Ok u.0)) bare u.4 in
+    let writes : WritesEdit schema Enforced db edit (Ok u.0) =
+    subst (λ rs. WritesEdit schema Enforced db (edit_of db table (ids_of rs) Given 1 rs) (Ok u.0))
+    bare u.4 in
     let step = one_step schema Enforced db u.0 edit (quiet (taken_by db edit)) writes in
     (u.0, subst (IsAnswer q (overlay db []) params) bare u.2, u.3, step.rows, step.tables)
   where

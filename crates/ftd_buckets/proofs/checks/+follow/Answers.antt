@@ -14,8 +14,10 @@ returns-else-is_line_of t c = (
   (λ m.
       let lines : List YearLine = c.args.lines.now in
       let x : YearLine = c.line-item.result in
-      let e : lines ≡ x ∷ drop 1 lines = head_item lines x c.in-len1-up.len_at_least c.line-item.is in
+      let e : lines ≡ x ∷ drop 1 lines = head_item lines x c.in-len1-up.len_at_least
+      c.line-item.is in
       let y = years_head c.args.year lines x (drop 1 lines) e m.0 in
-      let turns : All TurnsWithin (x ∷ drop 1 lines) = subst (λ (z : List YearLine). All TurnsWithin z) e m.1 in
+      let turns : All TurnsWithin (x ∷ drop 1 lines) =
+      subst (λ (z : List YearLine). All TurnsWithin z) e m.1 in
       c.is_line_of.ensures.1 (y.0, y.1, All-head TurnsWithin x (drop 1 lines) turns)),
 )

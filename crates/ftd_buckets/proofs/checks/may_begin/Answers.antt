@@ -12,7 +12,8 @@ returns-else-is_in c = (
   (λ m.
       let lines : List YearLine = c.args.lines.now in
       let x : YearLine = c.first-item.result in
-      let e : lines ≡ x ∷ drop 1 lines = head_item lines x c.in-len1-up.len_at_least c.first-item.is in
+      let e : lines ≡ x ∷ drop 1 lines = head_item lines x c.in-len1-up.len_at_least
+      c.first-item.is in
       let years = m.0 in
       let from = years.1 in
       let y = years_head years.0 lines x (drop 1 lines) e years.2 in

@@ -9,5 +9,6 @@ use Rattle.ftd_cli.proofs.runs.take_records.Given as goal
 abbrev pub invariant-loop-record : goal.invariant-loop-record
 invariant-loop-record l = record {
   ordered : IsOrdered nat_cmp l.runs;
-  taken : HasTaken l.account l.year (map said_in l.records) (map said_in (drop l.record-index l.records)) (2 + l.record-index) l.runs.entries;
+  taken : HasTaken l.account l.year (map said_in l.records)
+      (map said_in (drop l.record-index l.records)) (2 + l.record-index) l.runs.entries;
 }

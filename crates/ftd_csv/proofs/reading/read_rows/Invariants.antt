@@ -8,7 +8,8 @@ use Rattle.ftd_csv.proofs.reading.read_rows.Given as goal
 abbrev pub invariant-loop-records : goal.invariant-loop-records
 invariant-loop-records l = record {
   reading : IsReading l.reader;
-  told : map record_view l.records.items ++ numbered_from l.number (map said_of (rows_left l.reader)) ≡ numbered_from 2 (map said_of (rows_left l.fn.reader));
+  told : map record_view l.records.items ++ numbered_from l.number
+      (map said_of (rows_left l.reader)) ≡ numbered_from 2 (map said_of (rows_left l.fn.reader));
   count : l.number + length (rows_left l.reader) ≡ 2 + length (rows_left l.fn.reader);
   fits : length (rows_left l.fn.reader) < 2 ^ 31;
 }

@@ -1,4 +1,5 @@
-use Rattle.ftd_days.proofs.Spelling.{cents_spelled, spelled_cents, day_spelled, day_missing, quarter_spelled, quarter_missing}
+use Rattle.ftd_days.proofs.Spelling.{cents_spelled, spelled_cents, day_spelled, day_missing}
+use Rattle.ftd_days.proofs.Spelling.{quarter_spelled, quarter_missing}
 use Rattle.ftd_days.proofs.laws.a_spelling_is_read.Goals as goal
 
 pub returns : goal.returns

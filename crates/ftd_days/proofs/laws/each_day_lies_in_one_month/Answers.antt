@@ -5,5 +5,6 @@ use Rattle.ftd_days.proofs.laws.each_day_lies_in_one_month.Goals as goal
 pub returns : goal.returns
 returns c = record {
   some = λ day l. in_month day l;
-  one = λ day month l is. (let end = month_start-end in sym (month_of_only day month (omega arith) is.0 is.1));
+  one = λ day month l is. (let end = month_start-end in
+      sym (month_of_only day month (omega arith) is.0 is.1));
 }

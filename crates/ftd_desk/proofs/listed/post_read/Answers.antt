@@ -6,4 +6,6 @@ pub returns : goal.returns
 returns g c =
     let run = c.args.run in
     let request = Post c.args.name.now c.args.number run.payday run.fit run.ss run.medicare in
-    serves_past g.S.Store c.args.tx.now c.serve_post.new.tx c.args.known request c.in_ok-served.served c.past.result c.past.ensures.answer c.past.ensures.counts c.past.ensures.books c.in_ok-served.ensures.call
+    serves_past g.S.Store c.args.tx.now c.serve_post.new.tx c.args.known request
+    c.in_ok-served.served c.past.result c.past.ensures.answer c.past.ensures.counts
+    c.past.ensures.books c.in_ok-served.ensures.call

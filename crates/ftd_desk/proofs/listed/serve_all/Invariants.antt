@@ -10,5 +10,7 @@ invariant-loop-request g l = record {
   count : vec_len l.answers ≡ l.request-index + 1;
   room : length l.later + 1 ≤ vec_capacity l.answers;
   answers : AreAnswers (l.first ∷ take l.request-index l.later) l.answers.items;
-  serves : Calls {A = ServedAll} g.S.Store l.fn.tx l.tx (Ok (record { answers = l.answers; known = l.known })) (ServesAll l.fn.known (l.fn.first ∷ take l.request-index l.later));
+  serves : Calls {A = ServedAll} g.S.Store l.fn.tx l.tx
+      (Ok (record { answers = l.answers; known = l.known }))
+      (ServesAll l.fn.known (l.fn.first ∷ take l.request-index l.later));
 }

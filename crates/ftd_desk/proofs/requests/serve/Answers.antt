@@ -4,38 +4,48 @@ use Rattle.ftd_machine.specs.declared.requests.Request.TheVariants.{Void}
 use Rattle.ftd_desk.specs.Counted.{ServesCounted}
 use Rattle.ftd_posting.specs.Repaired.{Becoming, VoidsRun}
 use Rattle.ftd_desk.proofs.Counting.{entry_counted, void_counted}
-use Rattle.ftd_desk.proofs.Repairing.{entry_repairs, call_repairs, pays_no_run, post_repairs, void_repairs, answer_repairs}
+use Rattle.ftd_desk.proofs.Repairing.{entry_repairs, call_repairs, pays_no_run, post_repairs}
+use Rattle.ftd_desk.proofs.Repairing.{void_repairs, answer_repairs}
 use Rattle.ftd_desk.proofs.requests.serve.Goals as goal
 
 pub returns-in_ok-answer-in_default-request : goal.returns-in_ok-answer-in_default-request
 returns-in_ok-answer-in_default-request g c =
     let answer = c.in_ok-answer-in_default-request in
     record {
-      call = entry_counted g.S.Store c.args.tx.now c.serve_entry.new.tx answer.answer c.args.counts c.args.request.now answer.ensures.adds_none answer.ensures.call;
-      repairs = entry_repairs g.S.Store c.args.tx.now c.serve_entry.new.tx answer.answer _ c.args.request.now answer.ensures.on_none answer.ensures.call;
+      call = entry_counted g.S.Store c.args.tx.now c.serve_entry.new.tx answer.answer c.args.counts
+          c.args.request.now answer.ensures.adds_none answer.ensures.call;
+      repairs = entry_repairs g.S.Store c.args.tx.now c.serve_entry.new.tx answer.answer _
+          c.args.request.now answer.ensures.on_none answer.ensures.call;
     }
 
 pub returns-in-Some-clause-call : goal.returns-in-Some-clause-call
 returns-in-Some-clause-call g c =
-    subst (λ request. Calls g.S.Store c.args.tx.now c.serve_post.new.tx c.serve_post.result (ServesCounted c.args.counts request)) (sym c.in-Some.ensures) c.serve_post.ensures.call
+    subst (λ request. Calls g.S.Store c.args.tx.now c.serve_post.new.tx c.serve_post.result
+    (ServesCounted c.args.counts request)) (sym c.in-Some.ensures) c.serve_post.ensures.call
 
 pub returns-in-Some-clause-repairs : goal.returns-in-Some-clause-repairs
-returns-in-Some-clause-repairs g c = post_repairs g.S.Store c.args.tx.now c.serve_post.new.tx c.serve_post.result c.args.request.now _ _ _ c.in-Some.ensures c.serve_post.ensures.repairs
+returns-in-Some-clause-repairs g c = post_repairs g.S.Store c.args.tx.now c.serve_post.new.tx
+    c.serve_post.result c.args.request.now _ _ _ c.in-Some.ensures c.serve_post.ensures.repairs
 
 pub returns-in-Pay-clause-repairs : goal.returns-in-Pay-clause-repairs
 returns-in-Pay-clause-repairs g c =
-    call_repairs g.S.Store c.args.tx.now c.serve_pay.new.tx c.serve_pay.result c.args.request.now (pays_no_run _ _ _ _ _ _ c.in-Pay.is) c.serve_pay.ensures.call
+    call_repairs g.S.Store c.args.tx.now c.serve_pay.new.tx c.serve_pay.result c.args.request.now
+    (pays_no_run _ _ _ _ _ _ c.in-Pay.is) c.serve_pay.ensures.call
 
 pub returns-in_ok-answer-in-Void-clause-call : goal.returns-in_ok-answer-in-Void-clause-call
 returns-in_ok-answer-in-Void-clause-call g c =
     let answer = c.in_ok-answer-in-Void in
-    void_counted g.S.Store c.args.tx.now c.void.new.tx answer.answer c.args.counts c.args.request.now c.as_str-in-Void.result.now c.in-Void.run'
-    (c.in-Void.is ∙ ap (λ name. Void name c.in-Void.run') (sym c.as_str-in-Void.ensures)) answer.ensures.call
+    void_counted g.S.Store c.args.tx.now c.void.new.tx answer.answer c.args.counts
+    c.args.request.now c.as_str-in-Void.result.now c.in-Void.run'
+    (c.in-Void.is ∙ ap (λ name. Void name c.in-Void.run') (sym c.as_str-in-Void.ensures))
+    answer.ensures.call
 
 pub returns-in_ok-answer-in-Void-clause-repairs : goal.returns-in_ok-answer-in-Void-clause-repairs
 returns-in_ok-answer-in-Void-clause-repairs g c =
     let answer = c.in_ok-answer-in-Void in
     let name = c.as_str-in-Void.result.now in
     let number = c.in-Void.run' in
-    void_repairs g.S.Store c.args.tx.now c.void.new.tx _ c.args.request.now name number (c.in-Void.is ∙ ap (λ n. Void n number) (sym c.as_str-in-Void.ensures))
-    (answer_repairs g.S.Store c.args.tx.now c.void.new.tx answer.answer _ (Becoming (VoidsRun name number)) refl answer.ensures.repairs)
+    void_repairs g.S.Store c.args.tx.now c.void.new.tx _ c.args.request.now name number
+    (c.in-Void.is ∙ ap (λ n. Void n number) (sym c.as_str-in-Void.ensures))
+    (answer_repairs g.S.Store c.args.tx.now c.void.new.tx answer.answer _
+    (Becoming (VoidsRun name number)) refl answer.ensures.repairs)

@@ -11,8 +11,12 @@ returns-in_err-count g c =
     let name = c.args.name.now in
     let known = kept_of c.args.counts.runs name in
     record {
-      call = not_known g.S.Store c.args.tx.now c.count_runs.new.tx known (CountsRuns name) c.in_err-count.field-0.0 c.from_residual.result _ (search rules) c.in_err-count.ensures;
-      repairs = not_known g.S.Store c.args.tx.now c.count_runs.new.tx known (CountsRuns name) c.in_err-count.field-0.0 c.from_residual.result _ (search rules) c.in_err-count.ensures;
+      call = not_known g.S.Store c.args.tx.now c.count_runs.new.tx known
+          (CountsRuns name) c.in_err-count.field-0.0 c.from_residual.result _
+          (search rules) c.in_err-count.ensures;
+      repairs = not_known g.S.Store c.args.tx.now c.count_runs.new.tx known
+          (CountsRuns name) c.in_err-count.field-0.0 c.from_residual.result _
+          (search rules) c.in_err-count.ensures;
     }
 
 pub returns-in_err-answer : goal.returns-in_err-answer
@@ -22,8 +26,12 @@ returns-in_err-answer g c =
     let fault = c.in_err-answer.field-0.0 in
     let frame = c.in_err-answer.ensures.call.frame in
     record {
-      call = known_fails g.S.Store c.args.tx.now c.count_runs.new.tx known (CountsRuns name) c.post.new.tx c.in_ok-count.count fault c.from_residual-in_err-answer.result _ (search rules) c.in_ok-count.ensures frame;
-      repairs = known_fails g.S.Store c.args.tx.now c.count_runs.new.tx known (CountsRuns name) c.post.new.tx c.in_ok-count.count fault c.from_residual-in_err-answer.result _ (search rules) c.in_ok-count.ensures frame;
+      call = known_fails g.S.Store c.args.tx.now c.count_runs.new.tx known
+          (CountsRuns name) c.post.new.tx c.in_ok-count.count fault
+          c.from_residual-in_err-answer.result _ (search rules) c.in_ok-count.ensures frame;
+      repairs = known_fails g.S.Store c.args.tx.now c.count_runs.new.tx known
+          (CountsRuns name) c.post.new.tx c.in_ok-count.count fault
+          c.from_residual-in_err-answer.result _ (search rules) c.in_ok-count.ensures frame;
     }
 
 pub returns : goal.returns
@@ -31,8 +39,12 @@ returns g c =
     let name = c.args.name.now in
     let runs = c.args.counts.runs in
     record {
-      call = post_counts g.S.Store c.args.tx.now c.count_runs.new.tx c.post.new.tx c.in_ok-count.count c.in_ok-answer.answer c.args.counts c.keep.new.self name c.args.number c.args.run
+      call = post_counts g.S.Store c.args.tx.now c.count_runs.new.tx c.post.new.tx
+          c.in_ok-count.count c.in_ok-answer.answer c.args.counts c.keep.new.self name c.args.number
+          c.args.run
           c.keep.ensures c.in_ok-count.ensures c.in_ok-answer.ensures.call;
-      repairs = known_repairs g.S.Store c.args.tx.now c.count_runs.new.tx c.post.new.tx (kept_of runs name) (CountsRuns name) c.in_ok-count.count c.in_ok-answer.answer _ (Becoming (PostsRun name c.args.number c.args.run)) refl
+      repairs = known_repairs g.S.Store c.args.tx.now c.count_runs.new.tx c.post.new.tx
+          (kept_of runs name) (CountsRuns name) c.in_ok-count.count c.in_ok-answer.answer _
+          (Becoming (PostsRun name c.args.number c.args.run)) refl
           c.in_ok-count.ensures c.in_ok-answer.ensures.repairs;
     }

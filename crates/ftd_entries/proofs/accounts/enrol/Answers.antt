@@ -10,8 +10,10 @@ returns-in-Some g c =
     let name = c.args.name.now in
     let account = c.args.account in
     record {
-      call = served_looked g.S.Store (Enrol name account.start account.carried account.form) c.args.tx.now c.known.new.tx c.in_ok-known.known c.in-Some.answer
-          (KnowsAccount name) c.in_ok-known.ensures.call (enrol_decided name account c.in_ok-known.known c.in-Some.answer (search rules));
+      call = served_looked g.S.Store (Enrol name account.start account.carried account.form)
+          c.args.tx.now c.known.new.tx c.in_ok-known.known c.in-Some.answer
+          (KnowsAccount name) c.in_ok-known.ensures.call
+          (enrol_decided name account c.in_ok-known.known c.in-Some.answer (search rules));
     }
 
 pub returns : goal.returns
@@ -19,6 +21,8 @@ returns g c =
     let name = c.args.name.now in
     let account = c.args.account in
     record {
-      call = served_changed g.S.Store (Enrol name account.start account.carried account.form) c.args.tx.now c.known.new.tx c.add.new.tx c.in_ok-known.known _ _
-          (KnowsAccount name) (with_enrolled name account) c.in_ok-known.ensures.call c.in_ok-add.ensures.call (enrol_done name account c.in_ok-known.known (search rules));
+      call = served_changed g.S.Store (Enrol name account.start account.carried account.form)
+          c.args.tx.now c.known.new.tx c.add.new.tx c.in_ok-known.known _ _
+          (KnowsAccount name) (with_enrolled name account) c.in_ok-known.ensures.call
+          c.in_ok-add.ensures.call (enrol_done name account c.in_ok-known.known (search rules));
     }

@@ -6,12 +6,16 @@ use Rattle.ftd_entries.proofs.accounts.known.Goals as goal
 
 pub returns : goal.returns
 returns g c = record {
-  call = then_reads g.S.Store c.args.tx.now c.account.new.self c.form.new.self c.in_ok-found.found c.in_ok-form.form c.joined.result
+  call = then_reads g.S.Store c.args.tx.now c.account.new.self c.form.new.self c.in_ok-found.found
+      c.in_ok-form.form c.joined.result
       (FindsAccount c.args.name.now) (FindsForm c.args.name.now) (KnowsAccount c.args.name.now)
-      (λ t account form. rw c.joined.ensures (knows_account c.args.name.now c.in_ok-found.found c.in_ok-form.form t account form))
+      (λ t account form. rw c.joined.ensures
+      (knows_account c.args.name.now c.in_ok-found.found c.in_ok-form.form t account form))
       c.in_ok-found.ensures.call c.in_ok-form.ensures.call;
-  form = then_reads g.S.Store c.args.tx.now c.account.new.self c.form.new.self c.in_ok-found.found c.in_ok-form.form c.joined.result
+  form = then_reads g.S.Store c.args.tx.now c.account.new.self c.form.new.self c.in_ok-found.found
+      c.in_ok-form.form c.joined.result
       (FindsAccount c.args.name.now) (FindsForm c.args.name.now) (HasForm c.args.name.now)
-      (λ t account form. rw c.joined.ensures (has_form c.args.name.now c.in_ok-found.found c.in_ok-form.form t form))
+      (λ t account form. rw c.joined.ensures
+      (has_form c.args.name.now c.in_ok-found.found c.in_ok-form.form t form))
       c.in_ok-found.ensures.call c.in_ok-form.ensures.call;
 }

@@ -14,11 +14,14 @@ returns-in-Some g c =
     let year = c.args.year in
     let days = c.args.days.now in
     let found = c.in_ok-known.known in
-    let decided : first_of (calendar_checks year days (option_map days_found found)) ≡ Some c.in-Some.answer = search rules in
+    let decided : first_of (calendar_checks year days (option_map days_found found))
+    ≡ Some c.in-Some.answer = search rules in
     record {
-      call = served_looked g.S.Store (Calendar year days) c.args.tx.now c.calendar.new.self found c.in-Some.answer
+      call = served_looked g.S.Store (Calendar year days) c.args.tx.now c.calendar.new.self found
+          c.in-Some.answer
           (FindsCalendar year) c.in_ok-known.ensures.call
-          (λ t s stands sound finds. calendar_decided year days (option_map days_found found) c.in-Some.answer decided s (calendar_known year found t s stands sound finds));
+          (λ t s stands sound finds. calendar_decided year days (option_map days_found found)
+          c.in-Some.answer decided s (calendar_known year found t s stands sound finds));
     }
 
 pub returns : goal.returns
@@ -26,9 +29,13 @@ returns g c =
     let year = c.args.year in
     let days = c.args.days.now in
     let found = c.in_ok-known.known in
-    let passed : first_of (calendar_checks year days (option_map days_found found)) ≡ None = search rules in
+    let passed : first_of (calendar_checks year days (option_map days_found found)) ≡ None =
+    search rules in
     record {
-      call = served_changed g.S.Store (Calendar year days) c.args.tx.now c.calendar.new.self c.add_calendar.new.self found _ _
-          (FindsCalendar year) (with_calendar year days) c.in_ok-known.ensures.call c.in_ok-add_calendar.ensures.call
-          (λ t s stands sound finds. calendar_done year days (option_map days_found found) passed t s stands sound (calendar_known year found t s stands sound finds));
+      call = served_changed g.S.Store (Calendar year days) c.args.tx.now c.calendar.new.self
+          c.add_calendar.new.self found _ _
+          (FindsCalendar year) (with_calendar year days) c.in_ok-known.ensures.call
+          c.in_ok-add_calendar.ensures.call
+          (λ t s stands sound finds. calendar_done year days (option_map days_found found) passed t
+          s stands sound (calendar_known year found t s stands sound finds));
     }

@@ -14,12 +14,18 @@ use Rattle.ftd_entries.proofs.lookbacks.total_941.Goals as goal
 pub returns-in_err-reported-4 : goal.returns-in_err-reported-4
 returns-in_err-reported-4 g c =
     let name = c.args.name.now in
-    let read = three_read g.S.Store c.args.tx.now c.reported.new.self c.reported-2.new.self c.reported-3.new.self c.in_ok-reported.field-0 c.in_ok-reported-2.field-0 c.in_ok-reported-3.field-0
-    (FindsReported name c.at-third.result) (FindsReported name c.at-fourth.result) (FindsReported name c.at-first.result)
+    let read = three_read g.S.Store c.args.tx.now c.reported.new.self c.reported-2.new.self
+    c.reported-3.new.self c.in_ok-reported.field-0 c.in_ok-reported-2.field-0
+    c.in_ok-reported-3.field-0
+    (FindsReported name c.at-third.result) (FindsReported name c.at-fourth.result)
+    (FindsReported name c.at-first.result)
     c.in_ok-reported.ensures.call c.in_ok-reported-2.ensures.call c.in_ok-reported-3.ensures.call in
-    let failed : c.from_residual-in_err-reported-4.result ≡ Err c.in_err-reported-4.field-0.0 = search rules in
+    let failed : c.from_residual-in_err-reported-4.result ≡ Err c.in_err-reported-4.field-0.0 =
+    search rules in
     record {
-      call = fails_after g.S.Store c.args.tx.now c.reported-3.new.self c.reported-4.new.self c.in_ok-reported-3.field-0 c.in_err-reported-4.field-0.0 c.from_residual-in_err-reported-4.result _
+      call = fails_after g.S.Store c.args.tx.now c.reported-3.new.self c.reported-4.new.self
+          c.in_ok-reported-3.field-0 c.in_err-reported-4.field-0.0
+          c.from_residual-in_err-reported-4.result _
           failed read.frame c.in_err-reported-4.ensures.call.frame;
     }
 
@@ -33,27 +39,41 @@ returns-in-Ok g c =
     let d = c.in_ok-reported-3.field-0 in
     let e = c.in_ok-reported-4.field-0 in
     let total = c.in-Ok.total in
-    let read = four_read g.S.Store c.args.tx.now c.reported.new.self c.reported-2.new.self c.reported-3.new.self a b d
-    (FindsReported name c.at-third.result) (FindsReported name c.at-fourth.result) (FindsReported name c.at-first.result)
+    let read = four_read g.S.Store c.args.tx.now c.reported.new.self c.reported-2.new.self
+    c.reported-3.new.self a b d
+    (FindsReported name c.at-third.result) (FindsReported name c.at-fourth.result)
+    (FindsReported name c.at-first.result)
     c.in_ok-reported.ensures.call c.in_ok-reported-2.ensures.call c.in_ok-reported-3.ensures.call
-    c.reported-4.new.self e (FindsReported name c.at-second.result) c.in_ok-reported-4.ensures.call in
+    c.reported-4.new.self e (FindsReported name c.at-second.result)
+    c.in_ok-reported-4.ensures.call in
     record {
-      call = reads_on g.S.Store c.args.tx.now c.reported-4.new.self e total _ (KnowsTotalOn941 name start year)
+      call = reads_on g.S.Store c.args.tx.now c.reported-4.new.self e total _
+          (KnowsTotalOn941 name start year)
           (λ t told s stands sound.
-          quarters_known (entries_of s name).reported start year (sound_once s sound name).quarters c.at-third.result c.at-fourth.result c.at-first.result c.at-second.result a b d e
-          (kept_reported name t s stands c.at-third.result a told.0) (kept_reported name t s stands c.at-fourth.result b told.1)
-          (kept_reported name t s stands c.at-first.result d told.2) (kept_reported name t s stands c.at-second.result e told.3)
-          c.at-third.ensures c.at-fourth.ensures c.at-first.ensures c.at-second.ensures total c.in-Ok.ensures)
+          quarters_known (entries_of s name).reported start year (sound_once s sound name).quarters
+          c.at-third.result c.at-fourth.result c.at-first.result c.at-second.result a b d e
+          (kept_reported name t s stands c.at-third.result a told.0)
+          (kept_reported name t s stands c.at-fourth.result b told.1)
+          (kept_reported name t s stands c.at-first.result d told.2)
+          (kept_reported name t s stands c.at-second.result e told.3)
+          c.at-third.ensures c.at-fourth.ensures c.at-first.ensures c.at-second.ensures total
+          c.in-Ok.ensures)
           read;
     }
 
 pub returns-in-Err : goal.returns-in-Err
 returns-in-Err g c =
     let name = c.args.name.now in
-    let read = four_read g.S.Store c.args.tx.now c.reported.new.self c.reported-2.new.self c.reported-3.new.self c.in_ok-reported.field-0 c.in_ok-reported-2.field-0 c.in_ok-reported-3.field-0
-    (FindsReported name c.at-third.result) (FindsReported name c.at-fourth.result) (FindsReported name c.at-first.result)
+    let read = four_read g.S.Store c.args.tx.now c.reported.new.self c.reported-2.new.self
+    c.reported-3.new.self c.in_ok-reported.field-0 c.in_ok-reported-2.field-0
+    c.in_ok-reported-3.field-0
+    (FindsReported name c.at-third.result) (FindsReported name c.at-fourth.result)
+    (FindsReported name c.at-first.result)
     c.in_ok-reported.ensures.call c.in_ok-reported-2.ensures.call c.in_ok-reported-3.ensures.call
-    c.reported-4.new.self c.in_ok-reported-4.field-0 (FindsReported name c.at-second.result) c.in_ok-reported-4.ensures.call in
+    c.reported-4.new.self c.in_ok-reported-4.field-0 (FindsReported name c.at-second.result)
+    c.in_ok-reported-4.ensures.call in
     record {
-      call = gave_up_after g.S.Store c.args.tx.now c.reported-4.new.self c.give_up.new.self c.in_ok-reported-4.field-0 c.give_up.result _ read.frame c.give_up.ensures.frame c.give_up.ensures.fails;
+      call = gave_up_after g.S.Store c.args.tx.now c.reported-4.new.self c.give_up.new.self
+          c.in_ok-reported-4.field-0 c.give_up.result _ read.frame c.give_up.ensures.frame
+          c.give_up.ensures.fails;
     }

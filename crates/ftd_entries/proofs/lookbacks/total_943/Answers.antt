@@ -15,7 +15,10 @@ returns g c =
     let found = c.in_ok-found.found in
     let total = c.total_of_year.result in
     record {
-      call = reads_on g.S.Store c.args.tx.now c.reported_year.new.self found total (FindsReportedYear name (year - 2)) (KnowsTotalOn943 name c.args.start year)
-          (λ t finds s stands sound. total_known (entries_of s name).reported_years c.args.start year found total (sound_once s sound name).years (kept_reported_year name t s stands (year - 2) found finds) c.total_of_year.ensures)
+      call = reads_on g.S.Store c.args.tx.now c.reported_year.new.self found total
+          (FindsReportedYear name (year - 2)) (KnowsTotalOn943 name c.args.start year)
+          (λ t finds s stands sound. total_known (entries_of s name).reported_years c.args.start
+          year found total (sound_once s sound name).years
+          (kept_reported_year name t s stands (year - 2) found finds) c.total_of_year.ensures)
           c.in_ok-found.ensures.call;
     }

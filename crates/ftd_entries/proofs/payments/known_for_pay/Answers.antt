@@ -13,12 +13,19 @@ returns g c =
     let name = c.args.name.now in
     let number = c.args.number in
     let year = year_of c.args.for_day in
-    let opened : Reads g.S.Store c.payment.new.self c.is_open.new.tx (Ok c.in_ok-is_open.is_open) (KnowsYear name year) =
-    subst (λ y. Reads g.S.Store c.payment.new.self c.is_open.new.tx (Ok c.in_ok-is_open.is_open) (KnowsYear name y)) c.year.ensures c.in_ok-is_open.ensures.call in
-    let account = both_read g.S.Store c.args.tx.now c.known.new.tx c.payment.new.self c.in_ok-account.account c.in_ok-payment.payment
-    (KnowsAccount name) (FindsPayment name number) c.in_ok-account.ensures.call c.in_ok-payment.ensures.call in
+    let opened : Reads g.S.Store c.payment.new.self c.is_open.new.tx (Ok c.in_ok-is_open.is_open)
+    (KnowsYear name year) =
+    subst (λ y. Reads g.S.Store c.payment.new.self c.is_open.new.tx (Ok c.in_ok-is_open.is_open)
+    (KnowsYear name y)) c.year.ensures c.in_ok-is_open.ensures.call in
+    let account = both_read g.S.Store c.args.tx.now c.known.new.tx c.payment.new.self
+    c.in_ok-account.account c.in_ok-payment.payment
+    (KnowsAccount name) (FindsPayment name number) c.in_ok-account.ensures.call
+    c.in_ok-payment.ensures.call in
     record {
-      call = then_reads g.S.Store c.args.tx.now c.payment.new.self c.is_open.new.tx _ c.in_ok-is_open.is_open _
-          (Both (KnowsAccount name) (FindsPayment name number)) (KnowsYear name year) (KnowsForPay name number year)
-          (λ t told year_is. record { account = told.0; payment = told.1; is_open = year_is }) account opened;
+      call = then_reads g.S.Store c.args.tx.now c.payment.new.self c.is_open.new.tx _
+          c.in_ok-is_open.is_open _
+          (Both (KnowsAccount name) (FindsPayment name number)) (KnowsYear name year)
+          (KnowsForPay name number year)
+          (λ t told year_is. record { account = told.0; payment = told.1; is_open = year_is })
+          account opened;
     }

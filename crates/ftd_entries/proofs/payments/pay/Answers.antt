@@ -14,8 +14,11 @@ returns-in-Some g c =
     let payment = c.args.payment in
     let before = c.in_ok-before.before in
     record {
-      call = served_looked_where g.S.Store (CountsPayments name c.args.count) (Pay name number payment.paid payment.for_day payment.cents) c.args.tx.now c.known_for_pay.new.tx before c.in-Some.answer
-          (KnowsAll name number payment c.args.count) c.in_ok-before.ensures.call (pay_decided name number payment c.args.count before c.in-Some.answer (search rules));
+      call = served_looked_where g.S.Store (CountsPayments name c.args.count)
+          (Pay name number payment.paid payment.for_day payment.cents) c.args.tx.now
+          c.known_for_pay.new.tx before c.in-Some.answer
+          (KnowsAll name number payment c.args.count) c.in_ok-before.ensures.call
+          (pay_decided name number payment c.args.count before c.in-Some.answer (search rules));
     }
 
 pub returns : goal.returns
@@ -25,7 +28,10 @@ returns g c =
     let payment = c.args.payment in
     let before = c.in_ok-before.before in
     record {
-      call = served_changed_where g.S.Store (CountsPayments name c.args.count) (Pay name number payment.paid payment.for_day payment.cents) c.args.tx.now c.known_for_pay.new.tx c.add_payment.new.self before _ (Ok Done)
-          (KnowsAll name number payment c.args.count) (with_payment name number payment) c.in_ok-before.ensures.call c.in_ok-add_payment.ensures.call
+      call = served_changed_where g.S.Store (CountsPayments name c.args.count)
+          (Pay name number payment.paid payment.for_day payment.cents) c.args.tx.now
+          c.known_for_pay.new.tx c.add_payment.new.self before _ (Ok Done)
+          (KnowsAll name number payment c.args.count) (with_payment name number payment)
+          c.in_ok-before.ensures.call c.in_ok-add_payment.ensures.call
           (pay_done name number payment c.args.count before (search rules));
     }

@@ -18,24 +18,35 @@ pub returns-in-Some : goal.returns-in-Some
 returns-in-Some g c =
     let name = c.args.name.now in
     let number = c.args.number in
-    let known : Option Account × Option (Voidable Payment) = (c.in_ok-account.account, c.in_ok-kept.kept) in
-    let read = both_read g.S.Store c.args.tx.now c.known.new.tx c.payment.new.self c.in_ok-account.account c.in_ok-kept.kept
-    (KnowsAccount name) (FindsPayment name number) c.in_ok-account.ensures.call c.in_ok-kept.ensures.call in
+    let known : Option Account × Option (Voidable Payment) =
+    (c.in_ok-account.account, c.in_ok-kept.kept) in
+    let read = both_read g.S.Store c.args.tx.now c.known.new.tx c.payment.new.self
+    c.in_ok-account.account c.in_ok-kept.kept
+    (KnowsAccount name) (FindsPayment name number) c.in_ok-account.ensures.call
+    c.in_ok-kept.ensures.call in
     record {
-      call = served_looked g.S.Store (VoidPay name number) c.args.tx.now c.payment.new.self known c.in-Some.answer
-          (ReadsPayment name number) read (void_decided name number known c.in-Some.answer (search rules));
+      call = served_looked g.S.Store (VoidPay name number) c.args.tx.now c.payment.new.self known
+          c.in-Some.answer
+          (ReadsPayment name number) read (void_decided name number known c.in-Some.answer
+          (search rules));
     }
 
 pub returns : goal.returns
 returns g c =
     let name = c.args.name.now in
     let number = c.args.number in
-    let known : Option Account × Option (Voidable Payment) = (c.in_ok-account.account, c.in_ok-kept.kept) in
-    let read = both_read g.S.Store c.args.tx.now c.known.new.tx c.payment.new.self c.in_ok-account.account c.in_ok-kept.kept
-    (KnowsAccount name) (FindsPayment name number) c.in_ok-account.ensures.call c.in_ok-kept.ensures.call in
-    let write = one_written g.S.Store c.payment.new.self c.void_payment.new.self _ (λ t. filter (is_payment name (pos number)) (t Payments)) (with_void_payment name number)
+    let known : Option Account × Option (Voidable Payment) =
+    (c.in_ok-account.account, c.in_ok-kept.kept) in
+    let read = both_read g.S.Store c.args.tx.now c.known.new.tx c.payment.new.self
+    c.in_ok-account.account c.in_ok-kept.kept
+    (KnowsAccount name) (FindsPayment name number) c.in_ok-account.ensures.call
+    c.in_ok-kept.ensures.call in
+    let write = one_written g.S.Store c.payment.new.self c.void_payment.new.self _
+    (λ t. filter (is_payment name (pos number)) (t Payments)) (with_void_payment name number)
     c.in_ok-void_payment.ensures.call in
     record {
-      call = served_changed g.S.Store (VoidPay name number) c.args.tx.now c.payment.new.self c.void_payment.new.self known _ (Ok Done)
-          (ReadsPayment name number) (with_void_payment name number) read write (void_done name number known (search rules));
+      call = served_changed g.S.Store (VoidPay name number) c.args.tx.now c.payment.new.self
+          c.void_payment.new.self known _ (Ok Done)
+          (ReadsPayment name number) (with_void_payment name number) read write
+          (void_done name number known (search rules));
     }

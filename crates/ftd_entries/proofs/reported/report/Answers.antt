@@ -15,23 +15,33 @@ pub returns-in-Some : goal.returns-in-Some
 returns-in-Some g c =
     let name = c.args.name.now in
     let quarter = c.args.quarter in
-    let known : Option Account × Option Cents = (c.in_ok-account.account, c.in_ok-reported.reported) in
-    let read = both_read g.S.Store c.args.tx.now c.known.new.tx c.reported.new.self c.in_ok-account.account c.in_ok-reported.reported
-    (KnowsAccount name) (FindsReported name quarter) c.in_ok-account.ensures.call c.in_ok-reported.ensures.call in
+    let known : Option Account × Option Cents =
+    (c.in_ok-account.account, c.in_ok-reported.reported) in
+    let read = both_read g.S.Store c.args.tx.now c.known.new.tx c.reported.new.self
+    c.in_ok-account.account c.in_ok-reported.reported
+    (KnowsAccount name) (FindsReported name quarter) c.in_ok-account.ensures.call
+    c.in_ok-reported.ensures.call in
     record {
-      call = served_looked g.S.Store (Report name quarter c.args.cents) c.args.tx.now c.reported.new.self known c.in-Some.answer
-          (Both (KnowsAccount name) (FindsReported name quarter)) read (report_decided name quarter c.args.cents known c.in-Some.answer (search rules));
+      call = served_looked g.S.Store (Report name quarter c.args.cents) c.args.tx.now
+          c.reported.new.self known c.in-Some.answer
+          (Both (KnowsAccount name) (FindsReported name quarter)) read
+          (report_decided name quarter c.args.cents known c.in-Some.answer (search rules));
     }
 
 pub returns : goal.returns
 returns g c =
     let name = c.args.name.now in
     let quarter = c.args.quarter in
-    let known : Option Account × Option Cents = (c.in_ok-account.account, c.in_ok-reported.reported) in
-    let read = both_read g.S.Store c.args.tx.now c.known.new.tx c.reported.new.self c.in_ok-account.account c.in_ok-reported.reported
-    (KnowsAccount name) (FindsReported name quarter) c.in_ok-account.ensures.call c.in_ok-reported.ensures.call in
+    let known : Option Account × Option Cents =
+    (c.in_ok-account.account, c.in_ok-reported.reported) in
+    let read = both_read g.S.Store c.args.tx.now c.known.new.tx c.reported.new.self
+    c.in_ok-account.account c.in_ok-reported.reported
+    (KnowsAccount name) (FindsReported name quarter) c.in_ok-account.ensures.call
+    c.in_ok-reported.ensures.call in
     record {
-      call = served_changed g.S.Store (Report name quarter c.args.cents) c.args.tx.now c.reported.new.self c.add_reported.new.self known _ (Ok Done)
-          (Both (KnowsAccount name) (FindsReported name quarter)) (with_reported name quarter c.args.cents) read c.in_ok-add_reported.ensures.call
+      call = served_changed g.S.Store (Report name quarter c.args.cents) c.args.tx.now
+          c.reported.new.self c.add_reported.new.self known _ (Ok Done)
+          (Both (KnowsAccount name) (FindsReported name quarter))
+          (with_reported name quarter c.args.cents) read c.in_ok-add_reported.ensures.call
           (report_done name quarter c.args.cents known (search rules));
     }

@@ -15,23 +15,33 @@ pub returns-in-Some : goal.returns-in-Some
 returns-in-Some g c =
     let name = c.args.name.now in
     let year = c.args.year in
-    let known : Option Account × Option Cents = (c.in_ok-account.account, c.in_ok-reported.reported) in
-    let read = both_read g.S.Store c.args.tx.now c.known.new.tx c.reported_year.new.self c.in_ok-account.account c.in_ok-reported.reported
-    (KnowsAccount name) (FindsReportedYear name year) c.in_ok-account.ensures.call c.in_ok-reported.ensures.call in
+    let known : Option Account × Option Cents =
+    (c.in_ok-account.account, c.in_ok-reported.reported) in
+    let read = both_read g.S.Store c.args.tx.now c.known.new.tx c.reported_year.new.self
+    c.in_ok-account.account c.in_ok-reported.reported
+    (KnowsAccount name) (FindsReportedYear name year) c.in_ok-account.ensures.call
+    c.in_ok-reported.ensures.call in
     record {
-      call = served_looked g.S.Store (ReportYear name year c.args.cents) c.args.tx.now c.reported_year.new.self known c.in-Some.answer
-          (Both (KnowsAccount name) (FindsReportedYear name year)) read (report_year_decided name year c.args.cents known c.in-Some.answer (search rules));
+      call = served_looked g.S.Store (ReportYear name year c.args.cents) c.args.tx.now
+          c.reported_year.new.self known c.in-Some.answer
+          (Both (KnowsAccount name) (FindsReportedYear name year)) read
+          (report_year_decided name year c.args.cents known c.in-Some.answer (search rules));
     }
 
 pub returns : goal.returns
 returns g c =
     let name = c.args.name.now in
     let year = c.args.year in
-    let known : Option Account × Option Cents = (c.in_ok-account.account, c.in_ok-reported.reported) in
-    let read = both_read g.S.Store c.args.tx.now c.known.new.tx c.reported_year.new.self c.in_ok-account.account c.in_ok-reported.reported
-    (KnowsAccount name) (FindsReportedYear name year) c.in_ok-account.ensures.call c.in_ok-reported.ensures.call in
+    let known : Option Account × Option Cents =
+    (c.in_ok-account.account, c.in_ok-reported.reported) in
+    let read = both_read g.S.Store c.args.tx.now c.known.new.tx c.reported_year.new.self
+    c.in_ok-account.account c.in_ok-reported.reported
+    (KnowsAccount name) (FindsReportedYear name year) c.in_ok-account.ensures.call
+    c.in_ok-reported.ensures.call in
     record {
-      call = served_changed g.S.Store (ReportYear name year c.args.cents) c.args.tx.now c.reported_year.new.self c.add_reported_year.new.self known _ (Ok Done)
-          (Both (KnowsAccount name) (FindsReportedYear name year)) (with_reported_year name year c.args.cents) read c.in_ok-add_reported_year.ensures.call
+      call = served_changed g.S.Store (ReportYear name year c.args.cents) c.args.tx.now
+          c.reported_year.new.self c.add_reported_year.new.self known _ (Ok Done)
+          (Both (KnowsAccount name) (FindsReportedYear name year))
+          (with_reported_year name year c.args.cents) read c.in_ok-add_reported_year.ensures.call
           (report_year_done name year c.args.cents known (search rules));
     }

@@ -9,6 +9,8 @@ returns g c =
     let name = c.args.name.now in
     let year = c.args.year in
     record {
-      call = reads_on g.S.Store c.args.tx.now c.years.new.self c.in_ok-lines.lines c.has_year.result (ListsYears name) (KnowsYear name year)
-          (λ t lists. rw (c.has_year.ensures, c.deref.ensures.value) (knows_year year name c.in_ok-lines.lines t lists)) c.in_ok-lines.ensures.call;
+      call = reads_on g.S.Store c.args.tx.now c.years.new.self c.in_ok-lines.lines c.has_year.result
+          (ListsYears name) (KnowsYear name year)
+          (λ t lists. rw (c.has_year.ensures, c.deref.ensures.value)
+          (knows_year year name c.in_ok-lines.lines t lists)) c.in_ok-lines.ensures.call;
     }

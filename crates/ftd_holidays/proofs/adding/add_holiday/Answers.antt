@@ -15,11 +15,16 @@ returns-in-Some g c =
     let year = c.year-year.result in
     let found = c.in_ok-calendar.calendar in
     let added = c.in_ok-added.added in
-    let read = both_read g.S.Store c.args.tx.now c.calendar.new.self c.added.new.self found added (FindsCalendar year) (ListsAdded year) c.in_ok-calendar.ensures.call c.in_ok-added.ensures.call in
-    let decided : checks day year c.year-year.ensures found added ≡ Some c.in-Some.answer = search rules in
+    let read = both_read g.S.Store c.args.tx.now c.calendar.new.self c.added.new.self found added
+    (FindsCalendar year) (ListsAdded year) c.in_ok-calendar.ensures.call
+    c.in_ok-added.ensures.call in
+    let decided : checks day year c.year-year.ensures found added ≡ Some c.in-Some.answer =
+    search rules in
     record {
-      call = served_looked g.S.Store (AddHoliday day) c.args.tx.now c.added.new.self (found, added) c.in-Some.answer (Both (FindsCalendar year) (ListsAdded year)) read
-          (λ t s stands sound knows. added_decided day year c.year-year.ensures found added c.in-Some.answer decided t s stands sound knows.0 knows.1);
+      call = served_looked g.S.Store (AddHoliday day) c.args.tx.now c.added.new.self
+          (found, added) c.in-Some.answer (Both (FindsCalendar year) (ListsAdded year)) read
+          (λ t s stands sound knows. added_decided day year c.year-year.ensures found added
+          c.in-Some.answer decided t s stands sound knows.0 knows.1);
     }
 
 pub returns : goal.returns
@@ -28,9 +33,14 @@ returns g c =
     let year = c.year-year.result in
     let found = c.in_ok-calendar.calendar in
     let added = c.in_ok-added.added in
-    let read = both_read g.S.Store c.args.tx.now c.calendar.new.self c.added.new.self found added (FindsCalendar year) (ListsAdded year) c.in_ok-calendar.ensures.call c.in_ok-added.ensures.call in
+    let read = both_read g.S.Store c.args.tx.now c.calendar.new.self c.added.new.self found added
+    (FindsCalendar year) (ListsAdded year) c.in_ok-calendar.ensures.call
+    c.in_ok-added.ensures.call in
     let passed : checks day year c.year-year.ensures found added ≡ None = search rules in
     record {
-      call = served_turned g.S.Store (AddHoliday day) c.args.tx.now c.added.new.self c.add_and_move.new.tx (found, added) _ (Ok Done) (Both (FindsCalendar year) (ListsAdded year)) (λ done. AddsHoliday day)
-          read c.in_ok-add_and_move.ensures.call (λ t u s stands sound knows adds. added_done day year c.year-year.ensures found added passed t u s stands sound knows adds);
+      call = served_turned g.S.Store (AddHoliday day) c.args.tx.now c.added.new.self
+          c.add_and_move.new.tx (found, added) _ (Ok Done)
+          (Both (FindsCalendar year) (ListsAdded year)) (λ done. AddsHoliday day)
+          read c.in_ok-add_and_move.ensures.call (λ t u s stands sound knows adds.
+          added_done day year c.year-year.ensures found added passed t u s stands sound knows adds);
     }

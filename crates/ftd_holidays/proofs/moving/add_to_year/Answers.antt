@@ -17,14 +17,21 @@ loop-owed-init g c =
     let hs : List ℕ = holidays_of c.args.holidays.now in
     let given : List AccountObligation = c.args.obligations.now in
     let change : Tables → Tables = with_added_holiday c.args.day in
-    turns_on g.S.Store c.args.tx.now c.add_added.new.self _ tt (λ done t u. u ≡ change t) (λ done t. MovesDue hs (take 0 given) (change t))
-    (λ t u is. subst (MovesDue hs (take 0 given) (change t)) (sym is) (moves_none hs given (change t)))
-    (writes_turn g.S.Store c.args.tx.now c.add_added.new.self _ change c.in_ok-add_added.ensures.call)
+    turns_on g.S.Store c.args.tx.now c.add_added.new.self _ tt (λ done t u. u ≡ change t)
+    (λ done t. MovesDue hs (take 0 given) (change t))
+    (λ t u is. subst (MovesDue hs (take 0 given) (change t)) (sym is)
+    (moves_none hs given (change t)))
+    (writes_turn g.S.Store c.args.tx.now c.add_added.new.self _ change
+    c.in_ok-add_added.ensures.call)
 
 pub returns-in_err-move_due : goal.returns-in_err-move_due
 returns-in_err-move_due g c =
-    let is : c.from_residual-in_err-move_due.result ≡ Err c.in_err-move_due.field-0.0 = search rules in
-    record { call = fails_after g.S.Store c.args.tx.now c.loop-owed.tx c.move_due.new.self _ _ _ _ is c.loop-owed.invariant.frame c.in_err-move_due.ensures.call.frame }
+    let is : c.from_residual-in_err-move_due.result ≡ Err c.in_err-move_due.field-0.0 =
+    search rules in
+    record {
+      call = fails_after g.S.Store c.args.tx.now c.loop-owed.tx c.move_due.new.self _ _ _ _
+          is c.loop-owed.invariant.frame c.in_err-move_due.ensures.call.frame;
+    }
 
 pub loop-owed-preserved : goal.loop-owed-preserved
 loop-owed-preserved g c =
@@ -39,15 +46,22 @@ loop-owed-preserved g c =
     let So : ℕ → Tables → Tables → Type 0 = λ n t. MovesDue hs (take n given) (With t) in
     elim c.if-ne.branch [
       | then-ne+in_ok-move_due w ↦
-          (let change : Tables → Tables = with_due_date (string_bytes x.account) x.obligation.first due in
+          (let change : Tables → Tables = with_due_date (string_bytes x.account) x.obligation.first
+          due in
           let moved = rw w.deref.ensures at w.in_ok-move_due.ensures.call in
-          rw w.tx-is (turns_then g.S.Store c.args.tx.now c.loop-owed.tx w.move_due.new.self tt _ tt (λ done. So i) (λ done t u. u ≡ change t) (λ done. So (i + 1))
-          (λ t u v so_far made. subst (So (i + 1) t) (sym made) (moves_more hs given i x some c.owed-item.is due is (With t) u so_far))
-          c.loop-owed.invariant (one_turns g.S.Store c.loop-owed.tx w.move_due.new.self _ _ change moved)))
+          rw w.tx-is (turns_then g.S.Store c.args.tx.now c.loop-owed.tx w.move_due.new.self tt _ tt
+          (λ done. So i) (λ done t u. u ≡ change t) (λ done. So (i + 1))
+          (λ t u v so_far made. subst (So (i + 1) t) (sym made)
+          (moves_more hs given i x some c.owed-item.is due is (With t) u so_far))
+          c.loop-owed.invariant (one_turns g.S.Store c.loop-owed.tx w.move_due.new.self _ _ change
+          moved)))
       | else-ne w ↦
-          (let same : due ≡ x.obligation.due = same_where due x.obligation.due c.ne.result c.ne.ensures w.if-ne.false in
-          rw w.tx-is (turns_on g.S.Store c.args.tx.now c.loop-owed.tx tt tt (λ done. So i) (λ done. So (i + 1))
-          (λ t u so_far. moves_same hs given i x some c.owed-item.is (subst (IsDueThen hs x) same is) (With t) u so_far) c.loop-owed.invariant))
+          (let same : due ≡ x.obligation.due = same_where due x.obligation.due c.ne.result
+          c.ne.ensures w.if-ne.false in
+          rw w.tx-is (turns_on g.S.Store c.args.tx.now c.loop-owed.tx tt tt (λ done. So i)
+          (λ done. So (i + 1))
+          (λ t u so_far. moves_same hs given i x some c.owed-item.is
+          (subst (IsDueThen hs x) same is) (With t) u so_far) c.loop-owed.invariant))
     ]
 
 pub returns : goal.returns
@@ -58,6 +72,9 @@ returns g c =
     let end = c.loop-owed-test.false in
     let all = all_taken given i (omega arith) in
     record {
-      call = turns_on g.S.Store c.args.tx.now c.loop-owed.tx tt _ (λ done t. MovesDue hs (take i given) (with_added_holiday c.args.day t)) (λ done t. MovesDue hs given (with_added_holiday c.args.day t))
-          (λ t u so_far. subst (λ (os : List AccountObligation). MovesDue hs os (with_added_holiday c.args.day t) u) all so_far) c.loop-owed.invariant;
+      call = turns_on g.S.Store c.args.tx.now c.loop-owed.tx tt _
+          (λ done t. MovesDue hs (take i given) (with_added_holiday c.args.day t))
+          (λ done t. MovesDue hs given (with_added_holiday c.args.day t))
+          (λ t u so_far. subst (λ (os : List AccountObligation). MovesDue hs os
+          (with_added_holiday c.args.day t) u) all so_far) c.loop-owed.invariant;
     }

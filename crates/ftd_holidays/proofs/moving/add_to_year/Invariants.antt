@@ -7,4 +7,5 @@ use Rattle.ftd_holidays.proofs.moving.add_to_year.Given as goal
 
 abbrev pub invariant-loop-owed : goal.invariant-loop-owed
 invariant-loop-owed g l =
-    Turns g.S.Store l.fn.tx l.tx (Ok (tt {0})) (λ done old. MovesDue (holidays_of l.fn.holidays) (take l.owed-index l.fn.obligations) (with_added_holiday l.fn.day old))
+    Turns g.S.Store l.fn.tx l.tx (Ok (tt {0})) (λ done old. MovesDue (holidays_of l.fn.holidays)
+    (take l.owed-index l.fn.obligations) (with_added_holiday l.fn.day old))

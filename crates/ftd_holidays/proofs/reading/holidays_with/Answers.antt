@@ -18,11 +18,22 @@ returns-in-Ok g c =
     let here : List ℕ = holidays_of c.add_holidays-2.new.holidays in
     let after : List ℕ = holidays_of c.add_holidays-3.new.holidays in
     let all : List ℕ = holidays_of c.add_day.new.self in
-    let Two : Tables → Type 0 = λ t. AddsKeptYear (year - 1) none before t × AddsKeptYear year before here t in
+    let Two : Tables → Type 0 = λ t. AddsKeptYear (year - 1) none before t
+    × AddsKeptYear year before here t in
     let two : Reads g.S.Store c.args.tx.now c.add_holidays-2.new.self (Ok (tt {0})) (λ done. Two) =
-    then_reads g.S.Store c.args.tx.now c.add_holidays.new.self c.add_holidays-2.new.self c.in_ok-add_holidays.field-0 c.in_ok-add_holidays-2.field-0 tt (AddsIfGiven (year - 1) none before) (AddsIfGiven year before here) (λ done. Two)
-    (λ t a b. (adds_kept (year - 1) none before c.in_ok-add_holidays.field-0 t a, adds_kept year before here c.in_ok-add_holidays-2.field-0 t b)) c.in_ok-add_holidays.ensures.call c.in_ok-add_holidays-2.ensures.call in
+    then_reads g.S.Store c.args.tx.now c.add_holidays.new.self c.add_holidays-2.new.self
+    c.in_ok-add_holidays.field-0 c.in_ok-add_holidays-2.field-0 tt
+    (AddsIfGiven (year - 1) none before) (AddsIfGiven year before here) (λ done. Two)
+    (λ t a b. (
+      adds_kept (year - 1) none before c.in_ok-add_holidays.field-0 t a,
+      adds_kept year before here c.in_ok-add_holidays-2.field-0 t b,
+    )) c.in_ok-add_holidays.ensures.call c.in_ok-add_holidays-2.ensures.call in
     record {
-      call = then_reads g.S.Store c.args.tx.now c.add_holidays-2.new.self c.add_holidays-3.new.self tt c.in_ok-add_holidays-3.field-0 _ (λ done. Two) (AddsIfGiven (year + 1) here after) (λ x t. KnowsHolidays day (holidays_of x) t)
-          (λ t k three. three_years day year none before here after all t is (omega arith) (ap holidays_of c.new-holidays.ensures) c.in-Ok.ensures.holiday k.0 k.1 (adds_kept (year + 1) here after c.in_ok-add_holidays-3.field-0 t three)) two c.in_ok-add_holidays-3.ensures.call;
+      call = then_reads g.S.Store c.args.tx.now c.add_holidays-2.new.self c.add_holidays-3.new.self
+          tt c.in_ok-add_holidays-3.field-0 _ (λ done. Two) (AddsIfGiven (year + 1) here after)
+          (λ x t. KnowsHolidays day (holidays_of x) t)
+          (λ t k three. three_years day year none before here after all t is (omega arith)
+          (ap holidays_of c.new-holidays.ensures) c.in-Ok.ensures.holiday k.0 k.1
+          (adds_kept (year + 1) here after c.in_ok-add_holidays-3.field-0 t three)) two
+          c.in_ok-add_holidays-3.ensures.call;
     }

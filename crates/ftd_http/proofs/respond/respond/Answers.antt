@@ -6,4 +6,7 @@ use Rattle.ftd_http.proofs.respond.respond.Goals as goal
 pub returns-in-Asks-clause-err : goal.returns-in-Asks-clause-err
 returns-in-Asks-clause-err g c =
     on_err c.answered.result
-    (inr (answered c.in-Asks.request c.answer-answer.result, rw c.in-Asks.is (c.answer-answer.result, c.answer-answer.ensures, refl)))
+    (inr (
+      answered c.in-Asks.request c.answer-answer.result,
+      rw c.in-Asks.is (c.answer-answer.result, c.answer-answer.ensures, refl),
+    ))

@@ -7,7 +7,8 @@ use Rattle.ftd_import.proofs.lists.count_all.Given as goal
 
 abbrev pub invariant-loop-record : goal.invariant-loop-record
 invariant-loop-record l = record {
-  some : CountsSome l.fn.done (map record_view (take l.record-index l.records)) l.answers l.left l.done;
+  some : CountsSome l.fn.done (map record_view (take l.record-index l.records)) l.answers l.left
+      l.done;
   left : length l.left ≡ length (posts_of (map record_view (drop l.record-index l.records)));
   room : vec_len l.done.notes + length l.records ≤ vec_capacity l.done.notes + l.record-index;
   grows : tally l.done ≤ tally l.fn.done + l.record-index;

@@ -12,7 +12,8 @@ invariant-loop-list g l =
     (goal.iterator-loop-list g).can_next l.list-iterator
     × (goal.iterator-loop-list g).is_finite l.list-iterator
     × (chunks_size l.list-iterator ≡ most_together)
-    × ((passed : List (ℕ × Said)) × (map record_view l.records ≡ passed ++ map record_view (chunks_rest l.list-iterator))
+    × ((passed : List (ℕ × Said)) × (map record_view l.records ≡ passed ++ map record_view
+    (chunks_rest l.list-iterator))
     × Posts (held g.S.Store l.fn.desk) (held g.S.Store l.desk) passed l.fn.done l.done
     × (tally l.done ≤ tally l.fn.done + length passed)
     × (l.told ≡ length passed))

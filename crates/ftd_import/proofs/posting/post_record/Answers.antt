@@ -7,4 +7,5 @@ pub returns-in-Malformed-clause-posts : goal.returns-in-Malformed-clause-posts
 returns-in-Malformed-clause-posts g c =
     let room = with_room c.args.done.now _ refl refl refl refl c.in-Ok.ensures.items in
     rw c.in-Malformed.is
-    (skips_one (held g.S.Store c.args.desk.now) c.args.record.now.number c.in-Malformed.field c.args.done.now c.skip.new.self (counts_then _ _ _ _ _ room c.skip.ensures.counts))
+    (skips_one (held g.S.Store c.args.desk.now) c.args.record.now.number c.in-Malformed.field
+    c.args.done.now c.skip.new.self (counts_then _ _ _ _ _ room c.skip.ensures.counts))

@@ -12,7 +12,8 @@ returns-in-Some-clause-stops g c =
     let after = held g.S.Store c.handle-answer.new.self in
     let run = run_view c.args.run.now in
     faulted before after c.args.number run c.handle-answer.result c.in-Some.cause
-    (subst (λ (r : Request). Handles before after r c.handle-answer.result) c.in-Ok.ensures c.handle-answer.ensures.handles) (sym c.in-Some.ensures)
+    (subst (λ (r : Request). Handles before after r c.handle-answer.result) c.in-Ok.ensures
+    c.handle-answer.ensures.handles) (sym c.in-Some.ensures)
 
 pub returns-clause-posts : goal.returns-clause-posts
 returns-clause-posts g c =
@@ -20,5 +21,6 @@ returns-clause-posts g c =
     let after = held g.S.Store c.handle-answer.new.self in
     let run = run_view c.args.run.now in
     posts_one before after c.args.number run c.handle-answer.result c.args.done.now c.count.new.self
-    (subst (λ (r : Request). Handles before after r c.handle-answer.result) c.in-Ok.ensures c.handle-answer.ensures.handles) (sym c.in-None.ensures)
+    (subst (λ (r : Request). Handles before after r c.handle-answer.result) c.in-Ok.ensures
+    c.handle-answer.ensures.handles) (sym c.in-None.ensures)
     (c.count.ensures.counts run)

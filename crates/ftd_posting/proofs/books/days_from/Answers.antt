@@ -7,4 +7,5 @@ pub returns-clause-of_year : goal.returns-clause-of_year
 returns-clause-of_year c =
     let low = c.if-year-lt1900.false in
     let high = c.if-year-gt2199.false in
-    first_of_year c.args.year c.first_of_month-from.result (omega arith) (omega arith) (c.first_of_month-from.ensures.value ∙ ap month_start (omega arith))
+    first_of_year c.args.year c.first_of_month-from.result (omega arith) (omega arith)
+    (c.first_of_month-from.ensures.value ∙ ap month_start (omega arith))

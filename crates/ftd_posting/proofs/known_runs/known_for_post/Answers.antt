@@ -11,10 +11,18 @@ returns g c =
     let name = c.args.name.now in
     let number = c.args.number in
     let year = year_of c.args.payday in
-    let opened : Reads g.S.Store c.known_for_void.new.tx c.is_open.new.tx (Ok c.in_ok-is_open.is_open) (KnowsYear name year) =
-    subst (λ y. Reads g.S.Store c.known_for_void.new.tx c.is_open.new.tx (Ok c.in_ok-is_open.is_open) (KnowsYear name y)) c.year.ensures c.in_ok-is_open.ensures.call in
+    let opened : Reads g.S.Store c.known_for_void.new.tx c.is_open.new.tx
+    (Ok c.in_ok-is_open.is_open) (KnowsYear name year) =
+    subst (λ y. Reads g.S.Store c.known_for_void.new.tx c.is_open.new.tx
+    (Ok c.in_ok-is_open.is_open) (KnowsYear name y)) c.year.ensures c.in_ok-is_open.ensures.call in
     record {
-      call = then_reads g.S.Store c.args.tx.now c.known_for_void.new.tx c.is_open.new.tx c.in_ok-before.before c.in_ok-is_open.is_open _
+      call = then_reads g.S.Store c.args.tx.now c.known_for_void.new.tx c.is_open.new.tx
+          c.in_ok-before.before c.in_ok-is_open.is_open _
           (KnowsForVoid name number) (KnowsYear name year) (KnowsForPost name number year)
-          (λ t told year_is. record { account = told.account; form = told.form; kept = told.kept; is_open = year_is }) c.in_ok-before.ensures.call opened;
+          (λ t told year_is. record {
+            account = told.account;
+            form = told.form;
+            kept = told.kept;
+            is_open = year_is;
+          }) c.in_ok-before.ensures.call opened;
     }

@@ -10,10 +10,15 @@ pub returns-in-TooLong : goal.returns-in-TooLong
 returns-in-TooLong g c = rw c.in-TooLong.is c.put-in-TooLong.ensures
 
 pub returns-in-Malformed : goal.returns-in-Malformed
-returns-in-Malformed g c = rw c.in-Malformed.is (subst (λ z. IsPut (g.E.Target.taken c.args.err.now) (g.E.Target.taken c.put_record.new.err) (g.E.Target.failed c.put_record.new.err) z) (record_is c.in-Malformed.number c.in-Malformed.field) c.put_record.ensures)
+returns-in-Malformed g c = rw c.in-Malformed.is
+    (subst (λ z. IsPut (g.E.Target.taken c.args.err.now) (g.E.Target.taken c.put_record.new.err)
+    (g.E.Target.failed c.put_record.new.err) z)
+    (record_is c.in-Malformed.number c.in-Malformed.field) c.put_record.ensures)
 
 pub returns-in-RunDiffers : goal.returns-in-RunDiffers
-returns-in-RunDiffers g c = rw c.in-RunDiffers.is (subst (λ z. IsPut (g.E.Target.taken c.args.err.now) (g.E.Target.taken c.put_run.new.err) (g.E.Target.failed c.put_run.new.err) z) (run_is c.in-RunDiffers.number) c.put_run.ensures)
+returns-in-RunDiffers g c = rw c.in-RunDiffers.is
+    (subst (λ z. IsPut (g.E.Target.taken c.args.err.now) (g.E.Target.taken c.put_run.new.err)
+    (g.E.Target.failed c.put_run.new.err) z) (run_is c.in-RunDiffers.number) c.put_run.ensures)
 
 pub returns-in-TooManyRuns : goal.returns-in-TooManyRuns
 returns-in-TooManyRuns g c = rw c.in-TooManyRuns.is c.put-in-TooManyRuns.ensures

@@ -4,9 +4,23 @@ use Rattle.ftd_program.proofs.replies.write_posted.Goals as goal
 pub returns-clause-ok : goal.returns-clause-ok
 unfolding posted_text
 returns-clause-ok g c =
-    rw (c.day_bytes-from.ensures, c.day_bytes-to.ensures, c.as_bytes-removed.ensures.value, c.format.ensures.text, c.as_bytes-added.ensures.value, c.format-2.ensures.text) at c.write_pieces.ensures.ok
+    rw (
+      c.day_bytes-from.ensures,
+      c.day_bytes-to.ensures,
+      c.as_bytes-removed.ensures.value,
+      c.format.ensures.text,
+      c.as_bytes-added.ensures.value,
+      c.format-2.ensures.text,
+    ) at c.write_pieces.ensures.ok
 
 pub returns-clause-err : goal.returns-clause-err
 unfolding posted_text
 returns-clause-err g c =
-    rw (c.day_bytes-from.ensures, c.day_bytes-to.ensures, c.as_bytes-removed.ensures.value, c.format.ensures.text, c.as_bytes-added.ensures.value, c.format-2.ensures.text) at c.write_pieces.ensures.err
+    rw (
+      c.day_bytes-from.ensures,
+      c.day_bytes-to.ensures,
+      c.as_bytes-removed.ensures.value,
+      c.format.ensures.text,
+      c.as_bytes-added.ensures.value,
+      c.format-2.ensures.text,
+    ) at c.write_pieces.ensures.err

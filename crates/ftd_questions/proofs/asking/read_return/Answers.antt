@@ -19,8 +19,14 @@ returns-in-Ok-asked-clause-knows g c =
     let end = c.drop-tx.new.self.0 in
     let call = c.in-Ok-asked.ensures.call in
     let same : end ≡ c.store-in-Ok-asked-1.given.0 = search rules in
-    let Knows : Store g.row.S.Denot → Type 0 = λ store. IsSeen (seen g.S.Store store) → (t : Tables) → Stands (seen g.S.Store store).now t → MatchResult c.in-Ok-asked.asked (λ known. KnowsAsked name c.args.quarter c.args.as_of (Ok known) t)
-    (λ refusal. IsFault (Err refusal) ⊎ KnowsAsked name c.args.quarter c.args.as_of (Err refusal) t) in
+    let Knows : Store g.row.S.Denot → Type 0 = λ store. IsSeen (seen g.S.Store store) → (t : Tables)
+    → Stands (seen g.S.Store store).now t → MatchResult c.in-Ok-asked.asked
+    (λ known. KnowsAsked name c.args.quarter c.args.as_of (Ok known) t)
+    (λ refusal. IsFault (Err refusal) ⊎ KnowsAsked name c.args.quarter c.args.as_of
+    (Err refusal) t) in
     subst Knows same (λ is t stands.
-    let before = stood_in_it a b m (seen g.S.Store end) c.in-Ok.ensures.crash c.in-Ok.ensures.begun call.frame.crash call.frame.kept c.drop-tx.ensures.undone c.drop-tx.ensures.crash c.drop-tx.ensures.opens is t stands in
-    answered name c.args.quarter c.args.as_of t c.in-Ok-asked.asked (call.does (clean_before m (seen g.S.Store end) c.drop-tx.ensures.crash is.0) t before).0)
+    let before = stood_in_it a b m (seen g.S.Store end) c.in-Ok.ensures.crash c.in-Ok.ensures.begun
+    call.frame.crash call.frame.kept c.drop-tx.ensures.undone c.drop-tx.ensures.crash
+    c.drop-tx.ensures.opens is t stands in
+    answered name c.args.quarter c.args.as_of t c.in-Ok-asked.asked
+    (call.does (clean_before m (seen g.S.Store end) c.drop-tx.ensures.crash is.0) t before).0)

@@ -15,7 +15,8 @@ returns-in-Some g c =
     let known = c.in_ok-before.before in
     let answer = c.in-Some.answer in
     record {
-      call = served_looked g.S.Store (DueList name quarter as_of) c.args.tx.now c.known_for_due.new.tx known answer (KnowsForDue name quarter) c.in_ok-before.ensures.call
+      call = served_looked g.S.Store (DueList name quarter as_of) c.args.tx.now
+          c.known_for_due.new.tx known answer (KnowsForDue name quarter) c.in_ok-before.ensures.call
           (due_decided name quarter as_of known answer (search rules));
     }
 
@@ -28,10 +29,17 @@ returns g c =
     let account = c.in-Some-account.account in
     let rows = c.in_ok-rows.rows in
     let passed : checks name quarter as_of known ≡ None = search rules in
-    let read = then_reads g.S.Store c.args.tx.now c.known_for_due.new.tx c.rows_of_quarter.new.tx known rows rows (KnowsForDue name quarter) (λ rs. KnowsDueList name account.form quarter as_of rs.items)
-    (λ rs t. KnowsForDue name quarter known t × KnowsDueList name account.form quarter as_of rs.items t) (λ t knows lists. (knows, lists)) c.in_ok-before.ensures.call c.in_ok-rows.ensures.call in
+    let read = then_reads g.S.Store c.args.tx.now c.known_for_due.new.tx c.rows_of_quarter.new.tx
+    known rows rows (KnowsForDue name quarter)
+    (λ rs. KnowsDueList name account.form quarter as_of rs.items)
+    (λ rs t. KnowsForDue name quarter known t × KnowsDueList name account.form quarter as_of
+    rs.items t) (λ t knows lists. (knows, lists)) c.in_ok-before.ensures.call
+    c.in_ok-rows.ensures.call in
     record {
-      call = served_looked g.S.Store (DueList name quarter as_of) c.args.tx.now c.rows_of_quarter.new.tx rows (Ok (Due c.from_vec.result)) _ read
+      call = served_looked g.S.Store (DueList name quarter as_of) c.args.tx.now
+          c.rows_of_quarter.new.tx rows (Ok (Due c.from_vec.result)) _ read
           (λ t s stands sound knows.
-          rw (sym c.from_vec.ensures) at (due_told name quarter as_of known account rows.items c.in-Some-account.is passed t s stands sound knows));
+          rw (sym c.from_vec.ensures) at
+          (due_told name quarter as_of known account rows.items c.in-Some-account.is passed t s
+          stands sound knows));
     }

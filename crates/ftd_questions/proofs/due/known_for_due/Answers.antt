@@ -9,6 +9,11 @@ returns g c =
     let name = c.args.name.now in
     let there = c.in_ok-is_open.is_open in
     record {
-      call = then_reads g.S.Store c.args.tx.now c.known.new.tx c.is_open.new.tx c.in_ok-account.account there _ (KnowsAccount name) (KnowsYear name c.year.result) (KnowsForDue name c.args.quarter)
-          (λ t account opened. record { account = account; is_open = subst (λ year. KnowsYear name year there t) c.year.ensures opened }) c.in_ok-account.ensures.call c.in_ok-is_open.ensures.call;
+      call = then_reads g.S.Store c.args.tx.now c.known.new.tx c.is_open.new.tx
+          c.in_ok-account.account there _ (KnowsAccount name) (KnowsYear name c.year.result)
+          (KnowsForDue name c.args.quarter)
+          (λ t account opened. record {
+            account = account;
+            is_open = subst (λ year. KnowsYear name year there t) c.year.ensures opened;
+          }) c.in_ok-account.ensures.call c.in_ok-is_open.ensures.call;
     }

@@ -26,15 +26,31 @@ returns-in-Ok g c =
     let found = c.in_ok-obligations.obligations in
     let rows = c.in-Ok.rows in
     let of_return = c.quarter_return-of_return.result in
-    let next_day : c.has_next_day-next_day.result ≡ list_any is_next_day_row found.items = c.has_next_day-next_day.ensures ∙ ap (λ (os : List Obligation). list_any is_next_day_row os) c.deref.ensures.value in
-    let are_rows : Pairs (IsRowBy of_return as_of) (filter (begins_in quarter) found.items) rows.items =
-    subst (λ (os : List Obligation). Pairs (IsRowBy of_return as_of) (filter (begins_in quarter) os) rows.items) c.deref-2.ensures.value c.in-Ok.ensures in
-    let read = then_reads g.S.Store c.args.tx.now c.holidays.new.self c.return_period.new.tx given period period (λ holidays. HasYears c.year-year.result (c.year-year.result + 1) (holidays_of holidays)) (KnowsPeriod name form quarter)
-    (λ p t. HasYears c.year-year.result (c.year-year.result + 1) (holidays_of given) t × KnowsPeriod name form quarter p t) (λ t years known. (years, known)) c.in_ok-holidays.ensures.call c.in_ok-period.ensures.call in
+    let next_day : c.has_next_day-next_day.result ≡ list_any is_next_day_row found.items =
+    c.has_next_day-next_day.ensures ∙ ap (λ (os : List Obligation). list_any is_next_day_row os)
+    c.deref.ensures.value in
+    let are_rows : Pairs (IsRowBy of_return as_of) (filter (begins_in quarter) found.items)
+    rows.items =
+    subst (λ (os : List Obligation). Pairs (IsRowBy of_return as_of) (filter (begins_in quarter) os)
+    rows.items) c.deref-2.ensures.value c.in-Ok.ensures in
+    let read = then_reads g.S.Store c.args.tx.now c.holidays.new.self c.return_period.new.tx given
+    period period (λ holidays. HasYears c.year-year.result (c.year-year.result + 1)
+    (holidays_of holidays)) (KnowsPeriod name form quarter)
+    (λ p t. HasYears c.year-year.result (c.year-year.result + 1) (holidays_of given) t
+    × KnowsPeriod name form quarter p t) (λ t years known. (years, known))
+    c.in_ok-holidays.ensures.call c.in_ok-period.ensures.call in
     record {
-      call = then_reads g.S.Store c.args.tx.now c.return_period.new.tx c.obligations.new.self period found rows (λ p t. HasYears c.year-year.result (c.year-year.result + 1) (holidays_of given) t × KnowsPeriod name form quarter p t) (ListsObligations name period.first period.last) (λ rs. KnowsDueList name form quarter as_of rs.items)
-          (λ t knows lists. due_known name form quarter as_of given period c.has_next_day-next_day.result found.items of_return rows.items c.requires.from c.requires.to c.quarter_return-of_return.ensures.stands next_day are_rows t
-          (subst (λ year. HasYears year (year + 1) (holidays_of given) t) c.year-year.ensures knows.0) knows.1 (obligations_known name period.first period.last found t lists)) read c.in_ok-obligations.ensures.call;
+      call = then_reads g.S.Store c.args.tx.now c.return_period.new.tx c.obligations.new.self period
+          found rows (λ p t. HasYears c.year-year.result (c.year-year.result + 1)
+          (holidays_of given) t × KnowsPeriod name form quarter p t)
+          (ListsObligations name period.first period.last)
+          (λ rs. KnowsDueList name form quarter as_of rs.items)
+          (λ t knows lists. due_known name form quarter as_of given period
+          c.has_next_day-next_day.result found.items of_return rows.items c.requires.from
+          c.requires.to c.quarter_return-of_return.ensures.stands next_day are_rows t
+          (subst (λ year. HasYears year (year + 1) (holidays_of given) t) c.year-year.ensures
+          knows.0) knows.1 (obligations_known name period.first period.last found t lists)) read
+          c.in_ok-obligations.ensures.call;
     }
 
 pub returns : goal.returns
@@ -42,8 +58,11 @@ returns g c =
     let given = c.in_ok-holidays.holidays in
     let period = c.in_ok-period.period in
     let found = c.in_ok-obligations.obligations in
-    let two = then_goes g.S.Store c.args.tx.now c.holidays.new.self c.return_period.new.tx given period period c.in_ok-holidays.ensures.call.frame c.in_ok-period.ensures.call.frame in
-    let three = then_goes g.S.Store c.args.tx.now c.return_period.new.tx c.obligations.new.self period found found two c.in_ok-obligations.ensures.call.frame in
+    let two = then_goes g.S.Store c.args.tx.now c.holidays.new.self c.return_period.new.tx given
+    period period c.in_ok-holidays.ensures.call.frame c.in_ok-period.ensures.call.frame in
+    let three = then_goes g.S.Store c.args.tx.now c.return_period.new.tx c.obligations.new.self
+    period found found two c.in_ok-obligations.ensures.call.frame in
     record {
-      call = gave_up_after g.S.Store c.args.tx.now c.obligations.new.self c.give_up.new.self found c.give_up.result _ three c.give_up.ensures.frame c.give_up.ensures.fails;
+      call = gave_up_after g.S.Store c.args.tx.now c.obligations.new.self c.give_up.new.self found
+          c.give_up.result _ three c.give_up.ensures.frame c.give_up.ensures.fails;
     }

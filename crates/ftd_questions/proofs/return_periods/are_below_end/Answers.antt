@@ -11,7 +11,8 @@ loop-payment-preserved c =
     let x : Payment = c.payment-item.result in
     let some : i < length xs = c.loop-payment-test.true in
     let more = sum_by_more payment_cents xs i x some in
-    let same : payment_cents (get_or xs i x) ≡ x.cents.0 = ap payment_cents (sym c.payment-item.is) in
+    let same : payment_cents (get_or xs i x) ≡ x.cents.0 =
+    ap payment_cents (sym c.payment-item.is) in
     let so_far = c.loop-payment.invariant.total in
     let small = c.loop-payment.invariant.small in
     record { total = omega arith; small = omega arith }

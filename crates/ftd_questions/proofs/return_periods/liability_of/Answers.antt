@@ -12,8 +12,12 @@ returns-in-Some g c =
     let name = c.args.name.now in
     let sums = c.in_ok-sums.sums in
     let total = c.in-Some.total in
-    let is : total.0 ≡ sum_by cents_of sums.items = subst (λ xs. total.0 ≡ sum_by cents_of xs) c.deref.ensures.value c.in-Some.ensures in
+    let is : total.0 ≡ sum_by cents_of sums.items = subst (λ xs. total.0 ≡ sum_by cents_of xs)
+    c.deref.ensures.value c.in-Some.ensures in
     record {
-      call = reads_on g.S.Store c.args.tx.now c.day_sums.new.self sums total (ListsLiability name c.args.first c.args.last) (KnowsLiability name c.args.first c.args.last)
-          (λ t lists s stands. is ∙ liability_known name c.args.first c.args.last sums t lists s stands) c.in_ok-sums.ensures.call;
+      call = reads_on g.S.Store c.args.tx.now c.day_sums.new.self sums total
+          (ListsLiability name c.args.first c.args.last)
+          (KnowsLiability name c.args.first c.args.last)
+          (λ t lists s stands. is ∙ liability_known name c.args.first c.args.last sums t lists s
+          stands) c.in_ok-sums.ensures.call;
     }

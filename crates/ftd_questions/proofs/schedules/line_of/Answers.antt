@@ -11,5 +11,6 @@ pub returns : goal.returns
 returns c =
     let xs = c.args.lines.now in
     let is : option_map (λ y. y.now) c.find.result ≡ find (is_line_of c.args.year) xs =
-    find_from_yields_List (is_line_of c.args.year) _ _ c.find.result c.find.ensures.ran (YieldsList-from_slice xs cc) (λ x b q k. search (rules, tests)) in
+    find_from_yields_List (is_line_of c.args.year) _ _ c.find.result c.find.ensures.ran
+    (YieldsList-from_slice xs cc) (λ x b q k. search (rules, tests)) in
     line_found xs c.args.year c.find.result is

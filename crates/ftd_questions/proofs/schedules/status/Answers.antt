@@ -21,12 +21,22 @@ returns-in-Some g c =
     let account = c.in_ok-account.account in
     let lines = c.in_ok-lines.lines in
     let fact = KnowsLines name account lines.items in
-    let read = then_reads g.S.Store c.args.tx.now c.known.new.tx c.years.new.self account lines account (KnowsAccount name) (ListsYears name) (λ a. fact)
-    (λ t knows lists s stands. (knows s stands, lines_known name lines t s stands lists (stands.settled name))) c.in_ok-account.ensures.call c.in_ok-lines.ensures.call in
-    let is : first_of (status_checks name day account (list_any (is_line_of (year_of day)) lines.items)) ≡ Some c.in-Some.answer = search rules in
+    let read = then_reads g.S.Store c.args.tx.now c.known.new.tx c.years.new.self account lines
+    account (KnowsAccount name) (ListsYears name) (λ a. fact)
+    (λ t knows lists s stands. (
+      knows s stands,
+      lines_known name lines t s stands lists
+          (stands.settled name),
+    )) c.in_ok-account.ensures.call c.in_ok-lines.ensures.call in
+    let is : first_of
+    (status_checks name day account (list_any (is_line_of (year_of day)) lines.items))
+    ≡ Some c.in-Some.answer = search rules in
     record {
-      call = served_looked g.S.Store (Status name day) c.args.tx.now c.years.new.self account c.in-Some.answer (λ a. fact) read
-          (λ t s stands sound knows. (let told = knows s stands in status_decided name day account lines.items t s stands told.0 told.1 c.in-Some.answer is));
+      call = served_looked g.S.Store (Status name day) c.args.tx.now c.years.new.self account
+          c.in-Some.answer (λ a. fact) read
+          (λ t s stands sound knows. (let told = knows s stands in
+          status_decided name day account lines.items t s stands told.0 told.1 c.in-Some.answer
+          is));
     }
 
 pub returns : goal.returns
@@ -37,12 +47,23 @@ returns g c =
     let lines = c.in_ok-lines.lines in
     let answer = c.status_by.result in
     let fact = KnowsLines name account lines.items in
-    let read = then_reads g.S.Store c.args.tx.now c.known.new.tx c.years.new.self account lines account (KnowsAccount name) (ListsYears name) (λ a. fact)
-    (λ t knows lists s stands. (knows s stands, lines_known name lines t s stands lists (stands.settled name))) c.in_ok-account.ensures.call c.in_ok-lines.ensures.call in
-    let is : first_of (status_checks name day account (list_any (is_line_of (year_of day)) lines.items)) ≡ None = search rules in
-    let tells : list_any (is_line_of (year_of day)) lines.items ≡ true → AreScheduled lines.items → IsStatusBy lines.items day answer =
-    subst (λ xs. list_any (is_line_of (year_of day)) xs ≡ true → AreScheduled xs → IsStatusBy xs day answer) c.deref-2.ensures.value c.status_by.ensures in
+    let read = then_reads g.S.Store c.args.tx.now c.known.new.tx c.years.new.self account lines
+    account (KnowsAccount name) (ListsYears name) (λ a. fact)
+    (λ t knows lists s stands. (
+      knows s stands,
+      lines_known name lines t s stands lists
+          (stands.settled name),
+    )) c.in_ok-account.ensures.call c.in_ok-lines.ensures.call in
+    let is : first_of
+    (status_checks name day account (list_any (is_line_of (year_of day)) lines.items)) ≡ None =
+    search rules in
+    let tells : list_any (is_line_of (year_of day)) lines.items ≡ true → AreScheduled lines.items
+    → IsStatusBy lines.items day answer =
+    subst (λ xs. list_any (is_line_of (year_of day)) xs ≡ true → AreScheduled xs
+    → IsStatusBy xs day answer) c.deref-2.ensures.value c.status_by.ensures in
     record {
-      call = served_looked g.S.Store (Status name day) c.args.tx.now c.years.new.self account answer (λ a. fact) read
-          (λ t s stands sound knows. (let told = knows s stands in status_told name day account lines.items t s stands told.0 told.1 answer is tells));
+      call = served_looked g.S.Store (Status name day) c.args.tx.now c.years.new.self account answer
+          (λ a. fact) read
+          (λ t s stands sound knows. (let told = knows s stands in
+          status_told name day account lines.items t s stands told.0 told.1 answer is tells));
     }

@@ -15,8 +15,14 @@ returns-in-Ok-clause-tells g c =
     let name = c.args.name.now in
     let end = c.tell_rows.new.rows.conn.now in
     let left : end ≡ c.conn-1.given.0 = search rules in
-    let TellsIn : Held g.row.S.Denot → Type 0 = λ conn. IsSeen (state g.S.Store conn) → (t : Tables) → Stands (state g.S.Store conn).now t → KnowsRows name c.args.quarter c.args.as_of c.args.of_return.now t → (s : State) → StandsFor t s → IsSound s
-    → Tells g.K.DueSink.took g.K.DueSink.broke s name c.args.quarter c.args.as_of c.args.sink.now c.tell_rows.new.sink c.tell_rows.result in
+    let TellsIn : Held g.row.S.Denot → Type 0 = λ conn. IsSeen (state g.S.Store conn) → (t : Tables)
+    → Stands (state g.S.Store conn).now t
+    → KnowsRows name c.args.quarter c.args.as_of c.args.of_return.now t → (s : State)
+    → StandsFor t s → IsSound s
+    → Tells g.K.DueSink.took g.K.DueSink.broke s name c.args.quarter c.args.as_of c.args.sink.now
+    c.tell_rows.new.sink c.tell_rows.result in
     subst TellsIn left (λ is.
-    let clean = clean_before (walked g.S.Store c.in-Ok.rows) (state g.S.Store end) c.tell_rows.ensures.stays.crash is.0 in
-    c.tell_rows.ensures.tells (c.in-Ok.ensures.settled clean) is name c.args.quarter (c.in-Ok.ensures.begun clean).0)
+    let clean = clean_before (walked g.S.Store c.in-Ok.rows) (state g.S.Store end)
+    c.tell_rows.ensures.stays.crash is.0 in
+    c.tell_rows.ensures.tells (c.in-Ok.ensures.settled clean) is name c.args.quarter
+    (c.in-Ok.ensures.begun clean).0)

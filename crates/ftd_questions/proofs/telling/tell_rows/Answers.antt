@@ -6,17 +6,27 @@ use Rattle.ftd_questions.specs.Telling.{Tells}
 use Rattle.ftd_questions.specs.Walks.{Stays}
 use Rattle.ftd_store.proofs.Items.{pairs_more}
 use Rattle.ftd_questions.proofs.RowsTold.{taken_more, tells_all, store_failed, row_failed}
-use Rattle.ftd_questions.proofs.Walked.{clean_before, stays_none, stays_same, stays_then, settled_then, seen_before, stood, walks_none, more_walked, more_known, all_walked}
+use Rattle.ftd_questions.proofs.Walked.{clean_before, stays_none, stays_same, stays_then}
+use Rattle.ftd_questions.proofs.Walked.{settled_then, seen_before, stood, walks_none, more_walked}
+use Rattle.ftd_questions.proofs.Walked.{more_known, all_walked}
 use Rattle.ftd_questions.proofs.telling.tell_rows.Goals as goal
 
 pub loop-init : goal.loop-init
-loop-init g c = record { same = refl; stays = stays_none _; told = ([], [], tt, refl, walks_none g.S.Store c.args.rows.now) }
+loop-init g c = record {
+  same = refl;
+  stays = stays_none _;
+  told = ([], [], tt, refl, walks_none g.S.Store c.args.rows.now);
+}
 
 pub returns-in-Ok-None-clause-tells : goal.returns-in-Ok-None-clause-tells
-returns-in-Ok-None-clause-tells g c = λ settled is name quarter has t stands knows s stands_for sound.
+returns-in-Ok-None-clause-tells g c = λ settled is name quarter has t stands knows s stands_for
+    sound.
     let so_far = c.loop.invariant.told in
-    let all = all_walked g.S.Store c.args.rows.now c.loop.rows c.next_obligation.new.rows so_far.0 so_far.4.given c.next_obligation.ensures.crash c.in-Ok-None.field-0 c.in-Ok-None.ensures.next c.in-Ok-None.field-0-is is.0 name quarter has t stands s stands_for in
-    tells_all g.K.DueSink.took g.K.DueSink.broke name quarter c.args.as_of c.args.of_return.now t knows s stands_for sound so_far.0 so_far.1 so_far.2 c.args.sink.now c.loop.sink all so_far.3
+    let all = all_walked g.S.Store c.args.rows.now c.loop.rows c.next_obligation.new.rows so_far.0
+    so_far.4.given c.next_obligation.ensures.crash c.in-Ok-None.field-0 c.in-Ok-None.ensures.next
+    c.in-Ok-None.field-0-is is.0 name quarter has t stands s stands_for in
+    tells_all g.K.DueSink.took g.K.DueSink.broke name quarter c.args.as_of c.args.of_return.now t
+    knows s stands_for sound so_far.0 so_far.1 so_far.2 c.args.sink.now c.loop.sink all so_far.3
 
 pub returns-in-Err-clause-tells : goal.returns-in-Err-clause-tells
 returns-in-Err-clause-tells g c = λ settled is name quarter has t stands knows s stands_for sound.
@@ -25,18 +35,33 @@ returns-in-Err-clause-tells g c = λ settled is name quarter has t stands knows 
     let mid = walked g.S.Store c.loop.rows in
     let new = walked g.S.Store c.next_obligation.new.rows in
     let crash = c.next_obligation.ensures.crash in
-    let step : Stays mid new = record { rows = λ clean. c.in-Err.ensures.kept clean (settled_then old mid (clean_before mid new crash clean) c.loop.invariant.stays settled); crash = crash } in
-    let first = so_far.4.first (seen_before mid new step is) name quarter has t (stood mid new step is t stands) s stands_for in
-    subst (λ fault. Tells g.K.DueSink.took g.K.DueSink.broke s name quarter c.args.as_of c.args.sink.now c.loop.sink (Err fault)) (sym c.from.ensures)
-    (store_failed g.K.DueSink.took g.K.DueSink.broke name quarter c.args.as_of c.args.of_return.now t knows s stands_for sound so_far.0 so_far.1 so_far.2 c.args.sink.now c.loop.sink first.0 first.1 so_far.3 c.in-Err.fault)
+    let step : Stays mid new =
+    record {
+      rows = λ clean. c.in-Err.ensures.kept clean
+          (settled_then old mid (clean_before mid new crash clean) c.loop.invariant.stays settled);
+      crash = crash;
+    } in
+    let first = so_far.4.first (seen_before mid new step is) name quarter has t
+    (stood mid new step is t stands) s stands_for in
+    subst (λ fault. Tells g.K.DueSink.took g.K.DueSink.broke s name quarter c.args.as_of
+    c.args.sink.now c.loop.sink (Err fault)) (sym c.from.ensures)
+    (store_failed g.K.DueSink.took g.K.DueSink.broke name quarter c.args.as_of c.args.of_return.now
+    t knows s stands_for sound so_far.0 so_far.1 so_far.2 c.args.sink.now c.loop.sink first.0
+    first.1 so_far.3 c.in-Err.fault)
 
 pub returns-in-Err-tell_row-clause-tells : goal.returns-in-Err-tell_row-clause-tells
-returns-in-Err-tell_row-clause-tells g c = λ settled is name quarter has t stands knows s stands_for sound.
+returns-in-Err-tell_row-clause-tells g c = λ settled is name quarter has t stands knows s stands_for
+    sound.
     let so_far = c.loop.invariant.told in
     let o = c.in-Ok-Some.obligation in
-    let first = more_known g.S.Store c.args.rows.now c.loop.rows c.next_obligation.new.rows so_far.0 so_far.4.given c.next_obligation.ensures.crash c.in-Ok-Some.field-0 c.in-Ok-Some.ensures.next o c.in-Ok-Some.field-0-is is.0 name quarter has t stands s stands_for in
-    row_failed g.K.DueSink.took g.K.DueSink.broke name quarter c.args.as_of c.args.of_return.now t knows s stands_for sound so_far.0 so_far.1 so_far.2 c.args.sink.now c.tell_row.new.sink o first.0 c.loop.sink first.1 so_far.3 c.in-Err-tell_row.fault
-    (λ refusal refused. c.in-Err-tell_row.ensures.refused refusal (λ i. Err (refused i))) (λ broken. c.in-Err-tell_row.ensures.broke (λ i. Err (broken i)))
+    let first = more_known g.S.Store c.args.rows.now c.loop.rows c.next_obligation.new.rows so_far.0
+    so_far.4.given c.next_obligation.ensures.crash c.in-Ok-Some.field-0 c.in-Ok-Some.ensures.next o
+    c.in-Ok-Some.field-0-is is.0 name quarter has t stands s stands_for in
+    row_failed g.K.DueSink.took g.K.DueSink.broke name quarter c.args.as_of c.args.of_return.now t
+    knows s stands_for sound so_far.0 so_far.1 so_far.2 c.args.sink.now c.tell_row.new.sink o
+    first.0 c.loop.sink first.1 so_far.3 c.in-Err-tell_row.fault
+    (λ refusal refused. c.in-Err-tell_row.ensures.refused refusal (λ i. Err (refused i)))
+    (λ broken. c.in-Err-tell_row.ensures.broke (λ i. Err (broken i)))
 
 pub loop-preserved : goal.loop-preserved
 loop-preserved g c =
@@ -45,15 +70,22 @@ loop-preserved g c =
     let taken = c.in_default.ensures.took in
     record {
       same = c.next_obligation.ensures.same_reference ∙ c.loop.invariant.same;
-      stays = stays_then _ (walked g.S.Store c.loop.rows) _ c.loop.invariant.stays (stays_same _ _ c.in-Ok-Some.ensures.same c.next_obligation.ensures.crash);
+      stays = stays_then _ (walked g.S.Store c.loop.rows) _ c.loop.invariant.stays
+          (stays_same _ _ c.in-Ok-Some.ensures.same c.next_obligation.ensures.crash);
       told = (
         so_far.0 ++ o ∷ [],
         so_far.1 ++ taken.0 ∷ [],
-        pairs_more (IsRowBy c.args.of_return.now c.args.as_of) so_far.0 so_far.1 o taken.0 so_far.2 taken.1,
-        taken_more g.K.DueSink.took c.args.sink.now c.loop.sink c.tell_row.new.sink so_far.1 taken.0 so_far.3 taken.2,
+        pairs_more (IsRowBy c.args.of_return.now c.args.as_of) so_far.0 so_far.1 o taken.0 so_far.2
+            taken.1,
+        taken_more g.K.DueSink.took c.args.sink.now c.loop.sink c.tell_row.new.sink so_far.1 taken.0
+            so_far.3 taken.2,
         record {
-          given = more_walked g.S.Store c.args.rows.now c.loop.rows c.next_obligation.new.rows so_far.0 so_far.4.given c.next_obligation.ensures.crash c.in-Ok-Some.field-0 c.in-Ok-Some.ensures.next o c.in-Ok-Some.field-0-is;
-          first = λ is. more_known g.S.Store c.args.rows.now c.loop.rows c.next_obligation.new.rows so_far.0 so_far.4.given c.next_obligation.ensures.crash c.in-Ok-Some.field-0 c.in-Ok-Some.ensures.next o c.in-Ok-Some.field-0-is is.0;
+          given = more_walked g.S.Store c.args.rows.now c.loop.rows c.next_obligation.new.rows
+              so_far.0 so_far.4.given c.next_obligation.ensures.crash c.in-Ok-Some.field-0
+              c.in-Ok-Some.ensures.next o c.in-Ok-Some.field-0-is;
+          first = λ is. more_known g.S.Store c.args.rows.now c.loop.rows c.next_obligation.new.rows
+              so_far.0 so_far.4.given c.next_obligation.ensures.crash c.in-Ok-Some.field-0
+              c.in-Ok-Some.ensures.next o c.in-Ok-Some.field-0-is is.0;
         },
       );
     }
@@ -62,5 +94,8 @@ pub returns-clause-tells : goal.returns-clause-tells
 returns-clause-tells g c = λ settled is name quarter has t stands knows s stands_for sound.
     let so_far = c.loop.invariant.told in
     let first = so_far.4.first is name quarter has t stands s stands_for in
-    subst (λ fault. Tells g.K.DueSink.took g.K.DueSink.broke s name quarter c.args.as_of c.args.sink.now c.loop.sink (Err fault)) (sym c.from-2.ensures)
-    (store_failed g.K.DueSink.took g.K.DueSink.broke name quarter c.args.as_of c.args.of_return.now t knows s stands_for sound so_far.0 so_far.1 so_far.2 c.args.sink.now c.loop.sink first.0 first.1 so_far.3 Failed)
+    subst (λ fault. Tells g.K.DueSink.took g.K.DueSink.broke s name quarter c.args.as_of
+    c.args.sink.now c.loop.sink (Err fault)) (sym c.from-2.ensures)
+    (store_failed g.K.DueSink.took g.K.DueSink.broke name quarter c.args.as_of c.args.of_return.now
+    t knows s stands_for sound so_far.0 so_far.1 so_far.2 c.args.sink.now c.loop.sink first.0
+    first.1 so_far.3 Failed)

@@ -13,5 +13,7 @@ abbrev pub invariant-loop : goal.invariant-loop
 invariant-loop g l = record {
   same : l.rows.conn.ghost_name ≡ l.fn.rows.conn.ghost_name;
   stays : Stays (walked g.S.Store l.fn.rows) (walked g.S.Store l.rows);
-  told : (listed : List Obligation) × (told : List DueRow) × Pairs (IsRowBy l.of_return l.as_of) listed told × HasTaken g.K.DueSink.took l.fn.sink told l.sink × WalksTo g.S.Store l.fn.rows l.rows listed;
+  told : (listed : List Obligation) × (told : List DueRow) × Pairs (IsRowBy l.of_return l.as_of)
+      listed told × HasTaken g.K.DueSink.took l.fn.sink told l.sink
+      × WalksTo g.S.Store l.fn.rows l.rows listed;
 }

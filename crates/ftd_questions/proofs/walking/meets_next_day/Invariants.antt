@@ -11,5 +11,6 @@ abbrev pub invariant-loop : goal.invariant-loop
 invariant-loop g l = record {
   same : l.rows.conn.ghost_name ≡ l.fn.rows.conn.ghost_name;
   stays : Stays (walked g.S.Store l.fn.rows) (walked g.S.Store l.rows);
-  listed : (listed : List Obligation) × (list_any is_next_day_row listed ≡ false) × HasWalked g.S.Store l.fn.rows l.rows listed;
+  listed : (listed : List Obligation) × (list_any is_next_day_row listed ≡ false)
+      × HasWalked g.S.Store l.fn.rows l.rows listed;
 }

@@ -14,29 +14,43 @@ pub loop-quarters-preserved : goal.loop-quarters-preserved
 loop-quarters-preserved g c =
     let mid = seen g.S.Store c.loop-quarters.store in
     let new = state g.S.Store c.begins_next_day.new.conn in
-    let step : Stays mid new = subst (λ (conn : Held g.row.S.Denot). Stays (state g.S.Store conn) new) c.lend.ensures.same c.begins_next_day.ensures.stays in
+    let step : Stays mid new =
+    subst (λ (conn : Held g.row.S.Denot). Stays (state g.S.Store conn) new) c.lend.ensures.same
+    c.begins_next_day.ensures.stays in
     record {
       stays = stays_then _ mid new c.loop-quarters.invariant.stays step;
       none = λ is t stands s stands_for quarter low high.
           elim (lt_or_le quarter c.loop-quarters.quarters) [
-            | inl before ↦ c.loop-quarters.invariant.none (seen_before mid new step is) t (stood mid new step is t stands) s stands_for quarter low before
+            | inl before ↦ c.loop-quarters.invariant.none (seen_before mid new step is) t
+                (stood mid new step is t stands) s stands_for quarter low before
             | inr here ↦
                 let same : c.at.result ≡ quarter = let at = c.at.ensures in omega arith in
-                subst (λ n. list_any is_next_day_row (begun stands_for c.args.name.now n) ≡ false) same (sym (c.in_ok-begins_next_day.ensures.knows is t stands s stands_for) ∙ c.if-branch.false)
+                subst (λ n. list_any is_next_day_row (begun stands_for c.args.name.now n) ≡ false)
+                same (sym (c.in_ok-begins_next_day.ensures.knows is t stands s stands_for)
+                ∙ c.if-branch.false)
           ];
     }
 
 pub returns-then-branch-clause-knows : goal.returns-then-branch-clause-knows
 returns-then-branch-clause-knows g c = λ is t stands s stands_for.
-    let low : c.quarters_of_return-first.result.0 ≤ c.at.result = let at = c.at.ensures in let from = c.loop-quarters.auto.quarters in omega arith in
-    let high : c.at.result < c.quarters_of_return-first.result.1 = let at = c.at.ensures in let to = c.loop-quarters-test.true in omega arith in
-    sym (some_begins c.args.form (return_period c.args.form c.args.quarter) c.quarters_of_return-first.result.0 c.quarters_of_return-first.result.1 (stands_for.settled c.args.name.now).owed
-    c.quarters_of_return-first.ensures.same c.at.result low high (sym (c.in_ok-begins_next_day.ensures.knows is t stands s stands_for) ∙ c.if-branch.true))
+    let low : c.quarters_of_return-first.result.0 ≤ c.at.result = let at = c.at.ensures in
+    let from = c.loop-quarters.auto.quarters in omega arith in
+    let high : c.at.result < c.quarters_of_return-first.result.1 = let at = c.at.ensures in
+    let to = c.loop-quarters-test.true in omega arith in
+    sym (some_begins c.args.form (return_period c.args.form c.args.quarter)
+    c.quarters_of_return-first.result.0 c.quarters_of_return-first.result.1
+    (stands_for.settled c.args.name.now).owed
+    c.quarters_of_return-first.ensures.same c.at.result low high
+    (sym (c.in_ok-begins_next_day.ensures.knows is t stands s stands_for) ∙ c.if-branch.true))
 
 pub returns-clause-knows : goal.returns-clause-knows
 returns-clause-knows g c = λ is t stands s stands_for.
     let end = c.loop-quarters-test.false in
     let most = c.loop-quarters.auto.quarters-end in
     let some = c.quarters_of_return-first.ensures.some in
-    sym (none_begins c.args.form (return_period c.args.form c.args.quarter) c.quarters_of_return-first.result.0 c.quarters_of_return-first.result.1 (stands_for.settled c.args.name.now).owed
-    c.quarters_of_return-first.ensures.same (λ quarter low high. c.loop-quarters.invariant.none is t stands s stands_for quarter low (omega arith)))
+    sym (none_begins c.args.form (return_period c.args.form c.args.quarter)
+    c.quarters_of_return-first.result.0 c.quarters_of_return-first.result.1
+    (stands_for.settled c.args.name.now).owed
+    c.quarters_of_return-first.ensures.same
+    (λ quarter low high. c.loop-quarters.invariant.none is t stands s stands_for quarter low
+    (omega arith)))

@@ -11,6 +11,8 @@ use Rattle.ftd_questions.proofs.walking.return_has_next_day.Given as goal
 abbrev pub invariant-loop-quarters : goal.invariant-loop-quarters
 invariant-loop-quarters g l = record {
   stays : Stays (seen g.S.Store l.fn.store) (seen g.S.Store l.store);
-  none : IsSeen (seen g.S.Store l.store) → (t : Tables) → Stands (seen g.S.Store l.store).now t → (s : State) (stands : StandsFor t s) (quarter : ℕ) → l.first ≤ quarter → quarter < l.quarters
+  none : IsSeen (seen g.S.Store l.store) → (t : Tables) → Stands (seen g.S.Store l.store).now t
+      → (s : State) (stands : StandsFor t s) (quarter : ℕ) → l.first ≤ quarter
+      → quarter < l.quarters
       → list_any is_next_day_row (begun stands l.name quarter) ≡ false;
 }

@@ -13,7 +13,8 @@ first_alone c =
     let year = c.loop-cents.invariant.0 in
     let count = c.loop-cents.invariant.1 in
     elim c.if-carried.branch [
-      | then-carried w ↦ λ t. (let same : c.loop-cents.year ≡ c.args.first = grind (arith, nat_tests, w.here-is, t) in omega arith)
+      | then-carried w ↦ λ t. (let same : c.loop-cents.year ≡ c.args.first =
+          grind (arith, nat_tests, w.here-is, t) in omega arith)
       | else-carried w ↦ λ t. absurd (let k = rw (w.here-is, w.if-carried.false) at t in cc)
     ]
 

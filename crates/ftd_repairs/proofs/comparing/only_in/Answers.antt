@@ -4,7 +4,8 @@ use Rattle.ftd_rules.specs.declared.Obligation.{Obligation}
 use Rattle.ftd_rules.specs.Lists.{Has}
 use Rattle.ftd_repairs.proofs.Differing.{only_more, only_same}
 use Rattle.ftd_repairs.proofs.comparing.only_in.Goals as goal
-use Rattle.ftd_repairs.proofs.comparing.only_in.Goals.{then-not-is_among+in_ok-push, else-not-is_among}
+use Rattle.ftd_repairs.proofs.comparing.only_in.Goals.{then-not-is_among+in_ok-push}
+use Rattle.ftd_repairs.proofs.comparing.only_in.Goals.{else-not-is_among}
 
 pub loop-row-preserved : goal.loop-row-preserved
 loop-row-preserved c rise =
@@ -16,9 +17,12 @@ loop-row-preserved c rise =
     let so_far = c.loop-row.invariant rise in
     elim c.if-not-is_among.branch [
       | then-not-is_among+in_ok-push w ↦
-          (let other : Has others x → ⊥ = λ has. false≢true (sym w.if-not-is_among.true ∙ c.is_among.ensures.1 has) in
-          rw (w.only-is, w.in_ok-push.ensures.items) (only_more rows others c.loop-row.only.items i x rise some c.row-item.is other so_far))
+          (let other : Has others x → ⊥ = λ has. false≢true (sym w.if-not-is_among.true
+          ∙ c.is_among.ensures.1 has) in
+          rw (w.only-is, w.in_ok-push.ensures.items)
+          (only_more rows others c.loop-row.only.items i x rise some c.row-item.is other so_far))
       | else-not-is_among w ↦
           (let among : Has others x = c.is_among.ensures.0 w.if-not-is_among.false in
-          rw w.only-is (only_same rows others c.loop-row.only.items i x some c.row-item.is among so_far))
+          rw w.only-is (only_same rows others c.loop-row.only.items i x some c.row-item.is among
+          so_far))
     ]

@@ -13,13 +13,31 @@ loop-row-preserved c =
     let some : i < length rows = c.loop-row-test.true in
     let has : Has rows x = has_at rows i x some c.row-item.is in
     let so_far = c.loop-row.invariant in
-    let low0 = c.earlier-from.ensures.not_after.0 in let low1 = c.earlier-from.ensures.not_after.1 in
+    let low0 = c.earlier-from.ensures.not_after.0 in
+    let low1 = c.earlier-from.ensures.not_after.1 in
     let high0 = c.later-to.ensures.not_before.0 in let high1 = c.later-to.ensures.not_before.1 in
     record {
-      first = elim c.earlier-from.ensures.is_one [ inl old ↦ (so_far.first.0, so_far.first.1, old ∙ so_far.first.2) | inr new ↦ (x, has, new) ];
-      last = elim c.later-to.ensures.is_one [ inl old ↦ (so_far.last.0, so_far.last.1, old ∙ so_far.last.2) | inr new ↦ (x, has, new) ];
+      first = elim c.earlier-from.ensures.is_one [
+        | inl old ↦ (
+          so_far.first.0,
+          so_far.first.1,
+          old
+              ∙ so_far.first.2,
+        )
+        | inr new ↦ (x, has, new)
+      ];
+      last = elim c.later-to.ensures.is_one [
+        | inl old ↦ (
+          so_far.last.0,
+          so_far.last.1,
+          old
+              ∙ so_far.last.2,
+        )
+        | inr new ↦ (x, has, new)
+      ];
       within = λ o k. elim (has_more rows i x o some c.row-item.is k) [
-        | inl before ↦ (let w = so_far.within o before in let w0 = w.0 in let w1 = w.1 in (omega arith, omega arith))
+        | inl before ↦ (let w = so_far.within o before in let w0 = w.0 in let w1 = w.1 in
+            (omega arith, omega arith))
         | inr here ↦
             (let first : o.first ≡ x.first = ap (λ (z : Obligation). z.first) here in
             let last : o.last ≡ x.last = ap (λ (z : Obligation). z.last) here in

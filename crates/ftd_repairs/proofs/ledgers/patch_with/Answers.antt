@@ -14,6 +14,9 @@ returns-clause-right c =
     let lines : List YearLine = c.args.years.now.lines.items in
     let rest : List YearLine = c.in-Some.rest.now in
     let holidays = holidays_of c.args.years.now.holidays in
-    let from : (earlier : List YearLine) × (lines ≡ earlier ++ rest) = rw c.deref.ensures.value at c.in-Some.ensures.rest in
-    let right : RepairsBy form day sums rest holidays c.in_ok-patch.patch = rw c.deref-2.ensures.value at c.in_ok-patch.ensures in
-    right_by_all (SumsAre form day sums) form day lines from.0 rest holidays c.in_ok-patch.patch from.1 right
+    let from : (earlier : List YearLine) × (lines ≡ earlier ++ rest) =
+    rw c.deref.ensures.value at c.in-Some.ensures.rest in
+    let right : RepairsBy form day sums rest holidays c.in_ok-patch.patch =
+    rw c.deref-2.ensures.value at c.in_ok-patch.ensures in
+    right_by_all (SumsAre form day sums) form day lines from.0 rest holidays c.in_ok-patch.patch
+    from.1 right

@@ -18,13 +18,21 @@ returns g c =
     let patch = c.args.patch.now in
     let gone : List Obligation = c.args.gone.now in
     let d = c.in-Ok.difference in
-    let differ : ByFirstDay gone → ByFirstDay patch.rows → Differ gone patch.rows day d.from d.to d.removed d.added = rw c.as_slice-2.ensures at c.in-Ok.ensures in
+    let differ : ByFirstDay gone → ByFirstDay patch.rows
+    → Differ gone patch.rows day d.from d.to d.removed d.added =
+    rw c.as_slice-2.ensures at c.in-Ok.ensures in
     record {
       call = turns_on g.S.Store c.args.tx.now c.put_patch.new.tx _ d
-          (λ done t u. AreBetween name patch.from patch.to gone t → HasLines name lines t → PutsInto name lines patch after t u)
-          (λ e t u. AreBetween name patch.from patch.to gone t → HasLines name lines t → Places name day lines patch after e t u)
+          (λ done t u. AreBetween name patch.from patch.to gone t → HasLines name lines t
+          → PutsInto name lines patch after t u)
+          (λ e t u. AreBetween name patch.from patch.to gone t → HasLines name lines t
+          → Places name day lines patch after e t u)
           (λ t u puts between had. record {
-            compared = record { gone = gone; are_gone = between; differ = differ between.by_first_day };
+            compared = record {
+              gone = gone;
+              are_gone = between;
+              differ = differ between.by_first_day;
+            };
             put = puts between had;
           })
           c.in_ok-put_patch.ensures.call;

@@ -22,9 +22,13 @@ loop-i-init g c =
     let patch = c.args.patch.now in
     record {
       lookbacks = c.requires.lookbacks;
-      call = turns_on g.S.Store c.args.tx.now c.put_rows.new.tx tt tt (λ done t u. AreBetween name patch.from patch.to c.args.gone.now t → PutsRows name patch t u)
-          (λ done t u. AreBetween name patch.from patch.to c.args.gone.now t → HasLines name lines t → PutSoFar name lines patch 0 lines t u)
-          (λ t u puts gone had. put_none name lines patch t u (puts gone) had) c.in_ok-put_rows.ensures.call;
+      call = turns_on g.S.Store c.args.tx.now c.put_rows.new.tx tt tt
+          (λ done t u. AreBetween name patch.from patch.to c.args.gone.now t
+          → PutsRows name patch t u)
+          (λ done t u. AreBetween name patch.from patch.to c.args.gone.now t → HasLines name lines t
+          → PutSoFar name lines patch 0 lines t u)
+          (λ t u puts gone had. put_none name lines patch t u (puts gone) had)
+          c.in_ok-put_rows.ensures.call;
     }
 
 pub loop-i-preserved : goal.loop-i-preserved
@@ -39,25 +43,41 @@ loop-i-preserved g c =
     let below = c.loop-i-test.true in
     let some : i < length lines = omega arith in
     let Holds : YearLine → Type 0 = λ line. IsStorable line.lookback in
-    let So : ℕ → List YearLine → Tables → Tables → Type 0 = λ n ls t u. AreBetween name patch.from patch.to c.args.gone.now t → HasLines name lines t → PutSoFar name lines patch n ls t u in
+    let So : ℕ → List YearLine → Tables → Tables → Type 0 = λ n ls t u.
+    AreBetween name patch.from patch.to c.args.gone.now t → HasLines name lines t
+    → PutSoFar name lines patch n ls t u in
     elim c.match-rescheduled.branch [
       | in-Some+in_ok-put_year w ↦
           (let after : YearLine = w.in-Some.after in
-          let scheduled : IsRescheduled patch.years x after = rw (c.as_slice.ensures, ← c.index-lines-i.is) at w.in-Some.ensures in
-          let stored : w.index-lines-i-in-Some.result ≡ after = w.index-lines-i-in-Some.is ∙ get_or-set_at now i i after w.index-lines-i-in-Some.result refl (omega arith) in
-          let holds : Holds x = subst Holds (sym c.index-lines-i.is) (All-get_or Holds now i x (omega arith) c.loop-i.invariant.lookbacks) in
-          let still : Holds after = subst (λ (amount : Cents). IsStorable amount) (sym (ap (λ (l : YearLine). l.lookback) scheduled.3)) holds in
+          let scheduled : IsRescheduled patch.years x after =
+          rw (c.as_slice.ensures, ← c.index-lines-i.is) at w.in-Some.ensures in
+          let stored : w.index-lines-i-in-Some.result ≡ after = w.index-lines-i-in-Some.is
+          ∙ get_or-set_at now i i after w.index-lines-i-in-Some.result refl (omega arith) in
+          let holds : Holds x = subst Holds (sym c.index-lines-i.is)
+          (All-get_or Holds now i x (omega arith) c.loop-i.invariant.lookbacks) in
+          let still : Holds after = subst (λ (amount : Cents). IsStorable amount)
+          (sym (ap (λ (l : YearLine). l.lookback) scheduled.3)) holds in
           rw (w.tx-is, w.lines-is) (record {
             lookbacks = All-set Holds now i after still c.loop-i.invariant.lookbacks;
-            call = turns_then g.S.Store c.args.tx.now c.loop-i.tx w.put_year.new.self tt _ tt (λ done. So i now) (λ done t u. u ≡ with_year name after t) (λ done. So (i + 1) (set now i after))
-                (λ t u v so_far is gone had. subst (λ (z : Tables). PutSoFar name lines patch (i + 1) (set now i after) t z) (sym is) (put_more name lines patch i now x after t u some c.index-lines-i.is scheduled (so_far gone had)))
-                c.loop-i.invariant.call (writes_turn g.S.Store c.loop-i.tx w.put_year.new.self _ (with_year name after) (rw stored at w.in_ok-put_year.ensures.call));
+            call = turns_then g.S.Store c.args.tx.now c.loop-i.tx w.put_year.new.self tt _ tt
+                (λ done. So i now) (λ done t u. u ≡ with_year name after t)
+                (λ done. So (i + 1) (set now i after))
+                (λ t u v so_far is gone had. subst (λ (z : Tables). PutSoFar name lines patch
+                (i + 1) (set now i after) t z) (sym is)
+                (put_more name lines patch i now x after t u some c.index-lines-i.is scheduled
+                (so_far gone had)))
+                c.loop-i.invariant.call (writes_turn g.S.Store c.loop-i.tx w.put_year.new.self _
+                (with_year name after) (rw stored at w.in_ok-put_year.ensures.call));
           }))
       | in_default w ↦
-          (let unnamed : IsUnnamed patch.years x = rw (c.as_slice.ensures, ← c.index-lines-i.is) at w.in_default.ensures in
+          (let unnamed : IsUnnamed patch.years x = rw (c.as_slice.ensures, ← c.index-lines-i.is) at
+          w.in_default.ensures in
           rw (w.tx-is, w.lines-is) (record {
             lookbacks = c.loop-i.invariant.lookbacks;
-            call = turns_on g.S.Store c.args.tx.now c.loop-i.tx tt tt (λ done. So i now) (λ done. So (i + 1) now) (λ t u so_far gone had. put_same name lines patch i now x t u some c.index-lines-i.is unnamed (so_far gone had)) c.loop-i.invariant.call;
+            call = turns_on g.S.Store c.args.tx.now c.loop-i.tx tt tt (λ done. So i now)
+                (λ done. So (i + 1) now)
+                (λ t u so_far gone had. put_same name lines patch i now x t u some
+                c.index-lines-i.is unnamed (so_far gone had)) c.loop-i.invariant.call;
           }))
     ]
 
@@ -70,7 +90,12 @@ returns g c =
     let i : ℕ = c.loop-i.i in
     let end = c.loop-i-test.false in
     record {
-      call = turns_on g.S.Store c.args.tx.now c.loop-i.tx tt _ (λ done t u. AreBetween name patch.from patch.to c.args.gone.now t → HasLines name lines t → PutSoFar name lines patch i now t u)
-          (λ done t u. AreBetween name patch.from patch.to c.args.gone.now t → HasLines name lines t → PutsInto name lines patch now t u)
-          (λ t u so_far gone had. put_all name lines patch i now t u (all_taken lines i (omega arith)) (drop_of_length-le lines (omega arith)) (so_far gone had)) c.loop-i.invariant.call;
+      call = turns_on g.S.Store c.args.tx.now c.loop-i.tx tt _
+          (λ done t u. AreBetween name patch.from patch.to c.args.gone.now t → HasLines name lines t
+          → PutSoFar name lines patch i now t u)
+          (λ done t u. AreBetween name patch.from patch.to c.args.gone.now t → HasLines name lines t
+          → PutsInto name lines patch now t u)
+          (λ t u so_far gone had. put_all name lines patch i now t u
+          (all_taken lines i (omega arith)) (drop_of_length-le lines (omega arith))
+          (so_far gone had)) c.loop-i.invariant.call;
     }

@@ -9,5 +9,8 @@ use Rattle.ftd_repairs.proofs.patching.put_patch.Given as goal
 abbrev pub invariant-loop-i : goal.invariant-loop-i
 invariant-loop-i g l = record {
   lookbacks : All (λ line. IsStorable line.lookback) l.lines;
-  call : Turns g.S.Store l.fn.tx l.tx (Ok (tt {0})) (λ done old new. AreBetween l.fn.account l.fn.patch.from l.fn.patch.to l.fn.gone old → HasLines l.fn.account l.fn.lines old → PutSoFar l.fn.account l.fn.lines l.fn.patch l.i l.lines old new);
+  call : Turns g.S.Store l.fn.tx l.tx (Ok (tt {0}))
+      (λ done old new. AreBetween l.fn.account l.fn.patch.from l.fn.patch.to l.fn.gone old
+      → HasLines l.fn.account l.fn.lines old → PutSoFar l.fn.account l.fn.lines l.fn.patch l.i
+      l.lines old new);
 }

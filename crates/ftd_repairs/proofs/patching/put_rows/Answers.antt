@@ -15,7 +15,8 @@ set_obligation-requires g c =
     let row : Obligation = c.in-Some.row in
     let Holds : Obligation → Type 0 = λ o. IsStorable o.cents in
     let one : c.args.patch.now.rows ≡ row ∷ [] = rw c.as_slice.ensures at c.in-Some.ensures.2 in
-    All-get_or Holds (row ∷ []) 0 row (omega arith) (subst (λ (rows : List Obligation). All Holds rows) one c.requires.amounts)
+    All-get_or Holds (row ∷ []) 0 row (omega arith)
+    (subst (λ (rows : List Obligation). All Holds rows) one c.requires.amounts)
 
 pub returns-in-Some : goal.returns-in-Some
 returns-in-Some g c =
@@ -26,9 +27,14 @@ returns-in-Some g c =
     let told = c.in-Some.ensures in
     let change : Tables → Tables = with_obligation name row in
     record {
-      call = turns_on g.S.Store c.args.tx.now c.set_obligation.new.self _ tt (λ done t u. u ≡ change t) (λ done t u. AreBetween name patch.from patch.to gone t → PutsRows name patch t u)
-          (λ t u is between. subst (λ (v : Tables). PutsRows name patch t v) (sym is) (changed_puts name gone patch told.0 row t told.1 (rw c.as_slice.ensures at told.2) told.3 between))
-          (one_turns g.S.Store c.args.tx.now c.set_obligation.new.self _ _ change c.in_ok-set_obligation.ensures.call);
+      call = turns_on g.S.Store c.args.tx.now c.set_obligation.new.self _ tt
+          (λ done t u. u ≡ change t) (λ done t u. AreBetween name patch.from patch.to gone t
+          → PutsRows name patch t u)
+          (λ t u is between. subst (λ (v : Tables). PutsRows name patch t v) (sym is)
+          (changed_puts name gone patch told.0 row t told.1 (rw c.as_slice.ensures at told.2) told.3
+          between))
+          (one_turns g.S.Store c.args.tx.now c.set_obligation.new.self _ _ change
+          c.in_ok-set_obligation.ensures.call);
     }
 
 pub returns : goal.returns
@@ -38,7 +44,11 @@ returns g c =
     let patch = c.args.patch.now in
     let change : Tables → Tables = with_obligations name patch.from patch.to patch.rows in
     record {
-      call = turns_on g.S.Store c.args.tx.now c.replace_obligations.new.self _ tt (λ done t u. u ≡ change t) (λ done t u. AreBetween name patch.from patch.to gone t → PutsRows name patch t u)
-          (λ t u is between. subst (λ (v : Tables). PutsRows name patch t v) (sym is) (replaced_puts name patch t))
-          (writes_turn g.S.Store c.args.tx.now c.replace_obligations.new.self _ change (rw c.as_slice-2.ensures at c.in_ok-replace_obligations.ensures.call));
+      call = turns_on g.S.Store c.args.tx.now c.replace_obligations.new.self _ tt
+          (λ done t u. u ≡ change t) (λ done t u. AreBetween name patch.from patch.to gone t
+          → PutsRows name patch t u)
+          (λ t u is between. subst (λ (v : Tables). PutsRows name patch t v) (sym is)
+          (replaced_puts name patch t))
+          (writes_turn g.S.Store c.args.tx.now c.replace_obligations.new.self _ change
+          (rw c.as_slice-2.ensures at c.in_ok-replace_obligations.ensures.call));
     }

@@ -24,17 +24,26 @@ returns g c =
     let holidays : List ℕ = holidays_of c.args.known.holidays in
     let patch = c.in_ok-patch.patch in
     let difference = c.in_ok-difference.difference in
-    let from : (earlier : List YearLine) × (lines ≡ earlier ++ rest) = rw c.deref.ensures.value at c.in-Some.ensures.rest in
+    let from : (earlier : List YearLine) × (lines ≡ earlier ++ rest) =
+    rw c.deref.ensures.value at c.in-Some.ensures.rest in
     let right : Patch → Tables → Type 0 = λ p t. Repairs name form day lines holidays p t in
     let after : List YearLine = c.place_patch.new.lines in
     let gone : List Obligation = c.in_ok-gone.gone.items in
-    let read = λ (q : Patch × Vec Obligation Global) (t : Tables). Repairs name form day rest holidays q.0 t × AreBetween name patch.from patch.to q.1.items t in
+    let read = λ (q : Patch × Vec Obligation Global) (t : Tables).
+    Repairs name form day rest holidays q.0 t × AreBetween name patch.from patch.to q.1.items t in
     record {
-      call = read_then_turn g.S.Store c.args.tx.now c.known_obligations.new.tx c.place_patch.new.tx (patch, c.in_ok-gone.gone) (Ok difference) read
-          (λ d t u. AreBetween name patch.from patch.to gone t → HasLines name lines t → Places name day lines patch after d t u)
+      call = read_then_turn g.S.Store c.args.tx.now c.known_obligations.new.tx c.place_patch.new.tx
+          (patch, c.in_ok-gone.gone) (Ok difference) read
+          (λ d t u. AreBetween name patch.from patch.to gone t → HasLines name lines t
+          → Places name day lines patch after d t u)
           (λ d t u. HasLines name lines t → Repatches name day lines (λ p. right p t) d t u)
-          (λ d t u told places had. (repatched name day lines after (λ p. right p t) patch d t u (repairs_all name form day lines from.0 rest holidays patch t from.1 told.0) (places told.1 had)).0)
-          (then_reads g.S.Store c.args.tx.now c.repaired.new.tx c.known_obligations.new.tx patch c.in_ok-gone.gone (patch, c.in_ok-gone.gone) (Repairs name form day rest holidays) (λ rows. AreBetween name patch.from patch.to rows.items) read
+          (λ d t u told places had. (repatched name day lines after (λ p. right p t) patch d t u
+          (repairs_all name form day lines from.0 rest holidays patch t from.1 told.0)
+          (places told.1 had)).0)
+          (then_reads g.S.Store c.args.tx.now c.repaired.new.tx c.known_obligations.new.tx patch
+          c.in_ok-gone.gone (patch, c.in_ok-gone.gone) (Repairs name form day rest holidays)
+          (λ rows. AreBetween name patch.from patch.to rows.items) read
           (λ t one two. (one, two)) c.in_ok-patch.ensures.call c.in_ok-gone.ensures.call)
-          (rw (c.deref_mut.ensures.value, c.deref-2.ensures.value) at c.in_ok-difference.ensures.call);
+          (rw (c.deref_mut.ensures.value, c.deref-2.ensures.value) at
+          c.in_ok-difference.ensures.call);
     }

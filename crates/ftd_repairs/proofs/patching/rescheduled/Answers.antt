@@ -8,8 +8,12 @@ use Rattle.ftd_repairs.proofs.patching.rescheduled.Goals as goal
 pub returns-then-other-line : goal.returns-then-other-line
 returns-then-other-line c =
     let xs : List YearLine = c.args.changed.now in
-    let x : YearLine = c.other-item.result in
-    (x, has_at xs c.loop-other.other-index x c.loop-other-test.true c.other-item.is, c.if-other-line.true, refl)
+    let x : YearLine = c.other-item.result in (
+      x,
+      has_at xs c.loop-other.other-index x c.loop-other-test.true c.other-item.is,
+      c.if-other-line.true,
+      refl,
+    )
 
 pub loop-other-preserved : goal.loop-other-preserved
 loop-other-preserved c other has same =
@@ -17,7 +21,8 @@ loop-other-preserved c other has same =
     let x : YearLine = c.other-item.result in
     elim (has_more xs c.loop-other.other-index x other c.loop-other-test.true c.other-item.is has) [
       | inl before ↦ c.loop-other.invariant other before same
-      | inr here ↦ absurd (let n = c.if-other-line.false in n (sym (ap (λ (l : YearLine). l.year) here) ∙ same))
+      | inr here ↦ absurd (let n = c.if-other-line.false in
+          n (sym (ap (λ (l : YearLine). l.year) here) ∙ same))
     ]
 
 pub returns : goal.returns

@@ -1,4 +1,5 @@
-use Rattle.std.proofs.Common.{◌≡◌, ◌<◌, ◌∙◌, ℕ, Bool, true, false, List, [], ◌∷◌, ◌++◌, append-nil, take, length, ap, sym, arith, ◌+◌}
+use Rattle.std.proofs.Common.{◌≡◌, ◌<◌, ◌∙◌, ℕ, Bool, true, false, List, [], ◌∷◌, ◌++◌, append-nil}
+use Rattle.std.proofs.Common.{take, length, ap, sym, arith, ◌+◌}
 use Rattle.std.specs.Prelude.{filter}
 use Rattle.std.proofs.lemmas.List.Elements.{filter-append}
 use Rattle.ftd_rules.specs.declared.Obligation.{Obligation}
@@ -10,11 +11,15 @@ use Rattle.ftd_repairs.proofs.placing.rows_at.Goals as goal
 use Rattle.ftd_repairs.proofs.placing.rows_at.Goals.{then-begins+in_ok-push, else-begins}
 
 -- one row more passes the test, or does not
-passes : (p : Obligation → Bool) (rows : List Obligation) (x : Obligation) → p x ≡ true → filter p (rows ++ x ∷ []) ≡ filter p rows ++ x ∷ []
-passes p rows x given = filter-append p rows (x ∷ []) ∙ ap (λ l. filter p rows ++ l) (filter_in p x [] given)
+passes : (p : Obligation → Bool) (rows : List Obligation) (x : Obligation) → p x ≡ true
+    → filter p (rows ++ x ∷ []) ≡ filter p rows ++ x ∷ []
+passes p rows x given = filter-append p rows (x ∷ []) ∙ ap (λ l. filter p rows ++ l)
+    (filter_in p x [] given)
 
-fails : (p : Obligation → Bool) (rows : List Obligation) (x : Obligation) → p x ≡ false → filter p (rows ++ x ∷ []) ≡ filter p rows
-fails p rows x given = filter-append p rows (x ∷ []) ∙ (ap (λ l. filter p rows ++ l) (filter_out p x [] given) ∙ append-nil (filter p rows))
+fails : (p : Obligation → Bool) (rows : List Obligation) (x : Obligation) → p x ≡ false
+    → filter p (rows ++ x ∷ []) ≡ filter p rows
+fails p rows x given = filter-append p rows (x ∷ [])
+    ∙ (ap (λ l. filter p rows ++ l) (filter_out p x [] given) ∙ append-nil (filter p rows))
 
 pub loop-row-preserved : goal.loop-row-preserved
 loop-row-preserved c =
@@ -26,9 +31,13 @@ loop-row-preserved c =
     let more : take (i + 1) rows ≡ take i rows ++ x ∷ [] = taken rows i x some c.row-item.is in
     elim c.if-begins.branch [
       | then-begins+in_ok-push w ↦
-          rw (w.some-is, w.in_ok-push.ensures.items) (ap (λ l. l ++ x ∷ []) c.loop-row.invariant ∙ sym (ap (filter p) more ∙ passes p (take i rows) x (sym c.begins.ensures ∙ w.if-begins.true)))
+          rw (w.some-is, w.in_ok-push.ensures.items) (ap (λ l. l ++ x ∷ []) c.loop-row.invariant
+          ∙ sym (ap (filter p) more ∙ passes p (take i rows) x (sym c.begins.ensures
+          ∙ w.if-begins.true)))
       | else-begins w ↦
-          rw w.some-is (c.loop-row.invariant ∙ sym (ap (filter p) more ∙ fails p (take i rows) x (sym c.begins.ensures ∙ w.if-begins.false)))
+          rw w.some-is (c.loop-row.invariant
+          ∙ sym (ap (filter p) more ∙ fails p (take i rows) x (sym c.begins.ensures
+          ∙ w.if-begins.false)))
     ]
 
 pub returns : goal.returns

@@ -8,6 +8,10 @@ pub returns : goal.returns
 returns g c =
     let change = with_run c.args.account.now c.args.number c.args.run in
     record {
-      call = reposts g.S.Store c.args.account.now c.args.form c.args.run.payday change c.args.tx.now c.known_years.new.tx c.add_run.new.self c.repair_rows.new.tx c.in_ok-known.known _ c.in_ok-difference.difference
-          (λ t. refl) c.in_ok-known.ensures.call (writes_turn g.S.Store c.known_years.new.tx c.add_run.new.self _ change c.in_ok-add_run.ensures.call) c.in_ok-difference.ensures.call;
+      call = reposts g.S.Store c.args.account.now c.args.form c.args.run.payday change c.args.tx.now
+          c.known_years.new.tx c.add_run.new.self c.repair_rows.new.tx c.in_ok-known.known _
+          c.in_ok-difference.difference
+          (λ t. refl) c.in_ok-known.ensures.call
+          (writes_turn g.S.Store c.known_years.new.tx c.add_run.new.self _ change
+          c.in_ok-add_run.ensures.call) c.in_ok-difference.ensures.call;
     }

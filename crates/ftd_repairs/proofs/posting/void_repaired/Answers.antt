@@ -8,6 +8,10 @@ pub returns : goal.returns
 returns g c =
     let change = with_void_run c.args.account.now c.args.number in
     record {
-      call = reposts g.S.Store c.args.account.now c.args.form c.args.payday change c.args.tx.now c.known_years.new.tx c.void_run.new.self c.repair_rows.new.tx c.in_ok-known.known _ c.in_ok-difference.difference
-          (λ t. refl) c.in_ok-known.ensures.call (one_turns g.S.Store c.known_years.new.tx c.void_run.new.self _ _ change c.in_ok-void_run.ensures.call) c.in_ok-difference.ensures.call;
+      call = reposts g.S.Store c.args.account.now c.args.form c.args.payday change c.args.tx.now
+          c.known_years.new.tx c.void_run.new.self c.repair_rows.new.tx c.in_ok-known.known _
+          c.in_ok-difference.difference
+          (λ t. refl) c.in_ok-known.ensures.call
+          (one_turns g.S.Store c.known_years.new.tx c.void_run.new.self _ _ change
+          c.in_ok-void_run.ensures.call) c.in_ok-difference.ensures.call;
     }

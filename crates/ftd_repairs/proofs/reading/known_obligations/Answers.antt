@@ -15,8 +15,15 @@ returns g c =
     let from = c.args.from in
     let to = c.args.to in
     let rows : List Obligation = c.in_ok-rows.rows.items in
-    let rise : ByFirstDay rows = subst ByFirstDay c.deref.ensures.value (c.rise.ensures c.if-not-rise.false) in
+    let rise : ByFirstDay rows = subst ByFirstDay c.deref.ensures.value
+    (c.rise.ensures c.if-not-rise.false) in
     record {
-      call = reads_on g.S.Store c.args.tx.now c.obligations.new.self c.in_ok-rows.rows c.in_ok-rows.rows (ListsObligations name from to) (λ rows. AreBetween name from to rows.items)
-          (λ t listed. record { by_first_day = rise; are = are_listed ObligationsRise (obligation_row name) _ rows listed }) c.in_ok-rows.ensures.call;
+      call = reads_on g.S.Store c.args.tx.now c.obligations.new.self c.in_ok-rows.rows
+          c.in_ok-rows.rows (ListsObligations name from to)
+          (λ rows. AreBetween name from to rows.items)
+          (λ t listed. record {
+            by_first_day = rise;
+            are = are_listed ObligationsRise
+                (obligation_row name) _ rows listed;
+          }) c.in_ok-rows.ensures.call;
     }

@@ -12,8 +12,11 @@ use Rattle.ftd_repairs.specs.Calendars.{HasHolidaysFrom, KnowsYears}
 use Rattle.ftd_repairs.proofs.reading.known_years.Goals as goal
 
 -- the years up to one after each line have those of the lines
-of_lines : (name : List ℕ) (day first end : ℕ) (lines : Vec YearLine Global) (holidays : List ℕ) (t : Tables) → first ≡ year_of day → ((line : YearLine) → Has lines.items line → line.year ≤ 2098 → line.year < end)
-    → ListsYears name lines t → HasYears first end holidays t → HasHolidaysFrom day lines.items holidays t
+of_lines : (name : List ℕ) (day first end : ℕ) (lines : Vec YearLine Global) (holidays : List ℕ)
+    (t : Tables) → first ≡ year_of day → ((line : YearLine) → Has lines.items line
+    → line.year ≤ 2098 → line.year < end)
+    → ListsYears name lines t → HasYears first end holidays t
+    → HasHolidaysFrom day lines.items holidays t
 of_lines name day first end lines holidays t is before listed read line has late =
     let early = (years_within listed.whole.0 lines.items line listed.whole.2 has).1 in
     let less = before line has early in
@@ -27,8 +30,14 @@ returns g c =
     let first = c.year.result in
     let end = c.year_after.result in
     let holidays : List ℕ = holidays_of c.in_ok-holidays.holidays in
-    let before : (line : YearLine) → Has lines.items line → line.year ≤ 2098 → line.year < end = rw c.deref.ensures.value at c.year_after.ensures in
+    let before : (line : YearLine) → Has lines.items line → line.year ≤ 2098 → line.year < end =
+    rw c.deref.ensures.value at c.year_after.ensures in
     record {
-      call = then_reads g.S.Store c.args.tx.now c.years.new.self c.holidays.new.self lines c.in_ok-holidays.holidays _ (ListsYears name) (λ read. HasYears first end (holidays_of read)) (KnowsYears name day)
-          (λ t listed read. record { listed = listed; read = of_lines name day first end lines holidays t c.year.ensures before listed read }) c.in_ok-lines.ensures.call c.in_ok-holidays.ensures.call;
+      call = then_reads g.S.Store c.args.tx.now c.years.new.self c.holidays.new.self lines
+          c.in_ok-holidays.holidays _ (ListsYears name)
+          (λ read. HasYears first end (holidays_of read)) (KnowsYears name day)
+          (λ t listed read. record {
+            listed = listed;
+            read = of_lines name day first end lines holidays t c.year.ensures before listed read;
+          }) c.in_ok-lines.ensures.call c.in_ok-holidays.ensures.call;
     }

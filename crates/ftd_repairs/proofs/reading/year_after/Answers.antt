@@ -14,14 +14,17 @@ loop-line-preserved c line has early =
       | inl before ↦
           (let so_far = c.loop-line.invariant line before early in
           elim c.if-end-line.branch [
-            | then-end-line w ↦ (let is = w.end-is in let next = w.saturating_add-end.ensures in let more = w.if-end-line.true in omega arith)
+            | then-end-line w ↦ (let is = w.end-is in let next = w.saturating_add-end.ensures in
+                let more = w.if-end-line.true in omega arith)
             | else-end-line w ↦ (let is = w.end-is in omega arith)
           ])
       | inr here ↦
           (let year : line.year ≡ x.year = ap (λ (l : YearLine). l.year) here in
           elim c.if-end-line.branch [
-            | then-end-line w ↦ (let is = w.end-is in let next = w.saturating_add-end.ensures in omega arith)
-            | else-end-line w ↦ (let is = w.end-is in let later = w.if-end-line.false in omega arith)
+            | then-end-line w ↦ (let is = w.end-is in let next = w.saturating_add-end.ensures in
+                omega arith)
+            | else-end-line w ↦ (let is = w.end-is in let later = w.if-end-line.false in
+                omega arith)
           ])
     ]
 

@@ -11,7 +11,8 @@ use Rattle.ftd_buckets.specs.Ready.{Repairing}
 use Rattle.ftd_buckets.specs.Standing.{held}
 use Rattle.ftd_repairs.specs.Repaired.{AreLiveIn, Repairs}
 use Rattle.ftd_repairs.proofs.Begun.{begun_reads}
-use Rattle.ftd_repairs.proofs.Fed.{Serves, Needs, Ends, needs, ends, first_needed, serves_more, serves_last}
+use Rattle.ftd_repairs.proofs.Fed.{Serves, Needs, Ends, needs, ends, first_needed, serves_more}
+use Rattle.ftd_repairs.proofs.Fed.{serves_last}
 use Rattle.ftd_repairs.proofs.repairing.repaired.Goals as goal
 
 pub loop-init : goal.loop-init
@@ -23,7 +24,14 @@ loop-init g c =
       asked = begun.asked;
       held = omega arith;
       small = omega arith;
-      begun = inl (refl, λ t before after change last runs. (begun.stands before after change last, first_needed c.args.form c.args.day before after c.args.lines.now begun.window.1 begun.window.0 c.begin-repair.result.1 last begun.window.2 begun.window.3));
+      begun = inl (
+        refl,
+        λ t before after change last runs. (
+          begun.stands before after change last,
+          first_needed c.args.form c.args.day before after c.args.lines.now begun.window.1
+              begun.window.0 c.begin-repair.result.1 last begun.window.2 begun.window.3,
+        ),
+      );
     }
 
 pub returns-in-Ok-Done : goal.returns-in-Ok-Done
@@ -38,11 +46,15 @@ returns-in-Ok-Done g c =
     let sums : List DaySum = c.in_ok-read.read.sums.items in
     let r : Repairing = c.loop.repair in
     let patch = c.in-Ok-Done.patch in
-    let done : Ends r.form r sums patch = ends (Ends r.form r sums) c.in-Ok-Done.field-0 patch c.in-Ok-Done.field-0-is (rw c.deref.ensures.value at c.in-Ok-Done.ensures.done) in
+    let done : Ends r.form r sums patch = ends (Ends r.form r sums) c.in-Ok-Done.field-0 patch
+    c.in-Ok-Done.field-0-is (rw c.deref.ensures.value at c.in-Ok-Done.ensures.done) in
     let end : Ends form r sums patch = subst (λ (f : Form). Ends f r sums patch) inv.form done in
     record {
-      call = begun_reads g.S.Store c.args.tx.now c.loop.tx c.window_sums.new.tx c.in_ok-read.read patch (Serves name form day lines holidays r w) (λ read t. AreLiveIn name t w read.sums.items) (Repairs name form day lines holidays)
-          (λ t so_far read. serves_last name form day lines holidays r w sums patch t inv.asked end so_far read) inv.begun c.in_ok-read.ensures.call;
+      call = begun_reads g.S.Store c.args.tx.now c.loop.tx c.window_sums.new.tx c.in_ok-read.read
+          patch (Serves name form day lines holidays r w)
+          (λ read t. AreLiveIn name t w read.sums.items) (Repairs name form day lines holidays)
+          (λ t so_far read. serves_last name form day lines holidays r w sums patch t inv.asked end
+          so_far read) inv.begun c.in_ok-read.ensures.call;
     }
 
 pub loop-preserved : goal.loop-preserved
@@ -62,14 +74,22 @@ loop-preserved g c =
     let total = c.in_ok-read.ensures.total in
     let held_then = inv.held in
     let is : c.in-Ok-Need.field-0 ≡ Need next after = c.in-Ok-Need.field-0-is in
-    let held_now : held next ≤ held r + sum_by cents_of sums = needs (λ q v. held q ≤ held r + sum_by cents_of sums) c.in-Ok-Need.field-0 next after is (rw c.deref.ensures.value at fed.held) in
-    let needed : Needs r.form r sums next after = needs (Needs r.form r sums) c.in-Ok-Need.field-0 next after is (rw c.deref.ensures.value at fed.need) in
-    let need : Needs form r sums next after = subst (λ (f : Form). Needs f r sums next after) inv.form needed in
+    let held_now : held next ≤ held r + sum_by cents_of sums =
+    needs (λ q v. held q ≤ held r + sum_by cents_of sums) c.in-Ok-Need.field-0 next after is
+    (rw c.deref.ensures.value at fed.held) in
+    let needed : Needs r.form r sums next after = needs (Needs r.form r sums) c.in-Ok-Need.field-0
+    next after is (rw c.deref.ensures.value at fed.need) in
+    let need : Needs form r sums next after = subst (λ (f : Form). Needs f r sums next after)
+    inv.form needed in
     record {
       form = needs (λ q v. q.form ≡ r.form) c.in-Ok-Need.field-0 next after is fed.form ∙ inv.form;
       asked = needs (λ q v. q.asked ≡ v) c.in-Ok-Need.field-0 next after is fed.asked;
       held = omega arith;
       small = c.in_ok-read.ensures.small;
-      begun = inr (begun_reads g.S.Store c.args.tx.now c.loop.tx c.window_sums.new.tx c.in_ok-read.read tt (Serves name form day lines holidays r w) (λ read t. AreLiveIn name t w read.sums.items) (λ none. Serves name form day lines holidays next after)
-          (λ t so_far read. serves_more name form day lines holidays r next w after sums t inv.asked need so_far read) inv.begun c.in_ok-read.ensures.call);
+      begun = inr (begun_reads g.S.Store c.args.tx.now c.loop.tx c.window_sums.new.tx
+          c.in_ok-read.read tt (Serves name form day lines holidays r w)
+          (λ read t. AreLiveIn name t w read.sums.items)
+          (λ none. Serves name form day lines holidays next after)
+          (λ t so_far read. serves_more name form day lines holidays r next w after sums t inv.asked
+          need so_far read) inv.begun c.in_ok-read.ensures.call);
     }

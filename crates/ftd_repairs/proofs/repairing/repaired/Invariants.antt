@@ -11,5 +11,6 @@ invariant-loop g l = record {
   asked : l.repair.asked ≡ l.window;
   held : held l.repair ≤ l.total;
   small : l.total < 6_000_000_000_000_000;
-  begun : IsBegun g.S.Store l.fn.tx l.tx (Serves l.fn.account l.fn.form l.fn.day l.fn.lines (holidays_of l.fn.holidays) l.repair l.window);
+  begun : IsBegun g.S.Store l.fn.tx l.tx (Serves l.fn.account l.fn.form l.fn.day l.fn.lines
+      (holidays_of l.fn.holidays) l.repair l.window);
 }

@@ -10,7 +10,8 @@ use Rattle.ftd_buckets.specs.declared.state.Next.TheVariants.{Need}
 use Rattle.ftd_buckets.specs.Ready.{Repairing}
 use Rattle.ftd_buckets.specs.Standing.{held}
 use Rattle.ftd_repairs.specs.Repaired.{SumsAre}
-use Rattle.ftd_repairs.proofs.Fed.{Needs, Ends, needs, ends, first_needed, told_within, more_where, last_where}
+use Rattle.ftd_repairs.proofs.Fed.{Needs, Ends, needs, ends, first_needed, told_within, more_where}
+use Rattle.ftd_repairs.proofs.Fed.{last_where}
 use Rattle.ftd_repairs.proofs.repairing.repaired_by.Goals as goal
 
 pub loop-init : goal.loop-init
@@ -22,7 +23,11 @@ loop-init c =
       asked = begun.asked;
       held = omega arith;
       small = omega arith;
-      serves = λ before after change last sums. (begun.stands before after change last, first_needed c.args.form c.args.day before after c.args.lines.now begun.window.1 begun.window.0 c.begin-repair.result.1 last begun.window.2 begun.window.3);
+      serves = λ before after change last sums. (
+        begun.stands before after change last,
+        first_needed c.args.form c.args.day before after c.args.lines.now begun.window.1
+            begun.window.0 c.begin-repair.result.1 last begun.window.2 begun.window.3,
+      );
     }
 
 pub loop-preserved : goal.loop-preserved
@@ -43,15 +48,20 @@ loop-preserved c =
     let total = known.total in
     let held_then = inv.held in
     let is : c.in_ok-patch.field-0 ≡ Need next after = c.in-Need.is in
-    let held_now : held next ≤ held r + sum_by cents_of sums = needs (λ q v. held q ≤ held r + sum_by cents_of sums) c.in_ok-patch.field-0 next after is (rw c.deref.ensures.value at fed.held) in
-    let needed : Needs r.form r sums next after = needs (Needs r.form r sums) c.in_ok-patch.field-0 next after is (rw c.deref.ensures.value at fed.need) in
-    let need : Needs form r sums next after = subst (λ (f : Form). Needs f r sums next after) inv.form needed in
+    let held_now : held next ≤ held r + sum_by cents_of sums =
+    needs (λ q v. held q ≤ held r + sum_by cents_of sums) c.in_ok-patch.field-0 next after is
+    (rw c.deref.ensures.value at fed.held) in
+    let needed : Needs r.form r sums next after = needs (Needs r.form r sums) c.in_ok-patch.field-0
+    next after is (rw c.deref.ensures.value at fed.need) in
+    let need : Needs form r sums next after = subst (λ (f : Form). Needs f r sums next after)
+    inv.form needed in
     record {
       form = needs (λ q v. q.form ≡ r.form) c.in_ok-patch.field-0 next after is fed.form ∙ inv.form;
       asked = needs (λ q v. q.asked ≡ v) c.in_ok-patch.field-0 next after is fed.asked;
       held = omega arith;
       small = known.small;
-      serves = more_where (SumsAre form day all) form day lines holidays r w sums (told_within form day w all sums known.within) inv.asked inv.serves next after need;
+      serves = more_where (SumsAre form day all) form day lines holidays r w sums
+          (told_within form day w all sums known.within) inv.asked inv.serves next after need;
     }
 
 pub returns-in-Done : goal.returns-in-Done
@@ -64,6 +74,9 @@ returns-in-Done c =
     let sums : List DaySum = c.in_ok-known.known.sums.items in
     let r : Repairing = c.loop.repair in
     let patch = c.in-Done.patch in
-    let done : Ends r.form r sums patch = ends (Ends r.form r sums) c.in_ok-patch.field-0 patch c.in-Done.is (rw c.deref.ensures.value at c.in_ok-patch.ensures.done) in
+    let done : Ends r.form r sums patch = ends (Ends r.form r sums) c.in_ok-patch.field-0 patch
+    c.in-Done.is (rw c.deref.ensures.value at c.in_ok-patch.ensures.done) in
     let end : Ends form r sums patch = subst (λ (f : Form). Ends f r sums patch) inv.form done in
-    last_where (SumsAre form day all) form day c.args.lines.now (holidays_of c.args.holidays.now) r w sums (told_within form day w all sums c.in_ok-known.ensures.within) inv.asked inv.serves patch end
+    last_where (SumsAre form day all) form day c.args.lines.now (holidays_of c.args.holidays.now) r
+    w sums (told_within form day w all sums c.in_ok-known.ensures.within) inv.asked inv.serves patch
+    end

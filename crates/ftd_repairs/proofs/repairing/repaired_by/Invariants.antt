@@ -11,5 +11,6 @@ invariant-loop l = record {
   asked : l.repair.asked ≡ l.window;
   held : held l.repair ≤ l.total;
   small : l.total < 6_000_000_000_000_000;
-  serves : ServesWhere (SumsAre l.fn.form l.fn.day l.fn.sums) l.fn.form l.fn.day l.fn.lines (holidays_of l.fn.holidays) l.repair l.window;
+  serves : ServesWhere (SumsAre l.fn.form l.fn.day l.fn.sums) l.fn.form l.fn.day l.fn.lines
+      (holidays_of l.fn.holidays) l.repair l.window;
 }

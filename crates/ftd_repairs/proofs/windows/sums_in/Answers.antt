@@ -1,4 +1,5 @@
-use Rattle.std.proofs.Common.{rules, ◌≡◌, ◌<◌, ◌⊎◌, ℕ, List, get_or, ap, sym, subst, inl, inr, arith}
+use Rattle.std.proofs.Common.{rules, ◌≡◌, ◌<◌, ◌⊎◌, ℕ, List, get_or, ap, sym, subst, inl, inr}
+use Rattle.std.proofs.Common.{arith}
 use Rattle.std.proofs.lemmas.List.Sums.{sum_by_more, sum_by_push}
 use Rattle.ftd_rules.proofs.Cuts.{lt_or_le}
 use Rattle.ftd_rules.proofs.Walk.{share_before, share_after}
@@ -7,7 +8,9 @@ use Rattle.ftd_rules.specs.Liability.{share}
 use Rattle.ftd_store.proofs.Replaced.{all_taken}
 use Rattle.ftd_repairs.specs.Repaired.{AreWithin}
 use Rattle.ftd_repairs.proofs.windows.sums_in.Goals as goal
-use Rattle.ftd_repairs.proofs.windows.sums_in.Goals.{then-le+then-le-2+in_ok-push, else-le, else-le-via-then-le+else-le-2, else-le-via-else-le}
+use Rattle.ftd_repairs.proofs.windows.sums_in.Goals.{then-le+then-le-2+in_ok-push, else-le}
+use Rattle.ftd_repairs.proofs.windows.sums_in.Goals.{else-le-via-then-le+else-le-2}
+use Rattle.ftd_repairs.proofs.windows.sums_in.Goals.{else-le-via-else-le}
 
 -- a sum of a day out of the range adds nothing
 share_out : (x : DaySum) (a b : ℕ) → (x.day < a) ⊎ (b < x.day) → share a b x ≡ 0
@@ -48,4 +51,5 @@ returns c =
     let xs : List DaySum = c.args.sums.now in
     let i : ℕ = c.loop-sum.sum-index in
     let end = c.loop-sum-test.false in
-    subst (λ (ds : List DaySum). AreWithin c.args.window.now ds c.loop-sum.within.items) (all_taken xs i (omega arith)) c.loop-sum.invariant
+    subst (λ (ds : List DaySum). AreWithin c.args.window.now ds c.loop-sum.within.items)
+    (all_taken xs i (omega arith)) c.loop-sum.invariant

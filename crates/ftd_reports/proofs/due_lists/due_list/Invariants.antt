@@ -9,7 +9,8 @@ use Rattle.ftd_reports.proofs.due_lists.due_list.Given as goal
 abbrev pub invariant-loop-row : goal.invariant-loop-row
 invariant-loop-row g l =
     record {
-      written : HasWritten (g.W.Target.taken l.fn.target) (g.W.Target.taken l.target) (due_text l.fn.account l.fn.quarter l.fn.as_of l.rows)
+      written : HasWritten (g.W.Target.taken l.fn.target) (g.W.Target.taken l.target)
+          (due_text l.fn.account l.fn.quarter l.fn.as_of l.rows)
           (flat_map due_line (drop l.row-index l.rows) ++ total_line (sum_by amount_of l.rows));
       total : l.total + sum_by amount_of (drop l.row-index l.rows) ≡ sum_by amount_of l.rows;
     }

@@ -1,9 +1,12 @@
 use Rattle.std.proofs.Common.{◌∙◌, sym, arith}
 use Rattle.ftd_reports.specs.SchedulesB.{month_lines}
-use Rattle.ftd_ports.proofs.WritingFacts.{begins, goes_on, breaks_off, prefix_more, last_piece, last_broken, on_err}
-use Rattle.ftd_reports.proofs.MonthFacts.{of_this, of_other, lines_at, sums_at, month_within, month_end}
+use Rattle.ftd_ports.proofs.WritingFacts.{begins, goes_on, breaks_off, prefix_more, last_piece}
+use Rattle.ftd_ports.proofs.WritingFacts.{last_broken, on_err}
+use Rattle.ftd_reports.proofs.MonthFacts.{of_this, of_other, lines_at, sums_at, month_within}
+use Rattle.ftd_reports.proofs.MonthFacts.{month_end}
 use Rattle.ftd_reports.proofs.liability_by_day.write_month.Goals as goal
-use Rattle.ftd_reports.proofs.liability_by_day.write_month.Goals.{then-month_number-month+in_ok-write_day, else-month_number-month}
+use Rattle.ftd_reports.proofs.liability_by_day.write_month.Goals.{then-month_number-month+in_ok-write_day}
+use Rattle.ftd_reports.proofs.liability_by_day.write_month.Goals.{else-month_number-month}
 
 pub loop-sum-init : goal.loop-sum-init
 unfolding month_lines
@@ -11,13 +14,18 @@ loop-sum-init g c = record { written = begins _ _; total = omega arith }
 
 pub returns-in_err-write_day-clause-err : goal.returns-in_err-write_day-clause-err
 returns-in_err-write_day-clause-err g c =
-    let this = of_this c.args.month c.args.sums.now c.loop-sum.sum-index c.sum-item.result c.loop-sum-test.true c.sum-item.is (sym c.month_number.ensures.value ∙ c.if-month_number-month.true) in
+    let this = of_this c.args.month c.args.sums.now c.loop-sum.sum-index c.sum-item.result
+    c.loop-sum-test.true c.sum-item.is (sym c.month_number.ensures.value
+    ∙ c.if-month_number-month.true) in
     on_err c.from_residual.result
-    (breaks_off _ _ _ _ _ c.loop-sum.invariant.written (prefix_more _ _ _ _ _ (lines_at _ _ _ _ this) c.in_err-write_day.ensures.err))
+    (breaks_off _ _ _ _ _ c.loop-sum.invariant.written
+    (prefix_more _ _ _ _ _ (lines_at _ _ _ _ this) c.in_err-write_day.ensures.err))
 
 pub overflow_add-total : goal.overflow_add-total
 overflow_add-total g c =
-    let this = of_this c.args.month c.args.sums.now c.loop-sum.sum-index c.sum-item.result c.loop-sum-test.true c.sum-item.is (sym c.month_number.ensures.value ∙ c.if-month_number-month.true) in
+    let this = of_this c.args.month c.args.sums.now c.loop-sum.sum-index c.sum-item.result
+    c.loop-sum-test.true c.sum-item.is (sym c.month_number.ensures.value
+    ∙ c.if-month_number-month.true) in
     let more = sums_at _ _ _ this in
     let bound = month_within c.args.month c.args.sums.now in
     let total = c.loop-sum.invariant.total in
@@ -27,28 +35,40 @@ overflow_add-total g c =
 pub loop-sum-preserved : goal.loop-sum-preserved
 loop-sum-preserved g c = elim c.if-month_number-month.branch [
   | then-month_number-month+in_ok-write_day w ↦
-      (let this = of_this c.args.month c.args.sums.now c.loop-sum.sum-index c.sum-item.result c.loop-sum-test.true c.sum-item.is (sym c.month_number.ensures.value ∙ w.if-month_number-month.true) in
+      (let this = of_this c.args.month c.args.sums.now c.loop-sum.sum-index c.sum-item.result
+      c.loop-sum-test.true c.sum-item.is (sym c.month_number.ensures.value
+      ∙ w.if-month_number-month.true) in
       let more = sums_at _ _ _ this in
       let before = c.loop-sum.invariant.total in
       let total = w.total-is in
       rw w.target-is
       (record {
-        written = goes_on _ _ _ _ _ _ _ c.loop-sum.invariant.written (lines_at _ _ _ _ this) w.in_ok-write_day.ensures.ok;
+        written = goes_on _ _ _ _ _ _ _ c.loop-sum.invariant.written (lines_at _ _ _ _ this)
+            w.in_ok-write_day.ensures.ok;
         total = omega arith;
       }))
   | else-month_number-month w ↦
-      (let other = of_other c.args.month c.args.sums.now c.loop-sum.sum-index c.sum-item.result c.loop-sum-test.true c.sum-item.is (λ e. w.if-month_number-month.false (c.month_number.ensures.value ∙ e)) in
+      (let other = of_other c.args.month c.args.sums.now c.loop-sum.sum-index c.sum-item.result
+      c.loop-sum-test.true c.sum-item.is
+      (λ e. w.if-month_number-month.false (c.month_number.ensures.value ∙ e)) in
       let before = rw other at c.loop-sum.invariant.total in
       let total = w.total-is in
-      rw w.target-is (record { written = rw other at c.loop-sum.invariant.written; total = omega arith }))
+      rw w.target-is (record {
+        written = rw other at c.loop-sum.invariant.written;
+        total = omega arith;
+      }))
 ]
 
 pub returns-clause-ok : goal.returns-clause-ok
 returns-clause-ok g c =
-    let rest = month_end c.args.month c.args.sums.now c.loop-sum.sum-index c.loop-sum.total c.loop-sum-test.false c.loop-sum.invariant.total in
-    last_piece c.write_line.result _ _ _ _ _ (rw rest at c.loop-sum.invariant.written) (rw c.month_bytes.ensures at c.write_line.ensures.ok)
+    let rest = month_end c.args.month c.args.sums.now c.loop-sum.sum-index c.loop-sum.total
+    c.loop-sum-test.false c.loop-sum.invariant.total in
+    last_piece c.write_line.result _ _ _ _ _ (rw rest at c.loop-sum.invariant.written)
+    (rw c.month_bytes.ensures at c.write_line.ensures.ok)
 
 pub returns-clause-err : goal.returns-clause-err
 returns-clause-err g c =
-    let rest = month_end c.args.month c.args.sums.now c.loop-sum.sum-index c.loop-sum.total c.loop-sum-test.false c.loop-sum.invariant.total in
-    last_broken c.write_line.result _ _ _ _ _ (rw rest at c.loop-sum.invariant.written) (rw c.month_bytes.ensures at c.write_line.ensures.err)
+    let rest = month_end c.args.month c.args.sums.now c.loop-sum.sum-index c.loop-sum.total
+    c.loop-sum-test.false c.loop-sum.invariant.total in
+    last_broken c.write_line.result _ _ _ _ _ (rw rest at c.loop-sum.invariant.written)
+    (rw c.month_bytes.ensures at c.write_line.ensures.err)

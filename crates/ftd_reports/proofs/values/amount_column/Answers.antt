@@ -6,6 +6,13 @@ use Rattle.ftd_reports.proofs.values.amount_column.Goals as goal
 pub returns : goal.returns
 returns c =
     let within : c.saturating_sub.result ≤ 14 = omega arith in
-    let width = c.saturating_sub.ensures ∙ ap (λ (z : List ℕ). 14 - length z) (c.as_bytes-dollars.ensures.value ∙ c.format.ensures.text) in
-    rw (c.last_digit.ensures, c.last_digit-2.ensures, c.as_bytes-dollars.ensures.value, c.format.ensures.text)
-    (amount_parts c.args.amount.0 c.saturating_sub.result _ width (take-replicate c.saturating_sub.result 14 32 within))
+    let width = c.saturating_sub.ensures ∙ ap (λ (z : List ℕ). 14 - length z)
+    (c.as_bytes-dollars.ensures.value ∙ c.format.ensures.text) in
+    rw (
+      c.last_digit.ensures,
+      c.last_digit-2.ensures,
+      c.as_bytes-dollars.ensures.value,
+      c.format.ensures.text,
+    )
+    (amount_parts c.args.amount.0 c.saturating_sub.result _ width
+    (take-replicate c.saturating_sub.result 14 32 within))

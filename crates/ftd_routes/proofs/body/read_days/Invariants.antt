@@ -5,4 +5,5 @@ use Rattle.ftd_routes.specs.Bodies.{days_in}
 use Rattle.ftd_routes.proofs.body.read_days.Given as goal
 
 abbrev pub invariant-loop-item : goal.invariant-loop-item
-invariant-loop-item l = on_front l.days.items (days_in (items_view (drop l.item-index l.items))) ≡ days_in (items_view l.items)
+invariant-loop-item l = on_front l.days.items (days_in (items_view (drop l.item-index l.items)))
+    ≡ days_in (items_view l.items)

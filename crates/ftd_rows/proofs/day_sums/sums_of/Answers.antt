@@ -20,8 +20,10 @@ loop-run-preserved c =
     let sum : DaySum = c.in_ok-sum.sum in
     let made : sum ≡ run_sum x = c.in_ok-sum.ensures in
     let day_is : sum.day ≡ x.payday = ap (λ (s : DaySum). s.day) made in
-    let at : (d : PayRun) → sum.day ≡ (get_or xs i d).payday = λ d. day_is ∙ ap (λ (r : PayRun). r.payday) (is ∙ get_or_default xs i x d c.loop-run-test.true) in
-    let share_is : (day : ℕ) → owed_on day (get_or xs i x) ≡ share day day sum = λ day. ap (owed_on day) (sym is) ∙ sym (owed_is day x) ∙ ap (share day day) (sym made) in
+    let at : (d : PayRun) → sum.day ≡ (get_or xs i d).payday = λ d. day_is
+    ∙ ap (λ (r : PayRun). r.payday) (is ∙ get_or_default xs i x d c.loop-run-test.true) in
+    let share_is : (day : ℕ) → owed_on day (get_or xs i x) ≡ share day day sum =
+    λ day. ap (owed_on day) (sym is) ∙ sym (owed_is day x) ∙ ap (share day day) (sym made) in
     elim c.if-sum-gt0.branch [
       | then-sum-gt0+in_ok-add_sum w ↦
           let kept = w.in_ok-add_sum.ensures in
@@ -33,8 +35,12 @@ loop-run-preserved c =
                 let added = kept.adds day in
                 cc);
             positive = kept.positive l.invariant.positive w.if-sum-gt0.true;
-            rise = λ order. kept.rise (rw (at x) (l.invariant.until order i x (omega arith) c.loop-run-test.true)) (l.invariant.rise order);
-            until = λ order k d low high. kept.until (get_or xs k d).payday (l.invariant.until order k d (omega arith) high) (let o = order i k d (omega arith) high in let a = at d in omega arith);
+            rise = λ order. kept.rise
+                (rw (at x) (l.invariant.until order i x (omega arith) c.loop-run-test.true))
+                (l.invariant.rise order);
+            until = λ order k d low high. kept.until (get_or xs k d).payday
+                (l.invariant.until order k d (omega arith) high)
+                (let o = order i k d (omega arith) high in let a = at d in omega arith);
           })
       | else-sum-gt0 w ↦
           rw w.sums-is (record {

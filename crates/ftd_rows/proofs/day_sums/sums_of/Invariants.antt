@@ -8,8 +8,10 @@ use Rattle.ftd_rows.proofs.day_sums.sums_of.Given as goal
 
 abbrev pub invariant-loop-run : goal.invariant-loop-run
 invariant-loop-run l = record {
-  same : (day : ℕ) → liability l.sums.items day day ≡ sum_by (owed_on day) (take l.run-index l.runs);
+  same : (day : ℕ) → liability l.sums.items day day ≡ sum_by (owed_on day)
+      (take l.run-index l.runs);
   positive : ArePositive l.sums.items;
   rise : IsNonDecreasingBy (λ r. r.payday) l.runs → DaysRise l.sums.items;
-  until : IsNonDecreasingBy (λ r. r.payday) l.runs → (k : ℕ) (d : PayRun) → l.run-index ≤ k → k < length l.runs → All (λ s. s.day ≤ (get_or l.runs k d).payday) l.sums.items;
+  until : IsNonDecreasingBy (λ r. r.payday) l.runs → (k : ℕ) (d : PayRun) → l.run-index ≤ k
+      → k < length l.runs → All (λ s. s.day ≤ (get_or l.runs k d).payday) l.sums.items;
 }

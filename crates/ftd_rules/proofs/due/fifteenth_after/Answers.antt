@@ -8,7 +8,11 @@ plus-requires c =
     omega arith
 
 pub returns-clause-value : goal.returns-clause-value
-returns-clause-value c = rw (c.plus.ensures, c.first_of_month.ensures.value, c.month_number.ensures.value) refl
+returns-clause-value c = rw (
+  c.plus.ensures,
+  c.first_of_month.ensures.value,
+  c.month_number.ensures.value,
+) refl
 
 pub returns-clause-bound : goal.returns-clause-bound
 returns-clause-bound c =

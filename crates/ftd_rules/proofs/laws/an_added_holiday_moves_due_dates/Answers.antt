@@ -4,6 +4,7 @@ use Rattle.ftd_rules.proofs.laws.an_added_holiday_moves_due_dates.Goals as goal
 
 pub returns : goal.returns
 returns c = λ before after added rule last due new with h k.
-    let moves = due_moves before after added rule last due new with (due_by before rule last due h) (due_by after rule last new k) in
+    let moves = due_moves before after added rule last due new with (due_by before rule last due h)
+    (due_by after rule last new k) in
     let counted = counted_stated before rule last due added in
     ((λ n. counted.0 (moves.0 n)), (λ d. moves.1 (counted.1 d)))

@@ -11,7 +11,9 @@ overflow_add-total c =
     let x : Payment = c.payment-item.result in
     let i = c.loop-payment.payment-index in
     let most = counts_most c.args.first c.args.last c.min-known_by.result in
-    let part = rw (← c.payment-item.is) at (sum_by_more_le_part (counts_by c.args.first c.args.last c.min-known_by.result) payment_cents xs i x c.loop-payment-test.true most) in
+    let part = rw (← c.payment-item.is) at
+    (sum_by_more_le_part (counts_by c.args.first c.args.last c.min-known_by.result) payment_cents xs
+    i x c.loop-payment-test.true most) in
     let here = most x in
     let so_far = c.loop-payment.invariant in
     omega arith
@@ -21,6 +23,8 @@ loop-payment-preserved c =
     let xs : List Payment = c.args.payments.now in
     let x : Payment = c.payment-item.result in
     let i = c.loop-payment.payment-index in
-    let more = rw (← c.payment-item.is) at (sum_by_more (counts_by c.args.first c.args.last c.min-known_by.result) xs i x c.loop-payment-test.true) in
+    let more = rw (← c.payment-item.is) at
+    (sum_by_more (counts_by c.args.first c.args.last c.min-known_by.result) xs i x
+    c.loop-payment-test.true) in
     let so_far = c.loop-payment.invariant in
     omega arith

@@ -13,7 +13,8 @@ returns-in_err-figure c =
     let xs : List (ℕ × Cents) = c.args.reported.now in
     let test : ℕ × Cents → Bool = λ x. x.0 == c.args.year in
     let found : option_map (λ y. y.now) c.find.result ≡ find test xs =
-    find_from_yields_List test _ _ c.find.result c.find.ensures.ran (YieldsList-from_slice xs cc) (λ x b q k. search (rules, tests)) in
+    find_from_yields_List test _ _ c.find.result c.find.ensures.ran (YieldsList-from_slice xs cc)
+    (λ x b q k. search (rules, tests)) in
     let none : find test xs ≡ None = sym (rw c.in_err-figure.was at found) in
     rw c.from_residual.ensures (figure_none xs c.args.year none)
 
@@ -22,6 +23,8 @@ returns c =
     let xs : List (ℕ × Cents) = c.args.reported.now in
     let test : ℕ × Cents → Bool = λ x. x.0 == c.args.year in
     let found : option_map (λ y. y.now) c.find.result ≡ find test xs =
-    find_from_yields_List test _ _ c.find.result c.find.ensures.ran (YieldsList-from_slice xs cc) (λ x b q k. search (rules, tests)) in
-    let some : find test xs ≡ Some c.in_ok-figure.figure.now = sym (rw c.in_ok-figure.was at found) in
+    find_from_yields_List test _ _ c.find.result c.find.ensures.ran (YieldsList-from_slice xs cc)
+    (λ x b q k. search (rules, tests)) in
+    let some : find test xs ≡ Some c.in_ok-figure.figure.now =
+    sym (rw c.in_ok-figure.was at found) in
     figure_found xs c.args.year c.in_ok-figure.figure.now some

@@ -12,9 +12,12 @@ assess-requires-clause-days c =
     let first = c.args.first in
     let lines = c.in_ok-years.years.items in
     let count = c.in_ok-years.ensures.count in
-    let P : DaySum → Type 0 = λ s. (first ≤ year_of s.day) × (year_of s.day < first + length c.args.lookbacks.now) in
+    let P : DaySum → Type 0 = λ s. (first ≤ year_of s.day)
+    × (year_of s.day < first + length c.args.lookbacks.now) in
     let Q : DaySum → Type 0 = λ s. LiesInYears lines s.day in
     let within : All P c.in_ok-sums.sums.items = c.in_ok-sums.ensures.within in
     let all : All Q c.in_ok-sums.sums.items =
-    All-weaker P Q (λ s h. (let h0 = h.0 in let h1 = h.1 in let to = c.requires.to in lies_in_years first lines s.day c.in_ok-years.ensures.years (omega arith) h0 (omega arith))) c.in_ok-sums.sums.items within in
+    All-weaker P Q (λ s h. (let h0 = h.0 in let h1 = h.1 in let to = c.requires.to in
+    lies_in_years first lines s.day c.in_ok-years.ensures.years (omega arith) h0 (omega arith)))
+    c.in_ok-sums.sums.items within in
     rw (c.deref.ensures.value, c.deref-2.ensures.value) all

@@ -2,7 +2,8 @@ use Rattle.ftd_serving.proofs.ServingFacts.{serves_all, serves_fewer, serves_non
 use Rattle.ftd_serving.proofs.serving.serve_on.Goals as goal
 
 pub returns-in-Err : goal.returns-in-Err
-returns-in-Err g c = serves_none _ _ _ _ _ _ _ _ _ _ _ (g.Err.Target.failed c.args.err.now) _ c.in-Err.is c.announce.ensures c.tell_stop.ensures
+returns-in-Err g c = serves_none _ _ _ _ _ _ _ _ _ _ _ (g.Err.Target.failed c.args.err.now) _
+    c.in-Err.is c.announce.ensures c.tell_stop.ensures
 
 pub returns-then-taking : goal.returns-then-taking
 returns-then-taking g c =
@@ -13,4 +14,5 @@ pub returns : goal.returns
 returns g c =
     let announced = rw c.in_default.is at c.announce.ensures in
     let taking = c.take_all-taking.ensures.fewer c.if-taking.false in
-    serves_fewer _ _ _ _ _ _ _ _ _ _ _ _ _ _ taking.0 announced taking.1 taking.2 c.tell_stop-2.ensures
+    serves_fewer _ _ _ _ _ _ _ _ _ _ _ _ _ _ taking.0 announced taking.1 taking.2
+    c.tell_stop-2.ensures

@@ -4,5 +4,7 @@ use Rattle.ftd_serving.proofs.serving.take_all.Given as goal
 
 abbrev pub invariant-loop-taken : goal.invariant-loop-taken
 invariant-loop-taken g l =
-    HasTaken (λ before cause after. IsServed (held g.S.Store before) (held g.S.Store after) cause) l.initial.desk l.desk l.told
-    (g.Err.Target.taken l.initial.err) (g.Err.Target.taken l.err) (g.Err.Target.failed l.err) l.taken
+    HasTaken (λ before cause after. IsServed (held g.S.Store before) (held g.S.Store after) cause)
+    l.initial.desk l.desk l.told
+    (g.Err.Target.taken l.initial.err) (g.Err.Target.taken l.err) (g.Err.Target.failed l.err)
+    l.taken

@@ -10,7 +10,10 @@ returns g c =
     let b = within g.S.Store c.index_runs.new.tx in
     let e = within g.S.Store c.index_payments.new.tx in
     record {
-      step = steps_then g.S.Store c.args.tx.now c.index_runs.new.tx c.index_payments.new.tx _ _ (λ _ old new. KeepsRows old.now new.now) (λ _ old new. KeepsRows old.now new.now) (λ _ old new. KeepsRows old.now new.now)
-          (λ y one two t stands. let first = one t stands in let second = two t first.0 in (second.0, keeps_tables_then a.now b.now e.now first.1 second.1))
+      step = steps_then g.S.Store c.args.tx.now c.index_runs.new.tx c.index_payments.new.tx _ _
+          (λ _ old new. KeepsRows old.now new.now) (λ _ old new. KeepsRows old.now new.now)
+          (λ _ old new. KeepsRows old.now new.now)
+          (λ y one two t stands. let first = one t stands in let second = two t first.0 in
+          (second.0, keeps_tables_then a.now b.now e.now first.1 second.1))
           c.in_ok-index_runs.ensures.step c.index_payments.ensures.step;
     }

@@ -9,5 +9,6 @@ returns g c =
     let new = within g.S.Store c.run.new.tx in
     record {
       step = steps_so g.S.Store c.args.tx.now c.run.new.tx _ _ _ _
-          (λ ran account t names stands. form_added old new _ account c.args.name.now _ t names c.in_ok-get_ref.ensures.ok.1 stands ran) c.in_ok-run.ensures.step;
+          (λ ran account t names stands. form_added old new _ account c.args.name.now _ t names
+          c.in_ok-get_ref.ensures.ok.1 stands ran) c.in_ok-run.ensures.step;
     }

@@ -8,5 +8,8 @@ use Rattle.ftd_setup.specs.Versions.{on_form_941}
 use Rattle.ftd_setup.proofs.migrating.add_forms.Given as goal
 
 abbrev pub invariant-loop-name : goal.invariant-loop-name
-invariant-loop-name g l = Steps g.S.Store l.fn.tx l.tx (Ok (tt {0})) (λ _ old new. (accounts : List AccountRow) (t : Tables) → l.fn.names ≡ map name_shown accounts → Stands old.now t
-    → Becomes old.now new.now (with_rows Forms (t Forms ++ map on_form_941 (take l.name-index accounts)) t))
+invariant-loop-name g l = Steps g.S.Store l.fn.tx l.tx (Ok (tt {0}))
+    (λ _ old new. (accounts : List AccountRow) (t : Tables) → l.fn.names ≡ map name_shown accounts
+    → Stands old.now t
+    → Becomes old.now new.now
+    (with_rows Forms (t Forms ++ map on_form_941 (take l.name-index accounts)) t))

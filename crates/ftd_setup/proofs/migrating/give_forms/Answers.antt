@@ -16,6 +16,9 @@ returns g c =
     let b = within g.S.Store c.read.new.tx in
     let e = within g.S.Store c.add_forms.new.tx in
     record {
-      step = steps_then g.S.Store c.args.tx.now c.read.new.tx c.add_forms.new.tx _ c.add_forms.result _ _ (λ _ old new. GivesForms old.now new.now)
-          (λ _ read gives t stands. given_forms a b e.now c.in_ok-names.names.items t read stands (λ accounts u are there. gives accounts u (c.deref.ensures.value ∙ are) there)) c.in_ok-names.ensures.step c.add_forms.ensures.step;
+      step = steps_then g.S.Store c.args.tx.now c.read.new.tx c.add_forms.new.tx _
+          c.add_forms.result _ _ (λ _ old new. GivesForms old.now new.now)
+          (λ _ read gives t stands. given_forms a b e.now c.in_ok-names.names.items t read stands
+          (λ accounts u are there. gives accounts u (c.deref.ensures.value ∙ are) there))
+          c.in_ok-names.ensures.step c.add_forms.ensures.step;
     }

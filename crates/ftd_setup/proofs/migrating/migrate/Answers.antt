@@ -17,9 +17,14 @@ returns g c =
     let s3 = (within g.S.Store e).now in
     let s4 = (within g.S.Store f).now in
     record {
-      step = steps_then g.S.Store a e f _ c.set_version.result (λ _ old new. HasForms old.now new.now) _ (λ _ old new. IsMigrated old.now new.now) (λ _ before sets. migrated s0 s3 s4 before sets)
-          (steps_both g.S.Store a d e _ _ (tt {0}) (λ _ old new. IsExtended old.now new.now) _ (λ _ old new. HasForms old.now new.now) (formed s0 s2 s3)
-          (steps_both g.S.Store a b d _ _ (tt {0}) _ _ (λ _ old new. IsExtended old.now new.now) (extended s0 s1 s2) (rw c.as_slice.ensures at c.in_ok-make_tables.ensures.step) c.in_ok-make_indexes.ensures.step)
+      step = steps_then g.S.Store a e f _ c.set_version.result
+          (λ _ old new. HasForms old.now new.now) _ (λ _ old new. IsMigrated old.now new.now)
+          (λ _ before sets. migrated s0 s3 s4 before sets)
+          (steps_both g.S.Store a d e _ _ (tt {0}) (λ _ old new. IsExtended old.now new.now) _
+          (λ _ old new. HasForms old.now new.now) (formed s0 s2 s3)
+          (steps_both g.S.Store a b d _ _ (tt {0}) _ _ (λ _ old new. IsExtended old.now new.now)
+          (extended s0 s1 s2) (rw c.as_slice.ensures at c.in_ok-make_tables.ensures.step)
+          c.in_ok-make_indexes.ensures.step)
           c.in_ok-give_forms.ensures.step)
           c.set_version.ensures.step;
     }

@@ -14,7 +14,8 @@ returns-in-Ok-clause-ended g c =
       never_refused = λ none. tt;
       foreign = λ taken bare. (did.foreign taken bare).0;
       read = did.read;
-      version = λ metas l clean. opens_rows old (held g.S.Store c.prepare.new.self) metas (Ok (tt {0})) l (did.read (tagged old.now metas l) clean);
+      version = λ metas l clean. opens_rows old (held g.S.Store c.prepare.new.self) metas
+          (Ok (tt {0})) l (did.read (tagged old.now metas l) clean);
       kept = λ clean on. tt;
       crash = did.crash;
     }
@@ -28,7 +29,8 @@ returns-in-Err-clause-ended g c =
       never_refused = did.never_refused;
       foreign = λ taken bare. (did.foreign taken bare).0;
       read = did.read;
-      version = λ metas l clean. opens_rows old (held g.S.Store c.prepare.new.self) metas (Err c.in-Err.fault) l (did.read (tagged old.now metas l) clean);
+      version = λ metas l clean. opens_rows old (held g.S.Store c.prepare.new.self) metas
+          (Err c.in-Err.fault) l (did.read (tagged old.now metas l) clean);
       kept = did.kept;
       crash = did.crash;
     }

@@ -7,7 +7,12 @@ use Rattle.ftd_setup.proofs.versions.version_of.Goals as goal
 
 pub returns-in-Ok-clause-read : goal.returns-in-Ok-clause-read
 returns-in-Ok-clause-read c =
-    let tag : c.in-Ok-Text.tag.now ≡ codes "ftd" = same_bytes _ _ (not_not _ (sym c.ne.ensures ∙ c.if-ne.false)) ∙ c.as_slice.ensures in
+    let tag : c.in-Ok-Text.tag.now ≡ codes "ftd" =
+    same_bytes _ _ (not_not _ (sym c.ne.ensures ∙ c.if-ne.false)) ∙ c.as_slice.ensures in
     let fits : SFits w64 c.in-Ok-Int.version = search rules in
     let read = rw (to_z-of_z w64 c.in-Ok-Int.version fits) at c.in-Ok.ensures in
-    both_cells c.args.row.now c.in-Ok-Text.tag.now c.in-Ok-Int.version c.in-Ok.version tag (sym c.column_count.ensures ∙ c.if-column_count-ne2.false) (rw c.in-Ok-Text.field-0-is at c.in-Ok-Text.ensures.ok.1) (rw c.in-Ok-Int.field-0-is at c.in-Ok-Int.ensures.ok.1) (whole_number c.in-Ok-Int.version c.in-Ok.version read.0 read.1)
+    both_cells c.args.row.now c.in-Ok-Text.tag.now c.in-Ok-Int.version c.in-Ok.version tag
+    (sym c.column_count.ensures ∙ c.if-column_count-ne2.false)
+    (rw c.in-Ok-Text.field-0-is at c.in-Ok-Text.ensures.ok.1)
+    (rw c.in-Ok-Int.field-0-is at c.in-Ok-Int.ensures.ok.1)
+    (whole_number c.in-Ok-Int.version c.in-Ok.version read.0 read.1)

@@ -12,7 +12,8 @@ pub loop-day-init : goal.loop-day-init
 loop-day-init c =
     let added = c.in_ok-add_year.ensures.ok in
     record {
-      same = λ day. ap (λ given. is_holiday (holidays_of given) day) added.1 ∙ year_added c.args.holidays.now c.args.year c.args.given.now day;
+      same = λ day. ap (λ given. is_holiday (holidays_of given) day) added.1
+          ∙ year_added c.args.holidays.now c.args.year c.args.given.now day;
       years = λ k d low. absurd (omega arith);
     }
 
@@ -25,7 +26,10 @@ loop-day-preserved c =
     let P : ℕ → Type 0 = λ d. year_of d ≡ c.args.year in
     let here : P x = sym c.year.ensures ∙ c.if-year.false in
     record {
-      same = λ day. day_added (holidays_of c.args.holidays.now) c.args.given.now xs i x day (is_holiday (holidays_of c.loop-day.holidays) day) (is_holiday (holidays_of c.add_day.new.self) day) some c.day-item.is (c.loop-day.invariant.same day) (c.in_ok-add_day.ensures.holiday day);
+      same = λ day. day_added (holidays_of c.args.holidays.now) c.args.given.now xs i x day
+          (is_holiday (holidays_of c.loop-day.holidays) day)
+          (is_holiday (holidays_of c.add_day.new.self) day) some c.day-item.is
+          (c.loop-day.invariant.same day) (c.in_ok-add_day.ensures.holiday day);
       years = All-more P xs i x some c.loop-day.invariant.years (subst P c.day-item.is here);
     }
 
@@ -34,7 +38,9 @@ returns-clause-same c day =
     let xs : List ℕ = c.args.added.now in
     let end = c.loop-day-test.false in
     let all = all_taken xs c.loop-day.day-index (omega arith) in
-    subst (λ (ds : List ℕ). is_holiday (holidays_of c.loop-day.holidays) day ≡ (is_holiday (holidays_of c.args.holidays.now) day || (is_holiday c.args.given.now day || is_holiday ds day))) all (c.loop-day.invariant.same day)
+    subst (λ (ds : List ℕ). is_holiday (holidays_of c.loop-day.holidays) day
+    ≡ (is_holiday (holidays_of c.args.holidays.now) day ||
+    (is_holiday c.args.given.now day || is_holiday ds day))) all (c.loop-day.invariant.same day)
 
 pub returns-clause-added : goal.returns-clause-added
 returns-clause-added c =

@@ -6,6 +6,8 @@ use Rattle.ftd_store.proofs.holidays.add_both.Given as goal
 
 abbrev pub invariant-loop-day : goal.invariant-loop-day
 invariant-loop-day l = record {
-  same : (day : ℕ) → is_holiday (holidays_of l.holidays) day ≡ (is_holiday (holidays_of l.fn.holidays) day || (is_holiday l.given day || is_holiday (take l.day-index l.added) day));
+  same : (day : ℕ) → is_holiday (holidays_of l.holidays) day
+      ≡ (is_holiday (holidays_of l.fn.holidays) day ||
+      (is_holiday l.given day || is_holiday (take l.day-index l.added) day));
   years : All (λ day. year_of day ≡ l.year) (take l.day-index l.added);
 }

@@ -5,4 +5,6 @@ use Rattle.ftd_words.proofs.reading.read_days.Given as goal
 
 abbrev pub invariant-loop-text : goal.invariant-loop-text
 invariant-loop-text l =
-    on_front l.days.items (days_of (map (λ (text : Bor (List ℕ)). text.now) (drop l.text-index l.texts))) ≡ days_of (map (λ (text : Bor (List ℕ)). text.now) l.texts)
+    on_front l.days.items
+    (days_of (map (λ (text : Bor (List ℕ)). text.now) (drop l.text-index l.texts))) ≡ days_of
+    (map (λ (text : Bor (List ℕ)). text.now) l.texts)

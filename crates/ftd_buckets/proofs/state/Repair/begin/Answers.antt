@@ -12,16 +12,21 @@ use Rattle.ftd_buckets.proofs.state.Repair.begin.Goals as goal
 
 pub first_semiweekly_day-requires-clause-to : goal.first_semiweekly_day-requires-clause-to
 first_semiweekly_day-requires-clause-to c =
-    (first_line c.args.lines.now c.index-lines-0.result (begin_some c.args.day c.args.lines.now c.requires.first) c.index-lines-0.is c.requires.years c.requires.turns).end
+    (first_line c.args.lines.now c.index-lines-0.result
+    (begin_some c.args.day c.args.lines.now c.requires.first) c.index-lines-0.is c.requires.years
+    c.requires.turns).end
 
 pub first_semiweekly_day-requires-clause-turn : goal.first_semiweekly_day-requires-clause-turn
 first_semiweekly_day-requires-clause-turn c =
-    (first_line c.args.lines.now c.index-lines-0.result (begin_some c.args.day c.args.lines.now c.requires.first) c.index-lines-0.is c.requires.years c.requires.turns).early
+    (first_line c.args.lines.now c.index-lines-0.result
+    (begin_some c.args.day c.args.lines.now c.requires.first) c.index-lines-0.is c.requires.years
+    c.requires.turns).early
 
 pub period_of-period-requires-clause-early : goal.period_of-period-requires-clause-early
 period_of-period-requires-clause-early c =
     let x : YearLine = c.index-lines-0.result in
-    let l = first_line c.args.lines.now x (begin_some c.args.day c.args.lines.now c.requires.first) c.index-lines-0.is c.requires.years c.requires.turns in
+    let l = first_line c.args.lines.now x (begin_some c.args.day c.args.lines.now c.requires.first)
+    c.index-lines-0.is c.requires.years c.requires.turns in
     let w = begin_with c.args.day c.args.lines.now x c.requires.first l.are in
     let w0 = w.0 in
     let f = year_facts x.year l.begin l.end in
@@ -30,7 +35,8 @@ period_of-period-requires-clause-early c =
 pub period_of-period-requires-clause-late : goal.period_of-period-requires-clause-late
 period_of-period-requires-clause-late c =
     let x : YearLine = c.index-lines-0.result in
-    let l = first_line c.args.lines.now x (begin_some c.args.day c.args.lines.now c.requires.first) c.index-lines-0.is c.requires.years c.requires.turns in
+    let l = first_line c.args.lines.now x (begin_some c.args.day c.args.lines.now c.requires.first)
+    c.index-lines-0.is c.requires.years c.requires.turns in
     let w = begin_with c.args.day c.args.lines.now x c.requires.first l.are in
     let w1 = w.1 in
     let f = year_facts x.year l.begin l.end in
@@ -39,7 +45,8 @@ period_of-period-requires-clause-late c =
 pub invariant_of-repair : goal.invariant_of-repair
 invariant_of-repair c =
     let x : YearLine = c.index-lines-0.result in
-    let l = first_line c.args.lines.now x (begin_some c.args.day c.args.lines.now c.requires.first) c.index-lines-0.is c.requires.years c.requires.turns in
+    let l = first_line c.args.lines.now x (begin_some c.args.day c.args.lines.now c.requires.first)
+    c.index-lines-0.is c.requires.years c.requires.turns in
     let w = begin_with c.args.day c.args.lines.now x c.requires.first l.are in
     let p = day_period c.args.form x c.args.day l.year w.0 w.1 in
     record {
@@ -48,35 +55,67 @@ invariant_of-repair c =
       lines_are = l.are;
       years = c.requires.years;
       turns = c.requires.turns;
-      at = (rw (c.period_of-period.ensures.first, c.period_of-period.ensures.last, c.first_semiweekly_day.ensures.day) p.0, c.new-held.ensures.items);
+      at = (
+        rw (
+          c.period_of-period.ensures.first,
+          c.period_of-period.ensures.last,
+          c.first_semiweekly_day.ensures.day,
+        ) p.0,
+        c.new-held.ensures.items,
+      );
     }
 
 pub returns-clause-window : goal.returns-clause-window
 returns-clause-window c =
     let x : YearLine = c.index-lines-0.result in
-    let l = first_line c.args.lines.now x (begin_some c.args.day c.args.lines.now c.requires.first) c.index-lines-0.is c.requires.years c.requires.turns in
+    let l = first_line c.args.lines.now x (begin_some c.args.day c.args.lines.now c.requires.first)
+    c.index-lines-0.is c.requires.years c.requires.turns in
     let w = begin_with c.args.day c.args.lines.now x c.requires.first l.are in
-    let p = day_period c.args.form x c.args.day l.year w.0 w.1 in
-    (x, drop 1 c.args.lines.now, l.are, rw (c.period_of-period.ensures.first, c.period_of-period.ensures.last, c.first_semiweekly_day.ensures.day) p)
+    let p = day_period c.args.form x c.args.day l.year w.0 w.1 in (
+      x,
+      drop 1 c.args.lines.now,
+      l.are,
+      rw (
+        c.period_of-period.ensures.first,
+        c.period_of-period.ensures.last,
+        c.first_semiweekly_day.ensures.day,
+      ) p,
+    )
 
 pub returns-clause-stands : goal.returns-clause-stands
 returns-clause-stands c = λ before after change last.
     let x : YearLine = c.index-lines-0.result in
-    let l = first_line c.args.lines.now x (begin_some c.args.day c.args.lines.now c.requires.first) c.index-lines-0.is c.requires.years c.requires.turns in
+    let l = first_line c.args.lines.now x (begin_some c.args.day c.args.lines.now c.requires.first)
+    c.index-lines-0.is c.requires.years c.requires.turns in
     let w = begin_with c.args.day c.args.lines.now x c.requires.first l.are in
-    let first : c.period_of-period.result.first ≡ period_first c.args.form (semiweekly_from x) c.args.day = c.period_of-period.ensures.first ∙ ap (λ s. period_first c.args.form s c.args.day) c.first_semiweekly_day.ensures.day in
-    let to : c.period_of-period.result.last ≡ period_last c.args.form (semiweekly_from x) c.args.day = c.period_of-period.ensures.last ∙ ap (λ s. period_last c.args.form s c.args.day) c.first_semiweekly_day.ensures.day in
-    let asked : ◌≡◌ {A = Window} (record { from = c.period_of-period.result.first; to = c.period_of-period.result.last }) (record { from = period_first c.args.form (semiweekly_from x) c.args.day; to = period_last c.args.form (semiweekly_from x) c.args.day }) =
+    let first : c.period_of-period.result.first ≡ period_first c.args.form
+    (semiweekly_from x) c.args.day = c.period_of-period.ensures.first
+    ∙ ap (λ s. period_first c.args.form s c.args.day) c.first_semiweekly_day.ensures.day in
+    let to : c.period_of-period.result.last ≡ period_last c.args.form
+    (semiweekly_from x) c.args.day = c.period_of-period.ensures.last
+    ∙ ap (λ s. period_last c.args.form s c.args.day) c.first_semiweekly_day.ensures.day in
+    let asked : ◌≡◌ {A = Window} (record {
+      from = c.period_of-period.result.first;
+      to = c.period_of-period.result.last;
+    }) (record {
+      from = period_first c.args.form (semiweekly_from x) c.args.day;
+      to = period_last c.args.form (semiweekly_from x) c.args.day;
+    }) =
     λ i. record { from = first i; to = to i } in
     let r : Repairing = record {
       form = c.args.form;
       lines = c.args.lines.now;
       holidays = holidays_of c.args.holidays.now;
       from = c.period_of-period.result.first;
-      asked = record { from = c.period_of-period.result.first; to = c.period_of-period.result.last };
+      asked = record {
+        from = c.period_of-period.result.first;
+        to = c.period_of-period.result.last;
+      };
       rows = c.new-rows.result.items;
       years = c.new-years.result.items;
       held = c.new-held.result.items;
       stage = stage.Period;
     } in
-    stands_first c.args.form c.args.day before after r x (drop 1 c.args.lines.now) c.end_before_2100.ensures change l.are (rw l.are at last) w.0 w.1 first asked c.new-rows.ensures.items c.new-years.ensures.items refl
+    stands_first c.args.form c.args.day before after r x (drop 1 c.args.lines.now)
+    c.end_before_2100.ensures change l.are (rw l.are at last) w.0 w.1 first asked
+    c.new-rows.ensures.items c.new-years.ensures.items refl

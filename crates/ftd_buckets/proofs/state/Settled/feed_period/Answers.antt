@@ -30,14 +30,22 @@ use Rattle.ftd_buckets.proofs.state.Settled.feed_period.Goals as goal
 
 -- what is told of the turn, for the histories
 told : (s : Settled) (sums : List DaySum) (line : YearLine) (result : TurnNow)
-    → ((before after : ℕ → ℕ → ℕ) (day : ℕ) (new : YearLine) → IsYearChange before after day line new → s.asked.from ≤ day → day ≤ s.asked.to
-    → ((a b : ℕ) → s.asked.from ≤ a → b ≤ s.asked.to → after a b ≡ liability sums a b) → IsTurnNow line new s.asked.to result)
-    → (day : ℕ) (holidays : List ℕ) (before after : History) → (st : Stands s.form day holidays before after (repairing s stage.Period)) → AreSumsOf after s.asked sums → line ≡ st.old
+    → ((before after : ℕ → ℕ → ℕ) (day : ℕ) (new : YearLine)
+    → IsYearChange before after day line new → s.asked.from ≤ day → day ≤ s.asked.to
+    → ((a b : ℕ) → s.asked.from ≤ a → b ≤ s.asked.to → after a b ≡ liability sums a b)
+    → IsTurnNow line new s.asked.to result)
+    → (day : ℕ) (holidays : List ℕ) (before after : History)
+    → (st : Stands s.form day holidays before after (repairing s stage.Period))
+    → AreSumsOf after s.asked sums → line ≡ st.old
     → IsTurnNow st.old st.new s.asked.to result
 told s sums line result h day holidays before after st agree e =
-    let change = year_change day before after st.common.change st.old st.new st.common.year.is_old st.common.year.is_new st.common.year.same st.at.of_day.0 st.at.of_day.1 in
-    let mine = subst (λ (z : YearLine). IsYearChange (liability before.sums) (liability after.sums) day z st.new) (sym e) change in
-    subst (λ (z : YearLine). IsTurnNow z st.new s.asked.to result) e (h (liability before.sums) (liability after.sums) day st.new mine st.at.asked.1 st.at.asked.2 agree)
+    let change = year_change day before after st.common.change st.old st.new st.common.year.is_old
+    st.common.year.is_new st.common.year.same st.at.of_day.0 st.at.of_day.1 in
+    let mine = subst (λ (z : YearLine). IsYearChange (liability before.sums) (liability after.sums)
+    day z st.new) (sym e) change in
+    subst (λ (z : YearLine). IsTurnNow z st.new s.asked.to result) e
+    (h (liability before.sums) (liability after.sums) day st.new mine st.at.asked.1 st.at.asked.2
+    agree)
 
 pub turn_now-requires-clause-to : goal.turn_now-requires-clause-to
 turn_now-requires-clause-to c =
@@ -69,7 +77,8 @@ add_rows-requires-clause-whole c =
     let s : Settled = c.args.self in
     let l = ready_line (repairing s stage.Period) h in
     let x : slice_index_or s.lines.now 0 c.index-self-0.result ≡ h.line = rw h.lines_are refl in
-    let whole = whole_period c.args.self.form h.line s.asked.from s.asked.to (line_year h.line l.0 l.1 l.2).0 h.at.0 in
+    let whole = whole_period c.args.self.form h.line s.asked.from s.asked.to
+    (line_year h.line l.0 l.1 l.2).0 h.at.0 in
     subst (λ (z : YearLine). IsWhole c.args.self.form z s.asked.from s.asked.to) (sym x) whole
 
 pub returns-in_ok-add_rows-in-Kept : goal.returns-in_ok-add_rows-in-Kept
@@ -79,18 +88,26 @@ returns-in_ok-add_rows-in-Kept c =
     let l = ready_line (repairing s stage.Period) h in
     let x : slice_index_or s.lines.now 0 c.index-self-0.result ≡ h.line = rw h.lines_are refl in
     let sums = c.args.sums.now in
-    let whole = whole_period c.args.self.form h.line s.asked.from s.asked.to (line_year h.line l.0 l.1 l.2).0 h.at.0 in
+    let whole = whole_period c.args.self.form h.line s.asked.from s.asked.to
+    (line_year h.line l.0 l.1 l.2).0 h.at.0 in
     let rows = c.in_ok-add_rows-in-Kept.ensures.rows in
     record {
       holds = tt;
       serves = λ day holidays before after st agree.
-          let line : h.line ≡ st.old = same_line s.lines.now h.line st.old h.later st.common.later h.lines_are st.common.lines_are in
+          let line : h.line ≡ st.old = same_line s.lines.now h.line st.old h.later st.common.later
+          h.lines_are st.common.lines_are in
           let is_old : slice_index_or s.lines.now 0 c.index-self-0.result ≡ st.old = x ∙ line in
-          let told_now = told s sums (slice_index_or s.lines.now 0 c.index-self-0.result) now.Kept c.in-Kept.ensures.now day holidays before after st agree is_old in
-          let whole_old = subst (λ (z : YearLine). IsWhole c.args.self.form z s.asked.from s.asked.to) line whole in
-          let owed_old = subst (λ (z : YearLine). AreOwed (due_date (holidays_of s.holidays.now)) (liability sums) (periods c.args.self.form (semiweekly_from z)) s.asked.from (s.asked.to + 1) rows.0) is_old rows.2 in
-          kept_done c.args.self.form day holidays before after s sums rows.0 c.patch.result c.in_ok-add_rows-in-Kept.ensures.known st agree whole_old told_now owed_old
-          c.patch.ensures.from c.patch.ensures.to (c.patch.ensures.rows ∙ rows.1) c.patch.ensures.years;
+          let told_now = told s sums (slice_index_or s.lines.now 0 c.index-self-0.result) now.Kept
+          c.in-Kept.ensures.now day holidays before after st agree is_old in
+          let whole_old =
+          subst (λ (z : YearLine). IsWhole c.args.self.form z s.asked.from s.asked.to) line whole in
+          let owed_old = subst (λ (z : YearLine). AreOwed (due_date (holidays_of s.holidays.now))
+          (liability sums) (periods c.args.self.form (semiweekly_from z)) s.asked.from
+          (s.asked.to + 1) rows.0) is_old rows.2 in
+          kept_done c.args.self.form day holidays before after s sums rows.0 c.patch.result
+          c.in_ok-add_rows-in-Kept.ensures.known st agree whole_old told_now owed_old
+          c.patch.ensures.from c.patch.ensures.to (c.patch.ensures.rows ∙ rows.1)
+          c.patch.ensures.years;
     }
 
 pub returns-in-Changed : goal.returns-in-Changed
@@ -101,15 +118,21 @@ returns-in-Changed c =
     let x : slice_index_or s.lines.now 0 c.index-self-0.result ≡ h.line = rw h.lines_are refl in
     let sums = c.args.sums.now in
     if_ok2 (Holds c.args.self.form (sum_by cents_of s.held.items + sum_by cents_of sums))
-    (λ (next : Next). (day : ℕ) (holidays : List ℕ) (before after : History) → (st : Stands c.args.self.form day holidays before after (repairing s stage.Period)) → AreSumsOf after s.asked sums
-    → IsTurnNow st.old st.new s.asked.to (now.Changed c.in-Changed.turn) → Serves c.args.self.form day holidays before after s.asked next)
+    (λ (next : Next). (day : ℕ) (holidays : List ℕ) (before after : History)
+    → (st : Stands c.args.self.form day holidays before after (repairing s stage.Period))
+    → AreSumsOf after s.asked sums
+    → IsTurnNow st.old st.new s.asked.to (now.Changed c.in-Changed.turn)
+    → Serves c.args.self.form day holidays before after s.asked next)
     (Answers (repairing s stage.Period) sums) c.feed_turned_last.result
     (λ next holds serves. record {
       holds = holds;
       serves = λ day holidays before after st agree.
-          let line : h.line ≡ st.old = same_line s.lines.now h.line st.old h.later st.common.later h.lines_are st.common.lines_are in
+          let line : h.line ≡ st.old = same_line s.lines.now h.line st.old h.later st.common.later
+          h.lines_are st.common.lines_are in
           serves day holidays before after st agree
-          (told s sums (slice_index_or s.lines.now 0 c.index-self-0.result) (now.Changed c.in-Changed.turn) c.in-Changed.ensures.now day holidays before after st agree (x ∙ line));
+          (told s sums (slice_index_or s.lines.now 0 c.index-self-0.result)
+          (now.Changed c.in-Changed.turn) c.in-Changed.ensures.now day holidays before after st
+          agree (x ∙ line));
     }) c.feed_turned_last.ensures.holds c.feed_turned_last.ensures.serves
 
 pub returns-in-Changed-2 : goal.returns-in-Changed-2
@@ -120,20 +143,29 @@ returns-in-Changed-2 c =
     let x : slice_index_or s.lines.now 0 c.index-self-0.result ≡ h.line = rw h.lines_are refl in
     let sums = c.args.sums.now in
     if_ok2 (Holds c.args.self.form (sum_by cents_of s.held.items + sum_by cents_of sums))
-    (λ (next : Next). (day : ℕ) (holidays : List ℕ) (before after : History) → (st : Stands c.args.self.form day holidays before after (repairing s stage.Period)) → AreSumsOf after s.asked sums
-    → IsTurnNow st.old st.new s.asked.to (now.Changed c.in-Changed.turn) → Serves c.args.self.form day holidays before after s.asked next)
+    (λ (next : Next). (day : ℕ) (holidays : List ℕ) (before after : History)
+    → (st : Stands c.args.self.form day holidays before after (repairing s stage.Period))
+    → AreSumsOf after s.asked sums
+    → IsTurnNow st.old st.new s.asked.to (now.Changed c.in-Changed.turn)
+    → Serves c.args.self.form day holidays before after s.asked next)
     (Answers (repairing s stage.Period) sums) c.feed_turned.result
     (λ next holds serves. record {
       holds = holds;
       serves = λ day holidays before after st agree.
-          let line : h.line ≡ st.old = same_line s.lines.now h.line st.old h.later st.common.later h.lines_are st.common.lines_are in
+          let line : h.line ≡ st.old = same_line s.lines.now h.line st.old h.later st.common.later
+          h.lines_are st.common.lines_are in
           serves day holidays before after st agree
-          (told s sums (slice_index_or s.lines.now 0 c.index-self-0.result) (now.Changed c.in-Changed.turn) c.in-Changed.ensures.now day holidays before after st agree (x ∙ line));
+          (told s sums (slice_index_or s.lines.now 0 c.index-self-0.result)
+          (now.Changed c.in-Changed.turn) c.in-Changed.ensures.now day holidays before after st
+          agree (x ∙ line));
     }) c.feed_turned.ensures.holds c.feed_turned.ensures.serves
 
 pub turn_now-requires-clause-period : goal.turn_now-requires-clause-period
 turn_now-requires-clause-period c =
     let h = c.requires.ready in
     let s : Settled = c.args.self in
-    let x : slice_index_or s.lines.now 0 c.index-self-0.result ≡ h.line = rw h.lines_are refl in
-    (c.args.self.form, subst (λ (z : YearLine). IsPeriod c.args.self.form z s.asked.from s.asked.to) (sym x) h.at.0)
+    let x : slice_index_or s.lines.now 0 c.index-self-0.result ≡ h.line = rw h.lines_are refl in (
+      c.args.self.form,
+      subst (λ (z : YearLine). IsPeriod c.args.self.form z s.asked.from s.asked.to)
+          (sym x) h.at.0,
+    )

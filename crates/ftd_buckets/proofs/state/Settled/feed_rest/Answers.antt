@@ -1,4 +1,5 @@
-use Rattle.std.proofs.Common.{arith, ◌≡◌, ◌+◌, ℕ, List, ◌++◌, refl, sym, ◌∙◌, ap, subst, slice_index_or}
+use Rattle.std.proofs.Common.{arith, ◌≡◌, ◌+◌, ℕ, List, ◌++◌, refl, sym, ◌∙◌, ap, subst}
+use Rattle.std.proofs.Common.{slice_index_or}
 use Rattle.std.specs.List.{sum_by}
 use Rattle.ftd_rules.specs.declared.YearLine.{YearLine}
 use Rattle.ftd_rules.specs.declared.DaySum.{DaySum}
@@ -24,22 +25,29 @@ pub add_rows-requires-clause-to : goal.add_rows-requires-clause-to
 add_rows-requires-clause-to c =
     let h = c.requires.ready in
     let l = ready_line (repairing c.args.self (stage.Rest c.args.first c.args.turn)) h in
-    let x : slice_index_or c.args.self.lines.now 0 c.index-self-0.result ≡ h.line = rw h.lines_are refl in
+    let x : slice_index_or c.args.self.lines.now 0 c.index-self-0.result ≡ h.line =
+    rw h.lines_are refl in
     rw x l.1
 
 pub turn_from-turn-requires-clause-rise : goal.turn_from-turn-requires-clause-rise
 turn_from-turn-requires-clause-rise c =
     let h = c.requires.ready in
     rw (c.deref.ensures.value, c.in_ok-extend_from_slice.ensures.items)
-    (all_rise c.args.self.form h.line c.args.self.asked c.args.self.held.items c.args.first c.args.turn c.args.sums.now (ready_line (repairing c.args.self (stage.Rest c.args.first c.args.turn)) h).0
-    (ready_line (repairing c.args.self (stage.Rest c.args.first c.args.turn)) h).1 h.at c.requires.rise)
+    (all_rise c.args.self.form h.line c.args.self.asked c.args.self.held.items c.args.first
+    c.args.turn c.args.sums.now
+    (ready_line (repairing c.args.self (stage.Rest c.args.first c.args.turn)) h).0
+    (ready_line (repairing c.args.self (stage.Rest c.args.first c.args.turn)) h).1 h.at
+    c.requires.rise)
 
 pub add_rows-requires-clause-rise : goal.add_rows-requires-clause-rise
 add_rows-requires-clause-rise c =
     let h = c.requires.ready in
     rw (c.deref-2.ensures.value, c.in_ok-extend_from_slice.ensures.items)
-    (all_rise c.args.self.form h.line c.args.self.asked c.args.self.held.items c.args.first c.args.turn c.args.sums.now (ready_line (repairing c.args.self (stage.Rest c.args.first c.args.turn)) h).0
-    (ready_line (repairing c.args.self (stage.Rest c.args.first c.args.turn)) h).1 h.at c.requires.rise)
+    (all_rise c.args.self.form h.line c.args.self.asked c.args.self.held.items c.args.first
+    c.args.turn c.args.sums.now
+    (ready_line (repairing c.args.self (stage.Rest c.args.first c.args.turn)) h).0
+    (ready_line (repairing c.args.self (stage.Rest c.args.first c.args.turn)) h).1 h.at
+    c.requires.rise)
 
 pub add_rows-requires-clause-turn : goal.add_rows-requires-clause-turn
 add_rows-requires-clause-turn c =
@@ -48,10 +56,14 @@ add_rows-requires-clause-turn c =
     let l = ready_line (repairing s (stage.Rest c.args.first c.args.turn)) h in
     let x : slice_index_or s.lines.now 0 c.index-self-0.result ≡ h.line = rw h.lines_are refl in
     let all : List DaySum = s.held.items ++ c.args.sums.now in
-    let same : c.deref.result.now ≡ all = c.deref.ensures.value ∙ c.in_ok-extend_from_slice.ensures.items in
-    let found : Found c.args.self.form h.line s.asked s.held.items c.args.first c.args.turn all c.turn_from-turn.result =
+    let same : c.deref.result.now ≡ all = c.deref.ensures.value
+    ∙ c.in_ok-extend_from_slice.ensures.items in
+    let found : Found c.args.self.form h.line s.asked s.held.items c.args.first c.args.turn all
+    c.turn_from-turn.result =
     record { begin = l.0; end = l.1; ready = h.at; now_is = rw same at c.turn_from-turn.ensures } in
-    subst (λ (z : YearLine). TurnsWithin (with_turn z c.turn_from-turn.result)) (sym x) (rest_turn c.args.self.form h.line s.asked s.held.items c.args.first c.args.turn all c.turn_from-turn.result found)
+    subst (λ (z : YearLine). TurnsWithin (with_turn z c.turn_from-turn.result)) (sym x)
+    (rest_turn c.args.self.form h.line s.asked s.held.items c.args.first c.args.turn all
+    c.turn_from-turn.result found)
 
 pub add_rows-requires-clause-whole : goal.add_rows-requires-clause-whole
 add_rows-requires-clause-whole c =
@@ -60,10 +72,15 @@ add_rows-requires-clause-whole c =
     let l = ready_line (repairing s (stage.Rest c.args.first c.args.turn)) h in
     let x : slice_index_or s.lines.now 0 c.index-self-0.result ≡ h.line = rw h.lines_are refl in
     let all : List DaySum = s.held.items ++ c.args.sums.now in
-    let same : c.deref.result.now ≡ all = c.deref.ensures.value ∙ c.in_ok-extend_from_slice.ensures.items in
-    let found : Found c.args.self.form h.line s.asked s.held.items c.args.first c.args.turn all c.turn_from-turn.result =
+    let same : c.deref.result.now ≡ all = c.deref.ensures.value
+    ∙ c.in_ok-extend_from_slice.ensures.items in
+    let found : Found c.args.self.form h.line s.asked s.held.items c.args.first c.args.turn all
+    c.turn_from-turn.result =
     record { begin = l.0; end = l.1; ready = h.at; now_is = rw same at c.turn_from-turn.ensures } in
-    subst (λ (z : YearLine). IsWhole c.args.self.form (with_turn z c.turn_from-turn.result) c.args.first s.asked.to) (sym x) (rest_whole c.args.self.form h.line s.asked s.held.items c.args.first c.args.turn all c.turn_from-turn.result found)
+    subst (λ (z : YearLine). IsWhole c.args.self.form (with_turn z c.turn_from-turn.result)
+    c.args.first s.asked.to) (sym x)
+    (rest_whole c.args.self.form h.line s.asked s.held.items c.args.first c.args.turn all
+    c.turn_from-turn.result found)
 
 pub returns : goal.returns
 returns c =
@@ -74,26 +91,52 @@ returns c =
     let x : slice_index_or s.lines.now 0 c.index-self-0.result ≡ h.line = rw h.lines_are refl in
     let all : List DaySum = s.held.items ++ sums in
     let now = c.turn_from-turn.result in
-    let same : c.deref.result.now ≡ all = c.deref.ensures.value ∙ c.in_ok-extend_from_slice.ensures.items in
-    let same2 : c.deref-2.result.now ≡ all = c.deref-2.ensures.value ∙ c.in_ok-extend_from_slice.ensures.items in
-    let found : Found c.args.self.form h.line s.asked s.held.items c.args.first c.args.turn all now =
+    let same : c.deref.result.now ≡ all = c.deref.ensures.value
+    ∙ c.in_ok-extend_from_slice.ensures.items in
+    let same2 : c.deref-2.result.now ≡ all = c.deref-2.ensures.value
+    ∙ c.in_ok-extend_from_slice.ensures.items in
+    let found : Found c.args.self.form h.line s.asked s.held.items c.args.first c.args.turn all
+    now =
     record { begin = l.0; end = l.1; ready = h.at; now_is = rw same at c.turn_from-turn.ensures } in
     let given_line : YearLine = slice_index_or s.lines.now 0 c.index-self-0.result in
     let rows = c.in_ok-add_rows.ensures.rows in
     let owed = rw same2 at rows.2 in
-    let held_now : sum_by cents_of c.extend_from_slice.new.self.items ≡ sum_by cents_of s.held.items + sum_by cents_of sums =
-    ap (sum_by cents_of) c.in_ok-extend_from_slice.ensures.items ∙ sum_by-append cents_of s.held.items sums in
-    let t : Settled = record { form = c.args.self.form; lines = s.lines; holidays = s.holidays; from = s.from; asked = s.asked; rows = c.add_rows.new.rows; years = s.years; held = c.extend_from_slice.new.self } in
+    let held_now : sum_by cents_of c.extend_from_slice.new.self.items ≡ sum_by cents_of s.held.items
+    + sum_by cents_of sums =
+    ap (sum_by cents_of) c.in_ok-extend_from_slice.ensures.items
+    ∙ sum_by-append cents_of s.held.items sums in
+    let t : Settled = record {
+      form = c.args.self.form;
+      lines = s.lines;
+      holidays = s.holidays;
+      from = s.from;
+      asked = s.asked;
+      rows = c.add_rows.new.rows;
+      years = s.years;
+      held = c.extend_from_slice.new.self;
+    } in
     if_ok2 (Holds c.args.self.form (sum_by cents_of c.extend_from_slice.new.self.items))
-    (λ (next : Next). (day : ℕ) (holidays : List ℕ) (before after : History) → IsSettledYear c.args.self.form day holidays before after t (with_turn given_line now) → Serves c.args.self.form day holidays before after s.asked next)
+    (λ (next : Next). (day : ℕ) (holidays : List ℕ) (before after : History)
+    → IsSettledYear c.args.self.form day holidays before after t (with_turn given_line now)
+    → Serves c.args.self.form day holidays before after s.asked next)
     (Answers (repairing s (stage.Rest c.args.first c.args.turn)) sums) c.after_year.result
     (λ next holds serves. record {
-      holds = holds_more c.args.self.form (sum_by cents_of c.extend_from_slice.new.self.items) (sum_by cents_of s.held.items + sum_by cents_of sums) next (omega arith) holds;
+      holds = holds_more c.args.self.form (sum_by cents_of c.extend_from_slice.new.self.items)
+          (sum_by cents_of s.held.items + sum_by cents_of sums) next (omega arith) holds;
       serves = λ day holidays before after st agree.
-          let line : h.line ≡ st.old = same_line s.lines.now h.line st.old h.later st.common.later h.lines_are st.common.lines_are in
+          let line : h.line ≡ st.old = same_line s.lines.now h.line st.old h.later st.common.later
+          h.lines_are st.common.lines_are in
           let is_old : given_line ≡ st.old = x ∙ line in
-          let found_old = subst (λ (z : YearLine). Found c.args.self.form z s.asked s.held.items c.args.first c.args.turn all now) line found in
-          let owed_old = subst (λ (z : YearLine). AreOwed (due_date (holidays_of s.holidays.now)) (liability all) (periods c.args.self.form (semiweekly_from (with_turn z now))) c.args.first (s.asked.to + 1) rows.0) is_old owed in
-          let settled = rest_settled c.args.self.form day holidays before after s t c.args.first c.args.turn now sums rows.0 c.end_before_2100.ensures st agree c.requires.rise found_old owed_old refl refl refl refl rows.1 in
-          serves day holidays before after (subst (λ (z : YearLine). IsSettledYear c.args.self.form day holidays before after t (with_turn z now)) (sym is_old) settled);
+          let found_old =
+          subst (λ (z : YearLine). Found c.args.self.form z s.asked s.held.items c.args.first
+          c.args.turn all now) line found in
+          let owed_old = subst (λ (z : YearLine). AreOwed (due_date (holidays_of s.holidays.now))
+          (liability all) (periods c.args.self.form (semiweekly_from (with_turn z now)))
+          c.args.first (s.asked.to + 1) rows.0) is_old owed in
+          let settled = rest_settled c.args.self.form day holidays before after s t c.args.first
+          c.args.turn now sums rows.0 c.end_before_2100.ensures st agree c.requires.rise found_old
+          owed_old refl refl refl refl rows.1 in
+          serves day holidays before after
+          (subst (λ (z : YearLine). IsSettledYear c.args.self.form day holidays before after t
+          (with_turn z now)) (sym is_old) settled);
     }) c.after_year.ensures.holds c.after_year.ensures.serves

@@ -28,7 +28,8 @@ pub add_rows-requires-clause-to : goal.add_rows-requires-clause-to
 add_rows-requires-clause-to c =
     let h = c.requires.ready in
     let l = ready_line (repairing c.args.self stage.Period) h in
-    let x : slice_index_or c.args.self.lines.now 0 c.index-self-0.result ≡ h.line = rw h.lines_are refl in
+    let x : slice_index_or c.args.self.lines.now 0 c.index-self-0.result ≡ h.line =
+    rw h.lines_are refl in
     rw x l.1
 
 pub add_rows-requires-clause-turn : goal.add_rows-requires-clause-turn
@@ -38,8 +39,13 @@ add_rows-requires-clause-turn c =
     let l = ready_line (repairing s stage.Period) h in
     let x : slice_index_or s.lines.now 0 c.index-self-0.result ≡ h.line = rw h.lines_are refl in
     let split : Split c.args.self.form h.line s.asked.from s.asked.to c.args.turn =
-    record { year = (line_year h.line l.0 l.1 l.2).0; period = h.at.0; within = c.requires.within h.line h.later h.lines_are } in
-    subst (λ (z : YearLine). TurnsWithin (with_turn z c.args.turn)) (sym x) (split_turn c.args.self.form h.line s.asked.from s.asked.to c.args.turn split)
+    record {
+      year = (line_year h.line l.0 l.1 l.2).0;
+      period = h.at.0;
+      within = c.requires.within h.line h.later h.lines_are;
+    } in
+    subst (λ (z : YearLine). TurnsWithin (with_turn z c.args.turn)) (sym x)
+    (split_turn c.args.self.form h.line s.asked.from s.asked.to c.args.turn split)
 
 pub add_rows-requires-clause-whole : goal.add_rows-requires-clause-whole
 add_rows-requires-clause-whole c =
@@ -48,9 +54,16 @@ add_rows-requires-clause-whole c =
     let l = ready_line (repairing s stage.Period) h in
     let x : slice_index_or s.lines.now 0 c.index-self-0.result ≡ h.line = rw h.lines_are refl in
     let split : Split c.args.self.form h.line s.asked.from s.asked.to c.args.turn =
-    record { year = (line_year h.line l.0 l.1 l.2).0; period = h.at.0; within = c.requires.within h.line h.later h.lines_are } in
-    subst (λ (z : YearLine). IsWhole c.args.self.form (with_turn z c.args.turn) s.asked.from s.asked.to) (sym x)
-    (whole_last c.args.self.form h.line s.asked.from s.asked.to c.args.turn (cut_of c.args.self.form h.line s.asked.from s.asked.to c.args.turn split) (c.requires.last h.line h.later h.lines_are))
+    record {
+      year = (line_year h.line l.0 l.1 l.2).0;
+      period = h.at.0;
+      within = c.requires.within h.line h.later h.lines_are;
+    } in
+    subst (λ (z : YearLine). IsWhole c.args.self.form (with_turn z c.args.turn) s.asked.from
+    s.asked.to) (sym x)
+    (whole_last c.args.self.form h.line s.asked.from s.asked.to c.args.turn
+    (cut_of c.args.self.form h.line s.asked.from s.asked.to c.args.turn split)
+    (c.requires.last h.line h.later h.lines_are))
 
 pub returns-clause-serves : goal.returns-clause-serves
 returns-clause-serves c =
@@ -60,22 +73,51 @@ returns-clause-serves c =
     let l = ready_line (repairing s stage.Period) h in
     let x : slice_index_or s.lines.now 0 c.index-self-0.result ≡ h.line = rw h.lines_are refl in
     let split : Split c.args.self.form h.line s.asked.from s.asked.to c.args.turn =
-    record { year = (line_year h.line l.0 l.1 l.2).0; period = h.at.0; within = c.requires.within h.line h.later h.lines_are } in
+    record {
+      year = (line_year h.line l.0 l.1 l.2).0;
+      period = h.at.0;
+      within = c.requires.within h.line h.later h.lines_are;
+    } in
     let ends = c.requires.last h.line h.later h.lines_are in
-    let whole = whole_last c.args.self.form h.line s.asked.from s.asked.to c.args.turn (cut_of c.args.self.form h.line s.asked.from s.asked.to c.args.turn split) ends in
+    let whole = whole_last c.args.self.form h.line s.asked.from s.asked.to c.args.turn
+    (cut_of c.args.self.form h.line s.asked.from s.asked.to c.args.turn split) ends in
     let given_line : YearLine = slice_index_or s.lines.now 0 c.index-self-0.result in
     let rows = c.in_ok-add_rows.ensures.rows in
-    let t : Settled = record { form = c.args.self.form; lines = s.lines; holidays = s.holidays; from = s.from; asked = s.asked; rows = c.add_rows.new.rows; years = s.years; held = s.held } in
+    let t : Settled = record {
+      form = c.args.self.form;
+      lines = s.lines;
+      holidays = s.holidays;
+      from = s.from;
+      asked = s.asked;
+      rows = c.add_rows.new.rows;
+      years = s.years;
+      held = s.held;
+    } in
     if_ok2 (λ (next : Next). ⊤)
-    (λ (next : Next). (day : ℕ) (holidays : List ℕ) (before after : History) → IsSettledYear c.args.self.form day holidays before after t (with_turn given_line c.args.turn) → Serves c.args.self.form day holidays before after s.asked next)
-    (λ (next : Next). (day : ℕ) (holidays : List ℕ) (before after : History) → (st : Stands c.args.self.form day holidays before after (repairing s stage.Period)) → AreSumsOf after s.asked sums
-    → IsTurnNow st.old st.new s.asked.to (now.Changed c.args.turn) → Serves c.args.self.form day holidays before after s.asked next) c.after_year.result
+    (λ (next : Next). (day : ℕ) (holidays : List ℕ) (before after : History)
+    → IsSettledYear c.args.self.form day holidays before after t (with_turn given_line c.args.turn)
+    → Serves c.args.self.form day holidays before after s.asked next)
+    (λ (next : Next). (day : ℕ) (holidays : List ℕ) (before after : History)
+    → (st : Stands c.args.self.form day holidays before after (repairing s stage.Period))
+    → AreSumsOf after s.asked sums
+    → IsTurnNow st.old st.new s.asked.to (now.Changed c.args.turn)
+    → Serves c.args.self.form day holidays before after s.asked next) c.after_year.result
     (λ next nothing serves. λ day holidays before after st agree told.
-    (let line : h.line ≡ st.old = same_line s.lines.now h.line st.old h.later st.common.later h.lines_are st.common.lines_are in
+    (let line : h.line ≡ st.old = same_line s.lines.now h.line st.old h.later st.common.later
+    h.lines_are st.common.lines_are in
     let is_old : given_line ≡ st.old = x ∙ line in
-    let ends_old : s.asked.to ≡ year_last st.old.year = ends ∙ ap (λ (z : YearLine). year_last z.year) line in
-    let whole_old = subst (λ (z : YearLine). IsWhole c.args.self.form (with_turn z c.args.turn) s.asked.from s.asked.to) line whole in
-    let owed_old = subst (λ (z : YearLine). AreOwed (due_date (holidays_of s.holidays.now)) (liability sums) (periods c.args.self.form (semiweekly_from (with_turn z c.args.turn))) s.asked.from (s.asked.to + 1) rows.0) is_old rows.2 in
-    let settled = last_settled c.args.self.form day holidays before after s t c.args.turn sums rows.0 c.end_before_2100.ensures st agree ends_old whole_old told owed_old refl refl refl refl rows.1 in
-    serves day holidays before after (subst (λ (z : YearLine). IsSettledYear c.args.self.form day holidays before after t (with_turn z c.args.turn)) (sym is_old) settled)))
+    let ends_old : s.asked.to ≡ year_last st.old.year = ends
+    ∙ ap (λ (z : YearLine). year_last z.year) line in
+    let whole_old =
+    subst (λ (z : YearLine). IsWhole c.args.self.form (with_turn z c.args.turn) s.asked.from
+    s.asked.to) line whole in
+    let owed_old = subst (λ (z : YearLine). AreOwed (due_date (holidays_of s.holidays.now))
+    (liability sums) (periods c.args.self.form (semiweekly_from (with_turn z c.args.turn)))
+    s.asked.from (s.asked.to + 1) rows.0) is_old rows.2 in
+    let settled = last_settled c.args.self.form day holidays before after s t c.args.turn sums
+    rows.0 c.end_before_2100.ensures st agree ends_old whole_old told owed_old refl refl refl refl
+    rows.1 in
+    serves day holidays before after
+    (subst (λ (z : YearLine). IsSettledYear c.args.self.form day holidays before after t
+    (with_turn z c.args.turn)) (sym is_old) settled)))
     (if_ok_true c.after_year.result) c.after_year.ensures.serves

@@ -18,7 +18,8 @@ pub add_year-requires-clause-to : goal.add_year-requires-clause-to
 add_year-requires-clause-to c =
     let h = c.requires.ready in
     let l = ready_line (repairing c.args.self (stage.Year c.args.turned)) h in
-    let x : slice_index_or c.args.self.lines.now 0 c.index-self-0.result ≡ h.line = rw h.lines_are refl in
+    let x : slice_index_or c.args.self.lines.now 0 c.index-self-0.result ≡ h.line =
+    rw h.lines_are refl in
     rw x l.1
 
 pub returns : goal.returns
@@ -29,15 +30,31 @@ returns c =
     let x : slice_index_or s.lines.now 0 c.index-self-0.result ≡ h.line = rw h.lines_are refl in
     let new : YearLine = c.in_ok-new.new in
     let rows = c.in_ok-new.ensures.rows in
-    let t : Settled = record { form = c.args.self.form; lines = s.lines; holidays = s.holidays; from = s.from; asked = s.asked; rows = c.add_year.new.rows; years = s.years; held = s.held } in
+    let t : Settled = record {
+      form = c.args.self.form;
+      lines = s.lines;
+      holidays = s.holidays;
+      from = s.from;
+      asked = s.asked;
+      rows = c.add_year.new.rows;
+      years = s.years;
+      held = s.held;
+    } in
     if_ok2 (Holds c.args.self.form (sum_by cents_of s.held.items))
-    (λ (next : Next). (day : ℕ) (holidays : List ℕ) (before after : History) → IsSettledYear c.args.self.form day holidays before after t new → Serves c.args.self.form day holidays before after s.asked next)
+    (λ (next : Next). (day : ℕ) (holidays : List ℕ) (before after : History)
+    → IsSettledYear c.args.self.form day holidays before after t new
+    → Serves c.args.self.form day holidays before after s.asked next)
     (Answers (repairing s (stage.Year c.args.turned)) sums) c.after_year.result
     (λ next holds serves. record {
-      holds = holds_more c.args.self.form (sum_by cents_of s.held.items) (sum_by cents_of s.held.items + sum_by cents_of sums) next (omega arith) holds;
+      holds = holds_more c.args.self.form (sum_by cents_of s.held.items)
+          (sum_by cents_of s.held.items + sum_by cents_of sums) next (omega arith) holds;
       serves = λ day holidays before after st agree.
-          let line : h.line ≡ st.old = same_line s.lines.now h.line st.old h.later st.common.later h.lines_are st.common.lines_are in
-          let given_is : given new ≡ given st.old = c.in_ok-new.ensures.given ∙ (ap given x ∙ ap given line) in
-          serves day holidays before after (year_settled c.args.self.form day holidays before after s t c.args.turned sums new rows.0 c.end_before_2100.ensures st agree given_is
+          let line : h.line ≡ st.old = same_line s.lines.now h.line st.old h.later st.common.later
+          h.lines_are st.common.lines_are in
+          let given_is : given new ≡ given st.old = c.in_ok-new.ensures.given
+          ∙ (ap given x ∙ ap given line) in
+          serves day holidays before after
+          (year_settled c.args.self.form day holidays before after s t c.args.turned sums new rows.0
+          c.end_before_2100.ensures st agree given_is
           c.in_ok-new.ensures.schedule rows.2 refl refl refl refl rows.1);
     }) c.after_year.ensures.holds c.after_year.ensures.serves

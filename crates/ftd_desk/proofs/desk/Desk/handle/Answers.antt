@@ -8,7 +8,9 @@ use Rattle.ftd_machine.specs.Laws.{is_change}
 use Rattle.ftd_machine.specs.declared.replies.Refusal.TheVariants.{Store}
 use Rattle.ftd_questions.specs.Faults.{refusal_of}
 use Rattle.ftd_desk.specs.Words.{Handles}
-use Rattle.ftd_desk.proofs.Handling.{ServesBy, none_known, served_ok, served_err, served_less, handles_dropped, handles_uncommitted, handles_committed, at_err, at_ok}
+use Rattle.ftd_desk.proofs.Handling.{ServesBy, none_known, served_ok, served_err, served_less}
+use Rattle.ftd_desk.proofs.Handling.{handles_dropped, handles_uncommitted, handles_committed}
+use Rattle.ftd_desk.proofs.Handling.{at_err, at_ok}
 use Rattle.ftd_desk.proofs.desk.Desk.handle.Goals as goal
 
 pub returns-then-not-is_change-clause-handles : goal.returns-then-not-is_change-clause-handles
@@ -18,21 +20,32 @@ returns-then-not-is_change-clause-handles g c =
     let m = shown g.S.Store c.serve_alone.new.tx in
     let end = c.drop-tx-then-not-is_change.new.self.0 in
     let served = c.in-Ok-serve_alone.served in
-    let new : StoreOf g.row.S.Denot → Held = λ store. record { db = seen g.S.Store store; known = served.known } in
+    let new : StoreOf g.row.S.Denot → Held = λ store. record {
+      db = seen g.S.Store store;
+      known = served.known;
+    } in
     let same : end ≡ c.self-then-not-is_change-1.given.0 = search rules in
     let serves : ServesBy b m old.known served.known c.args.request.now served.answer =
-    served_ok g.S.Store c.args.request.now old.known c.replace-known.result c.in-Ok.tx c.serve_alone.new.tx served (search rules) c.in-Ok-serve_alone.ensures.call
+    served_ok g.S.Store c.args.request.now old.known c.replace-known.result c.in-Ok.tx
+    c.serve_alone.new.tx served (search rules) c.in-Ok-serve_alone.ensures.call
     in
     let quiet : is_change served.answer ≡ false = search rules in
-    let dropped : (answer : Answer) → ServesBy b m old.known served.known c.args.request.now answer → is_change answer ≡ false → Handles old (new end) c.args.request.now answer =
+    let dropped : (answer : Answer) → ServesBy b m old.known served.known c.args.request.now answer
+    → is_change answer ≡ false → Handles old (new end) c.args.request.now answer =
     λ answer by stays.
-    handles_dropped old (new end) b m served.known c.args.request.now answer c.in-Ok.ensures.crash c.in-Ok.ensures.begun by
-    c.drop-tx-then-not-is_change.ensures.undone c.drop-tx-then-not-is_change.ensures.crash c.drop-tx-then-not-is_change.ensures.opens (λ s counted. counted) stays
+    handles_dropped old (new end) b m served.known c.args.request.now answer c.in-Ok.ensures.crash
+    c.in-Ok.ensures.begun by
+    c.drop-tx-then-not-is_change.ensures.undone c.drop-tx-then-not-is_change.ensures.crash
+    c.drop-tx-then-not-is_change.ensures.opens (λ s counted. counted) stays
     in
     subst (λ store. Handles old (new store) c.args.request.now c.bounded.result) same
     (elim c.bounded.ensures.same [
-      | inl as_it_is ↦ subst (λ answer. Handles old (new end) c.args.request.now answer) (sym as_it_is) (dropped served.answer serves quiet)
-      | inr fault ↦ subst (λ answer. Handles old (new end) c.args.request.now answer) (sym fault) (dropped (Err Store) (served_less b m old.known served.known c.args.request.now served.answer serves quiet) refl)
+      | inl as_it_is ↦ subst (λ answer. Handles old (new end) c.args.request.now answer)
+          (sym as_it_is) (dropped served.answer serves quiet)
+      | inr fault ↦ subst (λ answer. Handles old (new end) c.args.request.now answer) (sym fault)
+          (dropped (Err Store)
+          (served_less b m old.known served.known c.args.request.now served.answer serves quiet)
+          refl)
     ])
 
 pub returns-then-is_err-clause-handles : goal.returns-then-is_err-clause-handles
@@ -43,13 +56,20 @@ returns-then-is_err-clause-handles g c =
     let end = c.commit.new.self.0 in
     let served = c.in-Ok-serve_alone.served in
     let none = c.replace-known.new.dest in
-    let new : StoreOf g.row.S.Denot → Held = λ store. record { db = seen g.S.Store store; known = none } in
+    let new : StoreOf g.row.S.Denot → Held = λ store. record {
+      db = seen g.S.Store store;
+      known = none;
+    } in
     let failed : is_err c.commit.result ≡ true = search rules in
     let same : end ≡ c.self-2-1.given.0 = search rules in
     subst (λ store. Handles old (new store) c.args.request.now (Err _)) same
-    (handles_uncommitted old (new end) b m served.known c.args.request.now served.answer c.in-Ok.ensures.crash c.in-Ok.ensures.begun
-    (served_ok g.S.Store c.args.request.now old.known c.replace-known.result c.in-Ok.tx c.serve_alone.new.tx served (search rules) c.in-Ok-serve_alone.ensures.call)
-    (λ clean opened. at_err c.commit.result failed (c.commit.ensures.kept clean opened)) c.commit.ensures.crash (none_known none (search rules) (search rules) (search rules)) (search rules))
+    (handles_uncommitted old (new end) b m served.known c.args.request.now served.answer
+    c.in-Ok.ensures.crash c.in-Ok.ensures.begun
+    (served_ok g.S.Store c.args.request.now old.known c.replace-known.result c.in-Ok.tx
+    c.serve_alone.new.tx served (search rules) c.in-Ok-serve_alone.ensures.call)
+    (λ clean opened. at_err c.commit.result failed (c.commit.ensures.kept clean opened))
+    c.commit.ensures.crash (none_known none (search rules) (search rules) (search rules))
+    (search rules))
 
 pub returns-clause-handles : goal.returns-clause-handles
 returns-clause-handles g c =
@@ -58,13 +78,20 @@ returns-clause-handles g c =
     let m = shown g.S.Store c.serve_alone.new.tx in
     let end = c.commit.new.self.0 in
     let served = c.in-Ok-serve_alone.served in
-    let new : StoreOf g.row.S.Denot → Held = λ store. record { db = seen g.S.Store store; known = served.known } in
+    let new : StoreOf g.row.S.Denot → Held = λ store. record {
+      db = seen g.S.Store store;
+      known = served.known;
+    } in
     let went : is_err c.commit.result ≡ false = search rules in
     let same : end ≡ c.self-2-1.given.0 = search rules in
     subst (λ store. Handles old (new store) c.args.request.now served.answer) same
-    (handles_committed old (new end) b m served.known c.args.request.now served.answer c.in-Ok.ensures.crash c.in-Ok.ensures.begun
-    (served_ok g.S.Store c.args.request.now old.known c.replace-known.result c.in-Ok.tx c.serve_alone.new.tx served (search rules) c.in-Ok-serve_alone.ensures.call)
-    (λ clean. at_ok c.commit.result went (c.commit.ensures.ok clean)) (λ clean. at_ok c.commit.result went (c.commit.ensures.lasts clean)) c.commit.ensures.crash refl (search rules))
+    (handles_committed old (new end) b m served.known c.args.request.now served.answer
+    c.in-Ok.ensures.crash c.in-Ok.ensures.begun
+    (served_ok g.S.Store c.args.request.now old.known c.replace-known.result c.in-Ok.tx
+    c.serve_alone.new.tx served (search rules) c.in-Ok-serve_alone.ensures.call)
+    (λ clean. at_ok c.commit.result went (c.commit.ensures.ok clean))
+    (λ clean. at_ok c.commit.result went (c.commit.ensures.lasts clean)) c.commit.ensures.crash refl
+    (search rules))
 
 pub returns-in-Err-serve_alone-clause-handles : goal.returns-in-Err-serve_alone-clause-handles
 returns-in-Err-serve_alone-clause-handles g c =
@@ -74,11 +101,19 @@ returns-in-Err-serve_alone-clause-handles g c =
     let end = c.drop-tx.new.self.0 in
     let fault = c.in-Err-serve_alone.fault in
     let none = c.replace-known.new.dest in
-    let new : StoreOf g.row.S.Denot → Held = λ store. record { db = seen g.S.Store store; known = none } in
+    let new : StoreOf g.row.S.Denot → Held = λ store. record {
+      db = seen g.S.Store store;
+      known = none;
+    } in
     let same : end ≡ c.self-in-Err-serve_alone-1.given.0 = search rules in
     let forgotten = none_known none (search rules) (search rules) (search rules) in
-    subst (λ store. Handles old (new store) c.args.request.now (Err c.refusal_of-in-Err-serve_alone.result)) same
-    (subst (λ refusal. Handles old (new end) c.args.request.now (Err refusal)) (sym c.refusal_of-in-Err-serve_alone.ensures)
-    (handles_dropped old (new end) b m none c.args.request.now (Err (refusal_of fault)) c.in-Ok.ensures.crash c.in-Ok.ensures.begun
-    (served_err g.S.Store c.args.request.now old.known none c.replace-known.result c.in-Ok.tx c.serve_alone.new.tx fault (search rules) c.in-Err-serve_alone.ensures.call forgotten)
-    c.drop-tx.ensures.undone c.drop-tx.ensures.crash c.drop-tx.ensures.opens (λ s counted. counted) refl))
+    subst (λ store. Handles old (new store) c.args.request.now
+    (Err c.refusal_of-in-Err-serve_alone.result)) same
+    (subst (λ refusal. Handles old (new end) c.args.request.now (Err refusal))
+    (sym c.refusal_of-in-Err-serve_alone.ensures)
+    (handles_dropped old (new end) b m none c.args.request.now (Err (refusal_of fault))
+    c.in-Ok.ensures.crash c.in-Ok.ensures.begun
+    (served_err g.S.Store c.args.request.now old.known none c.replace-known.result c.in-Ok.tx
+    c.serve_alone.new.tx fault (search rules) c.in-Err-serve_alone.ensures.call forgotten)
+    c.drop-tx.ensures.undone c.drop-tx.ensures.crash c.drop-tx.ensures.opens (λ s counted. counted)
+    refl))

@@ -9,7 +9,8 @@ use Rattle.ftd_store.specs.declared.store.Store.{Store}
 use Rattle.ftd_desk.specs.Desks.{Held, held}
 use Rattle.ftd_desk.specs.Words.{HandlesTogether}
 use Rattle.ftd_desk.proofs.Handling.{none_known, at_err, at_ok}
-use Rattle.ftd_desk.proofs.Handled.{refused, together_dropped, together_uncommitted, together_committed}
+use Rattle.ftd_desk.proofs.Handled.{refused, together_dropped, together_uncommitted}
+use Rattle.ftd_desk.proofs.Handled.{together_committed}
 use Rattle.ftd_desk.proofs.Together.{served_all}
 use Rattle.ftd_desk.proofs.desk.Desk.together.Goals as goal
 
@@ -23,14 +24,21 @@ returns-then-is_err-clause-together g c =
     let served = c.in-Ok-serve_all.served in
     let none = c.replace-known.new.dest in
     let all = c.in-Some.first.now ∷ c.in-Some.later.now in
-    let new : Store g.row.S.Denot → Held = λ store. record { db = seen g.S.Store store; known = none } in
+    let new : Store g.row.S.Denot → Held = λ store. record {
+      db = seen g.S.Store store;
+      known = none;
+    } in
     let failed : is_err c.commit.result ≡ true = search rules in
     let whole : c.args.requests.now ≡ c.in-Some.first.now ∷ c.in-Some.later.now = search rules in
     let same : end ≡ c.self-2-1.given.0 = search rules in
     subst (λ store. HandlesTogether old (new store) c.args.requests.now (Err refusal.Store)) same
-    (rw whole (together_uncommitted old (new end) b m all c.in-Ok.ensures.crash c.in-Ok.ensures.begun call.frame.crash call.frame.kept
-    served.answers.items served.known (served_all g.S.Store old.known all c.replace-known.result c.in-Ok.tx c.serve_all.new.tx served (search rules) call) c.commit.ensures.crash
-    (λ clean opened. at_err c.commit.result failed (c.commit.ensures.kept clean opened)) (none_known none (search rules) (search rules) (search rules))))
+    (rw whole (together_uncommitted old (new end) b m all c.in-Ok.ensures.crash
+    c.in-Ok.ensures.begun call.frame.crash call.frame.kept
+    served.answers.items served.known
+    (served_all g.S.Store old.known all c.replace-known.result c.in-Ok.tx c.serve_all.new.tx served
+    (search rules) call) c.commit.ensures.crash
+    (λ clean opened. at_err c.commit.result failed (c.commit.ensures.kept clean opened))
+    (none_known none (search rules) (search rules) (search rules))))
 
 pub returns-clause-together : goal.returns-clause-together
 returns-clause-together g c =
@@ -41,14 +49,22 @@ returns-clause-together g c =
     let call = c.in-Ok-serve_all.ensures.call in
     let served = c.in-Ok-serve_all.served in
     let all = c.in-Some.first.now ∷ c.in-Some.later.now in
-    let new : Store g.row.S.Denot → Held = λ store. record { db = seen g.S.Store store; known = served.known } in
+    let new : Store g.row.S.Denot → Held = λ store. record {
+      db = seen g.S.Store store;
+      known = served.known;
+    } in
     let went : is_err c.commit.result ≡ false = search rules in
     let whole : c.args.requests.now ≡ c.in-Some.first.now ∷ c.in-Some.later.now = search rules in
     let same : end ≡ c.self-2-1.given.0 = search rules in
-    subst (λ store. HandlesTogether old (new store) c.args.requests.now (Ok served.answers.items)) same
-    (rw whole (together_committed old (new end) b m all c.in-Ok.ensures.crash c.in-Ok.ensures.begun call.frame.crash call.frame.kept
-    served.answers.items served.known (served_all g.S.Store old.known all c.replace-known.result c.in-Ok.tx c.serve_all.new.tx served (search rules) call) c.commit.ensures.crash
-    (λ clean. at_ok c.commit.result went (c.commit.ensures.ok clean)) (λ clean. at_ok c.commit.result went (c.commit.ensures.lasts clean)) refl))
+    subst (λ store. HandlesTogether old (new store) c.args.requests.now (Ok served.answers.items))
+    same
+    (rw whole (together_committed old (new end) b m all c.in-Ok.ensures.crash c.in-Ok.ensures.begun
+    call.frame.crash call.frame.kept
+    served.answers.items served.known
+    (served_all g.S.Store old.known all c.replace-known.result c.in-Ok.tx c.serve_all.new.tx served
+    (search rules) call) c.commit.ensures.crash
+    (λ clean. at_ok c.commit.result went (c.commit.ensures.ok clean))
+    (λ clean. at_ok c.commit.result went (c.commit.ensures.lasts clean)) refl))
 
 pub returns-in-Err-serve_all-clause-together : goal.returns-in-Err-serve_all-clause-together
 returns-in-Err-serve_all-clause-together g c =
@@ -59,12 +75,19 @@ returns-in-Err-serve_all-clause-together g c =
     let call = c.in-Err-serve_all.ensures.call in
     let fault = c.in-Err-serve_all.fault in
     let none = c.replace-known.new.dest in
-    let new : Store g.row.S.Denot → Held = λ store. record { db = seen g.S.Store store; known = none } in
+    let new : Store g.row.S.Denot → Held = λ store. record {
+      db = seen g.S.Store store;
+      known = none;
+    } in
     let same : end ≡ c.self-in-Err-serve_all-1.given.0 = search rules in
-    subst (λ store. HandlesTogether old (new store) c.args.requests.now (Err c.refusal_of-in-Err-serve_all.result)) same
-    (subst (λ refusal. HandlesTogether old (new end) c.args.requests.now (Err refusal)) (sym c.refusal_of-in-Err-serve_all.ensures)
-    (together_dropped old (new end) b m c.args.requests.now c.in-Ok.ensures.crash c.in-Ok.ensures.begun call.frame.crash call.frame.kept (refusal_of fault) (refused fault)
-    c.drop-tx.ensures.undone c.drop-tx.ensures.crash c.drop-tx.ensures.opens (none_known none (search rules) (search rules) (search rules))))
+    subst (λ store. HandlesTogether old (new store) c.args.requests.now
+    (Err c.refusal_of-in-Err-serve_all.result)) same
+    (subst (λ refusal. HandlesTogether old (new end) c.args.requests.now (Err refusal))
+    (sym c.refusal_of-in-Err-serve_all.ensures)
+    (together_dropped old (new end) b m c.args.requests.now c.in-Ok.ensures.crash
+    c.in-Ok.ensures.begun call.frame.crash call.frame.kept (refusal_of fault) (refused fault)
+    c.drop-tx.ensures.undone c.drop-tx.ensures.crash c.drop-tx.ensures.opens
+    (none_known none (search rules) (search rules) (search rules))))
 
 pub returns-in-Err-serve_all-clause-keeps : goal.returns-in-Err-serve_all-clause-keeps
 returns-in-Err-serve_all-clause-keeps g c =
@@ -75,4 +98,5 @@ returns-in-Err-serve_all-clause-keeps g c =
     let call = c.in-Err-serve_all.ensures.call in
     let same : end ≡ c.self-in-Err-serve_all-1.given.0 = search rules in
     inr (subst (λ (store : Store g.row.S.Denot). CrashKeeps old (seen g.S.Store store)) same
-    (crash_then old b (seen g.S.Store end) c.in-Ok.ensures.crash (crash_then b m (seen g.S.Store end) call.frame.crash c.drop-tx.ensures.crash)))
+    (crash_then old b (seen g.S.Store end) c.in-Ok.ensures.crash
+    (crash_then b m (seen g.S.Store end) call.frame.crash c.drop-tx.ensures.crash)))

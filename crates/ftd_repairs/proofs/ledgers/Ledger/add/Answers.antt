@@ -1,4 +1,5 @@
-use Rattle.std.proofs.Common.{rules, ◌≡◌, ◌++◌, ◌≤◌, ◌∙◌, ℕ, List, take, length, Ok, sym, subst, arith}
+use Rattle.std.proofs.Common.{rules, ◌≡◌, ◌++◌, ◌≤◌, ◌∙◌, ℕ, List, take, length, Ok, sym, subst}
+use Rattle.std.proofs.Common.{arith}
 use Rattle.std.proofs.Math.Seq.{take-append_seam}
 use Rattle.ftd_days.specs.Holidays.{holidays_of}
 use Rattle.ftd_rules.specs.declared.DaySum.{DaySum}
@@ -36,22 +37,32 @@ returns-clause-call g c =
     let change : Tables → Tables = with_run name c.args.number c.args.run in
     let right : RepairsBy form day sums lines holidays patch = c.in-Ok.ensures.right in
     let since : was.since ≤ patch.from = search (rules, c.if-lt.false, c.lt.ensures) in
-    let placed : Turns g.S.Store c.add_run.new.self c.place_patch.new.tx (Ok difference) (λ d t u. AreBetween name patch.from patch.to gone t → HasLines name lines t → Places name day lines patch after d t u) =
+    let placed : Turns g.S.Store c.add_run.new.self c.place_patch.new.tx (Ok difference)
+    (λ d t u. AreBetween name patch.from patch.to gone t → HasLines name lines t
+    → Places name day lines patch after d t u) =
     rw (c.deref_mut.ensures.value, c.deref-2.ensures.value) at c.in_ok-difference.ensures.call in
     let went = rw c.deref.ensures.value at c.in-Ok-place_rows.ensures.gone in
     let rows_are = rw c.deref.ensures.value at c.in-Ok-place_rows.ensures.rows in
     let same = c.place_patch.auto.lines in
     let long = c.deref_mut.ensures.len in
     let count : length after ≡ was.years.lines.len = omega arith in
-    turns_then g.S.Store c.args.tx.now c.add_run.new.self c.place_patch.new.tx _ difference difference
-    (λ done t u. u ≡ change t) (λ d t u. AreBetween name patch.from patch.to gone t → HasLines name lines t → Places name day lines patch after d t u) _
+    turns_then g.S.Store c.args.tx.now c.add_run.new.self c.place_patch.new.tx _ difference
+    difference
+    (λ done t u. u ≡ change t) (λ d t u. AreBetween name patch.from patch.to gone t
+    → HasLines name lines t → Places name day lines patch after d t u) _
     (λ t u v is places had.
-    let own : AreBetween name patch.from patch.to gone t = subst (λ (os : List Obligation). AreBetween name patch.from patch.to os t) (sym went) (had.rows patch.from patch.to since) in
-    let between : AreBetween name patch.from patch.to gone (change t) = record { by_first_day = own.by_first_day; are = own.are } in
-    let put = subst (λ (z : Tables). AreBetween name patch.from patch.to gone z → HasLines name lines z → Places name day lines patch after difference z v) is places between had.lines in
+    let own : AreBetween name patch.from patch.to gone t =
+    subst (λ (os : List Obligation). AreBetween name patch.from patch.to os t) (sym went)
+    (had.rows patch.from patch.to since) in
+    let between : AreBetween name patch.from patch.to gone (change t) =
+    record { by_first_day = own.by_first_day; are = own.are } in
+    let put = subst (λ (z : Tables). AreBetween name patch.from patch.to gone z
+    → HasLines name lines z → Places name day lines patch after difference z v) is places between
+    had.lines in
     record {
       repatches = record { patch = patch; right = right; compared = put.compared; put = put.put.0 };
       lines_are = all_of was.years.lines.len after _ count ∙ put.put.1;
       rows_are = rows_are;
     })
-    (writes_turn g.S.Store c.args.tx.now c.add_run.new.self _ change c.in_ok-add_run.ensures.call) placed
+    (writes_turn g.S.Store c.args.tx.now c.add_run.new.self _ change c.in_ok-add_run.ensures.call)
+    placed

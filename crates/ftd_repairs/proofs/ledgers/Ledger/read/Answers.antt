@@ -16,11 +16,14 @@ returns g c =
     let years = c.in_ok-years.years in
     let sums = c.in_ok-sums.sums in
     let rows = c.in_ok-rows.rows in
-    let summed = λ (k : Vec DaySum Global) (t : Tables). KnowsYears name first years t × ListsLiability name first last k t in
+    let summed = λ (k : Vec DaySum Global) (t : Tables). KnowsYears name first years t
+    × ListsLiability name first last k t in
     record {
-      call = then_reads g.S.Store c.args.tx.now c.day_sums.new.self c.known_obligations.new.tx sums rows _ summed (λ os. AreBetween name first last os.items) (KnowsLedger name c.args.days)
+      call = then_reads g.S.Store c.args.tx.now c.day_sums.new.self c.known_obligations.new.tx sums
+          rows _ summed (λ os. AreBetween name first last os.items) (KnowsLedger name c.args.days)
           (λ t told owed. record { years = told.0; since = refl; sums = told.1; rows = owed })
-          (then_reads g.S.Store c.args.tx.now c.known_years.new.tx c.day_sums.new.self years sums sums (KnowsYears name first) (ListsLiability name first last) summed
+          (then_reads g.S.Store c.args.tx.now c.known_years.new.tx c.day_sums.new.self years sums
+          sums (KnowsYears name first) (ListsLiability name first last) summed
           (λ t one two. (one, two)) c.in_ok-years.ensures.call c.in_ok-sums.ensures.call)
           c.in_ok-rows.ensures.call;
     }

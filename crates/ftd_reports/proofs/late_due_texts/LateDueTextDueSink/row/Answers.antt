@@ -8,15 +8,18 @@ use Rattle.ftd_reports.proofs.late_due_texts.LateDueTextDueSink.row.Goals as goa
 pub returns-in_default-clause-broke : goal.returns-in_default-clause-broke
 returns-in_default-clause-broke g c = λ start account quarter as_of rows others has.
     record {
-      part = breaks_off _ _ _ _ _ (more_left g.W.Target.taken start account quarter as_of rows c.args.self.now has c.args.row.now others)
+      part = breaks_off _ _ _ _ _ (more_left g.W.Target.taken start account quarter as_of rows
+          c.args.self.now has c.args.row.now others)
           (record { written = []; unwritten = _; parts = refl; appends = Appends-nil _ });
-      reason = let over = c.in_default.ensures.full refl in let before = has.total in inr (omega arith);
+      reason = let over = c.in_default.ensures.full refl in let before = has.total in
+          inr (omega arith);
     }
 
 pub returns-in-Err-clause-broke : goal.returns-in-Err-clause-broke
 returns-in-Err-clause-broke g c = λ start account quarter as_of rows others has.
     record {
-      part = breaks_off _ _ _ _ _ (more_left g.W.Target.taken start account quarter as_of rows c.args.self.now has c.args.row.now others)
+      part = breaks_off _ _ _ _ _ (more_left g.W.Target.taken start account quarter as_of rows
+          c.args.self.now has c.args.row.now others)
           (prefix_more _ _ _ _ _ refl c.in-Err.ensures.err);
       reason = inl c.in-Err.ensures.fault;
     }
@@ -24,6 +27,14 @@ returns-in-Err-clause-broke g c = λ start account quarter as_of rows others has
 pub returns-in-Ok-clause-took : goal.returns-in-Ok-clause-took
 returns-in-Ok-clause-took g c = λ start account quarter as_of rows has.
     let sum = c.in-Some.ensures.counts in
-    let made = one_more g.W.Target.taken start account quarter as_of rows c.args.self.now has c.args.row.now _ c.in-Ok.ensures.ok in
-    subst (λ text. HasRows g.W.Target.taken start account quarter as_of (rows ++ c.args.row.now ∷ []) (record text { total = c.in-Some.total })) (sym c.in-Ok.ensures.begun)
-    (subst (λ total. HasRows g.W.Target.taken start account quarter as_of (rows ++ c.args.row.now ∷ []) (record c.args.self.now { writer = c.write.new.self.writer; begun = true; total = total })) (sym sum.0) made)
+    let made = one_more g.W.Target.taken start account quarter as_of rows c.args.self.now has
+    c.args.row.now _ c.in-Ok.ensures.ok in
+    subst (λ text. HasRows g.W.Target.taken start account quarter as_of
+    (rows ++ c.args.row.now ∷ []) (record text { total = c.in-Some.total }))
+    (sym c.in-Ok.ensures.begun)
+    (subst (λ total. HasRows g.W.Target.taken start account quarter as_of
+    (rows ++ c.args.row.now ∷ []) (record c.args.self.now {
+      writer = c.write.new.self.writer;
+      begun = true;
+      total = total;
+    })) (sym sum.0) made)

@@ -15,22 +15,31 @@ returns-in-Ok-clause-done g c clean =
     let last = within g.S.Store c.apply.new.tx in
     let clean_last : HasCleanDisk last = omega (arith, c.commit.ensures.survives.clean) in
     let made = c.in_ok-apply.ensures.step.does clean_last in
-    let shows = (c.in-Ok.ensures.ok clean).1 in
-    (subst (λ (d : Database). Becomes c.args.how old.now d) (sym shows.now_is) (rw c.transaction-tx.ensures.begun at made), shows.committed_is ∙ sym shows.now_is)
+    let shows = (c.in-Ok.ensures.ok clean).1 in (
+      subst (λ (d : Database). Becomes c.args.how old.now d) (sym shows.now_is)
+          (rw c.transaction-tx.ensures.begun at made),
+      shows.committed_is ∙ sym shows.now_is,
+    )
 
 pub returns-in-Ok-clause-crash : goal.returns-in-Ok-clause-crash
 returns-in-Ok-clause-crash g c =
     let old = state g.S.Store c.args.self.now.conn in
     let last = within g.S.Store c.apply.new.tx in
-    let inside : CrashKeeps old last = survives_begin g.S.Store c.args.self.now.conn last _ (rw c.transaction-tx.ensures.begun at c.apply.ensures.step.crash) in
-    becoming_survives c.args.how old last _ inside (λ clean. let made = c.in_ok-apply.ensures.step.does clean in rw c.transaction-tx.ensures.begun at made) c.commit.ensures.survives
+    let inside : CrashKeeps old last = survives_begin g.S.Store c.args.self.now.conn last _
+    (rw c.transaction-tx.ensures.begun at c.apply.ensures.step.crash) in
+    becoming_survives c.args.how old last _ inside (λ clean. let made =
+    c.in_ok-apply.ensures.step.does clean in
+    rw c.transaction-tx.ensures.begun at made) c.commit.ensures.survives
 
 pub returns-in-Err-clause-crash : goal.returns-in-Err-clause-crash
 returns-in-Err-clause-crash g c =
     let old = state g.S.Store c.args.self.now.conn in
     let last = within g.S.Store c.apply.new.tx in
-    let inside : CrashKeeps old last = survives_begin g.S.Store c.args.self.now.conn last _ (rw c.transaction-tx.ensures.begun at c.apply.ensures.step.crash) in
-    becoming_survives c.args.how old last _ inside (λ clean. let made = c.in_ok-apply.ensures.step.does clean in rw c.transaction-tx.ensures.begun at made) c.commit.ensures.survives
+    let inside : CrashKeeps old last = survives_begin g.S.Store c.args.self.now.conn last _
+    (rw c.transaction-tx.ensures.begun at c.apply.ensures.step.crash) in
+    becoming_survives c.args.how old last _ inside (λ clean. let made =
+    c.in_ok-apply.ensures.step.does clean in
+    rw c.transaction-tx.ensures.begun at made) c.commit.ensures.survives
 
 pub returns-in-Err-clause-kept : goal.returns-in-Err-clause-kept
 returns-in-Err-clause-kept g c clean opened =
@@ -38,6 +47,10 @@ returns-in-Err-clause-kept g c clean opened =
     let last = within g.S.Store c.apply.new.tx in
     let end = state g.S.Store c.commit.new.self.0 in
     let clean_last : HasCleanDisk last = omega (arith, c.commit.ensures.survives.clean) in
-    let kept : KeepsCommit old last = kept_begin g.S.Store c.args.self.now.conn last (rw c.transaction-tx.ensures.begun at c.in_ok-apply.ensures.step.kept clean_last) in
-    let busy : last.in_transaction ≡ true = rw c.transaction-tx.ensures.begun at c.in_ok-apply.ensures.step.mode clean_last in
-    undone old last end c.in-Err.error (c.is_autocommit.ensures.settled c.if-not-is_autocommit.false) kept busy opened (c.in-Err.ensures.err clean)
+    let kept : KeepsCommit old last = kept_begin g.S.Store c.args.self.now.conn last
+    (rw c.transaction-tx.ensures.begun at c.in_ok-apply.ensures.step.kept clean_last) in
+    let busy : last.in_transaction ≡ true =
+    rw c.transaction-tx.ensures.begun at c.in_ok-apply.ensures.step.mode clean_last in
+    undone old last end c.in-Err.error
+    (c.is_autocommit.ensures.settled c.if-not-is_autocommit.false) kept busy opened
+    (c.in-Err.ensures.err clean)

@@ -10,10 +10,13 @@ use Rattle.ftd_store.proofs.Telling.{finds}
 use Rattle.ftd_store.proofs.tx.Tx.account.Goals as goal
 
 pub read_only-requires : goal.read_only-requires
-read_only-requires g c = record { of_reading = asking Accounts READ_ACCOUNT.now _ _ _ reads_account }
+read_only-requires g c =
+    record { of_reading = asking Accounts READ_ACCOUNT.now _ _ _ reads_account }
 
 pub returns : goal.returns
 returns g c = record {
-  call = finds g.S.Store c.args.self.now c.read_only.new.self c.read_only.result Accounts READ_ACCOUNT.now _ _ account_shown account_cells _ (shows_account c.args.name.now) (account_is c.args.name.now)
+  call = finds g.S.Store c.args.self.now c.read_only.new.self c.read_only.result Accounts
+      READ_ACCOUNT.now _ _ account_shown account_cells _ (shows_account c.args.name.now)
+      (account_is c.args.name.now)
       (rw c.params-to_sql.ensures at c.read_only.ensures.call);
 }

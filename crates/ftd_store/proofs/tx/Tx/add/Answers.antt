@@ -9,7 +9,10 @@ use Rattle.ftd_store.proofs.Going.{goes_on}
 use Rattle.ftd_store.proofs.tx.Tx.add.Goals as goal
 
 pub change-requires : goal.change-requires
-change-requires g c = record { of_rows = subst IsRowText (sym c.requires.of_table.1) (add_is_row_text c.requires.of_table.0) }
+change-requires g c = record {
+  of_rows = subst IsRowText (sym c.requires.of_table.1)
+      (add_is_row_text c.requires.of_table.0);
+}
 
 pub returns : goal.returns
 returns g c = record {
@@ -18,7 +21,10 @@ returns g c = record {
     does = λ clean t stands.
         let old = shown g.S.Store c.args.self.now in
         let new = shown g.S.Store c.change.new.self in
-        let ran = subst (λ sql. Executes sql (bound c.args.params.now) old new (Ok c.in_ok-change.field-0)) text (c.in_ok-change.ensures.ran clean) in
-        adds table row old new c.in_ok-change.field-0 t stands (subst (λ params. Executes (add_of table) params old new (Ok c.in_ok-change.field-0)) cells ran);
+        let ran = subst (λ sql. Executes sql (bound c.args.params.now) old new
+        (Ok c.in_ok-change.field-0)) text (c.in_ok-change.ensures.ran clean) in
+        adds table row old new c.in_ok-change.field-0 t stands
+        (subst (λ params. Executes (add_of table) params old new (Ok c.in_ok-change.field-0)) cells
+        ran);
   };
 }

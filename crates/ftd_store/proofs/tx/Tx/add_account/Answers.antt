@@ -7,4 +7,8 @@ pub add-requires : goal.add-requires
 add-requires g c = record { of_table = (Accounts, refl) }
 
 pub returns : goal.returns
-returns g c = record { call = c.add.ensures.call Accounts (account_row c.args.name.now c.args.account) refl (rw (c.params-to_sql.ensures, c.params-to_sql-2.ensures, c.params-to_sql-3.ensures) refl) }
+returns g c =
+    record {
+      call = c.add.ensures.call Accounts (account_row c.args.name.now c.args.account) refl
+          (rw (c.params-to_sql.ensures, c.params-to_sql-2.ensures, c.params-to_sql-3.ensures) refl);
+    }

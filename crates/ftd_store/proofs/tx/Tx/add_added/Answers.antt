@@ -8,4 +8,8 @@ pub add-requires : goal.add-requires
 add-requires g c = record { of_table = (AddedHolidays, refl) }
 
 pub returns : goal.returns
-returns g c = record { call = c.add.ensures.call AddedHolidays (holiday_row (year_of c.args.day) c.args.day) refl (rw (c.params-to_sql.ensures, c.params-to_sql-2.ensures, c.year-year.ensures) refl) }
+returns g c =
+    record {
+      call = c.add.ensures.call AddedHolidays (holiday_row (year_of c.args.day) c.args.day)
+          refl (rw (c.params-to_sql.ensures, c.params-to_sql-2.ensures, c.year-year.ensures) refl);
+    }

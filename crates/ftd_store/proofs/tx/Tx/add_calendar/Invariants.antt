@@ -4,4 +4,5 @@ use Rattle.ftd_store.specs.Frame.{Writes}
 use Rattle.ftd_store.proofs.tx.Tx.add_calendar.Given as goal
 
 abbrev pub invariant-loop-day : goal.invariant-loop-day
-invariant-loop-day g l = Writes g.S.Store l.fn.self l.self (Ok (tt {0})) (with_calendar l.fn.year (take l.day-index l.fn.days))
+invariant-loop-day g l = Writes g.S.Store l.fn.self l.self (Ok (tt {0}))
+    (with_calendar l.fn.year (take l.day-index l.fn.days))

@@ -7,4 +7,7 @@ pub add-requires : goal.add-requires
 add-requires g c = record { of_table = (CalendarYears, refl) }
 
 pub returns : goal.returns
-returns g c = record { call = c.add.ensures.call CalendarYears (calendar_year_row c.args.year) refl (rw c.params-to_sql.ensures refl) }
+returns g c = record {
+  call = c.add.ensures.call CalendarYears (calendar_year_row c.args.year) refl
+      (rw c.params-to_sql.ensures refl);
+}

@@ -7,4 +7,7 @@ pub add-requires : goal.add-requires
 add-requires g c = record { of_table = (Forms, refl) }
 
 pub returns : goal.returns
-returns g c = record { call = c.add.ensures.call Forms (form_row c.args.account.now c.args.form) refl (rw (c.params-to_sql.ensures, c.params-to_sql-2.ensures) refl) }
+returns g c = record {
+  call = c.add.ensures.call Forms (form_row c.args.account.now c.args.form)
+      refl (rw (c.params-to_sql.ensures, c.params-to_sql-2.ensures) refl);
+}

@@ -7,4 +7,7 @@ pub add-requires : goal.add-requires
 add-requires g c = record { of_table = (Holidays, refl) }
 
 pub returns : goal.returns
-returns g c = record { call = c.add.ensures.call Holidays (holiday_row c.args.year c.args.day) refl (rw (c.params-to_sql.ensures, c.params-to_sql-2.ensures) refl) }
+returns g c = record {
+  call = c.add.ensures.call Holidays (holiday_row c.args.year c.args.day) refl
+      (rw (c.params-to_sql.ensures, c.params-to_sql-2.ensures) refl);
+}

@@ -1,4 +1,5 @@
-use Rattle.std.proofs.Common.{rules, ◌≡◌, ℕ, List, Option, None, Vec, Global, true, false, refl, subst}
+use Rattle.std.proofs.Common.{rules, ◌≡◌, ℕ, List, Option, None, Vec, Global, true, false, refl}
+use Rattle.std.proofs.Common.{subst}
 use Rattle.std.specs.Prelude.{All}
 use Rattle.ftd_days.specs.Calendar.{year_of}
 use Rattle.ftd_days.specs.Holidays.{holidays_of}
@@ -15,8 +16,12 @@ returns-in_default g c =
     let found = c.in_ok-given.field-0 in
     let none : found ≡ None = search rules in
     record {
-      call = reads_on g.S.Store c.args.self.now c.calendar.new.self found false (FindsCalendar {A = Global} year) (AddsIfGiven year old old)
-          (λ t finds. (subst (λ (f : Option (Vec ℕ Global)). FindsCalendar year f t) none finds, refl)) c.in_ok-given.ensures.call;
+      call = reads_on g.S.Store c.args.self.now c.calendar.new.self found false
+          (FindsCalendar {A = Global} year) (AddsIfGiven year old old)
+          (λ t finds. (
+            subst (λ (f : Option (Vec ℕ Global)). FindsCalendar year f t) none finds,
+            refl,
+          )) c.in_ok-given.ensures.call;
     }
 
 pub returns-in-Ok : goal.returns-in-Ok
@@ -27,10 +32,14 @@ returns-in-Ok g c =
     let given : List ℕ = c.in-Some.given.items in
     let added : List ℕ = c.in_ok-added.added.items in
     let made = c.in-Ok.ensures in
-    let of_given : All (λ d. year_of d ≡ year) given = subst (All (λ d. year_of d ≡ year)) c.deref.ensures.value made.given in
-    let of_added : All (λ d. year_of d ≡ year) added = subst (All (λ d. year_of d ≡ year)) c.deref-2.ensures.value made.added in
+    let of_given : All (λ d. year_of d ≡ year) given =
+    subst (All (λ d. year_of d ≡ year)) c.deref.ensures.value made.given in
+    let of_added : All (λ d. year_of d ≡ year) added =
+    subst (All (λ d. year_of d ≡ year)) c.deref-2.ensures.value made.added in
     record {
-      call = then_reads g.S.Store c.args.self.now c.calendar.new.self c.added.new.self c.in_ok-given.field-0 c.in_ok-added.added true (FindsCalendar year) (ListsAdded year) (AddsIfGiven year old new)
+      call = then_reads g.S.Store c.args.self.now c.calendar.new.self c.added.new.self
+          c.in_ok-given.field-0 c.in_ok-added.added true (FindsCalendar year) (ListsAdded year)
+          (AddsIfGiven year old new)
           (λ t finds lists. record {
             to = made.year;
             given = c.in-Some.given;

@@ -7,4 +7,16 @@ pub add-requires : goal.add-requires
 add-requires g c = record { of_table = (Payments, refl) }
 
 pub returns : goal.returns
-returns g c = record { call = c.add.ensures.call Payments (payment_row c.args.account.now (pos c.args.number) c.args.payment false) refl (rw (c.params-to_sql.ensures, c.params-to_sql-2.ensures, c.params-to_sql-3.ensures, c.params-to_sql-4.ensures, c.params-to_sql-5.ensures, c.params-to_sql-6.ensures) refl) }
+returns g c =
+    record {
+      call = c.add.ensures.call Payments
+          (payment_row c.args.account.now (pos c.args.number) c.args.payment false) refl
+          (rw (
+            c.params-to_sql.ensures,
+            c.params-to_sql-2.ensures,
+            c.params-to_sql-3.ensures,
+            c.params-to_sql-4.ensures,
+            c.params-to_sql-5.ensures,
+            c.params-to_sql-6.ensures,
+          ) refl);
+    }

@@ -7,4 +7,17 @@ pub add-requires : goal.add-requires
 add-requires g c = record { of_table = (ReportedQuarters, refl) }
 
 pub returns : goal.returns
-returns g c = record { call = c.add.ensures.call ReportedQuarters (reported_row c.args.account.now c.args.quarter c.args.cents) refl (rw (c.params-to_sql.ensures, c.params-to_sql-2.ensures, c.params-to_sql-3.ensures, c.params-to_sql-4.ensures, c.year-year.ensures, c.from-number.ensures, c.number.ensures) refl) }
+returns g c =
+    record {
+      call = c.add.ensures.call ReportedQuarters
+          (reported_row c.args.account.now c.args.quarter c.args.cents) refl
+          (rw (
+            c.params-to_sql.ensures,
+            c.params-to_sql-2.ensures,
+            c.params-to_sql-3.ensures,
+            c.params-to_sql-4.ensures,
+            c.year-year.ensures,
+            c.from-number.ensures,
+            c.number.ensures,
+          ) refl);
+    }

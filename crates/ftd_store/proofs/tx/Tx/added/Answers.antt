@@ -13,10 +13,14 @@ use Rattle.ftd_store.proofs.Telling.{lists}
 use Rattle.ftd_store.proofs.tx.Tx.added.Goals as goal
 
 pub read_all-requires : goal.read_all-requires
-read_all-requires g c = record { of_reading = asking AddedHolidays LIST_ADDED_HOLIDAYS.now _ _ _ lists_added_holidays }
+read_all-requires g c =
+    record { of_reading = asking AddedHolidays LIST_ADDED_HOLIDAYS.now _ _ _ lists_added_holidays }
 
 pub returns : goal.returns
 returns g c = record {
-  call = lists g.S.Store c.args.self.now c.read_all.new.self c.read_all.result (λ xs. xs.items) AddedHolidays LIST_ADDED_HOLIDAYS.now _ _ holiday_shown day_cells HolidaysRise (IsHoliday c.args.year) (added_holidays_in_order (pos c.args.year)) (holiday_is c.args.year)
+  call = lists g.S.Store c.args.self.now c.read_all.new.self c.read_all.result
+      (λ xs. xs.items) AddedHolidays LIST_ADDED_HOLIDAYS.now _ _ holiday_shown day_cells
+      HolidaysRise (IsHoliday c.args.year) (added_holidays_in_order (pos c.args.year))
+      (holiday_is c.args.year)
       (rw c.params-to_sql.ensures at c.read_all.ensures.call);
 }

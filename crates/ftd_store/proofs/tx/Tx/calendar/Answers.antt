@@ -13,19 +13,26 @@ use Rattle.ftd_store.proofs.Telling.{lists, reads_on, then_reads}
 use Rattle.ftd_store.proofs.tx.Tx.calendar.Goals as goal
 
 pub read_all-requires : goal.read_all-requires
-read_all-requires g c = record { of_reading = asking Holidays LIST_HOLIDAYS.now _ _ _ lists_holidays }
+read_all-requires g c =
+    record { of_reading = asking Holidays LIST_HOLIDAYS.now _ _ _ lists_holidays }
 
 pub returns-then-not-branch : goal.returns-then-not-branch
 returns-then-not-branch g c = record {
-  call = reads_on g.S.Store c.args.self.now c.has_calendar.new.self c.in_ok-has_calendar.field-0 None _ _ (λ t is. rw c.if-not-branch.true at is) c.in_ok-has_calendar.ensures.call;
+  call = reads_on g.S.Store c.args.self.now c.has_calendar.new.self c.in_ok-has_calendar.field-0
+      None _ _ (λ t is. rw c.if-not-branch.true at is) c.in_ok-has_calendar.ensures.call;
 }
 
 pub returns : goal.returns
 returns g c =
     let year = c.args.year in
     let days : Vec ℕ Global = c.in_ok-days.days in
-    let listed = lists g.S.Store c.has_calendar.new.self c.read_all.new.self (Ok days) (λ xs. xs.items) Holidays LIST_HOLIDAYS.now _ _ holiday_shown day_cells HolidaysRise (IsHoliday year) (holidays_in_order (pos year)) (holiday_is year)
+    let listed = lists g.S.Store c.has_calendar.new.self c.read_all.new.self (Ok days)
+    (λ xs. xs.items) Holidays LIST_HOLIDAYS.now _ _ holiday_shown day_cells HolidaysRise
+    (IsHoliday year) (holidays_in_order (pos year)) (holiday_is year)
     (rw c.params-to_sql.ensures at c.in_ok-days.ensures.call) in
     record {
-      call = then_reads g.S.Store c.args.self.now c.has_calendar.new.self c.read_all.new.self c.in_ok-has_calendar.field-0 days (Some days) _ _ _ (λ t there is. (rw c.if-not-branch.false at there, is)) c.in_ok-has_calendar.ensures.call listed;
+      call = then_reads g.S.Store c.args.self.now c.has_calendar.new.self c.read_all.new.self
+          c.in_ok-has_calendar.field-0 days (Some days) _ _ _
+          (λ t there is. (rw c.if-not-branch.false at there, is)) c.in_ok-has_calendar.ensures.call
+          listed;
     }

@@ -11,5 +11,7 @@ count-requires g c = record { of_reading = counting Payments COUNT_PAYMENTS.now 
 
 pub returns : goal.returns
 returns g c = record {
-  call = counts g.S.Store c.args.self.now c.count.new.self c.count.result Payments COUNT_PAYMENTS.now _ _ (payments_counted c.args.account.now) (rw c.params-to_sql.ensures at c.count.ensures.call);
+  call = counts g.S.Store c.args.self.now c.count.new.self c.count.result Payments
+      COUNT_PAYMENTS.now _ _ (payments_counted c.args.account.now)
+      (rw c.params-to_sql.ensures at c.count.ensures.call);
 }

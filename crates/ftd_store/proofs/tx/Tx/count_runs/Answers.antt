@@ -11,5 +11,6 @@ count-requires g c = record { of_reading = counting Runs COUNT_RUNS.now _ counts
 
 pub returns : goal.returns
 returns g c = record {
-  call = counts g.S.Store c.args.self.now c.count.new.self c.count.result Runs COUNT_RUNS.now _ _ (runs_counted c.args.account.now) (rw c.params-to_sql.ensures at c.count.ensures.call);
+  call = counts g.S.Store c.args.self.now c.count.new.self c.count.result Runs COUNT_RUNS.now _ _
+      (runs_counted c.args.account.now) (rw c.params-to_sql.ensures at c.count.ensures.call);
 }

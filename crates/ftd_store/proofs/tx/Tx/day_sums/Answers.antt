@@ -23,9 +23,14 @@ returns-in-Ok g c =
     let from = day_number c.args.from in
     let to = day_number c.args.to in
     let runs : Vec PayRun Global = c.in_ok-runs.runs in
-    let listed = lists g.S.Store c.args.self.now c.read_all.new.self (Ok runs) (λ xs. xs.items) Runs LIST_RUNS.now _ _ live_run_shown pay_run_cells RunsRise (IsLiveRun who) (runs_in_order who from to) (live_run_is who from to)
-    (rw (c.params-to_sql.ensures, c.params-to_sql-2.ensures, c.params-to_sql-3.ensures) at c.in_ok-runs.ensures.call) in
+    let listed = lists g.S.Store c.args.self.now c.read_all.new.self (Ok runs) (λ xs. xs.items) Runs
+    LIST_RUNS.now _ _ live_run_shown pay_run_cells RunsRise (IsLiveRun who)
+    (runs_in_order who from to) (live_run_is who from to)
+    (rw (c.params-to_sql.ensures, c.params-to_sql-2.ensures, c.params-to_sql-3.ensures) at
+    c.in_ok-runs.ensures.call) in
     record {
       call = reads_on g.S.Store c.args.self.now c.read_all.new.self runs c.in-Ok.sums _ _
-          (λ t is. sums_listed who _ runs.items c.in-Ok.sums.items is (rw c.deref.ensures.value at c.in-Ok.ensures.same) c.in-Ok.ensures.positive (rw c.deref.ensures.value at c.in-Ok.ensures.rise)) listed;
+          (λ t is. sums_listed who _ runs.items c.in-Ok.sums.items is
+          (rw c.deref.ensures.value at c.in-Ok.ensures.same) c.in-Ok.ensures.positive
+          (rw c.deref.ensures.value at c.in-Ok.ensures.rise)) listed;
     }

@@ -12,10 +12,14 @@ use Rattle.ftd_store.proofs.Telling.{lists}
 use Rattle.ftd_store.proofs.tx.Tx.due_over.Goals as goal
 
 pub read_all-requires : goal.read_all-requires
-read_all-requires g c = record { of_reading = asking Obligations LIST_DUE_OVER.now _ _ _ lists_due_over }
+read_all-requires g c =
+    record { of_reading = asking Obligations LIST_DUE_OVER.now _ _ _ lists_due_over }
 
 pub returns : goal.returns
 returns g c = record {
-  call = lists g.S.Store c.args.self.now c.read_all.new.self c.read_all.result (λ xs. xs.items) Obligations LIST_DUE_OVER.now _ _ account_obligation_shown account_obligation_cells AccountsRise (IsAccountObligation) (due_over_in_order (day_number c.args.day)) (account_obligation_is (day_number c.args.day))
+  call = lists g.S.Store c.args.self.now c.read_all.new.self c.read_all.result
+      (λ xs. xs.items) Obligations LIST_DUE_OVER.now _ _ account_obligation_shown
+      account_obligation_cells AccountsRise (IsAccountObligation)
+      (due_over_in_order (day_number c.args.day)) (account_obligation_is (day_number c.args.day))
       (rw c.params-to_sql.ensures at c.read_all.ensures.call);
 }

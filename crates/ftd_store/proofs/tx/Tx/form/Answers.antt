@@ -14,6 +14,7 @@ read_only-requires g c = record { of_reading = asking Forms READ_FORM.now _ _ _ 
 
 pub returns : goal.returns
 returns g c = record {
-  call = finds g.S.Store c.args.self.now c.read_only.new.self c.read_only.result Forms READ_FORM.now _ _ form_shown form_cells _ (shows_form c.args.account.now) (form_is c.args.account.now)
+  call = finds g.S.Store c.args.self.now c.read_only.new.self c.read_only.result Forms READ_FORM.now
+      _ _ form_shown form_cells _ (shows_form c.args.account.now) (form_is c.args.account.now)
       (rw c.params-to_sql.ensures at c.read_only.ensures.call);
 }

@@ -15,9 +15,11 @@ use Rattle.ftd_store.proofs.Telling.{finds, reads_on}
 use Rattle.ftd_store.proofs.tx.Tx.has_calendar.Goals as goal
 
 pub read_only-requires : goal.read_only-requires
-read_only-requires g c = record { of_reading = asking CalendarYears READ_CALENDAR_YEAR.now _ _ _ reads_calendar_year }
+read_only-requires g c =
+    record { of_reading = asking CalendarYears READ_CALENDAR_YEAR.now _ _ _ reads_calendar_year }
 
-there : (row : CalendarYearRow) (rows : List CalendarYearRow) (found : Option ℕ) (b : Bool) → b ≡ is_some found → rows ≡ rows_of (λ n. row) found → rows ≡ (if b then row ∷ [] else [])
+there : (row : CalendarYearRow) (rows : List CalendarYearRow) (found : Option ℕ) (b : Bool)
+    → b ≡ is_some found → rows ≡ rows_of (λ n. row) found → rows ≡ (if b then row ∷ [] else [])
 there row rows None b is same = rw is same
 there row rows (Some n) b is same = rw is same
 
@@ -25,7 +27,11 @@ pub returns : goal.returns
 returns g c =
     let year = c.args.year in
     record {
-      call = reads_on g.S.Store c.args.self.now c.read_only.new.self c.in_ok-found.found c.is_some.result _ _ (λ t is. there (calendar_year_row year) _ c.in_ok-found.found c.is_some.result c.is_some.ensures is)
-          (finds g.S.Store c.args.self.now c.read_only.new.self (Ok c.in_ok-found.found) CalendarYears READ_CALENDAR_YEAR.now _ _ calendar_year_shown count_cells (λ n. calendar_year_row year) (shows_calendar_year (pos year)) (calendar_year_is year)
+      call = reads_on g.S.Store c.args.self.now c.read_only.new.self c.in_ok-found.found
+          c.is_some.result _ _ (λ t is. there (calendar_year_row year) _ c.in_ok-found.found
+          c.is_some.result c.is_some.ensures is)
+          (finds g.S.Store c.args.self.now c.read_only.new.self (Ok c.in_ok-found.found)
+          CalendarYears READ_CALENDAR_YEAR.now _ _ calendar_year_shown count_cells
+          (λ n. calendar_year_row year) (shows_calendar_year (pos year)) (calendar_year_is year)
           (rw c.params-to_sql.ensures at c.in_ok-found.ensures.call));
     }

@@ -6,5 +6,6 @@ use Rattle.ftd_store.proofs.tx.Tx.holidays.Given as goal
 
 abbrev pub invariant-loop-year : goal.invariant-loop-year
 invariant-loop-year g l = record {
-  call : Reads g.S.Store l.fn.self l.self (Ok (tt {0})) (λ done. ReadSoFar l.first l.year (holidays_of l.holidays));
+  call : Reads g.S.Store l.fn.self l.self (Ok (tt {0}))
+      (λ done. ReadSoFar l.first l.year (holidays_of l.holidays));
 }

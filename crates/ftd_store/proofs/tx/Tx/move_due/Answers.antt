@@ -12,6 +12,9 @@ change_one-requires g c = record { of_rows = changing Obligations SET_DUE.now _ 
 
 pub returns : goal.returns
 returns g c = record {
-  call = changes_one g.S.Store c.args.self.now c.change_one.new.self c.change_one.result Obligations SET_DUE.now _ _ _ (due_set c.args.account.now (day_number c.args.first) (day_number c.args.due)) c.change_one.ensures.frame
-      (rw (c.params-to_sql.ensures, c.params-to_sql-2.ensures, c.params-to_sql-3.ensures) at c.change_one.ensures.ran);
+  call = changes_one g.S.Store c.args.self.now c.change_one.new.self c.change_one.result Obligations
+      SET_DUE.now _ _ _ (due_set c.args.account.now (day_number c.args.first)
+      (day_number c.args.due)) c.change_one.ensures.frame
+      (rw (c.params-to_sql.ensures, c.params-to_sql-2.ensures, c.params-to_sql-3.ensures) at
+      c.change_one.ensures.ran);
 }

@@ -12,10 +12,16 @@ use Rattle.ftd_store.proofs.Telling.{lists}
 use Rattle.ftd_store.proofs.tx.Tx.obligations.Goals as goal
 
 pub read_all-requires : goal.read_all-requires
-read_all-requires g c = record { of_reading = asking Obligations LIST_OBLIGATIONS.now _ _ _ lists_obligations }
+read_all-requires g c =
+    record { of_reading = asking Obligations LIST_OBLIGATIONS.now _ _ _ lists_obligations }
 
 pub returns : goal.returns
 returns g c = record {
-  call = lists g.S.Store c.args.self.now c.read_all.new.self c.read_all.result (λ xs. xs.items) Obligations LIST_OBLIGATIONS.now _ _ obligation_shown obligation_cells ObligationsRise (IsObligation c.args.account.now) (obligations_in_order c.args.account.now (day_number c.args.from) (day_number c.args.to)) (obligation_is c.args.account.now (day_number c.args.from) (day_number c.args.to))
-      (rw (c.params-to_sql.ensures, c.params-to_sql-2.ensures, c.params-to_sql-3.ensures) at c.read_all.ensures.call);
+  call = lists g.S.Store c.args.self.now c.read_all.new.self c.read_all.result
+      (λ xs. xs.items) Obligations LIST_OBLIGATIONS.now _ _ obligation_shown obligation_cells
+      ObligationsRise (IsObligation c.args.account.now) (obligations_in_order c.args.account.now
+      (day_number c.args.from) (day_number c.args.to))
+      (obligation_is c.args.account.now (day_number c.args.from) (day_number c.args.to))
+      (rw (c.params-to_sql.ensures, c.params-to_sql-2.ensures, c.params-to_sql-3.ensures) at
+      c.read_all.ensures.call);
 }

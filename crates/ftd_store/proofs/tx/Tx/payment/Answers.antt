@@ -11,10 +11,14 @@ use Rattle.ftd_store.proofs.Telling.{finds}
 use Rattle.ftd_store.proofs.tx.Tx.payment.Goals as goal
 
 pub read_only-requires : goal.read_only-requires
-read_only-requires g c = record { of_reading = asking Payments READ_PAYMENT.now _ _ _ reads_payment }
+read_only-requires g c =
+    record { of_reading = asking Payments READ_PAYMENT.now _ _ _ reads_payment }
 
 pub returns : goal.returns
 returns g c = record {
-  call = finds g.S.Store c.args.self.now c.read_only.new.self c.read_only.result Payments READ_PAYMENT.now _ _ payment_shown stored_payment_cells _ (shows_payment c.args.account.now (pos c.args.number)) (payment_is c.args.account.now c.args.number)
+  call = finds g.S.Store c.args.self.now c.read_only.new.self c.read_only.result Payments
+      READ_PAYMENT.now _ _ payment_shown stored_payment_cells _
+      (shows_payment c.args.account.now (pos c.args.number))
+      (payment_is c.args.account.now c.args.number)
       (rw (c.params-to_sql.ensures, c.params-to_sql-2.ensures) at c.read_only.ensures.call);
 }

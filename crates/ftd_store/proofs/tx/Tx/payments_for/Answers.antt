@@ -12,10 +12,16 @@ use Rattle.ftd_store.proofs.Telling.{lists}
 use Rattle.ftd_store.proofs.tx.Tx.payments_for.Goals as goal
 
 pub read_all-requires : goal.read_all-requires
-read_all-requires g c = record { of_reading = asking Payments LIST_PAYMENTS.now _ _ _ lists_payments }
+read_all-requires g c =
+    record { of_reading = asking Payments LIST_PAYMENTS.now _ _ _ lists_payments }
 
 pub returns : goal.returns
 returns g c = record {
-  call = lists g.S.Store c.args.self.now c.read_all.new.self c.read_all.result (λ xs. xs.items) Payments LIST_PAYMENTS.now _ _ live_payment_shown payment_cells PaymentsRise (IsLivePayment c.args.account.now) (payments_in_order c.args.account.now (day_number c.args.from) (day_number c.args.to)) (live_payment_is c.args.account.now (day_number c.args.from) (day_number c.args.to))
-      (rw (c.params-to_sql.ensures, c.params-to_sql-2.ensures, c.params-to_sql-3.ensures) at c.read_all.ensures.call);
+  call = lists g.S.Store c.args.self.now c.read_all.new.self c.read_all.result
+      (λ xs. xs.items) Payments LIST_PAYMENTS.now _ _ live_payment_shown payment_cells PaymentsRise
+      (IsLivePayment c.args.account.now)
+      (payments_in_order c.args.account.now (day_number c.args.from) (day_number c.args.to))
+      (live_payment_is c.args.account.now (day_number c.args.from) (day_number c.args.to))
+      (rw (c.params-to_sql.ensures, c.params-to_sql-2.ensures, c.params-to_sql-3.ensures) at
+      c.read_all.ensures.call);
 }

@@ -28,9 +28,20 @@ returns-then-branch g c =
       call = record {
         frame = goes_on g.S.Store c.args.self.now _ _ _ c.in_ok-change_any.ensures.frame;
         does = λ clean t stands.
-            let ran = rw (c.params-to_sql.ensures, c.params-to_sql-2.ensures, c.params-to_sql-3.ensures, c.params-to_sql-4.ensures, c.params-to_sql-5.ensures, turn_given c.args.line.turn _ c.stored_turn-turn.ensures, c.if-branch.true) at (c.in_ok-change_any.ensures.ran clean) in
-            let made = (figures_set y old new t stands).0 ran in
-            (stands_same new.now _ _ (λ n. ap (λ rows. with_rows Years rows t n) (put_in_place y made.1.0 _ (t Years) made.1.1)) made.0.0, made.0.1);
+            let ran = rw (
+              c.params-to_sql.ensures,
+              c.params-to_sql-2.ensures,
+              c.params-to_sql-3.ensures,
+              c.params-to_sql-4.ensures,
+              c.params-to_sql-5.ensures,
+              turn_given c.args.line.turn _ c.stored_turn-turn.ensures,
+              c.if-branch.true,
+            ) at (c.in_ok-change_any.ensures.ran clean) in
+            let made = (figures_set y old new t stands).0 ran in (
+              stands_same new.now _ _ (λ n. ap (λ rows. with_rows Years rows t n)
+                  (put_in_place y made.1.0 _ (t Years) made.1.1)) made.0.0,
+              made.0.1,
+            );
       };
     }
 
@@ -40,8 +51,25 @@ returns g c =
     let old = shown g.S.Store c.args.self.now in
     let mid = shown g.S.Store c.change_any.new.self in
     let new = shown g.S.Store c.add.new.self in
-    let added = c.add.ensures.call Years y refl (rw (c.params-to_sql.ensures, c.params-to_sql-2.ensures, c.params-to_sql-3.ensures, c.params-to_sql-4.ensures, c.params-to_sql-5.ensures, turn_given c.args.line.turn _ c.stored_turn-turn.ensures) refl) in
+    let added = c.add.ensures.call Years y refl
+    (rw (
+      c.params-to_sql.ensures,
+      c.params-to_sql-2.ensures,
+      c.params-to_sql-3.ensures,
+      c.params-to_sql-4.ensures,
+      c.params-to_sql-5.ensures,
+      turn_given c.args.line.turn _ c.stored_turn-turn.ensures,
+    ) refl) in
     record {
-      call = puts_after g.S.Store c.args.self.now c.change_any.new.self c.add.new.self _ c.add.result y c.in_ok-change_any.ensures.frame
-          (λ clean. rw (c.params-to_sql.ensures, c.params-to_sql-2.ensures, c.params-to_sql-3.ensures, c.params-to_sql-4.ensures, c.params-to_sql-5.ensures, turn_given c.args.line.turn _ c.stored_turn-turn.ensures, c.if-branch.false) at (c.in_ok-change_any.ensures.ran clean)) added;
+      call = puts_after g.S.Store c.args.self.now c.change_any.new.self c.add.new.self _
+          c.add.result y c.in_ok-change_any.ensures.frame
+          (λ clean. rw (
+            c.params-to_sql.ensures,
+            c.params-to_sql-2.ensures,
+            c.params-to_sql-3.ensures,
+            c.params-to_sql-4.ensures,
+            c.params-to_sql-5.ensures,
+            turn_given c.args.line.turn _ c.stored_turn-turn.ensures,
+            c.if-branch.false,
+          ) at (c.in_ok-change_any.ensures.ran clean)) added;
     }

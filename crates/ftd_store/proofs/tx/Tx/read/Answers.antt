@@ -17,11 +17,25 @@ returns-in-Ok g c =
           same = refl;
           told = (c.if-self.false, c.if-self.false);
           stopped = λ failed. absurd (let sound = c.if-self.false in cc);
-          stays = λ clean. let same = (reading_stays old new c.args.sql.now _ _ c.requires.of_reading (c.in-Ok.ensures.ok clean)).0 in record { was_open = same.was_open; is_open = same.is_open; now_is = refl; committed_is = same.committed_is; mode = same.mode };
-          kept = λ clean. keeps_left old new (inl (reading_stays old new c.args.sql.now _ _ c.requires.of_reading (c.in-Ok.ensures.ok clean)));
-          crash = weaker old new _ (λ db. reading_commits_nothing old c.args.sql.now _ db c.requires.of_reading) c.query_all.ensures.survives;
+          stays = λ clean. let same =
+              (reading_stays old new c.args.sql.now _ _ c.requires.of_reading
+              (c.in-Ok.ensures.ok clean)).0 in
+              record {
+                was_open = same.was_open;
+                is_open = same.is_open;
+                now_is = refl;
+                committed_is = same.committed_is;
+                mode = same.mode;
+              };
+          kept = λ clean. keeps_left old new
+              (inl (reading_stays old new c.args.sql.now _ _ c.requires.of_reading
+              (c.in-Ok.ensures.ok clean)));
+          crash = weaker old new _
+              (λ db. reading_commits_nothing old c.args.sql.now _ db c.requires.of_reading)
+              c.query_all.ensures.survives;
         };
-        same = λ clean. reading_stays old new c.args.sql.now _ _ c.requires.of_reading (c.in-Ok.ensures.ok clean);
+        same = λ clean. reading_stays old new c.args.sql.now _ _ c.requires.of_reading
+            (c.in-Ok.ensures.ok clean);
         showed = λ clean. (c.in-Ok.rows.items, c.in-Ok.ensures.ok clean, refl);
       };
     }
@@ -31,7 +45,11 @@ returns-in-Err g c =
     let old = state g.S.Store c.args.self.now.store.now.conn in
     let new = state g.S.Store c.query_all.new.self in
     record {
-      call = fails_to_query g.S.Store c.args.self.now c.stop.new.self _ c.stop.result _ _ _ _ c.stop.ensures.err c.stop.ensures.touched.0 c.stop.ensures.touched.1 refl c.if-self.false
-          (λ clean. keeps_left old new (query_leaves c.args.sql.now _ old new c.in-Err.error (c.in-Err.ensures.err clean)))
-          (weaker old new _ (λ db. reading_commits_nothing old c.args.sql.now _ db c.requires.of_reading) c.query_all.ensures.survives);
+      call = fails_to_query g.S.Store c.args.self.now c.stop.new.self _ c.stop.result _ _ _ _
+          c.stop.ensures.err c.stop.ensures.touched.0 c.stop.ensures.touched.1 refl c.if-self.false
+          (λ clean. keeps_left old new (query_leaves c.args.sql.now _ old new c.in-Err.error
+          (c.in-Err.ensures.err clean)))
+          (weaker old new _
+          (λ db. reading_commits_nothing old c.args.sql.now _ db c.requires.of_reading)
+          c.query_all.ensures.survives);
     }

@@ -11,8 +11,13 @@ use Rattle.ftd_store.proofs.tx.Tx.replace_obligations.Goals as goal
 
 pub returns-in_err-add_obligation : goal.returns-in_err-add_obligation
 returns-in_err-add_obligation g c =
-    let is : c.from_residual-in_err-add_obligation.result ≡ Err c.in_err-add_obligation.field-0.0 = search rules in
-    record { call = fails_after g.S.Store c.args.self.now c.loop-obligation.self c.add_obligation.new.self _ _ _ _ is c.loop-obligation.invariant.frame c.in_err-add_obligation.ensures.call.frame }
+    let is : c.from_residual-in_err-add_obligation.result ≡ Err c.in_err-add_obligation.field-0.0 =
+    search rules in
+    record {
+      call = fails_after g.S.Store c.args.self.now c.loop-obligation.self
+          c.add_obligation.new.self _ _ _ _ is c.loop-obligation.invariant.frame
+          c.in_err-add_obligation.ensures.call.frame;
+    }
 
 pub loop-obligation-preserved : goal.loop-obligation-preserved
 loop-obligation-preserved g c =
@@ -20,12 +25,22 @@ loop-obligation-preserved g c =
     let i = c.loop-obligation.obligation-index in
     let xs : List Obligation = c.args.given.now in
     let x : Obligation = c.obligation-item.result in
-    then_writes g.S.Store c.args.self.now c.loop-obligation.self c.add_obligation.new.self _ _ _ (with_obligations who c.args.from c.args.to (take i xs)) (adding Obligations (obligation_row who x)) _
-    (one_more Obligations (λ rows t. refl) (obligation_row who) (λ t. filter (λ o. not (is_obligation_between who (day_number c.args.from) (day_number c.args.to) o)) (t Obligations)) (λ t. t) xs i x c.loop-obligation-test.true c.obligation-item.is)
+    then_writes g.S.Store c.args.self.now c.loop-obligation.self c.add_obligation.new.self _ _ _
+    (with_obligations who c.args.from c.args.to (take i xs))
+    (adding Obligations (obligation_row who x)) _
+    (one_more Obligations (λ rows t. refl) (obligation_row who)
+    (λ t. filter
+    (λ o. not (is_obligation_between who (day_number c.args.from) (day_number c.args.to) o))
+    (t Obligations)) (λ t. t) xs i x c.loop-obligation-test.true c.obligation-item.is)
     c.loop-obligation.invariant c.in_ok-add_obligation.ensures.call
 
 pub returns : goal.returns
 returns g c =
     let xs : List Obligation = c.args.given.now in
-    let all = all_taken xs c.loop-obligation.obligation-index (omega (arith, c.loop-obligation-test.false)) in
-    record { call = writes_same g.S.Store c.args.self.now c.loop-obligation.self _ _ _ (λ t n. ap (λ given. with_obligations c.args.account.now c.args.from c.args.to given t n) all) c.loop-obligation.invariant }
+    let all = all_taken xs c.loop-obligation.obligation-index
+    (omega (arith, c.loop-obligation-test.false)) in
+    record {
+      call = writes_same g.S.Store c.args.self.now c.loop-obligation.self _ _ _
+          (λ t n. ap (λ given. with_obligations c.args.account.now c.args.from c.args.to given t n)
+          all) c.loop-obligation.invariant;
+    }

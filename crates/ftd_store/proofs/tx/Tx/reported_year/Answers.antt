@@ -11,10 +11,14 @@ use Rattle.ftd_store.proofs.Telling.{finds}
 use Rattle.ftd_store.proofs.tx.Tx.reported_year.Goals as goal
 
 pub read_only-requires : goal.read_only-requires
-read_only-requires g c = record { of_reading = asking ReportedYears READ_REPORTED_YEAR.now _ _ _ reads_reported_year }
+read_only-requires g c =
+    record { of_reading = asking ReportedYears READ_REPORTED_YEAR.now _ _ _ reads_reported_year }
 
 pub returns : goal.returns
 returns g c = record {
-  call = finds g.S.Store c.args.self.now c.read_only.new.self c.read_only.result ReportedYears READ_REPORTED_YEAR.now _ _ reported_year_shown cents_cells _ (shows_reported_year c.args.account.now (pos c.args.year)) (reported_year_is c.args.account.now c.args.year)
+  call = finds g.S.Store c.args.self.now c.read_only.new.self c.read_only.result ReportedYears
+      READ_REPORTED_YEAR.now _ _ reported_year_shown cents_cells _
+      (shows_reported_year c.args.account.now (pos c.args.year))
+      (reported_year_is c.args.account.now c.args.year)
       (rw (c.params-to_sql.ensures, c.params-to_sql-2.ensures) at c.read_only.ensures.call);
 }

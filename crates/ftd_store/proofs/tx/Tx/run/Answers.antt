@@ -18,6 +18,8 @@ returns g c =
     let who = c.args.account.now in
     let number = c.args.number in
     record {
-      call = finds g.S.Store c.args.self.now c.read_only.new.self c.read_only.result Runs READ_RUN.now _ _ run_shown stored_run_cells _ (shows_run who (pos number)) (run_is who number)
+      call = finds g.S.Store c.args.self.now c.read_only.new.self c.read_only.result Runs
+          READ_RUN.now _ _ run_shown stored_run_cells _ (shows_run who (pos number))
+          (run_is who number)
           (rw (c.params-to_sql.ensures, c.params-to_sql-2.ensures) at c.read_only.ensures.call);
     }

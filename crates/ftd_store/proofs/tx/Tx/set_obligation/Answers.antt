@@ -8,10 +8,21 @@ use Rattle.ftd_store.proofs.Telling.{changes_one}
 use Rattle.ftd_store.proofs.tx.Tx.set_obligation.Goals as goal
 
 pub change_one-requires : goal.change_one-requires
-change_one-requires g c = record { of_rows = changing Obligations SET_OBLIGATION.now _ _ _ _ sets_obligation }
+change_one-requires g c =
+    record { of_rows = changing Obligations SET_OBLIGATION.now _ _ _ _ sets_obligation }
 
 pub returns : goal.returns
 returns g c = record {
-  call = changes_one g.S.Store c.args.self.now c.change_one.new.self c.change_one.result Obligations SET_OBLIGATION.now _ _ _ (obligation_set (obligation_row c.args.account.now c.args.obligation)) c.change_one.ensures.frame
-      (rw (c.params-to_sql.ensures, c.params-to_sql-2.ensures, c.params-to_sql-3.ensures, c.params-to_sql-4.ensures, c.params-to_sql-5.ensures, c.params-to_sql-6.ensures) at c.change_one.ensures.ran);
+  call = changes_one g.S.Store c.args.self.now c.change_one.new.self c.change_one.result Obligations
+      SET_OBLIGATION.now _ _ _
+      (obligation_set (obligation_row c.args.account.now c.args.obligation))
+      c.change_one.ensures.frame
+      (rw (
+        c.params-to_sql.ensures,
+        c.params-to_sql-2.ensures,
+        c.params-to_sql-3.ensures,
+        c.params-to_sql-4.ensures,
+        c.params-to_sql-5.ensures,
+        c.params-to_sql-6.ensures,
+      ) at c.change_one.ensures.ran);
 }

@@ -8,10 +8,13 @@ use Rattle.ftd_store.proofs.Telling.{changes_one}
 use Rattle.ftd_store.proofs.tx.Tx.void_payment.Goals as goal
 
 pub change_one-requires : goal.change_one-requires
-change_one-requires g c = record { of_rows = changing Payments VOID_PAYMENT.now _ _ _ _ voids_payment }
+change_one-requires g c =
+    record { of_rows = changing Payments VOID_PAYMENT.now _ _ _ _ voids_payment }
 
 pub returns : goal.returns
 returns g c = record {
-  call = changes_one g.S.Store c.args.self.now c.change_one.new.self c.change_one.result Payments VOID_PAYMENT.now _ _ _ (payment_voided c.args.account.now (pos c.args.number)) c.change_one.ensures.frame
+  call = changes_one g.S.Store c.args.self.now c.change_one.new.self c.change_one.result Payments
+      VOID_PAYMENT.now _ _ _ (payment_voided c.args.account.now (pos c.args.number))
+      c.change_one.ensures.frame
       (rw (c.params-to_sql.ensures, c.params-to_sql-2.ensures) at c.change_one.ensures.ran);
 }

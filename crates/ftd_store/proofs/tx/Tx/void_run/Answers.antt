@@ -12,6 +12,8 @@ change_one-requires g c = record { of_rows = changing Runs VOID_RUN.now _ _ _ _ 
 
 pub returns : goal.returns
 returns g c = record {
-  call = changes_one g.S.Store c.args.self.now c.change_one.new.self c.change_one.result Runs VOID_RUN.now _ _ _ (run_voided c.args.account.now (pos c.args.number)) c.change_one.ensures.frame
+  call = changes_one g.S.Store c.args.self.now c.change_one.new.self c.change_one.result Runs
+      VOID_RUN.now _ _ _ (run_voided c.args.account.now (pos c.args.number))
+      c.change_one.ensures.frame
       (rw (c.params-to_sql.ensures, c.params-to_sql-2.ensures) at c.change_one.ensures.ran);
 }
