@@ -1,8 +1,8 @@
 #!/usr/bin/env python3
-"""Imports pay runs by the program `ftd`, beside a Python script with `csv` and `sqlite3` that keeps the same tables, of which it
-writes the rows of the runs alone, and computes nothing: time and peak memory, into a new file and again. Then it imports random
-records, and compares the tables with those of the same records posted one by one. Then it kills 50 imports at random moments,
-imports again, and compares the tables with those of one import."""
+"""Imports pay runs by the program `ftd` and by a Python script with `csv` and `sqlite3` that keeps the same tables, of which it
+writes the rows of the runs alone, and computes nothing. Both take turns, five times each into a new file and five times again: the
+median of the times, and the peak memory. Then it imports random records, and compares the tables with those of the same records
+posted one by one. Then it kills 50 imports at random moments, imports again, and compares the tables with those of one import."""
 
 import csv
 import os
@@ -10,6 +10,7 @@ import random
 import shutil
 import signal
 import sqlite3
+import statistics
 import subprocess
 import sys
 import tempfile
@@ -71,27 +72,52 @@ db.commit()
 """
 
 
+TURNS = 5
+
+
+def copy_desk(begun, db):
+    """Puts a copy of the desk's file in the place of another file."""
+    for name in (db, db + "-wal", db + "-shm"):
+        if os.path.exists(name):
+            os.remove(name)
+    shutil.copy(begun, db)
+
+
 def measured(words):
-    """The seconds and the peak memory in MB of a command."""
+    """The seconds, the peak memory in MB and the first line of a command."""
     start = time.monotonic()
     child = subprocess.Popen(words, stdout=subprocess.PIPE, text=True)
     line = child.stdout.readline().strip()
     child.stdout.read()
-    _, status, used = os.wait4(child.pid, 0)
+    _, _, used = os.wait4(child.pid, 0)
     return time.monotonic() - start, used.ru_maxrss / 1024, line
+
+
+def tell(name, turns):
+    """Prints the medians of the program and of the script, and how many times as long as the script the program took."""
+    seconds, python = (statistics.median(turn[at][0] for turn in turns) for at in (0, 1))
+    memory, held = (max(turn[at][1] for turn in turns) for at in (0, 1))
+    times = sorted(ours[0] / script[0] for ours, script in turns)
+    line = turns[0][0][2]
+    print(f"  {name}: ftd {seconds:.2f} s, {memory:.0f} MB ({line}); Python {python:.2f} s, {held:.0f} MB; "
+          f"{seconds / python:.2f} times (one by one {', '.join(f'{each:.2f}' for each in times)})")
 
 
 def measure(folder, accounts, each, chosen):
     text = os.path.join(folder, "runs.csv")
     write_runs(text, accounts, each, chosen)
-    db = new_desk(folder, accounts)
-    other = os.path.join(folder, "python.db")
-    shutil.copy(db, other)
+    begun = new_desk(folder, accounts)
+    db, other = os.path.join(folder, "ftd.db"), os.path.join(folder, "python.db")
+    commands = [[FTD, "import", "--db", db, text], [sys.executable, "-c", SCRIPT, text, other]]
     print(f"{each * len(accounts)} runs of {len(accounts)} accounts")
     for name in ("into a new file", "again"):
-        seconds, memory, line = measured([FTD, "import", "--db", db, text])
-        python, held, _ = measured([sys.executable, "-c", SCRIPT, text, other])
-        print(f"  {name}: ftd {seconds:.2f} s, {memory:.0f} MB ({line}); Python {python:.2f} s, {held:.0f} MB; {seconds / python:.1f} times")
+        turns = []
+        for _ in range(TURNS):
+            if name == "into a new file":
+                copy_desk(begun, db)
+                copy_desk(begun, other)
+            turns.append([measured(words) for words in commands])
+        tell(name, turns)
 
 
 def tables(db):
@@ -118,10 +144,7 @@ def kill(folder, count, chosen):
     cut = 0
     for _ in range(count):
         db = os.path.join(folder, "killed.db")
-        for name in (db, db + "-wal"):
-            if os.path.exists(name):
-                os.remove(name)
-        shutil.copy(begun, db)
+        copy_desk(begun, db)
         child = subprocess.Popen([FTD, "import", "--db", db, text], stdout=subprocess.DEVNULL)
         time.sleep(chosen.random() * took)
         child.send_signal(signal.SIGKILL)
@@ -162,15 +185,13 @@ def any_run(chosen):
 def compare(folder, texts, records, chosen):
     """Imports random records into a file that has some already, and posts the same one by one into another: the tables have to be
     equal."""
+    begun = os.path.join(folder, "begun.db")
+    open_office(begun)
     right = 0
     for _ in range(texts):
         one, other = os.path.join(folder, "one.db"), os.path.join(folder, "other.db")
-        for name in (one, other):
-            for end in ("", "-wal"):
-                if os.path.exists(name + end):
-                    os.remove(name + end)
-        open_office(one)
-        shutil.copy(one, other)
+        copy_desk(begun, one)
+        copy_desk(begun, other)
         runs = [any_run(chosen) for _ in range(records)]
         text = os.path.join(folder, "runs.csv")
         for first in range(0, records, records // 2):

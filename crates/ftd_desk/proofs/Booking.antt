@@ -1,7 +1,7 @@
 -- What a request of a list does where books of accounts are kept.
 use Rattle.std.proofs.Common.{◌≡◌, ◌∙◌, refl, sym, ap, subst, arith, ℕ, ◌+◌, List, [], Bool, true}
 use Rattle.std.proofs.Common.{false, Option, Some, Result, Ok, Err}
-use Rattle.std.specs.Prelude.{if◌then◌else◌, MatchOption}
+use Rattle.std.specs.Prelude.{if◌then◌else◌, IfSome, MatchOption}
 use Rattle.sqlite.specs.Store as store
 use Rattle.ftd_rows.specs.declared.faults.StoreFault.{StoreFault}
 use Rattle.ftd_rules.specs.Liability.{liability}
@@ -24,7 +24,7 @@ use Rattle.ftd_machine.proofs.Others.{others, post_stays}
 use Rattle.ftd_days.specs.Business.{is_holiday}
 use Rattle.ftd_entries.specs.Standing.{StandsFor}
 use Rattle.ftd_entries.proofs.Kept.{counted_runs}
-use Rattle.ftd_posting.specs.Books.{HasNoYear, AreOwedSince, IsBook, PostsBy}
+use Rattle.ftd_posting.specs.Books.{HasNoYear, HasNoneAbove, AreOwedSince, IsBook, PostsBy}
 use Rattle.ftd_posting.specs.declared.books.Book.{Book}
 use Rattle.ftd_desk.specs.Books.{AreBooks, ServesKnown}
 use Rattle.ftd_desk.specs.Counted.{AreCounted, Knows, ServesCounted}
@@ -61,6 +61,7 @@ module _ (s next : State) (account : List ℕ) (book : Book) where
         );
     sums = λ from to first last. ap (λ (e : Entries). liability (live_sums e) from to) own
         ∙ is.sums from to first last;
+    numbers = subst (λ (e : Entries). IfSome book.greatest (HasNoneAbove e)) (sym own) is.numbers;
   }
 
 -- a run that is posted

@@ -1,7 +1,7 @@
 -- Runs that are posted by a book: what is answered, and what the book knows then.
 use Rattle.std.proofs.Common.{◌≡◌, ◌∙◌, inl, inr, refl, sym, ap, subst, ℕ, ◌+◌, ◌≤◌, List, [], ◌∷◌}
 use Rattle.std.proofs.Common.{map, length, Option, None, Some, Ok, arith}
-use Rattle.std.specs.Prelude.{filter}
+use Rattle.std.specs.Prelude.{filter, IfSome}
 use Rattle.std.specs.List.{list_any, sum_by}
 use Rattle.sqlite.specs.Store as store
 use Rattle.sqlite.specs.State as database
@@ -26,6 +26,7 @@ use Rattle.ftd_schema.specs.Standing.{Tables, Stands}
 use Rattle.ftd_store.specs.Changes.{with_run}
 use Rattle.ftd_store.specs.Finds.{CountsRuns, FindsRun}
 use Rattle.ftd_store.specs.Frame.{Calls, Reads, Turns}
+use Rattle.ftd_store.specs.Seen.{shown}
 use Rattle.ftd_store.specs.declared.tx.Tx.{Tx}
 use Rattle.ftd_store.proofs.Going.{goes_on, then_goes}
 use Rattle.ftd_rows.specs.Cells.{day_number}
@@ -68,8 +69,10 @@ use Rattle.ftd_repairs.specs.Replaced.{AreBetween, patched}
 use Rattle.ftd_repairs.specs.Rescheduled.{HasLines}
 use Rattle.ftd_repairs.specs.Reposted.{IsLedger, IsRepostedBy, AddsRun, KnowsLedger}
 use Rattle.ftd_posting.specs.declared.books.Book.{Book}
-use Rattle.ftd_posting.specs.Books.{IsBook, AreHolidaysIn, AreOwedSince, PostsBy, begins_since}
+use Rattle.ftd_posting.specs.Books.{IsBook, AreHolidaysIn, AreOwedSince, PostsBy, IsAbove}
+use Rattle.ftd_posting.specs.Books.{IsReached, begins_since, checks_by, greatest_known}
 use Rattle.ftd_posting.proofs.LiveRuns.{sums_listed}
+use Rattle.ftd_posting.proofs.Numbers.{above_free, greatest_right, greatest_then}
 use Rattle.ftd_posting.proofs.OwedSince.{owed_read, owed_between, patched_since}
 use Rattle.ftd_posting.proofs.PostedRuns.{told, run_added}
 use Rattle.ftd_posting.proofs.Reposting.{ChangesRuns, with_runs, lines_then, before, after, change}
@@ -141,7 +144,8 @@ pub book_known : (name : List ℕ) (account : Account) (year : ℕ) (days : Wind
     (t : Tables) → year_of days.from ≡ year → days.from ≡ year_start year → days.to ≡ last_day
     → KnowsAccount name (Some account) t → KnowsLedger name days ledger t
     → (s : State) → StandsFor t s → IsSound s
-    → IsBook s name (record { account = account; from = year; ledger = ledger })
+    → IsBook s name
+    (record { account = account; from = year; ledger = ledger; greatest = None })
 book_known name account year days ledger t of_year starts ends knows knows_ledger s stands sound =
     let known = holidays_of ledger.years.holidays in
     record {
@@ -164,32 +168,29 @@ book_known name account year days ledger t of_year starts ends knows knows_ledge
       owed = owed_read name ledger.since ledger.rows.items t s stands
           (subst (λ n. AreBetween name n last_day ledger.rows.items t) (sym knows_ledger.since)
           (subst (λ n. AreBetween name days.from n ledger.rows.items t) ends knows_ledger.rows));
+      numbers = tt;
     }
 
 module _ (name : List ℕ) (number : ℕ) (run : PayRun) (count : ℕ) (book : Book) where
   abbrev Asked : Request
   Asked = Post name number run.payday run.fit run.ss run.medicare
 
-  -- the checks by the book
-  abbrev pub checks_by : Option (Voidable PayRun) → Option Answer
-  checks_by kept = first_of (post_checks name number run (Some book.account) kept
-      (list_any (is_line_of (year_of run.payday)) book.ledger.years.lines.items) count)
-
   abbrev checks_on : Entries → Option Answer
   checks_on own = first_of (post_checks name number run own.account (kept_at number own.runs)
       (is_open own (year_of run.payday)) (length own.runs))
 
-  -- are those of what the state keeps
+  -- the checks by the book are those of what the state keeps
   checks_are : (kept : Option (Voidable PayRun)) (t : Tables) (s : State) → StandsFor t s
-      → IsBook s name book → CountsRuns name count t → FindsRun name number kept t
-      → checks_on (entries_of s name) ≡ checks_by kept
+      → IsBook s name book → CountsRuns name count t
+      → kept_at number (entries_of s name).runs ≡ kept
+      → checks_on (entries_of s name) ≡ checks_by name number run count book kept
   checks_are kept t s stands right counted found =
       let own = entries_of s name in
       let year = year_of run.payday in
       ap (λ a. first_of (post_checks name number run a (kept_at number own.runs) (is_open own year)
       (length own.runs))) right.account
       ∙ ap (λ k. first_of (post_checks name number run (Some book.account) k (is_open own year)
-      (length own.runs))) (kept_run name t s stands number kept found)
+      (length own.runs))) found
       ∙ ap (λ y. first_of (post_checks name number run (Some book.account) kept y
       (length own.runs))) (open_lines year book.ledger.years.lines.items own.open_years
       right.lines.years)
@@ -199,11 +200,11 @@ module _ (name : List ℕ) (number : ℕ) (run : PayRun) (count : ℕ) (book : B
 
   -- a check decides
   pub decided_by : (kept : Option (Voidable PayRun)) (answer : Answer)
-      → checks_by kept ≡ Some answer → (t : Tables) (s : State) → StandsFor t s → IsBook s name book
-      → CountsRuns name count t → FindsRun name number kept t
+      → checks_by name number run count book kept ≡ Some answer → (t : Tables) (s : State)
+      → StandsFor t s → IsBook s name book → CountsRuns name count t → FindsRun name number kept t
       → Step s Asked answer s
   decided_by kept answer is t s stands right counted found = decided _ s answer _
-      (checks_are kept t s stands right counted found ∙ is)
+      (checks_are kept t s stands right counted (kept_run name t s stands number kept found) ∙ is)
 
   -- ---- all checks pass
 
@@ -216,7 +217,9 @@ module _ (name : List ℕ) (number : ℕ) (run : PayRun) (count : ℕ) (book : B
       (holidays_stay : holidays_of later.ledger.years.holidays
       ≡ holidays_of book.ledger.years.holidays)
       (account_stays : later.account ≡ book.account) (year_stays : later.from ≡ book.from)
-      (since_stays : later.ledger.since ≡ book.ledger.since) where
+      (since_stays : later.ledger.since ≡ book.ledger.since)
+      (reached : IfSome later.greatest (IsReached (greatest_known book count) number))
+      (counted : CountsRuns name count t) where
     abbrev own : Entries
     own = entries_of s name
 
@@ -362,12 +365,17 @@ module _ (name : List ℕ) (number : ℕ) (run : PayRun) (count : ℕ) (book : B
       since = since_stays ∙ (right.since ∙ sym (ap year_start year_stays));
       owed = subst (λ n. AreOwedSince n (holidays s) (entries_of next name) later.ledger.rows.items)
           (sym since_stays) owed_now;
+      numbers = greatest_then own (entries_of next name) name number (taken run)
+          (greatest_known book count) later.greatest (entry_own s.runs name number (taken run))
+          (greatest_right book count own (counted_runs name t s stands count counted) right.numbers)
+          reached;
     }
 
-    pub done_by : (kept : Option (Voidable PayRun)) → checks_by kept ≡ None
-        → CountsRuns name count t → FindsRun name number kept t → (after : State) × Step s Asked
+    pub done_by : (kept : Option (Voidable PayRun))
+        → checks_by name number run count book kept ≡ None → kept_at number own.runs ≡ kept
+        → (after : State) × Step s Asked
         (told difference) after × StandsFor u after × IsBook after name later
-    done_by kept is counted found = (
+    done_by kept is found = (
       next,
       passed _ s (told difference) next _ (checks_are kept t s stands right counted found ∙ is) (
         refl,
@@ -411,40 +419,69 @@ module _ {S : Type 0} (g : store.Ghosts S) (name : List ℕ) (number : ℕ) (run
   }
 
   -- the run is added, and the account's rows are repaired
-  pub added_by : (old mid new : Tx S) (later : Book) (difference : Difference) (reply : Reply)
-      → checks_by name number run count book kept ≡ None → book.from ≤ year_of run.payday
-      → reply ≡ Posted difference.from difference.to difference.removed difference.added
-      → AddsRun run book.ledger.sums.items later.ledger.sums.items
-      → holidays_of later.ledger.years.holidays ≡ holidays_of book.ledger.years.holidays
-      → later.account ≡ book.account → later.from ≡ book.from
-      → later.ledger.since ≡ book.ledger.since
-      → Reads g old mid (Ok kept) (FindsRun name number)
-      → Turns g mid new (Ok difference) (λ d t u. IsLedger name book.ledger t
-      → IsRepostedBy name book.account.form run.payday book.ledger later.ledger d
-      (with_run name number run t) u)
-      → Calls g old new (Ok (Ok reply)) (PostsWhere name number run count book later)
-  added_by old mid new later difference reply is since tells sums holidays_stay account_stays
-      year_stays since_stays r w = record {
-        frame = then_goes g old mid new kept difference (Ok reply) r.frame w.frame;
-        does = λ clean t stands counted s stands_for sound right.
-            let read = r.does (omega (arith, w.frame.crash.clean)) t stands in
-            let made = w.does clean t (subst (λ db. Stands db t) (sym read.1.0.now_is) stands) in
-            let step = done_by name number run count book later difference t made.0 s stands_for
-            sound
-            right since made.1 sums holidays_stay account_stays year_stays since_stays kept is
-            counted read.0 in
-            let answered =
-            subst (λ (a : Answer). Step s (Post name number run.payday run.fit run.ss run.medicare)
-            a step.0) (ap Ok (sym tells)) step.1 in (
-              step.0,
-              answered,
-              record {
-                tables = made.0;
-                stands = made.2.0;
-                stands_for = step.2;
-                sound = step_sound s (Post name number run.payday run.fit run.ss run.medicare)
-                    (Ok reply) step.0 answered sound;
-              },
-              step.3,
-            );
-      }
+  module _ (later : Book) (difference : Difference) (reply : Reply)
+      (is : checks_by name number run count book kept ≡ None)
+      (since : book.from ≤ year_of run.payday)
+      (tells : reply ≡ Posted difference.from difference.to difference.removed difference.added)
+      (sums : AddsRun run book.ledger.sums.items later.ledger.sums.items)
+      (holidays_stay : holidays_of later.ledger.years.holidays
+      ≡ holidays_of book.ledger.years.holidays)
+      (account_stays : later.account ≡ book.account) (year_stays : later.from ≡ book.from)
+      (since_stays : later.ledger.since ≡ book.ledger.since)
+      (reached : IfSome later.greatest (IsReached (greatest_known book count) number)) where
+    -- what the ledger's call makes of the rows
+    abbrev Reposts : Difference → Tables → Tables → Type 0
+    Reposts d t u = IsLedger name book.ledger t
+        → IsRepostedBy name book.account.form run.payday book.ledger later.ledger d
+        (with_run name number run t) u
+
+    -- the machine's step, where this is what is kept under the number
+    added : (first last : database.State) (t u : Tables) → Reposts difference t u
+        → Stands last.now u
+        → ((s : State) → StandsFor t s → IsBook s name book → CountsRuns name count t
+        → kept_at number (entries_of s name).runs ≡ kept)
+        → PostsWhere name number run count book later (Ok reply) first last t
+    added first last t u reposts made found counted s stands_for sound right =
+        let step = done_by name number run count book later difference t u s stands_for sound right
+        since reposts sums holidays_stay account_stays year_stays since_stays reached counted kept
+        is (found s stands_for right counted) in
+        let answered =
+        subst (λ (a : Answer). Step s (Post name number run.payday run.fit run.ss run.medicare)
+        a step.0) (ap Ok (sym tells)) step.1 in (
+          step.0,
+          answered,
+          record {
+            tables = u;
+            stands = made;
+            stands_for = step.2;
+            sound = step_sound s (Post name number run.payday run.fit run.ss run.medicare)
+                (Ok reply) step.0 answered sound;
+          },
+          step.3,
+        )
+
+    -- after its number was looked up
+    pub added_by : (old mid new : Tx S) → Reads g old mid (Ok kept) (FindsRun name number)
+        → Turns g mid new (Ok difference) Reposts
+        → Calls g old new (Ok (Ok reply)) (PostsWhere name number run count book later)
+    added_by old mid new r w = record {
+      frame = then_goes g old mid new kept difference (Ok reply) r.frame w.frame;
+      does = λ clean t stands.
+          let read = r.does (omega (arith, w.frame.crash.clean)) t stands in
+          let made = w.does clean t (subst (λ db. Stands db t) (sym read.1.0.now_is) stands) in
+          added (shown g old) (shown g new) t made.0 made.1 made.2.0
+          (λ s stands_for right counted. kept_run name t s stands_for number kept read.0);
+    }
+
+    -- or where it is greater than those of all the account's runs
+    pub added_new : (old new : Tx S) → kept ≡ None → IsAbove (greatest_known book count) number
+        → Turns g old new (Ok difference) Reposts
+        → Calls g old new (Ok (Ok reply)) (PostsWhere name number run count book later)
+    added_new old new free above w = record {
+      frame = goes_on g old new difference (Ok reply) w.frame;
+      does = λ clean t stands.
+          let made = w.does clean t stands in
+          added (shown g old) (shown g new) t made.0 made.1 made.2.0
+          (λ s stands_for right counted. above_free book count (entries_of s name) number
+          (counted_runs name t s stands_for count counted) right.numbers above ∙ sym free);
+    }

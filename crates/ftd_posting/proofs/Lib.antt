@@ -3,6 +3,7 @@ pub mod Patching
 pub mod Differing
 pub mod RowsPlaced
 pub mod LiveRuns
+pub mod Numbers
 pub mod HolidaysRead
 pub mod RightByAll
 pub mod OwedSince

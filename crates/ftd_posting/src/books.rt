@@ -1,14 +1,15 @@
 //! Several runs of an account are posted, one after the other, and what is known of it is read
 //! once.
 
-ghost use Rattle.std.specs.Prelude.{◌≡◌, ◌≤◌, IfOk, IfSome, MatchOption, OnOk};
+ghost use Rattle.std.specs.Prelude.{◌≡◌, ◌≤◌, IsTrue, None, IfOk, IfSome, MatchOption, OnOk};
 ghost use Rattle.ftd_days.specs.Calendar.{year_of, year_start, last_day};
 ghost use Rattle.ftd_machine.specs.State.{State};
 ghost use Rattle.ftd_machine.specs.Sound.{IsSound};
 ghost use Rattle.ftd_store.specs.Finds.{CountsRuns};
 ghost use Rattle.ftd_store.specs.Frame.{Calls, Reads};
 ghost use Rattle.ftd_entries.specs.Standing.{StandsFor};
-ghost use Rattle.ftd_posting.specs.Books.{HasNoYear, IsBook, PostsBy, first_year};
+ghost use Rattle.ftd_posting.specs.Books.{HasNoYear, IsBook, PostsBy, IsAbove, IsReached};
+ghost use Rattle.ftd_posting.specs.Books.{checks_by, first_year, greatest_known};
 
 use crate::posting::told;
 use ftd_buckets::Window;
@@ -16,7 +17,7 @@ use ftd_days::Day;
 use ftd_entries::{has_year, is_open, known};
 use ftd_machine::{Account, Answer, post_check};
 use ftd_repairs::Ledger;
-use ftd_rules::PayRun;
+use ftd_rules::{PayRun, Voidable};
 use ftd_store::{StoreFault, Tx};
 use sqlite::Alter;
 use std::alloc::Global;
@@ -38,12 +39,22 @@ fn days_from(year: u32) -> Option<Window>
     Some(Window { from, to })
 }
 
+/// The greater of a number that is known and this one. None where none is known.
+fn reached(greatest: Option<u32>, number: u32) -> Option<u32>
+    ensures { IfSome result (IsReached greatest number) }
+{
+    let greatest = greatest?;
+    Some(greatest.max(number))
+}
+
 /// What is known of an account while several of its runs are posted.
 #[derive(Drop)]
 pub struct Book {
     account: Account,
     from: u32,
     ledger: Ledger,
+    // none of its runs has a greater number; None where no such number is known
+    greatest: Option<u32>,
 }
 
 impl Book {
@@ -75,6 +86,7 @@ impl Book {
             account,
             from: year,
             ledger,
+            greatest: None,
         }))
     }
 
@@ -103,15 +115,54 @@ impl Book {
             → PostsBy name.now number run self.old self.new answer before after t) }
         ensures year { OnOk result (first_year self.new ≡ first_year self.old) }
     {
-        let kept = tx.run(name, number)?;
-        let is_open = has_year(&self.ledger.years.lines, run.payday.year());
-        let account = Some(self.account);
-        let checked = post_check(name, number, &run, account, kept, is_open, count);
-        if let Some(answer) = checked {
-            return Ok(answer);
+        let greatest = self.greatest_of(count);
+        if !self.is_new(name, number, &run, count) {
+            let kept = tx.run(name, number)?;
+            if let Some(answer) = self.check(name, number, &run, kept, count) {
+                return Ok(answer);
+            }
         }
         let form = self.account.form;
         let difference = self.ledger.add(tx, alloc, name, form, number, run)?;
+        self.greatest = reached(greatest, number);
         Ok(Ok(told(difference)))
+    }
+
+    // what refuses the run or answers it as known, by the book and what is known of its number
+    fn check(
+        &self,
+        name: &str,
+        number: u32,
+        run: &PayRun,
+        kept: Option<Voidable<PayRun>>,
+        count: u32,
+    ) -> Option<Answer>
+        ensures { result ≡ checks_by name.now number run.now count self.now kept }
+    {
+        let is_open = has_year(&self.ledger.years.lines, run.payday.year());
+        post_check(name, number, run, Some(self.account), kept, is_open, count)
+    }
+
+    // a number such that none of the account's runs has a greater one, if one is known: where it
+    // has no runs, every number is one
+    fn greatest_of(&self, count: u32) -> Option<u32>
+        ensures { result ≡ greatest_known self.now count }
+    {
+        if count == 0 { Some(0) } else { self.greatest }
+    }
+
+    // whether it is known without a look at the tables that the account has no run of the number,
+    // and nothing else refuses the run
+    fn is_new(&self, name: &str, number: u32, run: &PayRun, count: u32) -> bool
+        ensures above { IsTrue result → IsAbove (greatest_known self.now count) number }
+        ensures passes { IsTrue result
+            → checks_by name.now number run.now count self.now None ≡ None }
+    {
+        match self.greatest_of(count) {
+            Some(greatest) if number > greatest => {
+                self.check(name, number, run, None, count).is_none()
+            }
+            _ => false,
+        }
     }
 }

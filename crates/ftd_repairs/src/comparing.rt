@@ -1,6 +1,6 @@
 //! How an account's obligations differ before and after a change of its runs.
 
-ghost use Rattle.std.specs.Prelude.{◌≡◌, ◌≤◌, ◌⊎◌, ◌↔◌, [], length, IsTrue, IfOk};
+ghost use Rattle.std.specs.Prelude.{◌≡◌, ◌⊎◌, ◌↔◌, [], length, IsTrue, IfOk};
 ghost use Rattle.ftd_rules.specs.Lists.{Has};
 ghost use Rattle.ftd_rules.specs.Obligations.{ByFirstDay};
 ghost use Rattle.ftd_machine.specs.Posting.{AreOnlyIn, Spans, Differ};
@@ -15,12 +15,7 @@ use std::alloc::{AllocError, Global};
 fn is_among(row: &Obligation, rows: &[Obligation]) -> bool
     ensures { IsTrue result ↔ Has rows.now row.now }
 {
-    for other in rows {
-        if other == row {
-            return true;
-        }
-    }
-    false
+    rows.contains(row)
 }
 
 /// The rows that are not among the others.
@@ -41,22 +36,6 @@ fn only_in(
     Ok(only)
 }
 
-/// The earlier of two days.
-fn earlier(one: Day, other: Day) -> Day
-    ensures not_after { (result ≤ one) × (result ≤ other) }
-    ensures is_one { (result ≡ one) ⊎ (result ≡ other) }
-{
-    if other < one { other } else { one }
-}
-
-/// The later of two days.
-fn later(one: Day, other: Day) -> Day
-    ensures not_before { (one ≤ result) × (other ≤ result) }
-    ensures is_one { (result ≡ one) ⊎ (result ≡ other) }
-{
-    if one < other { other } else { one }
-}
-
 /// The least first day and the greatest last day of the rows; the day twice where there is none.
 fn reach(day: Day, rows: &[Obligation]) -> (Day, Day)
     ensures { Spans rows.now result.0 result.1
@@ -68,8 +47,8 @@ fn reach(day: Day, rows: &[Obligation]) -> (Day, Day)
     let mut from = first.first;
     let mut to = first.last;
     for row in rows {
-        from = earlier(from, row.first);
-        to = later(to, row.last);
+        from = from.min(row.first);
+        to = to.max(row.last);
     }
     (from, to)
 }

@@ -103,26 +103,31 @@ const BAD: [(&str, &str); 10] = [
     ("ftd plain elm 2099 x", "YEAR"),
 ];
 
+/// The name of the argument that is bad, if one is.
+fn bad_argument(answer: &Decided) -> Option<&'static str> {
+    match answer {
+        Err(CliFault::BadArgument(word)) => Some(word.text()),
+        _ => None,
+    }
+}
+
 #[test]
 fn bad_arguments(rt: HostRuntime) -> Result<(), Fail> {
     for (line, name) in BAD {
         let answer = decided(rt.alloc(), line)?;
-        let Err(CliFault::BadArgument(word)) = &answer else {
-            return Err("no bad argument")?;
-        };
-        assert_eq!(rt; word.text(), name, "{line}");
+        assert_eq!(rt; bad_argument(&answer), Some(name), "{line}");
     }
     Ok(())
 }
 
-/// The request that is asked of the desk.
-fn request_of(answer: &Decided) -> Result<&Request, Fail> {
+/// The request that is asked of the desk, if one is.
+fn request_of(answer: &Decided) -> Option<&Request> {
     match answer {
         Ok(Task::Local(local)) => match &local.job {
-            Job::Ask(request) => Ok(request),
-            Job::Import(_) => Err("an import")?,
+            Job::Ask(request) => Some(request),
+            Job::Import(_) => None,
         },
-        _ => Err("no task")?,
+        _ => None,
     }
 }
 
@@ -130,128 +135,149 @@ fn day(text: &str) -> Result<Day, Fail> {
     Ok(Day::read(text.as_bytes()).ok_or("a day")?)
 }
 
-#[test]
-fn an_account_is_enrolled(rt: HostRuntime) -> Result<(), Fail> {
-    for (line, is_carried, its_form) in [
-        ("ftd enrol --db f elm 2024-05-01", false, Form::F941),
-        (
-            "ftd enrol --carried --form 943 --db f elm 2024-05-01",
-            true,
-            Form::F943,
-        ),
-    ] {
-        let answer = decided(rt.alloc(), line)?;
-        let Request::Enrol {
+/// An account that is enrolled: its name, its first day, whether it is carried over, and its form.
+fn enrolled(answer: &Decided) -> Option<(&str, Day, bool, Form)> {
+    match request_of(answer)? {
+        Request::Enrol {
             account,
             start,
             carried,
             form,
-        } = request_of(&answer)?
-        else {
-            return Err("not enrolled")?;
-        };
-        assert_eq!(rt; account.as_str(), "elm");
-        assert_eq!(rt; *start, day("2024-05-01")?);
-        assert_eq!(rt; *carried, is_carried);
-        assert_eq!(rt; *form, its_form);
+        } => Some((account.as_str(), *start, *carried, *form)),
+        _ => None,
     }
+}
+
+#[test]
+fn an_account_is_enrolled(rt: HostRuntime) -> Result<(), Fail> {
+    let start = day("2024-05-01")?;
+    let answer = decided(rt.alloc(), "ftd enrol --db f elm 2024-05-01")?;
+    assert_eq!(rt; enrolled(&answer), Some(("elm", start, false, Form::F941)));
+    let line = "ftd enrol --carried --form 943 --db f elm 2024-05-01";
+    let answer = decided(rt.alloc(), line)?;
+    assert_eq!(rt; enrolled(&answer), Some(("elm", start, true, Form::F943)));
     Ok(())
+}
+
+/// A run that is posted: its account, its number, its payday and its amounts.
+fn posted(answer: &Decided) -> Option<(&str, u32, Day, [Cents; 3])> {
+    match request_of(answer)? {
+        Request::Post {
+            account,
+            run,
+            payday,
+            fit,
+            ss,
+            medicare,
+        } => Some((account.as_str(), *run, *payday, [*fit, *ss, *medicare])),
+        _ => None,
+    }
 }
 
 #[test]
 fn a_run_is_posted(rt: HostRuntime) -> Result<(), Fail> {
-    let line = "ftd post --db f elm 7 2024-05-08 1 2.5 3.07";
-    let answer = decided(rt.alloc(), line)?;
-    let Request::Post {
-        account,
-        run,
-        payday,
-        fit,
-        ss,
-        medicare,
-    } = request_of(&answer)?
-    else {
-        return Err("not posted")?;
-    };
-    assert_eq!(rt; account.as_str(), "elm");
-    assert_eq!(rt; *run, 7);
-    assert_eq!(rt; *payday, day("2024-05-08")?);
-    assert_eq!(rt; *fit, Cents(100));
-    assert_eq!(rt; *ss, Cents(250));
-    assert_eq!(rt; *medicare, Cents(307));
+    let payday = day("2024-05-08")?;
+    let amounts = [Cents(100), Cents(250), Cents(307)];
+    let answer = decided(rt.alloc(), "ftd post --db f elm 7 2024-05-08 1 2.5 3.07")?;
+    assert_eq!(rt; posted(&answer), Some(("elm", 7, payday, amounts)));
     Ok(())
+}
+
+/// A payment that is recorded: its account, its number, its two days and its amount.
+fn paid(answer: &Decided) -> Option<(&str, u32, [Day; 2], Cents)> {
+    match request_of(answer)? {
+        Request::Pay {
+            account,
+            payment,
+            paid,
+            for_day,
+            cents,
+        } => Some((account.as_str(), *payment, [*paid, *for_day], *cents)),
+        _ => None,
+    }
 }
 
 #[test]
 fn a_deposit_is_recorded(rt: HostRuntime) -> Result<(), Fail> {
+    let days = [day("2024-06-17")?, day("2024-05-08")?];
     let line = "ftd pay --db f elm 3 2024-06-17 2024-05-08 40000.00";
     let answer = decided(rt.alloc(), line)?;
-    let Request::Pay {
-        account: _,
-        payment,
-        paid,
-        for_day,
-        cents,
-    } = request_of(&answer)?
-    else {
-        return Err("not paid")?;
-    };
-    assert_eq!(rt; *payment, 3);
-    assert_eq!(rt; *paid, day("2024-06-17")?);
-    assert_eq!(rt; *for_day, day("2024-05-08")?);
-    assert_eq!(rt; *cents, Cents(4_000_000));
+    assert_eq!(rt; paid(&answer), Some(("elm", 3, days, Cents(4_000_000))));
     Ok(())
+}
+
+/// A due list that is asked: its account, its quarter and its day.
+fn due_asked(answer: &Decided) -> Option<(&str, Quarter, Day)> {
+    match request_of(answer)? {
+        Request::DueList {
+            account,
+            quarter,
+            as_of,
+        } => Some((account.as_str(), *quarter, *as_of)),
+        _ => None,
+    }
 }
 
 #[test]
 fn a_due_list_is_asked(rt: HostRuntime) -> Result<(), Fail> {
+    let quarter = Quarter::read(b"2024Q2").ok_or("a quarter")?;
+    let as_of = day("2024-06-30")?;
     let answer = decided(rt.alloc(), "ftd due --db f elm 2024Q2 2024-06-30")?;
-    let Request::DueList {
-        account: _,
-        quarter,
-        as_of,
-    } = request_of(&answer)?
-    else {
-        return Err("no due list")?;
-    };
-    assert_eq!(rt; Some(*quarter), Quarter::read(b"2024Q2"));
-    assert_eq!(rt; *as_of, day("2024-06-30")?);
+    assert_eq!(rt; due_asked(&answer), Some(("elm", quarter, as_of)));
     Ok(())
+}
+
+/// A server that is asked: its file, its port, its connections, its silence and its duration.
+fn server(answer: &Decided) -> Option<(&str, [u32; 4])> {
+    match answer {
+        Ok(Task::Serve(asked)) => Some((
+            asked.db.as_str(),
+            [
+                u32::from(asked.port),
+                asked.connections,
+                asked.silence,
+                asked.duration,
+            ],
+        )),
+        _ => None,
+    }
 }
 
 #[test]
 fn a_server_is_asked(rt: HostRuntime) -> Result<(), Fail> {
-    for (line, its_silence, its_duration) in [
-        ("ftd serve --db f --port 8080 --connections 9", 10, 60),
+    for (line, numbers) in [
+        (
+            "ftd serve --db f --port 8080 --connections 9",
+            [8080, 9, 10, 60],
+        ),
         (
             "ftd serve --db f --port 8080 --connections 9 --duration 90 --silence 30",
-            30,
-            90,
+            [8080, 9, 30, 90],
         ),
     ] {
         let answer = decided(rt.alloc(), line)?;
-        let Ok(Task::Serve(asked)) = &answer else {
-            return Err("no server")?;
-        };
-        assert_eq!(rt; asked.db.as_str(), "f");
-        assert_eq!(rt; asked.port, 8080);
-        assert_eq!(rt; asked.connections, 9);
-        assert_eq!(rt; asked.silence, its_silence);
-        assert_eq!(rt; asked.duration, its_duration);
+        assert_eq!(rt; server(&answer), Some(("f", numbers)), "{line}");
     }
     Ok(())
 }
 
+/// What `plain` is asked: the account, the year and the holidays.
+fn plain(answer: &Decided) -> Option<(&str, u32, &[Day])> {
+    match answer {
+        Ok(Task::Plain(asked)) => Some((
+            asked.account.as_str(),
+            asked.year,
+            asked.holidays.as_slice(),
+        )),
+        _ => None,
+    }
+}
+
 #[test]
 fn plain_has_its_holidays(rt: HostRuntime) -> Result<(), Fail> {
-    let answer = decided(rt.alloc(), "ftd plain elm 2024 2024-05-27 2025-01-01")?;
-    let Ok(Task::Plain(asked)) = &answer else {
-        return Err("not plain")?;
-    };
-    assert_eq!(rt; asked.account.as_str(), "elm");
-    assert_eq!(rt; asked.year, 2024);
     let holidays = [day("2024-05-27")?, day("2025-01-01")?];
-    assert_eq!(rt; asked.holidays.as_slice(), holidays.as_slice());
+    let answer = decided(rt.alloc(), "ftd plain elm 2024 2024-05-27 2025-01-01")?;
+    assert_eq!(rt; plain(&answer), Some(("elm", 2024, holidays.as_slice())));
     Ok(())
 }
 

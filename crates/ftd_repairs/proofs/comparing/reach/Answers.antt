@@ -1,9 +1,18 @@
-use Rattle.std.proofs.Common.{◌≡◌, ◌<◌, ℕ, List, length, take, inl, inr, ap, sym, ◌∙◌, arith, subst}
+use Rattle.std.proofs.Common.{◌≡◌, ◌⊎◌, ◌<◌, ℕ, List, length, take, inl, inr, ap, sym, ◌∙◌, arith}
+use Rattle.std.proofs.Common.{subst, min, max}
+use Rattle.std.proofs.lemmas.Grind.{common_steps}
 use Rattle.ftd_rules.specs.declared.Obligation.{Obligation}
 use Rattle.ftd_rules.specs.Lists.{Has}
 use Rattle.ftd_store.proofs.Replaced.{all_taken}
 use Rattle.ftd_store.proofs.Items.{has_at, has_more}
 use Rattle.ftd_repairs.proofs.comparing.reach.Goals as goal
+
+-- the lesser and the greater of two are one of them
+is_min : (a b m : ℕ) → m ≡ min a b → (m ≡ a) ⊎ (m ≡ b)
+is_min a b m is = grind (arith, common_steps, is)
+
+is_max : (a b m : ℕ) → m ≡ max a b → (m ≡ a) ⊎ (m ≡ b)
+is_max a b m is = grind (arith, common_steps, is)
 
 pub loop-row-preserved : goal.loop-row-preserved
 loop-row-preserved c =
@@ -13,11 +22,18 @@ loop-row-preserved c =
     let some : i < length rows = c.loop-row-test.true in
     let has : Has rows x = has_at rows i x some c.row-item.is in
     let so_far = c.loop-row.invariant in
-    let low0 = c.earlier-from.ensures.not_after.0 in
-    let low1 = c.earlier-from.ensures.not_after.1 in
-    let high0 = c.later-to.ensures.not_before.0 in let high1 = c.later-to.ensures.not_before.1 in
+    let first : c.min-from.result ≡ min c.loop-row.from x.first = grind (
+      arith,
+      common_steps,
+      c.min-from.ensures,
+    ) in
+    let last : c.max-to.result ≡ max c.loop-row.to x.last = grind (
+      arith,
+      common_steps,
+      c.max-to.ensures,
+    ) in
     record {
-      first = elim c.earlier-from.ensures.is_one [
+      first = elim (is_min c.loop-row.from x.first c.min-from.result first) [
         | inl old ↦ (
           so_far.first.0,
           so_far.first.1,
@@ -26,7 +42,7 @@ loop-row-preserved c =
         )
         | inr new ↦ (x, has, new)
       ];
-      last = elim c.later-to.ensures.is_one [
+      last = elim (is_max c.loop-row.to x.last c.max-to.result last) [
         | inl old ↦ (
           so_far.last.0,
           so_far.last.1,
@@ -39,8 +55,8 @@ loop-row-preserved c =
         | inl before ↦ (let w = so_far.within o before in let w0 = w.0 in let w1 = w.1 in
             (omega arith, omega arith))
         | inr here ↦
-            (let first : o.first ≡ x.first = ap (λ (z : Obligation). z.first) here in
-            let last : o.last ≡ x.last = ap (λ (z : Obligation). z.last) here in
+            (let own_first : o.first ≡ x.first = ap (λ (z : Obligation). z.first) here in
+            let own_last : o.last ≡ x.last = ap (λ (z : Obligation). z.last) here in
             (omega arith, omega arith))
       ];
     }
