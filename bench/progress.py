@@ -1,5 +1,5 @@
 #!/usr/bin/env python3
-"""Imports 20,000 pay runs by the program `ftd`, with a terminal, a file and a pipe as its standard error. On the terminal a line
+"""Imports 200,000 pay runs of ten accounts by the program `ftd`, with a terminal, a file and a pipe as its standard error. On the terminal a line
 tells how many records are done, once the import takes longer than a second and at most five times a second, and is cleared before
 anything else is printed; the file and the pipe get nothing, and standard output is the same. An import that is over sooner, and one
 that stops at its header, show nothing on the terminal but what the file gets."""
@@ -18,19 +18,26 @@ if len(sys.argv) > 1:
 FTD = os.path.abspath(FTD)
 
 
+ACCOUNTS = [f"ash{number}" for number in range(10)]
+
+
 def write_runs(path, count):
-    """A text of so many pay runs of the account `ash`."""
+    """A text of so many pay runs of each account."""
     with open(path, "w") as out:
         out.write("employer,run,payday,fit,ss,medicare\n")
-        for number in range(1, count + 1):
-            out.write(f"ash,{number},2024-{number % 12 + 1:02}-{number % 28 + 1:02},1.00,0.62,0.14\n")
+        for account in ACCOUNTS:
+            for number in range(1, count + 1):
+                out.write(f"{account},{number},2024-{number % 12 + 1:02}-{number % 28 + 1:02},1.00,0.62,0.14\n")
 
 
 def new_desk(folder, name):
-    """A file with the account `ash` enrolled and 2024 open."""
+    """A file with the accounts enrolled and 2024 open."""
     db = os.path.join(folder, name)
-    for words in ("calendar 2024", "calendar 2025", "enrol ash 2024-01-01", "open-year ash 2024"):
-        done = subprocess.run([FTD, *words.split(), "--db", db], stdout=subprocess.PIPE)
+    words = ["calendar 2024", "calendar 2025"]
+    for account in ACCOUNTS:
+        words += [f"enrol {account} 2024-01-01", f"open-year {account} 2024"]
+    for line in words:
+        done = subprocess.run([FTD, *line.split(), "--db", db], stdout=subprocess.PIPE)
         assert done.stdout == b"done\n"
     return db
 
@@ -81,10 +88,10 @@ def shown(text):
 def main():
     with tempfile.TemporaryDirectory() as folder:
         text = os.path.join(folder, "runs.csv")
-        count = 20_000
-        write_runs(text, count)
+        count = 200_000
+        write_runs(text, count // len(ACCOUNTS))
         printed, pieces = on_terminal([FTD, "import", "--db", new_desk(folder, "terminal.db"), text])
-        assert printed == b"posted 20000 already 0 refused 0 malformed 0\n", printed
+        assert printed == b"posted 200000 already 0 refused 0 malformed 0\n", printed
         counts = shown(b"".join(piece for _, piece in pieces))
         assert all(whole == count for _, whole in counts)
         assert counts == sorted(set(counts))
@@ -96,7 +103,7 @@ def main():
         assert on_file([FTD, "import", "--db", new_desk(folder, "file.db"), text], err) == (printed, b"")
         print(f"{count} runs on a terminal: first told after {first:.2f} s, {len(counts)} times in {last - first:.2f} s, "
               "and the line cleared; a file and a pipe got nothing")
-        write_runs(text, 10)
+        write_runs(text, 1)
         db = new_desk(folder, "short.db")
         assert on_terminal([FTD, "import", "--db", db, text]) == (b"posted 10 already 0 refused 0 malformed 0\n", [])
         with open(text, "w") as out:
