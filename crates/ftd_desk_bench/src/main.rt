@@ -4,25 +4,16 @@
 //! standard error the microseconds since the one before.
 #![tactic(auto)]
 
-use anyhow::{Result, bail};
+use anyhow::Result;
 use ftd_desk::Desk;
-use ftd_lines::{ask, request, told};
+use ftd_lines::{ask, desk_over, request, told};
 use ftd_machine::Request;
-use ftd_store::Store;
 use sqlite::{Alter, Connection};
 use std::alloc::Global;
 use std::env;
 use std::io::{self, Write};
 use std::rt::HostRuntime;
 use std::time::Instant;
-
-/// The desk over the tables of a database.
-fn desk<S: Alter + Drop>(alloc: Global, conn: Connection<S>) -> Result<Desk<S>> {
-    match Store::open(conn) {
-        Ok(store) => Ok(Desk::new(alloc, store)),
-        Err(refused) => bail!("{}", refused.fault),
-    }
-}
 
 /// Asks the requests together, and prints the answers.
 fn ask_together<S: Alter>(
@@ -54,7 +45,7 @@ fn answer_lines<S: Alter + Drop>(
     lines: &str,
 ) -> Result<Connection<S>> {
     let alloc = rt.alloc();
-    let mut desk = desk(alloc, conn)?;
+    let mut desk = desk_over(alloc, conn)?;
     let mut start = Instant::now(rt)?;
     let mut listed: Option<Vec<Request>> = None;
     for line in lines.split('\n') {

@@ -2,8 +2,7 @@
 
 use crate::desks::{answers, desk};
 use ftd_desk::Desk;
-use ftd_lines::ask;
-use ftd_store::Store;
+use ftd_lines::{ask, desk_over};
 use sqlite::{Connection, MemStore};
 use std::alloc::Global;
 use std::test::Fail;
@@ -20,8 +19,7 @@ const ASH: [&str; 4] = [
 fn changed(alloc: Global, desk: Desk<MemStore>, statement: &str) -> Result<Desk<MemStore>, Fail> {
     let mut conn: Connection<MemStore> = desk.into_store().close();
     conn.execute(statement, &[])?;
-    let store = Store::open(conn).map_err(|refused| refused.fault)?;
-    Ok(Desk::new(alloc, store))
+    Ok(desk_over(alloc, conn)?)
 }
 
 #[test]

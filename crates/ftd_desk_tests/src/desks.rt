@@ -1,18 +1,15 @@
 //! Desks in memory, and what they answer.
 
 use ftd_desk::Desk;
-use ftd_lines::ask;
-use ftd_store::Store;
-use sqlite::{Alter, Connection, MemStore};
+use ftd_lines::{ask, new_desk};
+use sqlite::{Alter, MemStore};
 use std::alloc::Global;
 use std::process::Abort;
 use std::test::Fail;
 
 /// A desk over tables in memory, to which each of these requests was done.
 pub(crate) fn desk(alloc: Global, lines: &[&str]) -> Result<Desk<MemStore>, Fail> {
-    let conn = Connection::open_in_memory(alloc)?;
-    let store = Store::open(conn).map_err(|refused| refused.fault)?;
-    let mut desk = Desk::new(alloc, store);
+    let mut desk = new_desk(alloc)?;
     for line in lines {
         if ask(alloc, &mut desk, line)?.as_str() != "done" {
             Err::<(), _>("a request that is done")?;

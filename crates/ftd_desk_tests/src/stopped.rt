@@ -1,15 +1,9 @@
 //! A desk over files that fail: what it answers, and what a crash leaves.
 
-ghost use Rattle.std.specs.Prelude.{IsTrue};
-ghost use Rattle.sqlite_disk.specs.Memory.{memory_is_usable};
-
 use crate::desks::answers;
 use crate::telling::tell;
 use ftd_desk::Desk;
-use ftd_lines::ask;
-use ftd_store::Store;
-use sqlite::{Connection, FileStore, Files, Options};
-use sqlite_disk::{Crash, Fuse, Memory};
+use ftd_lines::{Failing, after_a_crash, ask, failing_desk};
 use std::alloc::Global;
 use std::process::Abort;
 use std::test::Fail;
@@ -20,28 +14,6 @@ use std::test::Fail;
 struct Example<'a> {
     asked: &'a [(&'a str, &'a str)],
     told: &'a [(&'a str, &'a str)],
-}
-
-type Failing = FileStore<Fuse<Memory>>;
-
-/// The desk over new files: the log fails after so many calls, the database's file after so many.
-/// None where the files or the tables can't be opened.
-fn failing(alloc: Global, log: u64, db: u64) -> Result<Option<Desk<Failing>>, Fail> {
-    let files = Files {
-        log: Fuse::new(Memory::new(alloc), log),
-        db: Fuse::new(Memory::new(alloc), db),
-    };
-    let conn = match Connection::open_files(alloc, files, Options::new(1)) {
-        Ok(conn) => conn,
-        Err((_, left)) => {
-            drop(left);
-            return Ok(None);
-        }
-    };
-    match Store::open(conn) {
-        Ok(store) => Ok(Some(Desk::new(alloc, store))),
-        Err(_) => Ok(None),
-    }
 }
 
 /// Asks one line after the other, until one is answered with a fault; how many were not.
@@ -61,22 +33,6 @@ fn asked(
         done = done.wrapping_add(1);
     }
     Ok(done)
-}
-
-/// A desk over what a crash leaves of the files.
-fn after_a_crash(alloc: Global, desk: Desk<Failing>) -> Result<Desk<Failing>, Fail> {
-    let mut files = match desk.into_store().close().close_files() {
-        Ok(files) => files,
-        Err((_, store)) => store.close(),
-    };
-    files.log.crash();
-    files.db.crash();
-    let conn = match Connection::open_files(alloc, files, Options::new(1)) {
-        Ok(conn) => conn,
-        Err((error, _)) => return Err(error.into()),
-    };
-    let store = Store::open(conn).map_err(|refused| refused.fault)?;
-    Ok(Desk::new(alloc, store))
 }
 
 /// The requests that were answered are kept, the one that met the fault was done in whole or not,
@@ -108,7 +64,7 @@ fn stops(
     db: u64,
     lines: &Example<'_>,
 ) -> Result<bool, Fail> {
-    let Some(mut desk) = failing(alloc, log, db)? else {
+    let Some(mut desk) = failing_desk(alloc, log, db) else {
         return Ok(true);
     };
     let done = asked(rt, alloc, &mut desk, lines.asked)?;

@@ -1,7 +1,8 @@
 //! One exchange, however its bytes are cut, and inputs that end early or are too long.
 
-use crate::peers::{cut, desk, exchange, whole};
+use crate::peers::{cut, exchange, whole};
 use ftd_http::{End, Served};
+use ftd_lines::new_desk;
 use std::alloc::Global;
 use std::process::Abort;
 use std::test::Fail;
@@ -20,7 +21,7 @@ const BAD: &[u8] = b"HTTP/1.1 400 Bad Request\r\nContent-Length: 0\r\nConnection
 
 /// A new desk is served the input, in a first piece and then pieces of so many bytes.
 fn is_answered(rt: &impl Abort, alloc: Global, first: usize, piece: usize) -> Result<(), Fail> {
-    let (served, written) = exchange(alloc, &mut desk(alloc)?, cut(INPUT, first, piece));
+    let (served, written) = exchange(alloc, &mut new_desk(alloc)?, cut(INPUT, first, piece));
     let end = End::Asked;
     assert_eq!(rt; served, Ok(Served { answered: 2, end }), "{first} {piece}");
     assert_eq!(rt; written.as_slice(), OUTPUT);
@@ -39,7 +40,7 @@ fn the_answers_are_the_same_wherever_the_bytes_are_cut(rt: HostRuntime) -> Resul
 /// Serves the first bytes of the input, which end after the first message or before.
 fn ends_early(rt: &impl Abort, alloc: Global, input: &[u8]) -> Result<(), Fail> {
     let count = input.len();
-    let (served, written) = exchange(alloc, &mut desk(alloc)?, whole(input));
+    let (served, written) = exchange(alloc, &mut new_desk(alloc)?, whole(input));
     let (answered, length) = if count < 85 { (0, 0) } else { (1, 87) };
     let end = if count == 0 || count == 85 {
         End::Closed
@@ -64,7 +65,7 @@ type Row<'a> = (&'a [u8], &'a [u8], u32, End);
 
 fn answers(rt: &impl Abort, alloc: Global, row: Row<'_>) -> Result<(), Fail> {
     let (input, text, answered, end) = row;
-    let (served, written) = exchange(alloc, &mut desk(alloc)?, whole(input));
+    let (served, written) = exchange(alloc, &mut new_desk(alloc)?, whole(input));
     assert_eq!(rt; served, Ok(Served { answered, end }));
     assert_eq!(rt; written.as_slice(), text);
     Ok(())
@@ -124,7 +125,7 @@ fn a_connection_has_a_hundred_messages(rt: HostRuntime) -> Result<(), Fail> {
         input.extend_from_slice(b"GET /none HTTP/1.1\r\n\r\n")?;
     }
     let sender = cut(input.as_slice(), 4000, 4000);
-    let (served, written) = exchange(rt.alloc(), &mut desk(rt.alloc())?, sender);
+    let (served, written) = exchange(rt.alloc(), &mut new_desk(rt.alloc())?, sender);
     let end = End::Limit;
     assert_eq!(rt; served, Ok(Served { answered: 100, end }));
     // Each answer has 45 bytes, and the last has `Connection: close` besides.

@@ -1,9 +1,9 @@
 //! Reads and writes that fail.
 
 use crate::exchanges::{INPUT, OUTPUT};
-use crate::peers::{Sender, desk, exchange, whole};
+use crate::peers::{Sender, exchange, whole};
 use ftd_http::{Cause, ServeFault, serve};
-use ftd_lines::{Taker, ask};
+use ftd_lines::{Taker, ask, new_desk};
 use ftd_ports::Port;
 use std::alloc::Global;
 use std::process::Abort;
@@ -17,7 +17,7 @@ fn a_read_fails(rt: &impl Abort, alloc: Global, fails_after: usize) -> Result<()
         piece: 7,
         fails_after,
     };
-    let (served, written) = exchange(alloc, &mut desk(alloc)?, sender);
+    let (served, written) = exchange(alloc, &mut new_desk(alloc)?, sender);
     let (answered, length) = if fails_after < 85 { (0, 0) } else { (1, 87) };
     let cause = Cause::Read;
     assert_eq!(rt;
@@ -40,7 +40,7 @@ fn each_read_fails_in_turn(rt: HostRuntime) -> Result<(), Fail> {
 /// The writer fails after these bytes of the answers, and the account is there.
 fn a_write_fails(rt: &impl Abort, alloc: Global, text: &[u8]) -> Result<(), Fail> {
     let room = text.len();
-    let mut desk = desk(alloc)?;
+    let mut desk = new_desk(alloc)?;
     let mut source = Port::new(whole(INPUT));
     let mut target = Port::new(Taker {
         taken: Vec::new(alloc),

@@ -1,20 +1,11 @@
-//! Desks in memory, and peers that send and take their bytes in pieces, or fail.
+//! Peers that send and take their bytes in pieces, or fail.
 
 use ftd_desk::Desk;
 use ftd_http::{ServeFault, Served, serve};
 use ftd_ports::Port;
-use ftd_store::Store;
-use sqlite::{Connection, MemStore};
+use sqlite::MemStore;
 use std::alloc::Global;
 use std::io::{Error, ErrorKind, Read};
-use std::test::Fail;
-
-/// A new desk in memory.
-pub(crate) fn desk(alloc: Global) -> Result<Desk<MemStore>, Fail> {
-    let conn = Connection::open_in_memory(alloc)?;
-    let store = Store::open(conn).map_err(|refused| refused.fault)?;
-    Ok(Desk::new(alloc, store))
-}
 
 /// A reader that gives so many bytes at its first call, and then the others in pieces. At its first
 /// call after so many bytes it fails.

@@ -1,8 +1,9 @@
 //! Each request by its route, and the bytes of its answer.
 
-use crate::peers::{desk, exchange, whole};
+use crate::peers::{exchange, whole};
 use ftd_desk::Desk;
 use ftd_http::{End, Served};
+use ftd_lines::new_desk;
 use sqlite::MemStore;
 use std::alloc::Global;
 use std::process::Abort;
@@ -107,7 +108,7 @@ const SCHEDULE: &str = "SCHEDULE B ash 2024Q1
 #[test]
 fn reports_are_texts(rt: HostRuntime) -> Result<(), Fail> {
     let alloc = rt.alloc();
-    let mut desk = desk(alloc)?;
+    let mut desk = new_desk(alloc)?;
     are_okay(&rt, alloc, &mut desk, &ASH)?;
     let due = "GET /accounts/ash/due/2024Q1/2024-02-20";
     is_answered(
@@ -167,7 +168,7 @@ const REFUSED: [(&str, &str, &str); 3] = [
 #[test]
 fn requests_have_their_replies_and_refusals(rt: HostRuntime) -> Result<(), Fail> {
     let alloc = rt.alloc();
-    let mut desk = desk(alloc)?;
+    let mut desk = new_desk(alloc)?;
     are_okay(&rt, alloc, &mut desk, &ASH)?;
     are_okay(&rt, alloc, &mut desk, &LATER)?;
     are_refused(&rt, alloc, &mut desk, &REFUSED)
@@ -200,7 +201,7 @@ const OPENED: [(&str, &str, &str); 3] = [
 #[test]
 fn a_form_943_account_rests_on_a_reported_year(rt: HostRuntime) -> Result<(), Fail> {
     let alloc = rt.alloc();
-    let mut desk = desk(alloc)?;
+    let mut desk = new_desk(alloc)?;
     are_okay(&rt, alloc, &mut desk, &RYE)?;
     let missing = "{\"detail\":\"2022\",\"name\":\"YearMissing\",\"refused\":25}";
     let open = ("POST /accounts/rye/years", "{\"year\":2024}", missing);
@@ -231,7 +232,7 @@ const BAD_FORMS: [(&str, &str); 9] = [
 #[test]
 fn other_forms_are_bad_requests(rt: HostRuntime) -> Result<(), Fail> {
     let alloc = rt.alloc();
-    let mut desk = desk(alloc)?;
+    let mut desk = new_desk(alloc)?;
     for (head, body) in BAD_FORMS {
         let input = format!(in alloc;
             "{head} HTTP/1.1\r\nContent-Length: {}\r\n\r\n{body}",

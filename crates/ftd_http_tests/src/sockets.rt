@@ -1,8 +1,7 @@
 //! Connections over real sockets.
 
 use crate::exchanges::{INPUT, OUTPUT};
-use crate::peers::desk;
-use ftd_lines::Taker;
+use ftd_lines::{Taker, new_desk};
 use ftd_ports::Port;
 use ftd_serving::{Limits, serve_on};
 use std::io::{Read, Write};
@@ -34,7 +33,7 @@ fn a_peer_is_answered_over_a_socket(rt: HostRuntime) -> Result<(), Fail> {
     stream.write_all(INPUT)?;
     stream.shutdown(Shutdown::Write)?;
     let (mut out, mut err) = (Port::new(Vec::new(alloc)), Port::new(Vec::new(alloc)));
-    let mut desk = desk(alloc)?;
+    let mut desk = new_desk(alloc)?;
     let status = serve_on(&rt, &listener, limits(1), &mut desk, &mut out, &mut err);
     assert_eq!(rt; status, 0);
     let mut answers = Vec::new(alloc);
@@ -55,7 +54,7 @@ fn a_silent_peer_fails_and_the_next_is_answered(rt: HostRuntime) -> Result<(), F
     let mut stream = TcpStream::connect(&rt, address)?;
     stream.write_all(INPUT)?;
     let (mut out, mut err) = (Port::new(Vec::new(alloc)), Port::new(Vec::new(alloc)));
-    let mut desk = desk(alloc)?;
+    let mut desk = new_desk(alloc)?;
     let status = serve_on(&rt, &listener, limits(2), &mut desk, &mut out, &mut err);
     assert_eq!(rt; status, 0);
     let mut answers = Vec::new(alloc);
@@ -82,7 +81,7 @@ fn no_connection_is_taken_where_the_port_can_not_be_told(rt: HostRuntime) -> Res
         room: 5,
     });
     let mut err = Port::new(Vec::new(alloc));
-    let mut desk = desk(alloc)?;
+    let mut desk = new_desk(alloc)?;
     let status = serve_on(&rt, &listener, limits(1), &mut desk, &mut out, &mut err);
     assert_eq!(rt; status, 3);
     let Taker { taken, room: _ } = out.into_inner();

@@ -2,9 +2,8 @@
 
 use ftd_desk::Desk;
 use ftd_import::{Finding, Quiet, Stopped, Summary, import};
-use ftd_lines::ask;
-use ftd_store::Store;
-use sqlite::{Alter, Connection, MemStore};
+use ftd_lines::{ask, new_desk};
+use sqlite::{Alter, MemStore};
 use std::alloc::Global;
 use std::test::Fail;
 
@@ -20,9 +19,7 @@ const ASH: [&str; 4] = [
 
 /// A desk in memory with the account ash, whose year 2024 is open.
 pub(crate) fn desk(alloc: Global) -> Result<Desk<MemStore>, Fail> {
-    let conn = Connection::open_in_memory(alloc)?;
-    let store = Store::open(conn).map_err(|refused| refused.fault)?;
-    let mut desk = Desk::new(alloc, store);
+    let mut desk = new_desk(alloc)?;
     assert_done(has_ash(alloc, &mut desk)?)?;
     Ok(desk)
 }

@@ -15,16 +15,12 @@ struct Line {
     blanks: String,
 }
 
-/// The record of this place, 1 to 4,200. Of each hundred the 25th is the one before it again, the
-/// 50th is of a year that is not open, and the 75th has no day.
+/// The record of this place, 1 to 16,500; a list is 16,384. Each run comes four times. Of each
+/// hundred records the 49th is of a year that is not open, and the 75th has no day.
 fn line_at(alloc: Global, place: u32) -> Result<Line, Fail> {
-    let run = if place % 100 == 25 {
-        place.wrapping_sub(1)
-    } else {
-        place
-    };
+    let run = place.div_ceil(4);
     let payday = match place % 100 {
-        50 => format!(in alloc; "2025-01-03")?,
+        49 => format!(in alloc; "2025-01-03")?,
         75 => format!(in alloc; "2024-02-30")?,
         _ => format!(in alloc; "2024-{:02}-{:02}", run % 12 + 1, run % 28 + 1)?,
     };
@@ -81,7 +77,7 @@ fn one_by_one(alloc: Global, desk: &mut Desk<MemStore>) -> Result<String, Fail> 
         malformed: 0,
         notes: String::new(alloc),
     };
-    for place in 1..4201 {
+    for place in 1..16501 {
         ask_one(alloc, desk, place, &mut told)?;
     }
     let Told {
@@ -106,7 +102,7 @@ fn agree(
         "owed ash 2024Q1 2024-02-20",
         "schedule-b ash 2024Q1",
         "status ash 2024-01-31",
-        "void ash 4200",
+        "void ash 4125",
     ] {
         let answer = ask(alloc, first, question)?;
         let other = ask(alloc, second, question)?;
@@ -119,7 +115,7 @@ fn agree(
 fn lists_are_posted_as_one_record_after_the_other(rt: HostRuntime) -> Result<(), Fail> {
     let alloc = rt.alloc();
     let mut text = format!(in alloc; "employer,run,payday,fit,ss,medicare\n")?;
-    for place in 1..4201 {
+    for place in 1..16501 {
         text.push_str(line_at(alloc, place)?.commas.as_str())?;
     }
     let mut listed = desk(alloc)?;
@@ -127,7 +123,7 @@ fn lists_are_posted_as_one_record_after_the_other(rt: HostRuntime) -> Result<(),
     let mut asked = desk(alloc)?;
     let summary = one_by_one(alloc, &mut asked)?;
     assert_eq!(rt; said.as_str(), summary.as_str());
-    let first = "4074 42 42 42; 51 refused 18 YearNotOpen 2025; 76 field 3; ";
+    let first = "4125 12045 165 165; 50 refused 18 YearNotOpen 2025; 76 field 3; ";
     assert!(rt; said.as_str().starts_with(first));
     agree(&rt, alloc, &mut listed, &mut asked)
 }

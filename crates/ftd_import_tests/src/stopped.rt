@@ -1,61 +1,25 @@
 //! An import into files that fail, and the same import again.
 
-ghost use Rattle.std.specs.Prelude.{IsTrue};
-ghost use Rattle.sqlite_disk.specs.Memory.{memory_is_usable};
-
 use crate::desks::has_ash;
 use ftd_desk::Desk;
 use ftd_import::{Quiet, StopCause, Stopped, Summary, import};
-use ftd_lines::ask;
-use ftd_store::Store;
-use sqlite::{Connection, FileStore, Files, Options};
-use sqlite_disk::{Crash, Fuse, Memory};
+use ftd_lines::{Failing, after_a_crash, ask, failing_desk};
 use std::alloc::Global;
 use std::cmp::min;
 use std::process::Abort;
 use std::test::Fail;
 
-type Failing = FileStore<Fuse<Memory>>;
-
 /// The desk over new files: the log fails after so many calls, the database's file after so many.
 /// None where the account ash can't be enrolled.
 fn failing(alloc: Global, log: u64, db: u64) -> Result<Option<Desk<Failing>>, Fail> {
-    let files = Files {
-        log: Fuse::new(Memory::new(alloc), log),
-        db: Fuse::new(Memory::new(alloc), db),
-    };
-    let conn = match Connection::open_files(alloc, files, Options::new(1)) {
-        Ok(conn) => conn,
-        Err((_, left)) => {
-            drop(left);
-            return Ok(None);
-        }
-    };
-    let Ok(store) = Store::open(conn) else {
+    let Some(mut desk) = failing_desk(alloc, log, db) else {
         return Ok(None);
     };
-    let mut desk = Desk::new(alloc, store);
     if has_ash(alloc, &mut desk)? {
         Ok(Some(desk))
     } else {
         Ok(None)
     }
-}
-
-/// A desk over what a crash leaves of the files.
-fn after_a_crash(alloc: Global, desk: Desk<Failing>) -> Result<Desk<Failing>, Fail> {
-    let mut files = match desk.into_store().close().close_files() {
-        Ok(files) => files,
-        Err((_, store)) => store.close(),
-    };
-    files.log.crash();
-    files.db.crash();
-    let conn = match Connection::open_files(alloc, files, Options::new(1)) {
-        Ok(conn) => conn,
-        Err((error, _)) => return Err(error.into()),
-    };
-    let store = Store::open(conn).map_err(|refused| refused.fault)?;
-    Ok(Desk::new(alloc, store))
 }
 
 /// So many runs of 1.00 each; a list is 16,384.

@@ -1,6 +1,7 @@
 //! The desk's commands, one after the other.
 
-use crate::said::{Row, done, new_desk, prints, prints_all};
+use crate::said::{Row, done, prints, prints_all};
+use ftd_lines::new_desk;
 use ftd_ports::Port;
 use std::test::Fail;
 

@@ -1,7 +1,7 @@
 //! Standard output that fails after each byte.
 
-use crate::said::{done, new_desk};
-use ftd_lines::Taker;
+use crate::said::done;
+use ftd_lines::{Taker, new_desk};
 use ftd_ports::Port;
 use std::alloc::Global;
 use std::process::Abort;

@@ -1,6 +1,7 @@
 //! Pay runs imported twice.
 
-use crate::said::{Row, new_desk, prints, prints_all};
+use crate::said::{Row, prints, prints_all};
+use ftd_lines::new_desk;
 use std::test::Fail;
 
 const ASH: [Row<'static>; 4] = [

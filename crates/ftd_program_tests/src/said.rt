@@ -4,19 +4,11 @@ use ftd_desk::Desk;
 use ftd_import::Quiet;
 use ftd_ports::{Port, Target};
 use ftd_program::{Performed, perform, print_plain, tell};
-use ftd_store::Store;
 use ftd_words::{Task, decide};
-use sqlite::{Connection, MemStore};
+use sqlite::MemStore;
 use std::alloc::Global;
 use std::process::Abort;
 use std::test::Fail;
-
-/// A new desk in memory.
-pub(crate) fn new_desk(alloc: Global) -> Result<Desk<MemStore>, Fail> {
-    let conn = Connection::open_in_memory(alloc)?;
-    let store = Store::open(conn).map_err(|refused| refused.fault)?;
-    Ok(Desk::new(alloc, store))
-}
 
 /// Does what the words ask, which are written with one space between.
 pub(crate) fn done<O: Target + Drop, E: Target + Drop>(
