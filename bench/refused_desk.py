@@ -112,9 +112,9 @@ def main():
         library = os.path.join(folder, "refuse.so")
         source = os.path.join(TOP, "bench", "refuse.c")
         subprocess.run(["gcc", "-shared", "-fPIC", "-O1", "-o", library, source, "-ldl"], check=True)
-        for name, lines in (("turn", TURN), ("next_year", NEXT_YEAR), ("five_years", FIVE_YEARS)):
-            if len(sys.argv) < 2 or name in sys.argv[1:]:
-                refused(name, lines, library, folder)
+        examples = {"turn": TURN, "next_year": NEXT_YEAR, "five_years": FIVE_YEARS}
+        for name in sys.argv[1:] or examples:
+            refused(name, examples[name], library, folder)
 
 
 if __name__ == "__main__":

@@ -152,9 +152,9 @@ def main():
         source = os.path.join(TOP, "bench", "refuse.c")
         subprocess.run(["gcc", "-shared", "-fPIC", "-O1", "-o", library, source, "-ldl"], check=True)
         with multiprocessing.Pool() as pool:
-            for name, lines in (("imports", IMPORTS), ("tutorial", list(tutorial()))):
-                if len(sys.argv) < 2 or name in sys.argv[1:]:
-                    through(name, lines, library, top, pool)
+            examples = {"imports": IMPORTS, "tutorial": list(tutorial())}
+            for name in sys.argv[1:] or examples:
+                through(name, examples[name], library, top, pool)
 
 
 if __name__ == "__main__":
