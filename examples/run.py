@@ -1,0 +1,204 @@
+#!/usr/bin/env python3
+"""Runs the examples of texts and pages with the built program, and compares what each command prints with what stands below it.
+
+    examples/run.py PROGRAM [TEXT ..]       PROGRAM is the path of `ftd`; with no TEXT it runs each text of examples/ and each page
+
+A line `$ COMMAND` is a command of the shell; the lines below it, up to an empty line, the next command or the end of the block, are
+what it prints on both outputs (empty lines of it are not compared; `(nothing)` stands where it prints nothing). Each line `# TITLE`
+begins an example, in a new folder. In a page (`.md`) commands stand in blocks ```console, in a text (`.txt`) anywhere below a title;
+what else stands there is prose. The lines below `cat NAME` are the file of that name where there is none yet; `$?` is the status of
+the command before. `curl` asks a `serve` over `office.db` at port 8080, which is started before the first of them, for as many
+connections as there are.
+
+An example that keeps its file by more than one command runs a second time: each command in a folder of its own, with copies of the
+files that the ones before left, and no log beside them.
+
+The last line is `N passed, M failed`, of examples. A wrong answer is told with the name of the text and the line; so are a command
+with no answer, one that is not run, and a text with no command.
+"""
+
+import concurrent.futures
+import glob
+import os
+import re
+import shutil
+import socket
+import subprocess
+import sys
+import tempfile
+import time
+
+TOP = os.path.dirname(os.path.dirname(os.path.abspath(__file__)))
+PAGES = ["README.md", "docs/TUTORIAL.md", "docs/HTTP.md"]
+SECONDS = 60
+
+
+class Step:
+    """A command, the number of its line, and the lines below it."""
+
+    def __init__(self, line, command):
+        self.line, self.command, self.printed = line, command, []
+
+    def first_word(self):
+        """The first word of the command."""
+        return self.command.split()[0]
+
+
+class Example:
+    """The commands below a title."""
+
+    def __init__(self, text, title):
+        self.text, self.title, self.steps = text, title, []
+
+    def keeps_a_file(self):
+        """Whether more than one command works on a desk's file, none of them over a socket."""
+        return sum("--db " in it.command for it in self.steps) > 1 and not self.requests()
+
+    def requests(self):
+        """How many connections its commands make."""
+        return sum(len(re.findall(r"\bcurl\b", it.command)) for it in self.steps)
+
+
+def examples_of(text):
+    """The examples of a text or page, and what is wrong with its form."""
+    found, wrong, step = [], [], None
+    in_page = text.endswith(".md")
+    block = None if in_page else "console"
+    with open(os.path.join(TOP, text), encoding="utf-8") as lines:
+        for number, line in enumerate(lines.read().split("\n"), 1):
+            if in_page and line.startswith("```"):
+                block, step = (line[3:] if block is None else None), None
+            elif line.startswith("# ") and (not in_page or block is None):
+                found.append(Example(text, line[2:]))
+                step = None
+            elif re.match(r"\s*\$ ", line) and (block != "console" or not line.startswith("$ ") or not found):
+                wrong.append(f"{text}:{number}: is never run: {line.strip()}")
+            elif line.startswith("$ "):
+                step = Step(number, line[2:])
+                found[-1].steps.append(step)
+            elif line == "":
+                step = None
+            elif step:
+                step.printed.append(line)
+    steps = [it for example in found for it in example.steps]
+    wrong += [f"{text}:{it.line}: has no answer: {it.command}" for it in steps if it.first_word() in ("ftd", "curl") and not it.printed]
+    wrong += [] if steps else [f"{text}:1: has no command"]
+    return [it for it in found if it.steps], wrong
+
+
+def free_port():
+    with socket.socket() as it:
+        it.bind(("127.0.0.1", 0))
+        return it.getsockname()[1]
+
+
+class Run:
+    """One run of an example, in a folder of its own or, command by command, in new ones."""
+
+    def __init__(self, example, program, moves):
+        self.example, self.program, self.moves, self.status, self.server = example, program, moves, 0, None
+        self.room = tempfile.mkdtemp(prefix="ftd-examples-")
+        os.mkdir(f"{self.room}/bin")
+        os.symlink(program, f"{self.room}/bin/ftd")
+        self.folder = f"{self.room}/0"
+        os.mkdir(self.folder)
+        self.port = free_port() if example.requests() else None
+
+    def move(self, number):
+        """Goes on in a new folder, with copies of the files but the log."""
+        shutil.copytree(self.folder, f"{self.room}/{number}", ignore=shutil.ignore_patterns("*-wal"))
+        shutil.rmtree(self.folder)
+        self.folder = f"{self.room}/{number}"
+
+    def serve(self):
+        """Starts the server, and waits until it listens."""
+        words = ["serve", "--db", "office.db", "--port", str(self.port), "--connections", str(self.example.requests())]
+        self.server = subprocess.Popen([self.program, *words], cwd=self.folder, stdout=subprocess.PIPE, text=True)
+        self.server.stdout.readline()
+
+    def printed(self, step):
+        """What the command prints."""
+        command = f"(exit {self.status})\n{step.command}"
+        if self.port:
+            command = command.replace(":8080/", f":{self.port}/")
+        path = f"{self.room}/bin:{os.environ['PATH']}"
+        how = {"cwd": self.folder, "env": {**os.environ, "PATH": path}, "stdin": subprocess.DEVNULL, "timeout": SECONDS}
+        ran = subprocess.run(["bash", "-c", command], stdout=subprocess.PIPE, stderr=subprocess.STDOUT, text=True, errors="replace", **how)
+        self.status = ran.returncode
+        return [line for line in ran.stdout.split("\n") if line] or ["(nothing)"]
+
+    def step(self, number, step):
+        """Runs a command, and gives what is wrong with what it prints."""
+        if self.moves and number:
+            self.move(number)
+        if self.port and not self.server and "curl" in step.command:
+            self.serve()
+        name = re.fullmatch(r"cat ([\w.-]+)", step.command)
+        if name and not os.path.exists(f"{self.folder}/{name[1]}"):
+            with open(f"{self.folder}/{name[1]}", "w", encoding="utf-8") as it:
+                it.write("".join(f"{line}\n" for line in step.printed))
+            return []
+        wanted = step.printed or ["(nothing)"]
+        try:
+            printed = self.printed(step)
+        except subprocess.TimeoutExpired:
+            printed = [f"(no end within {SECONDS} seconds)"]
+        if printed == wanted:
+            return []
+        at = f"{self.example.text}:{step.line}: differs{', in a folder of its own' if self.moves else ''}: {step.command}"
+        return [at, *[f"    printed  {it}" for it in printed], *[f"    wanted   {it}" for it in wanted]]
+
+    def all(self):
+        """Runs each command, and gives what is wrong."""
+        wrong = []
+        try:
+            for number, step in enumerate(self.example.steps):
+                wrong += self.step(number, step)
+            if self.server and self.server.wait(SECONDS):
+                wrong.append(f"{self.example.text}: serve ended with status {self.server.returncode}: {self.example.title}")
+        except subprocess.TimeoutExpired:
+            wrong.append(f"{self.example.text}: serve had not ended: {self.example.title}")
+        finally:
+            if self.server:
+                self.server.kill()
+                self.server.wait()
+            shutil.rmtree(self.room)
+        return wrong
+
+
+def never_run(texts):
+    """Commands of files beside the texts and pages."""
+    places = [*glob.glob(f"{TOP}/examples/*"), *glob.glob(f"{TOP}/docs/*"), *glob.glob(f"{TOP}/*.md")]
+    for path in sorted(os.path.relpath(it, TOP) for it in places if not it.endswith((".py", ".sh", ".csv")) and os.path.isfile(it)):
+        if path not in texts:
+            with open(os.path.join(TOP, path), encoding="utf-8", errors="replace") as lines:
+                for number, line in enumerate(lines, 1):
+                    if line.startswith("$ "):
+                        yield f"{path}:{number}: is never run: {line.strip()}"
+
+
+def main():
+    if len(sys.argv) < 2 or not os.access(sys.argv[1], os.X_OK):
+        sys.exit(__doc__.split("\n\n")[1])
+    program = os.path.abspath(sys.argv[1])
+    texts = [os.path.relpath(os.path.abspath(it), TOP) for it in sys.argv[2:]]
+    every = texts or [*PAGES, *sorted(os.path.relpath(it, TOP) for it in glob.glob(f"{TOP}/examples/*.txt"))]
+    wrong = [] if texts else [*never_run(every)]
+    runs, began = [], time.monotonic()
+    for text in every:
+        found, of_text = examples_of(text)
+        wrong += of_text
+        runs += [(it, False) for it in found] + [(it, True) for it in found if it.keeps_a_file()]
+    with concurrent.futures.ThreadPoolExecutor(os.cpu_count()) as pool:
+        told = [*pool.map(lambda it: Run(it[0], program, it[1]).all(), runs)]
+    for line in [*wrong, *[line for it in told for line in it]]:
+        print(line)
+    commands = sum(len(it.steps) for it, _ in runs)
+    failed = len(wrong) + sum(1 for it in told if it)
+    print(f"{len(every)} texts and pages, {commands} commands, {time.monotonic() - began:.0f} seconds")
+    print(f"{len(runs) - sum(1 for it in told if it)} passed, {failed} failed")
+    return 1 if failed else 0
+
+
+if __name__ == "__main__":
+    sys.exit(main())
