@@ -22,7 +22,7 @@ count() {
     fi
 }
 
-count rt ci
+RT_JOBS=$(./.ci/jobs.sh) count rt ci
 if [ -x crates/ftd/out/ftd ]; then
     count python3 examples/run.py crates/ftd/out/ftd
 else

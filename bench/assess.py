@@ -75,7 +75,7 @@ def obligations(first_year, count, liability):
 
 def reading():
     lines = sys.stdin.read().split("\n")
-    first, count = map(int, lines[0].split())
+    first, count = map(int, lines[0].split()[1:])
     liability = {}
     for line in lines[1:]:
         if line:
@@ -88,7 +88,7 @@ def reading():
 
 def history(first, count):
     days = (date(first + count, 1, 1) - date(first, 1, 1)).days
-    lines = [f"{first} {count}"]
+    lines = [f"assess {first} {count}"]
     for i in range(20_000):
         day = date(first, 1, 1) + timedelta(days=i * 7919 % days)
         lines.append(f"{day} {i * 104_729 % 60_000 * count}")

@@ -1,10 +1,9 @@
 #!/usr/bin/env python3
 """Random requests to the desk beside a plain reading of the rules, which computes everything anew.
 
-Run it at the top after `cd crates/ftd_desk_bench && rt run < stdin` has built the program. It makes seeded lists of
-requests (several accounts on both forms, late pay runs, voids, openings, added holidays, nonsense), gives them to the
-program, which asks a desk over a file, one by one and in lists, and compares each answer and, at the end, each row of each table, which Python's
-sqlite3 reads from the file. `bench/desk.py COUNT SEED..` takes how many requests a list has, and the seeds.
+It makes seeded lists of requests (several accounts on both forms, late pay runs, voids, openings, added holidays, nonsense),
+asks `ftd serve` over a new file, and compares each answer and, at the end, each row of each table, which Python's sqlite3 reads
+from the file. `bench/desk.py [PROGRAM [COUNT SEED..]]` takes the program, how many requests a list has, and the seeds.
 """
 import contextlib
 import datetime
@@ -12,9 +11,10 @@ import os
 import random
 import re
 import sqlite3
-import subprocess
 import sys
 import tempfile
+
+from office import Office, program_of
 
 DAY = datetime.timedelta(1)
 
@@ -568,26 +568,15 @@ def one(rng, posted, paid):
                        f"calendar {rng.randint(2020, 2030)}", f"enrol {name} 2022-01-01"])
 
 
-def grouped(rng, lines):
-    """The requests in groups, each asked one by one or together."""
-    place = 0
-    while place < len(lines):
-        group = lines[place : place + rng.randint(1, 80)]
-        place += len(group)
-        yield from ["together", *group, "apart"] if rng.random() < 0.6 else group
-
-
 def compare(program, file, seed, count):
     """Asks the requests of a seed, and compares answers and tables. It answers how many requests there were."""
     rng = random.Random(seed)
     lines = list(preparing(rng))
     posted, paid = {}, {}
     lines += [one(rng, posted, paid) for _ in range(count)]
-    asked = "\n".join(grouped(rng, lines))
-    done = subprocess.run([program, file], input=asked, capture_output=True, text=True)
-    if done.returncode != 0:
-        raise SystemExit(f"seed {seed}: status {done.returncode}: {done.stderr}")
-    answers, desk = done.stdout.split("\n"), Desk()
+    office, desk = Office(program, file, len(lines)), Desk()
+    answers = office.ask(lines)
+    office.close()
     for place, line in enumerate(lines):
         right = desk.ask(line)
         if answers[place] != right:
@@ -602,10 +591,9 @@ def compare(program, file, seed, count):
 
 
 def main():
-    top = os.path.dirname(os.path.dirname(os.path.abspath(__file__)))
-    program = os.path.join(top, "crates", "ftd_desk_bench", "out", "ftd_desk_bench")
-    count = int(sys.argv[1]) if len(sys.argv) > 1 else 5_000
-    seeds = [int(word) for word in sys.argv[2:]] or range(1, 21)
+    program = program_of(sys.argv[1:2])
+    count = int(sys.argv[2]) if len(sys.argv) > 2 else 5_000
+    seeds = [int(word) for word in sys.argv[3:]] or range(1, 21)
     asked = 0
     with tempfile.TemporaryDirectory() as folder:
         for seed in seeds:

@@ -1,24 +1,25 @@
 #!/usr/bin/env python3
-"""How long the desk takes beside Python's sqlite3, with the same tables, indexes and statements.
+"""How long the desk takes over HTTP beside Python's sqlite3, with the same tables, indexes and statements.
 
-Run it at the top after `cd crates/ftd_desk_bench && rt run < stdin` has built the program. It prints microseconds for a
-request: figures reported and payments taken by an account that has 100 payments and one that has 20,000, pay runs posted
-into an account of 100, 2,000 and 20,000 runs over ten years, into these years and into one after them, a due list of a
-quarter, and 20,000 runs posted one by one and together. Python does the statements of the request alone, and computes
-nothing. Each is timed in the engine's own memory, where a table is one sorted vector, so that a row costs what moves behind
-it; in a file that lies in memory (/dev/shm); and in a file on the disk, where each commit waits for it.
+`bench/desk_speed.py [PROGRAM ..]` prints microseconds for a request, as a client sees them that sends a hundred at a time over
+one connection after the other: figures reported and payments taken by an account that has 100 payments and one that has 19,800,
+pay runs posted into an account of 100, 2,000 and 19,800 runs over ten years, into these years and into one after them, a due list
+of a quarter, and 20,000 runs one by one. Python does the statements of the request alone, and computes nothing. Each is timed in a
+file that lies in memory (/dev/shm) and in one on the disk, where each commit waits for it. Of several programs, as an old one
+and a new one, each is timed in turn, in one run.
 """
 import contextlib
 import datetime
 import os
 import random
+import shutil
 import sqlite3
-import subprocess
+import sys
 import tempfile
 import time
 
-TOP = os.path.dirname(os.path.dirname(os.path.abspath(__file__)))
-PROGRAM = os.path.join(TOP, "crates", "ftd_desk_bench", "out", "ftd_desk_bench")
+from office import Office, program_of
+
 YEARS = range(2014, 2024)
 START = "2014-01-01"
 
@@ -49,37 +50,62 @@ def pay(rng, number):
     return f"pay ash {number} {day} {day} {money(rng.randrange(1, 300_000))}"
 
 
-def listed(lines):
-    """The lines asked in lists of a thousand."""
-    lines = list(lines)
-    for place in range(0, len(lines), 1_000):
-        yield "together"
-        yield from lines[place:place + 1_000]
-        yield "apart"
+class Bench:
+    """Programs, and folders in memory and on the disk."""
 
+    def __init__(self, programs, folders):
+        self.programs, self.folders, self.made = programs, folders, {}
 
-def clocked(before, measured, file):
-    """The microseconds that the program takes for the measured lines, after the others."""
-    lines = [*before, "clock", *measured, "clock"]
-    words = [PROGRAM] + ([file] if file else [])
-    done = subprocess.run(words, input="\n".join(lines), capture_output=True, text=True, check=True)
-    if "refused" in done.stdout:
-        raise SystemExit("a request was refused")
-    return int(done.stderr.split()[1])
+    def prepared(self, program, before):
+        """A file to which the requests were done."""
+        key = (program, tuple(before))
+        if key not in self.made:
+            self.made[key] = os.path.join(self.folders[0], f"{len(self.made)}.db")
+            office = Office(program, self.made[key], len(before))
+            if any("refused" in answer for answer in office.ask(before)):
+                raise SystemExit("a request was refused")
+            office.close()
+        return self.made[key]
 
+    def clocked(self, program, before, measured, file):
+        """The microseconds that the requests take, after the others."""
+        shutil.copy(self.prepared(program, before), file)
+        office = Office(program, file, len(measured))
+        start = time.perf_counter()
+        answers = office.ask(measured)
+        took = (time.perf_counter() - start) * 1e6
+        office.close()
+        if any("refused" in answer for answer in answers):
+            raise SystemExit("a request was refused")
+        return took
 
-def best_of_three(name, timed, folders, times):
-    """Prints the microseconds for each of so many requests in each place, the best of three."""
-    figures = []
-    for folder in (None, *folders):
-        best = min(timed(folder and os.path.join(folder, f"{time.monotonic_ns()}.db")) for _ in range(3))
-        figures.append(best / times)
-    print(f"{name:50}" + "".join(f" {figure:11.1f}" for figure in figures), flush=True)
+    def print_best(self, name, timed, times):
+        """Prints the microseconds for each of so many requests in each folder, the best of three."""
+        figures = []
+        for folder in self.folders:
+            best = min(timed(os.path.join(folder, f"{time.monotonic_ns()}.db")) for _ in range(3))
+            figures.append(best / times)
+        print(f"{name:50}" + "".join(f" {figure:11.1f}" for figure in figures), flush=True)
 
+    def asked(self, name, before, measured):
+        """Prints how long a request takes each program."""
+        for place, program in enumerate(self.programs):
+            of = f" ({place + 1})" if len(self.programs) > 1 else ""
+            timed = lambda file, program=program: self.clocked(program, before, measured, file)
+            self.print_best(name + of, timed, len(measured))
 
-def asked(name, before, measured, folders, times):
-    """Prints how long a request takes the desk."""
-    best_of_three(name, lambda file: clocked(before, measured, file), folders, times)
+    def by_python(self, before, measured, times):
+        """Prints how long Python takes for the same."""
+
+        def timed(file):
+            desk = Statements(file)
+            desk.together(before(desk))
+            calls = measured(desk)
+            start = time.perf_counter()
+            desk.one_by_one(calls)
+            return (time.perf_counter() - start) * 1e6
+
+        self.print_best("  the statements by Python", timed, times)
 
 
 class Statements:
@@ -191,19 +217,6 @@ class Statements:
             self.conn.execute("COMMIT")
 
 
-def by_python(name, before, measured, folders, together, times):
-    """Prints how long Python takes for the same."""
-    def timed(file):
-        desk = Statements(file)
-        desk.together(before(desk))
-        calls = measured(desk)
-        start = time.perf_counter()
-        desk.together(calls) if together else desk.one_by_one(calls)
-        return (time.perf_counter() - start) * 1e6
-
-    best_of_three("  " + name, timed, folders, times)
-
-
 def day_number(rng):
     return (some_day(rng) - datetime.date(1970, 1, 1)).days
 
@@ -229,40 +242,48 @@ def python_due(desk):
     return [lambda: desk.due_list(first, first + 90)] * 100
 
 
+def figures(bench, start):
+    reports = [f"report ash {year}Q{quarter} 12500.00" for year in range(2024, 2049) for quarter in range(1, 5)]
+    calls = [(year, quarter) for year in range(2024, 2049) for quarter in range(1, 5)]
+    bench.asked("100 figures reported", start, reports)
+    bench.by_python(lambda desk: [], lambda desk: [lambda key=key: desk.report(*key) for key in calls], 100)
+
+
+def payments(bench, start, have):
+    rng = random.Random(1)
+    before = start + [pay(rng, number) for number in range(1, have + 1)]
+    more = [pay(rng, number) for number in range(have + 1, have + 101)]
+    bench.asked(f"100 payments beside {have}", before, more)
+    bench.by_python(python_pay(1, have), python_pay(have + 1, 100), 100)
+
+
+def runs(bench, start, have):
+    rng = random.Random(1)
+    before = start + [post(rng, number) for number in range(1, have + 1)]
+    more = [post(rng, number) for number in range(have + 1, have + 101)]
+    bench.asked(f"100 runs posted beside {have}", before, more)
+    bench.by_python(python_post(1, have), python_post(have + 1, 100), 100)
+    more = [post(rng, number, [2024]) for number in range(have + 1, have + 101)]
+    bench.asked(f"100 runs posted into a year after {have}", before, more)
+    bench.asked(f"100 due lists beside {have} runs", before, ["due ash 2018Q2 2018-06-30"] * 100)
+    bench.by_python(python_post(1, have), python_due, 100)
+
+
 def main():
-    print(f"{'microseconds a request':50} {'memory':>11} {'memory file':>11} {'file':>11}")
+    programs = [program_of([it]) for it in sys.argv[1:]] or [program_of([])]
+    print(f"{'microseconds a request':50} {'memory file':>11} {'file':>11}")
     with contextlib.ExitStack() as stack:
-        folders = [stack.enter_context(tempfile.TemporaryDirectory(dir=place)) for place in ("/dev/shm", None)]
+        places = ("/dev/shm", None)
+        bench = Bench(programs, [stack.enter_context(tempfile.TemporaryDirectory(dir=place)) for place in places])
         start = list(setting_up())
-        reports = [f"report ash {year}Q{quarter} 12500.00" for year in range(2024, 2049) for quarter in range(1, 5)]
-        calls = [(year, quarter) for year in range(2024, 2049) for quarter in range(1, 5)]
-        asked("100 figures reported", start, reports, folders, 100)
-        by_python("the statements by Python", lambda desk: [],
-                  lambda desk: [lambda key=key: desk.report(*key) for key in calls], folders, False, 100)
-        asked("100 figures reported together", start, list(listed(reports)), folders, 100)
+        figures(bench, start)
         for have in (100, 20_000 - 200):
-            rng = random.Random(1)
-            before = start + list(listed(pay(rng, number) for number in range(1, have + 1)))
-            more = [pay(rng, number) for number in range(have + 1, have + 101)]
-            asked(f"100 payments beside {have}", before, more, folders, 100)
-            by_python("the statements by Python", python_pay(1, have), python_pay(have + 1, 100), folders, False, 100)
-            asked(f"100 payments beside {have}, together", before, list(listed(more)), folders, 100)
+            payments(bench, start, have)
         for have in (100, 2_000, 20_000 - 200):
-            rng = random.Random(1)
-            before = start + list(listed(post(rng, number) for number in range(1, have + 1)))
-            more = [post(rng, number) for number in range(have + 1, have + 101)]
-            asked(f"100 runs posted beside {have}", before, more, folders, 100)
-            by_python("the statements by Python", python_post(1, have), python_post(have + 1, 100), folders, False, 100)
-            more = [post(rng, number, [2024]) for number in range(have + 1, have + 101)]
-            asked(f"100 runs posted into a year after {have}", before, more, folders, 100)
-            asked(f"100 due lists beside {have} runs", before, ["due ash 2018Q2 2018-06-30"] * 100, folders, 100)
-            by_python("the statements by Python", python_post(1, have), python_due, folders, False, 100)
+            runs(bench, start, have)
         rng = random.Random(1)
-        runs = [post(rng, number) for number in range(1, 20_001)]
-        asked("20,000 runs one by one", start, runs, folders, 20_000)
-        by_python("the statements by Python", lambda desk: [], python_post(1, 20_000), folders, False, 20_000)
-        asked("20,000 runs in lists of a thousand", start, list(listed(runs)), folders, 20_000)
-        by_python("the statements by Python", lambda desk: [], python_post(1, 20_000), folders, True, 20_000)
+        bench.asked("20,000 runs one by one", start, [post(rng, number) for number in range(1, 20_001)])
+        bench.by_python(lambda desk: [], python_post(1, 20_000), 20_000)
 
 
 if __name__ == "__main__":

@@ -1,11 +1,14 @@
 #!/usr/bin/env python3
-"""Runs `ftd plain` and a Python script with the csv module over the same 16 MB, side by side.
+"""Runs `ftd plain`, plain Rust with the csv crate, and a Python script with the csv module over the same 16 MB, side by side.
 
-    bench/plain.py          builds nothing: first run `rt run` in crates/ftd, which makes crates/ftd/out/ftd
+    bench/plain.py [PROGRAM [NATIVE]]
 
-Both validate every record, assess the deposits and print the same lines, which is checked. For each
+PROGRAM is the path of `ftd` (crates/ftd/out/ftd, which ./test.sh and ./build.py leave there), NATIVE that of plain_native
+(bench/plain_native/target/release/plain_native, by `cargo build --release` in bench/plain_native; it is left out where it is not there).
+
+All validate every record, assess the deposits and print the same lines, which is checked. For each
 input (pay runs of many employers, of which 20,000 count; lines `a` alone; commas alone) it prints the
-best wall time of three runs and the peak memory of the child.
+best processor time of five runs in turn, and the peak memory of the child.
 """
 
 import datetime
@@ -14,10 +17,10 @@ import resource
 import subprocess
 import sys
 import tempfile
-import time
 
 HERE = os.path.dirname(os.path.abspath(__file__))
 FTD = os.path.join(HERE, "..", "crates", "ftd", "out", "ftd")
+NATIVE = os.path.join(HERE, "plain_native", "target", "release", "plain_native")
 SIZE = 16_777_216
 HOLIDAYS = ["2024-01-01", "2024-01-15", "2024-02-19", "2024-04-16", "2024-05-27", "2024-06-19", "2024-07-04"]
 HOLIDAYS += ["2024-09-02", "2024-10-14", "2024-11-11", "2024-11-28", "2024-12-25", "2025-01-01", "2025-01-20"]
@@ -59,26 +62,40 @@ def repeated(text):
 
 
 def measured(command, path):
-    """Best time of three, the peak memory in MB, and what the last run wrote."""
-    best = None
-    peak = 0
-    for _ in range(3):
-        with open(path, "rb") as file:
-            begin = time.perf_counter()
-            child = subprocess.Popen(command, stdin=file, stdout=subprocess.PIPE, stderr=subprocess.PIPE)
-            out = child.stdout.read()
-            err = child.stderr.read()
-            _, status, usage = os.wait4(child.pid, 0)
-            took = time.perf_counter() - begin
-        best = took if best is None else min(best, took)
-        peak = max(peak, usage.ru_maxrss / 1024)
-    return best, peak, (os.waitstatus_to_exitcode(status), out, err)
+    """Processor time, peak memory in MB, and what was written."""
+    with open(path, "rb") as file:
+        child = subprocess.Popen(command, stdin=file, stdout=subprocess.PIPE, stderr=subprocess.PIPE)
+        out = child.stdout.read()
+        err = child.stderr.read()
+        _, status, usage = os.wait4(child.pid, 0)
+    return usage.ru_utime + usage.ru_stime, usage.ru_maxrss / 1024, (os.waitstatus_to_exitcode(status), out, err)
+
+
+def compared(name, commands, path):
+    """Measures the commands in turn, and prints a line for each."""
+    best = {it: (None, 0) for it in commands}
+    said = set()
+    for _ in range(5):
+        for it, command in commands.items():
+            took, peak, told = measured(command, path)
+            said.add(told)
+            if len(said) > 1:
+                sys.exit(f"{name}: they differ: {said}")
+            least, most = best[it]
+            best[it] = (took if least is None else min(least, took), max(most, peak))
+    ours = best["ftd"][0]
+    for it, (took, peak) in best.items():
+        print(f"{name:<24}{it:<12}{took:>8.3f} s{took / ours:>8.2f}{peak:>10.1f} MB")
 
 
 def main():
-    if not os.path.exists(FTD):
-        sys.exit("no crates/ftd/out/ftd: run `rt run -- plain elm 2024 < stdin` in crates/ftd first")
-    print(f"{'input':<24}{'ftd':>10}{'Python':>10}{'times':>8}{'ftd MB':>10}{'Python MB':>12}")
+    program = sys.argv[1] if len(sys.argv) > 1 else FTD
+    native = sys.argv[2] if len(sys.argv) > 2 else NATIVE
+    if not os.path.exists(program):
+        sys.exit(f"no {program}: ./build.py makes it")
+    commands = {"ftd": [program, *WORDS], "native": [native, *WORDS], "Python": [sys.executable, os.path.join(HERE, "plain_by_hand.py"), *WORDS]}
+    if not os.path.exists(native):
+        del commands["native"]
     with tempfile.TemporaryDirectory() as folder:
         for name, write in [
             ("20,000 of our runs", pay_runs),
@@ -87,11 +104,7 @@ def main():
         ]:
             path = os.path.join(folder, "input.csv")
             write(path)
-            ours = measured([FTD, *WORDS], path)
-            theirs = measured([sys.executable, os.path.join(HERE, "plain_by_hand.py"), *WORDS], path)
-            if ours[2] != theirs[2]:
-                sys.exit(f"{name}: they differ: {ours[2]} and {theirs[2]}")
-            print(f"{name:<24}{ours[0]:>8.3f} s{theirs[0]:>8.3f} s{theirs[0] / ours[0]:>8.1f}{ours[1]:>10.1f}{theirs[1]:>12.1f}")
+            compared(name, commands, path)
 
 
 main()

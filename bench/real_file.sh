@@ -1,12 +1,21 @@
 #!/bin/sh
-# Writes a database with the store and reads it by sqlite3's command line: the file is whole, the twelve tables have
-# their columns and types, and the rows are there. Run it at the top after
-# `cd crates/ftd_store_bench && rt run -- :memory: 10` has built the program. It needs Debian's sqlite3.
+# Writes a desk's file with the program and reads it by sqlite3's command line: the file is whole, the twelve tables have their
+# columns and types, and the rows are there. It needs Debian's sqlite3. Usage: bench/real_file.sh [PROGRAM]
 set -eu
 top=$(cd "$(dirname "$0")/.." && pwd)
 folder=$(mktemp -d)
 trap 'rm -r "$folder"' EXIT
-"$top/crates/ftd_store_bench/out/ftd_store_bench" "$folder/desk.db" 3 2>"$folder/times" >"$folder/sums"
+ftd=${1:-$top/crates/ftd/out/ftd}
+file=$folder/desk.db
+{
+    "$ftd" calendar --db "$file" 2024
+    "$ftd" calendar --db "$file" 2025
+    "$ftd" enrol --db "$file" ash 2024-01-01
+    "$ftd" open-year --db "$file" ash 2024
+    "$ftd" post --db "$file" ash 1 2024-01-01 1000.00 248.00 58.00
+    "$ftd" post --db "$file" ash 2 2024-08-21 1000.01 248.00 58.00
+    "$ftd" post --db "$file" ash 3 2024-04-10 1000.02 248.00 58.00
+} >"$folder/said"
 sqlite3 "$folder/desk.db" >"$folder/found" <<'SQL'
 PRAGMA integrity_check;
 PRAGMA foreign_key_check;
@@ -15,8 +24,8 @@ SELECT m.name, c.name, c.type, c."notnull", c.pk FROM sqlite_schema m, pragma_ta
 SELECT tbl_name, name FROM sqlite_schema WHERE type = 'index' AND sql IS NOT NULL ORDER BY name;
 SELECT * FROM ftd_meta;
 SELECT * FROM account;
-SELECT * FROM run WHERE run < 3 ORDER BY run;
-SELECT count(*) FROM run;
+SELECT * FROM run ORDER BY run;
+SELECT * FROM bucket ORDER BY first_day;
 SQL
 cat >"$folder/expected" <<'TEXT'
 ok
@@ -67,10 +76,12 @@ payment|ftd_payment_by_day
 run|ftd_run_by_payday
 ftd|2
 ash|19723|0
-ash|0|19723|100000|24800|5800|0
-ash|1|19956|100001|24800|5800|0
-ash|2|19823|100002|24800|5800|0
-103
+ash|1|19723|100000|24800|5800|0
+ash|2|19956|100001|24800|5800|0
+ash|3|19823|100002|24800|5800|0
+ash|19723|19753|0|130600|19768
+ash|19814|19843|0|130602|19858
+ash|19936|19966|0|130601|19982
 TEXT
 diff "$folder/expected" "$folder/found"
 echo "sqlite3 reads what the store wrote"

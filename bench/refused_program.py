@@ -1,14 +1,14 @@
 #!/usr/bin/env python3
-"""Refuses each allocation of the program in turn, through every command of the tutorial and two imports.
+"""Refuses each allocation of the program in turn, through every command of worked examples.
 
-Run it at the top after `cd crates/ftd && rt run < stdin` has built the program; it needs gcc. Each command is run on the
-file that the commands before it left, with one allocation refused. It has to print what it prints with memory and leave
-the same tables; or say that there was no memory, or that the store or the file failed, and end with status 3. Then the
-tables are those before the command, or those of an import up to one of its records, or, where the store failed, those after
-the command; and where they are not those before it, the command run again, with memory, ends with the tables of the command
-alone. What a command printed before it failed is the beginning of what it prints with memory, but for an import, which prints
-what it did up to there. A command makes some 7,000 allocations, most of them to open the file: the imports take some ten
-minutes on four processors, and the tutorial an hour. `bench/refused_program.py imports` does the imports alone.
+It needs gcc. Each command of an example's text (examples/, docs/TUTORIAL.md) is run on the file that the commands before it left,
+with one allocation refused. It has to print what it prints with memory and leave the same tables; or say that there was no memory,
+or that the store or the file failed, and end with status 3. Then the tables are those before the command, or those of an import up
+to one of its records, or, where the store failed, those after the command; and where they are not those before it, the command run
+again, with memory, ends with the tables of the command alone. What a command printed before it failed is the beginning of what it
+prints with memory, but for an import, which prints what it did up to there. A command makes some 7,000 allocations, most of them to
+open the file: the imports take some ten minutes on four processors, and the tutorial an hour.
+`bench/refused_program.py [PROGRAM [NAME ..]]` takes the program and which examples.
 """
 import contextlib
 import multiprocessing
@@ -20,34 +20,25 @@ import subprocess
 import sys
 import tempfile
 
+from office import program_of
+
 TOP = os.path.dirname(os.path.dirname(os.path.abspath(__file__)))
-PROGRAM = os.path.join(TOP, "crates", "ftd", "out", "ftd")
+sys.path.insert(0, os.path.join(TOP, "examples"))
+from run import examples_of  # noqa: E402
+
 FAULTS = ("failed 21 Memory", "failed 22 Store", "failed File")
-FIRST = """\ufeffemployer,run,payday,fit,ss,medicare
-ash,1,2024-01-05,500.00,310.00,72.50
-ash,2,2024-01-19,500.00,310.00,72.5
-ash,3,2024-02-30,500.00,310.00,72.50
-"""
-PAGES = {
-    "first.csv": FIRST,
-    "second.csv": FIRST.replace("500.00", "501.00", 1),
+EXAMPLES = {
+    "imports": ("examples/imports.txt", "Pay runs are imported twice"),
+    "turn": ("examples/deposits.txt", "A turn and its void reach the next year"),
+    "years": ("examples/deposits.txt", "A void reaches each later year that opens otherwise"),
+    "tutorial": ("docs/TUTORIAL.md", "A bakery's first year, and a farm"),
 }
-IMPORTS = [
-    "calendar --db office.db 2024", "calendar --db office.db 2025", "enrol --db office.db ash 2024-01-01",
-    "open-year --db office.db ash 2024", "import --db office.db first.csv", "void --db office.db ash 2",
-    "import --db office.db second.csv", "due --db office.db ash 2024Q1 2024-02-15",
-]
 
 
-def tutorial():
-    """The commands of the tutorial."""
-    inside = False
-    with open(os.path.join(TOP, "docs", "TUTORIAL.md"), encoding="utf-8") as page:
-        for line in page:
-            if line.startswith("```"):
-                inside = line.strip() == "```console"
-            elif inside and line.startswith("$ ftd "):
-                yield line[len("$ ftd "):].strip()
+def example(name):
+    """The example of that name."""
+    text, title = EXAMPLES[name]
+    return next(it for it in examples_of(text)[0] if it.title == title)
 
 
 def run(folder, words, library=None, number=0):
@@ -55,7 +46,7 @@ def run(folder, words, library=None, number=0):
     env = dict(os.environ)
     if library:
         env.update(LD_PRELOAD=library, REFUSE=str(number), REFUSE_COUNT="1")
-    done = subprocess.run([PROGRAM, *words], capture_output=True, cwd=folder, env=env, stdin=subprocess.DEVNULL)
+    done = subprocess.run([program_of(sys.argv[1:2]), *words], capture_output=True, cwd=folder, env=env, stdin=subprocess.DEVNULL)
     told = done.stderr.decode().split("\n")[:-1]
     calls = int(told.pop().split()[0]) if library else 0
     return (done.returncode, done.stdout.decode(), told), calls
@@ -129,17 +120,26 @@ def refused(here, words, library, folder, pool):
     return calls, failed
 
 
-def through(name, lines, library, top, pool):
-    """Runs the commands one after the other, each with each of its allocations refused before."""
+def prepare(step, here):
+    """Does what a command that is not the program's does to the files."""
+    name = step.command.removeprefix("cat ")
+    if step.command.startswith("cat ") and not os.path.exists(os.path.join(here, name)):
+        with open(os.path.join(here, name), "w", encoding="utf-8") as page:
+            page.write("".join(f"{line}\n" for line in step.printed))
+    else:
+        subprocess.run(["bash", "-c", step.command], cwd=here, check=True, stdout=subprocess.DEVNULL)
+
+
+def through(name, library, top, pool):
+    """Runs the commands of the example one after the other, each with each of its allocations refused before."""
     here, folder = os.path.join(top, name), os.path.join(top, "tried")
     os.mkdir(here)
-    for page, text in PAGES.items():
-        with open(os.path.join(here, page), "w", encoding="utf-8") as file:
-            file.write(text)
-    shutil.copy(os.path.join(TOP, "examples", "payroll.csv"), here)
     commands = allocations = failures = 0
-    for line in lines:
-        words = shlex.split(line)
+    for step in example(name).steps:
+        if step.first_word() != "ftd":
+            prepare(step, here)
+            continue
+        words = shlex.split(step.command)[1:]
         calls, failed = refused(here, words, library, folder, pool)
         run(here, words)
         commands, allocations, failures = commands + 1, allocations + calls, failures + failed
@@ -152,9 +152,8 @@ def main():
         source = os.path.join(TOP, "bench", "refuse.c")
         subprocess.run(["gcc", "-shared", "-fPIC", "-O1", "-o", library, source, "-ldl"], check=True)
         with multiprocessing.Pool() as pool:
-            examples = {"imports": IMPORTS, "tutorial": list(tutorial())}
-            for name in sys.argv[1:] or examples:
-                through(name, examples[name], library, top, pool)
+            for name in sys.argv[2:] or EXAMPLES:
+                through(name, library, top, pool)
 
 
 if __name__ == "__main__":

@@ -1,7 +1,7 @@
 #!/usr/bin/env python3
 """Repairs of random histories beside new assessments, and the time of a repair.
 
-Run it at the top after `cd crates/ftd_repair_bench && rt run` has built the program. It makes
+Run it at the top after `cd crates/ftd_bench && rt run < stdin` has built the program. It makes
 10,000 random changes of one day (ten seeds), on both forms: the program compares what a repair leaves with a new assessment
 of the whole history, and ends with a fault where they differ or a repair asks for more than two windows and
 one for each later year. Then it measures 1,000 repairs of a semiweekly window beside one assessment of
@@ -21,7 +21,7 @@ def told(program, words):
 
 def main():
     top = os.path.dirname(os.path.dirname(os.path.abspath(__file__)))
-    program = os.path.join(top, "crates", "ftd_repair_bench", "out", "ftd_repair_bench")
+    program = os.path.join(top, "crates", "ftd_bench", "out", "ftd_bench")
     taken = {}
     for seed in range(1, 11):
         out, _ = told(program, f"changes {seed} 1000\n")

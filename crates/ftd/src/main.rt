@@ -9,12 +9,13 @@ use crate::faults::ProgramFault;
 use crate::input::{import_input, standard_input, words};
 use crate::progress::ProgressLine;
 use ftd_desk::Desk;
+use ftd_http::{Limits, serve_on};
 use ftd_ports::Port;
 use ftd_program::{perform, print_plain, tell};
-use ftd_serving::{Limits, serve_on};
 use ftd_store::Store;
 use ftd_words::{Job, LocalTask, PlainTask, ServeTask, Task, decide};
-use sqlite::{Alter, Connection};
+use sqlite::{Alter, Connection, FileStore};
+use sqlite_disk::Disk;
 use std::io;
 use std::net::TcpListener;
 use std::process::ExitCode;
@@ -76,20 +77,39 @@ fn with_desk<S: Alter>(rt: &HostRuntime, desk: &mut Desk<S>, work: &Work<'_>) ->
     }
 }
 
-/// Does the work with the desk of the database file, which is made where it is not there. Each page
-/// of a file that is made carries a sum, so that a byte that changes on the disk is noticed.
-fn over_file(rt: &HostRuntime, db: &str, work: &Work<'_>) -> Result<u8, ProgramFault> {
-    let (done, conn) = match Store::open(Connection::open_with_sums(rt, db)?) {
+/// Does the work with the desk of the tables, which are made where they are not there, and gives the
+/// database back.
+fn over_tables<S: Alter + Drop>(
+    rt: &HostRuntime,
+    conn: Connection<S>,
+    work: &Work<'_>,
+) -> (Result<u8, ProgramFault>, Connection<S>) {
+    match Store::open(conn) {
         Ok(store) => {
             let mut desk = Desk::new(rt.alloc(), store);
             let status = with_desk(rt, &mut desk, work);
             (Ok(status), desk.into_store().close())
         }
         Err(refused) => (Err(refused.fault.into()), refused.connection),
-    };
+    }
+}
+
+/// Does the work with the desk of the tables in files, which are closed.
+fn over_files<D: Disk + Drop>(
+    rt: &HostRuntime,
+    conn: Connection<FileStore<D>>,
+    work: &Work<'_>,
+) -> Result<u8, ProgramFault> {
+    let (done, conn) = over_tables(rt, conn, work);
     // What was committed stands in the log where it can't be copied into the file.
     let _ = conn.close();
     done
+}
+
+/// Does the work with the desk of the database file, which is made where it is not there. Each page
+/// of a file that is made carries a sum, so that a byte that changes on the disk is noticed.
+fn over_file(rt: &HostRuntime, db: &str, work: &Work<'_>) -> Result<u8, ProgramFault> {
+    over_files(rt, Connection::open_with_sums(rt, db)?, work)
 }
 
 /// Does the job of the task.

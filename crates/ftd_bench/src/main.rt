@@ -1,97 +1,134 @@
-//! Prints the obligations of a history from standard input: the first year and the number of years
-//! on the first line, and then a line for each day sum, with its day and its cents. It measures
-//! `assess` beside another program that does the same.
+//! Measures `assess` and repairs. The first line of standard input says what is asked:
+//! `assess FIRST COUNT` prints the obligations of so many years from the first on, with the day sums
+//! of the lines that follow, a day and its cents on each; `changes SEED COUNT` repairs random
+//! histories after random changes of one day, and compares what comes of it with a new assessment;
+//! `speed COUNT` tells on standard error the time of an assessment and of so many repairs.
 #![tactic(auto)]
 
-ghost use Rattle.std.specs.Prelude.{◌≡◌, ◌+◌, ◌<◌, ◌≤◌, length, All, IfOk};
-ghost use Rattle.std.specs.List.{sum_by};
-ghost use Rattle.ftd_days.specs.Calendar.{year_of};
-ghost use Rattle.ftd_rules.specs.Liability.{cents_of};
-ghost use Rattle.ftd_rules.specs.Years.{YearsFrom, OnlyFirstCarried};
+mod history;
+mod repair;
+mod told;
 
+use crate::history::{Account, assessed, day_at, day_sums, of_sums, random};
+use crate::repair::{repaired, replaced};
+use crate::told::told;
 use anyhow::{Context, Result, bail, ensure};
-use ftd_days::{Cents, Day, Holidays};
-use ftd_rules::{DaySum, Form, Kind, YearLine, assess};
-use std::alloc::{AllocError, Global};
-use std::io::{self, Read, Write};
+use ftd_days::Holidays;
+use rand_core::utils::NextWord;
+use rand_pcg::Pcg32;
+use std::alloc::Global;
+use std::io::{self, Write};
+use std::time::Instant;
 
-/// The sums of a history stay below this amount.
-const LIMIT: u64 = 6_000_000_000_000_000;
-
-/// So many years from `first` on, with lookback totals of zero.
-fn years(alloc: Global, first: u32, count: u32) -> Result<Vec<YearLine>, AllocError>
-    requires { first + count ≤ 2099 }
-    ensures years { IfOk result (λ lines. YearsFrom first lines.items) }
-    ensures carried { IfOk result (λ lines. OnlyFirstCarried lines.items) }
-    ensures count { IfOk result (λ lines. length lines.items ≡ count) }
-{
-    let mut lines = Vec::new(alloc);
-    for place in 0..count {
-        lines.push(YearLine {
-            year: first + place,
-            lookback: Cents(0),
-            carried: false,
-            opening: Kind::Monthly,
-            turn: None,
-        })?;
+/// Changes a day of a random history, and answers how many windows the repair asked for.
+fn change(alloc: Global, random_numbers: &mut Pcg32) -> Result<u32> {
+    let holidays = Holidays::new(alloc);
+    let mut account = random(alloc, random_numbers)?;
+    let before = assessed(alloc, &account, &holidays)?;
+    let days = account.amounts.len();
+    if days == 0 {
+        bail!("days of the history");
     }
-    Ok(lines)
+    let place = (random_numbers.next_word() as usize) % days;
+    let day = day_at(account.first, place)?;
+    let amount = match random_numbers.next_word() % 3 {
+        0 => 0,
+        1 => u64::from(random_numbers.next_word() % 6_000_000),
+        _ => 10_000_000 + u64::from(random_numbers.next_word() % 3),
+    };
+    ensure!(place < account.amounts.len(), "a day of the history");
+    account.amounts[place] = amount;
+    let after = assessed(alloc, &account, &holidays)?;
+    let (patch, windows) = repaired(alloc, &account, before.years.as_slice(), day, &holidays)?;
+    ensure!(
+        replaced(alloc, &before, &patch, &after)?,
+        "a repair that differs, at {day}"
+    );
+    ensure!(
+        windows <= 2 + 2023 - day.year().min(2023),
+        "too many windows, at {day}"
+    );
+    Ok(windows)
 }
 
-/// The day and the cents of a line.
-fn day_sum(line: &str) -> Result<DaySum> {
-    let (day, cents) = line.split_once(' ').context("a day and its cents")?;
-    let day = Day::read(day.as_bytes()).context("a day")?;
-    Ok(DaySum {
-        day,
-        cents: Cents(cents.parse()?),
-    })
-}
-
-/// The sums of the lines, each of a day of the years from `first` up to, but without, `end`.
-fn day_sums(alloc: Global, first: u32, end: u32, text: &str) -> Result<Vec<DaySum>>
-    ensures within { IfOk result
-        (λ sums. All (λ s. (first ≤ year_of s.day) × (year_of s.day < end)) sums.items) }
-    ensures small { IfOk result (λ sums. sum_by cents_of sums.items < 6_000_000_000_000_000) }
-{
-    let mut sums = Vec::new(alloc);
-    let mut total = 0;
-    for line in text.lines() {
-        let sum = day_sum(line)?;
-        if sum.day.year() < first || sum.day.year() >= end || sum.cents.0 >= LIMIT - total {
-            bail!("a sum out of range");
+/// Makes so many changes, and writes how many windows they took.
+fn changes(alloc: Global, seed: u64, count: u32) -> Result<String> {
+    let mut random_numbers = Pcg32::new(seed, 54);
+    let mut taken = [0u32; 7];
+    for _ in 0..count {
+        let windows = change(alloc, &mut random_numbers)? as usize;
+        ensure!(windows < 7, "too many windows");
+        taken[windows] = taken[windows].saturating_add(1);
+    }
+    let mut text = String::new(alloc);
+    writeln!(text, "{count} changes, each as assessed anew")?;
+    for (windows, times) in taken.iter().enumerate() {
+        if *times > 0 {
+            writeln!(text, "{windows} windows: {times}")?;
         }
-        total += sum.cents.0;
-        sums.push(sum)?;
     }
-    Ok(sums)
+    Ok(text)
 }
 
-/// The obligations of so many years from `first` on with the sums of the lines, a line for each.
-fn told(alloc: Global, first: u32, count: u32, text: &str) -> Result<String>
-    requires from { 2001 ≤ first }
-    requires to { first + count ≤ 2099 }
-{
-    let years = years(alloc, first, count)?;
-    let sums = day_sums(alloc, first, first + count, text)?;
-    let history = assess(Form::F941, alloc, &years, &sums, &Holidays::new(alloc))?;
-    let mut lines = String::new(alloc);
-    for row in history.rows.as_slice() {
-        writeln!(lines, "{row}")?;
+/// Measures a repair of a semiweekly window and an assessment of 20,000 runs.
+fn speed(rt: &HostRuntime, count: u32) -> Result<String> {
+    let alloc = rt.alloc();
+    let holidays = Holidays::new(alloc);
+    let account = Account::of_many_runs(alloc)?;
+    let sums = day_sums(alloc, &account)?;
+    let (form, first, carried) = (account.form, account.first, account.carried);
+    let start = Instant::now(rt)?;
+    let history = of_sums(
+        alloc,
+        form,
+        first,
+        carried,
+        &account.lookbacks,
+        &sums,
+        &holidays,
+    )?;
+    let assessing = start.elapsed(rt)?;
+    let day = day_at(account.first, 5_000)?;
+    let lines = history.years.as_slice();
+    let mut rows = 0;
+    let start = Instant::now(rt)?;
+    for _ in 0..count {
+        let (patch, _) = repaired(alloc, &account, lines, day, &holidays)?;
+        rows = patch.rows.as_slice().len();
     }
-    Ok(lines)
+    let repairing = start.elapsed(rt)?;
+    let mut text = String::new(alloc);
+    let (assessing, repairing) = (assessing.as_nanos(), repairing.as_nanos());
+    writeln!(
+        text,
+        "assess {assessing} ns, {count} repairs {repairing} ns, {rows} rows"
+    )?;
+    Ok(text)
+}
+
+/// What the words ask for, with the lines that follow them. What is measured is told on standard
+/// error alone.
+fn answer(rt: &HostRuntime, words: &str, lines: &str) -> Result<String> {
+    if let Some(count) = words.strip_prefix("speed ") {
+        let measured = speed(rt, count.parse()?)?;
+        rt.stderr().write_all(measured.as_bytes())?;
+        return Ok(String::new(rt.alloc()));
+    }
+    if let Some(years) = words.strip_prefix("assess ") {
+        let (first, count) = years.split_once(' ').context("a year and a count")?;
+        return told(rt.alloc(), first.parse()?, count.parse()?, lines);
+    }
+    let Some(numbers) = words.strip_prefix("changes ") else {
+        bail!("assess FIRST COUNT, changes SEED COUNT, or speed COUNT");
+    };
+    let (seed, count) = numbers.split_once(' ').context("a seed and a count")?;
+    changes(rt.alloc(), seed.parse()?, count.parse()?)
 }
 
 fn main(rt: HostRuntime) -> Result<()> {
     let text = io::read_to_string(rt.alloc(), rt.stdin())?;
-    let (head, lines) = text.as_str().split_once('\n').context("a first line")?;
-    let (first, count) = head.split_once(' ').context("a year and a count")?;
-    let (first, count): (u32, u32) = (first.parse()?, count.parse()?);
-    ensure!(
-        first >= 2001 && first <= 2098 && count <= 2099 - first,
-        "years of 2001 to 2098"
-    );
-    let told = told(rt.alloc(), first, count, lines)?;
+    let (words, lines) = text.as_str().split_once('\n').context("a first line")?;
+    let told = answer(&rt, words, lines)?;
     rt.stdout().write_all(told.as_bytes())?;
     Ok(())
 }

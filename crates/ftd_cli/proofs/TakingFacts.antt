@@ -1,6 +1,6 @@
 -- The runs that were taken so far, one record after the other.
-use Rattle.std.proofs.Common.{◌≡◌, ◌≢◌, ◌⊎◌, inl, inr, ℕ, suc, ◌<◌, ◌≤◌, ◌+◌, List, [], ◌∷◌, ◌++◌}
-use Rattle.std.proofs.Common.{length, get_or, map, drop, add-one, drop-cons, Some, None, Bool, true}
+use Rattle.std.proofs.Common.{◌≡◌, ◌≢◌, ◌⊎◌, inl, inr, ℕ, ◌≤◌, ◌+◌, List, [], ◌∷◌, ◌++◌}
+use Rattle.std.proofs.Common.{length, get_or, Some, None, Bool, true}
 use Rattle.std.proofs.Common.{false, refl, sym, ap, ◌∙◌, arith, append_assoc, length-append}
 use Rattle.std.specs.Prelude.{Contains, ◌↔◌, AllPairs, MatchBool, ◌&&◌, ◌==◌}
 use Rattle.std.specs.List.Sorted.{IsStrictlySortedBy}
@@ -14,10 +14,7 @@ use Rattle.std.proofs.lemmas.Map.Keys.{below_from_sorted}
 use Rattle.std.proofs.lemmas.Slice.Eq.{bytes_eq-Decides}
 use Rattle.ftd_days.specs.Calendar.{year_of}
 use Rattle.ftd_rules.specs.Lists.{Has}
-use Rattle.ftd_csv.specs.Answers.{record_view, said_in}
-use Rattle.ftd_csv.specs.Records.{Run, Said, pay_run, malformed, numbered_from}
-use Rattle.ftd_csv.specs.declared.record.Record.{Record}
-use Rattle.ftd_csv.proofs.Numbered.{number_at}
+use Rattle.ftd_csv.specs.Records.{Run, Said, pay_run, malformed}
 use Rattle.ftd_cli.specs.Plain.{AreCounted, AtFault, NoneAtFault, RunFault, is_taken, most_runs}
 use Rattle.ftd_cli.specs.Plain.{taken, taken_run}
 use Rattle.ftd_cli.specs.Taking.{HasTaken, RefusesRecord, RefusesRun, Stops, TakesAll, TakesRecord}
@@ -294,19 +291,6 @@ taken_first account year records = record {
   same = λ run. ((λ c. c), (λ c. c));
   few = omega arith;
 }
-
-pub record_next : (records : List Record) (i : ℕ) (r : Record) → i < length records
-    → r ≡ get_or records i r
-    → map said_in (drop i records) ≡ said_in r ∷ map said_in (drop (i + 1) records)
-record_next records i r within is =
-    rw add-one (ap (λ (rs : List Record). map said_in rs) (drop-cons records i r within
-    ∙ ap (λ (x : Record). x ∷ drop (suc i) records) (sym is)))
-
-pub record_number : (records : List Record) (said : List Said) (i : ℕ) (r : Record)
-    → map record_view records ≡ numbered_from 2 said → i < length records → r ≡ get_or records i r
-    → r.number ≡ 2 + i
-record_number records said i r e within is = ap (λ (x : Record). x.number) is
-    ∙ number_at records 2 said i r e within
 
 pub taken_all : (account : List ℕ) (year : ℕ) (records : List Said) (number : ℕ)
     (entries : List (ℕ × PayRun)) → HasTaken account year records [] number entries

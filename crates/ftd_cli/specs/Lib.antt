@@ -1,3 +1,7 @@
 pub mod Faults
 pub mod Plain
 pub mod Taking
+pub use Rattle.ftd_csv.specs.Answers
+pub use Rattle.ftd_csv.specs.Places
+pub use Rattle.ftd_days.specs.Calendar
+pub use Rattle.ftd_days.specs.Holidays

@@ -1,8 +1,6 @@
 -- What the reading of a text of pay runs answers.
-use Rattle.std.specs.Prelude.{◌≡◌, ◌<◌, ◌≤◌, ℕ, List, length, map, ⊤}
-use Rattle.std.specs.String.{string_bytes}
-use Rattle.ftd_csv.specs.Records.{HasHeader, Run, Said, malformed, numbered_from, pay_run}
-use Rattle.ftd_csv.specs.Records.{records_of}
+use Rattle.std.specs.Prelude.{◌<◌, ◌≤◌, ℕ, List, length, ⊤}
+use Rattle.ftd_csv.specs.Records.{HasHeader, Run, Said, malformed, pay_run}
 use Rattle.ftd_csv.specs.declared.record.Content.{Content}
 use Rattle.ftd_csv.specs.declared.record.Content.TheVariants as content
 use Rattle.ftd_csv.specs.declared.record.EmployerRun.{EmployerRun}
@@ -13,7 +11,7 @@ use Rattle.ftd_csv.specs.declared.record.RecordFault.TheVariants as fault
 -- what the values stand for
 abbrev pub run_view : EmployerRun → Run
 run_view of_employer = record {
-  employer = string_bytes of_employer.employer;
+  employer = of_employer.employer.now;
   number = of_employer.number;
   payday = of_employer.run.payday;
   fit = of_employer.run.fit.0;
@@ -34,13 +32,6 @@ record_view r = (r.number, said_in r)
 -- the most bytes of a text, 16 MiB
 abbrev pub most_bytes : ℕ
 most_bytes = 16_777_216
-
--- these are the records of the text, which is not too long and has the header. Records are numbered
--- from 1, and the header is record 1.
-pub record AreRecords (text : List ℕ) (records : List Record) : Type 0 where
-  pub short : length text ≤ most_bytes
-  pub header : HasHeader text
-  pub all : map record_view records ≡ numbered_from 2 (records_of text)
 
 -- where each fault stands; want of memory may come at any point
 abbrev pub RecordsFail : List ℕ → RecordFault → Type 0

@@ -2,3 +2,5 @@ pub mod Fields
 pub mod Records
 pub mod Answers
 pub mod Rows
+pub mod Places
+pub use Rattle.ftd_rules.specs.Accounts

@@ -6,5 +6,5 @@ mod reading;
 mod record;
 mod rows;
 
-pub use crate::reading::{MOST_BYTES, records};
+pub use crate::reading::{MOST_BYTES, Records};
 pub use crate::record::{Content, EmployerRun, Record, RecordFault};

@@ -1,6 +1,6 @@
 //! What a record says.
 
-ghost use Rattle.std.specs.Prelude.{◌≡◌, ◌≢◌, ◌∷◌, ◌↔◌, [], IfOk, IsTrue, MatchOption, length};
+ghost use Rattle.std.specs.Prelude.{◌≡◌, ◌≢◌, ◌∷◌, ◌↔◌, [], IsTrue, MatchOption, length};
 ghost use Rattle.csv.specs.Records.{fields_of};
 ghost use Rattle.ftd_csv.specs.Answers.{content_view};
 ghost use Rattle.ftd_csv.specs.Records.{said_of, header_row};
@@ -9,14 +9,14 @@ use crate::fields::{account_name, run_number};
 use csv::ByteRecord;
 use ftd_days::{Cents, Day};
 use ftd_rules::PayRun;
-use std::alloc::{AllocError, AllocFailed, Global};
+use std::alloc::{AllocError, AllocFailed};
 use thiserror::Error;
 
 /// A pay run of an employer, as its record says it.
-#[derive(Debug, PartialEq, Eq, Drop)]
-pub struct EmployerRun {
+#[derive(Clone, Copy, Debug)]
+pub struct EmployerRun<'a> {
     /// The name of its account.
-    pub employer: String,
+    pub employer: &'a str,
     /// The number of the run, 1 to 999,999,999.
     pub number: u32,
     /// Its payday and its amounts.
@@ -25,17 +25,17 @@ pub struct EmployerRun {
 
 /// What a record says: a pay run, or its least field that is bad, counted from 1 (0 where it has
 /// other than six fields).
-#[derive(Debug, PartialEq, Eq, Drop)]
-pub enum Content {
-    PayRun(EmployerRun),
+#[derive(Clone, Copy, Debug)]
+pub enum Content<'a> {
+    PayRun(EmployerRun<'a>),
     Malformed(u8),
 }
 
 /// A record with its number. The header has number 1.
-#[derive(Debug, PartialEq, Eq, Drop)]
-pub struct Record {
+#[derive(Clone, Copy, Debug)]
+pub struct Record<'a> {
     pub number: u32,
-    pub content: Content,
+    pub content: Content<'a>,
 }
 
 /// Why a text has no records of pay runs.
@@ -113,38 +113,37 @@ pub fn is_header(row: &ByteRecord) -> bool
 
 /// What six fields say.
 #[tactic(auto, unfolding(crate::specs::Records::said_of))]
-fn read_six(
-    alloc: Global,
-    employer: &[u8],
+fn read_six<'a>(
+    employer: &'a [u8],
     number: &[u8],
     payday: &[u8],
     fit: &[u8],
     ss: &[u8],
     medicare: &[u8],
-) -> Result<Content, AllocError>
-    ensures { IfOk result (λ content. content_view content
-        ≡ said_of (employer.now ∷ number.now ∷ payday.now ∷ fit.now ∷ ss.now ∷ medicare.now ∷ [])) }
+) -> Content<'a>
+    ensures { content_view result
+        ≡ said_of (employer.now ∷ number.now ∷ payday.now ∷ fit.now ∷ ss.now ∷ medicare.now ∷ []) }
 {
     let Some(employer) = account_name(employer) else {
-        return Ok(Content::Malformed(1));
+        return Content::Malformed(1);
     };
     let Some(number) = run_number(number) else {
-        return Ok(Content::Malformed(2));
+        return Content::Malformed(2);
     };
     let Some(payday) = Day::read(payday) else {
-        return Ok(Content::Malformed(3));
+        return Content::Malformed(3);
     };
     let Some(fit) = Cents::read(fit) else {
-        return Ok(Content::Malformed(4));
+        return Content::Malformed(4);
     };
     let Some(ss) = Cents::read(ss) else {
-        return Ok(Content::Malformed(5));
+        return Content::Malformed(5);
     };
     let Some(medicare) = Cents::read(medicare) else {
-        return Ok(Content::Malformed(6));
+        return Content::Malformed(6);
     };
-    Ok(Content::PayRun(EmployerRun {
-        employer: String::from_str(alloc, employer)?,
+    Content::PayRun(EmployerRun {
+        employer,
         number,
         run: PayRun {
             payday,
@@ -152,18 +151,18 @@ fn read_six(
             ss,
             medicare,
         },
-    }))
+    })
 }
 
 /// What the row says.
 #[tactic(auto, using(crate::proofs::Said::not_six))]
-pub fn read_row(alloc: Global, row: &ByteRecord) -> Result<Content, AllocError>
-    ensures { IfOk result (λ content. content_view content ≡ said_of (fields_of row.now)) }
+pub fn read_row(row: &ByteRecord) -> Content<'_>
+    ensures { content_view result ≡ said_of (fields_of row.now) }
 {
     match six(row) {
-        None => Ok(Content::Malformed(0)),
+        None => Content::Malformed(0),
         Some((employer, number, payday, fit, ss, medicare)) => {
-            read_six(alloc, employer, number, payday, fit, ss, medicare)
+            read_six(employer, number, payday, fit, ss, medicare)
         }
     }
 }

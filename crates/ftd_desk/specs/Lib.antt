@@ -4,3 +4,12 @@ pub mod Desks
 pub mod Words
 pub mod Telling
 pub mod Books
+pub use Rattle.ftd_days.specs.Calendar
+pub use Rattle.ftd_machine.specs.Laws
+pub use Rattle.ftd_machine.specs.Limits
+pub use Rattle.ftd_machine.specs.State
+pub use Rattle.ftd_posting.specs.Repaired
+pub use Rattle.ftd_schema.specs.States
+pub use Rattle.ftd_store.specs.Finds
+pub use Rattle.ftd_store.specs.Frame
+pub use Rattle.ftd_store.specs.Seen

@@ -13,7 +13,7 @@ use Rattle.ftd_machine.specs.Runs.{Goes, IsRun}
 use Rattle.ftd_machine.specs.Laws.{is_change}
 use Rattle.ftd_machine.specs.declared.replies.Refusal.TheVariants.{Memory, Store}
 use Rattle.ftd_machine.specs.declared.requests.Request.{Request}
-use Rattle.ftd_sql.specs.States.{CrashKeeps}
+use Rattle.ftd_schema.specs.States.{CrashKeeps}
 use Rattle.ftd_store.specs.Ends.{CrashLeaves}
 use Rattle.ftd_machine.specs.Sound.{IsSound}
 use Rattle.ftd_schema.specs.Standing.{Tables, Stands}

@@ -5,7 +5,7 @@ ghost use Rattle.ftd_store.specs.Seen.{seen};
 ghost use Rattle.ftd_machine.specs.Limits.{IsBounded};
 ghost use Rattle.ftd_machine.specs.State.{State};
 ghost use Rattle.ftd_desk.specs.Desks.{store_of, IsStopped, held, Rests, Keeps};
-ghost use Rattle.ftd_sql.specs.States.{CrashKeeps};
+ghost use Rattle.ftd_schema.specs.States.{CrashKeeps};
 ghost use Rattle.ftd_desk.specs.Words.{AreAnswers, Handles, RepairsRows, HandlesAll};
 ghost use Rattle.ftd_desk.specs.Words.{HandlesTogether, listed};
 

@@ -1,22 +1,18 @@
 //! Rows that were changed under the desk: a repair reads and writes the rows of its windows alone.
 
-use crate::desks::{answers, desk};
+use crate::asking::{answers, ask};
+use crate::desks::{ASH, desk, desk_over};
 use ftd_desk::Desk;
-use ftd_lines::{ask, desk_over};
 use sqlite::{Connection, MemStore};
 use std::alloc::Global;
 use std::test::Fail;
 
-/// The account ash, whose year 2024 is open.
-const ASH: [&str; 4] = [
-    "calendar 2024 2024-05-27 2024-06-19 2024-07-04 2024-09-02",
-    "calendar 2025",
-    "enrol ash 2024-01-01",
-    "open ash 2024",
-];
-
 /// The desk again, after the statement changed its rows.
-fn changed(alloc: Global, desk: Desk<MemStore>, statement: &str) -> Result<Desk<MemStore>, Fail> {
+pub(crate) fn changed(
+    alloc: Global,
+    desk: Desk<MemStore>,
+    statement: &str,
+) -> Result<Desk<MemStore>, Fail> {
     let mut conn: Connection<MemStore> = desk.into_store().close();
     conn.execute(statement, &[])?;
     Ok(desk_over(alloc, conn)?)
@@ -26,17 +22,22 @@ fn changed(alloc: Global, desk: Desk<MemStore>, statement: &str) -> Result<Desk<
 fn a_row_outside_the_windows_stays(rt: HostRuntime) -> Result<(), Fail> {
     let alloc = rt.alloc();
     let mut desk = desk(alloc, &ASH)?;
-    let _posted = ask(alloc, &mut desk, "post ash 1 2024-05-08 1000.00")?;
+    let _posted = ask(alloc, &mut desk, "post ash 1 2024-05-08 1000.00 0 0")?;
     let mut desk = changed(alloc, desk, "UPDATE bucket SET cents = 100")?;
     answers(
         &rt,
         alloc,
         &mut desk,
         &[
-            ("post ash 2 2024-07-05 1.00", "2024-07-01..2024-07-31 -0 +1"),
             (
-                "owed ash 2024Q2 2024-06-01",
-                "2024-05-01 2024-05-31 monthly 1.00 2024-06-17; ",
+                "post ash 2 2024-07-05 1.00 0 0",
+                "posted 2024-07-01 2024-07-31 removed 0 added 1",
+            ),
+            (
+                "due ash 2024Q2 2024-06-01",
+                "DUE LIST ash 2024Q2 AS OF 2024-06-01\n\
+2024-05-01 2024-05-31 monthly                 1.00 2024-06-17 2024-07-31              0.00 with-return\n\
+TOTAL                                         1.00",
             ),
         ],
     )
@@ -52,10 +53,15 @@ fn a_repair_goes_by_the_lines_of_the_years(rt: HostRuntime) -> Result<(), Fail> 
         alloc,
         &mut desk,
         &[
-            ("post ash 1 2024-05-08 1.00", "2024-05-08..2024-05-10 -0 +1"),
             (
-                "owed ash 2024Q2 2024-06-01",
-                "2024-05-08 2024-05-10 semiweekly 1.00 2024-05-15; ",
+                "post ash 1 2024-05-08 1.00 0 0",
+                "posted 2024-05-08 2024-05-10 removed 0 added 1",
+            ),
+            (
+                "due ash 2024Q2 2024-06-01",
+                "DUE LIST ash 2024Q2 AS OF 2024-06-01\n\
+2024-05-08 2024-05-10 semiweekly              1.00 2024-05-15 2024-06-20              0.00 with-return\n\
+TOTAL                                         1.00",
             ),
         ],
     )

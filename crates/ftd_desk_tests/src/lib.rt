@@ -1,25 +1,24 @@
-//! Worked examples of the desk, through its public calls.
+//! Tests of the desk, of imports and of `serve`: what texts of examples can't say, since a socket, a
+//! reader or a writer fails, or rows were made or changed under the desk.
 #![tactic(auto)]
 
 #[cfg(test)]
-mod accounts;
-#[cfg(test)]
-mod added;
-#[cfg(test)]
-mod annual;
+mod asking;
 #[cfg(test)]
 mod changed;
 #[cfg(test)]
-mod deposits;
-#[cfg(test)]
 mod desks;
 #[cfg(test)]
-mod limits;
+mod exchanges;
 #[cfg(test)]
-mod questions;
+mod faults;
 #[cfg(test)]
-mod stopped;
+mod peers;
 #[cfg(test)]
-mod telling;
+mod progress;
 #[cfg(test)]
-mod together;
+mod sockets;
+#[cfg(test)]
+mod tables;
+#[cfg(test)]
+mod taker;

@@ -20,8 +20,8 @@ use Rattle.ftd_rules.proofs.Rising.{sorted_is, next_do_not_fall}
 use Rattle.ftd_schema.specs.declared.TableName.TheVariants.{Holidays}
 use Rattle.ftd_schema.specs.Rows.{HolidayRow, CalendarYearRow}
 use Rattle.ftd_schema.specs.Standing.{Tables}
-use Rattle.ftd_sql.specs.Orders.{HolidaysRise}
-use Rattle.ftd_sql.specs.Tests.{is_calendar_year, is_holiday_of}
+use Rattle.ftd_schema.specs.Orders.{HolidaysRise}
+use Rattle.ftd_schema.specs.Tests.{is_calendar_year, is_holiday_of}
 use Rattle.ftd_rows.specs.Lists.{Pairs, Lists}
 use Rattle.ftd_rows.specs.Rows.{calendar_year_row, holiday_row}
 use Rattle.ftd_rows.proofs.Found.{both}

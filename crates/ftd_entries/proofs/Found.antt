@@ -7,7 +7,7 @@ use Rattle.ftd_rules.specs.declared.Form.{Form}
 use Rattle.ftd_rules.specs.declared.Form.TheVariants.{F941, F943}
 use Rattle.ftd_schema.specs.Rows.{AccountRow, FormRow}
 use Rattle.ftd_schema.specs.Standing.{Tables}
-use Rattle.ftd_sql.specs.Tests.{is_account, is_form_of}
+use Rattle.ftd_schema.specs.Tests.{is_account, is_form_of}
 use Rattle.ftd_rows.specs.declared.accounts.Account.{Account as StoredAccount}
 use Rattle.ftd_rows.specs.Cells.{day_number, flag_number, form_number}
 use Rattle.ftd_rows.specs.Rows.{account_row, form_row}

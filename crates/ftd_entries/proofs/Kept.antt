@@ -12,8 +12,8 @@ use Rattle.ftd_rules.specs.declared.run.PayRun.{PayRun}
 use Rattle.ftd_rules.specs.declared.run.Voidable.{Voidable}
 use Rattle.ftd_schema.specs.Rows.{ReportedQuarterRow, ReportedYearRow, RunRow, PaymentRow}
 use Rattle.ftd_schema.specs.Standing.{Tables}
-use Rattle.ftd_sql.specs.Tests.{is_reported, is_reported_year, is_run, is_run_of, is_payment}
-use Rattle.ftd_sql.specs.Tests.{is_payment_of}
+use Rattle.ftd_schema.specs.Tests.{is_reported, is_reported_year, is_run, is_run_of, is_payment}
+use Rattle.ftd_schema.specs.Tests.{is_payment_of}
 use Rattle.ftd_rows.specs.Rows.{reported_row, reported_year_row, run_row, payment_row}
 use Rattle.ftd_rows.specs.Reading.{rows_of}
 use Rattle.ftd_store.specs.Finds.{FindsReported, FindsReportedYear, FindsRun, FindsPayment}

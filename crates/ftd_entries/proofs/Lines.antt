@@ -12,7 +12,7 @@ use Rattle.ftd_rules.proofs.Rising.{sorted_is, next_do_not_fall}
 use Rattle.ftd_rules.proofs.Schedules.{years_within}
 use Rattle.ftd_schema.specs.Rows.{AccountRow, YearRow}
 use Rattle.ftd_schema.specs.Standing.{Tables}
-use Rattle.ftd_sql.specs.Tests.{is_account}
+use Rattle.ftd_schema.specs.Tests.{is_account}
 use Rattle.ftd_rows.specs.declared.accounts.Account.{Account as StoredAccount}
 use Rattle.ftd_rows.specs.Cells.{day_number, schedule_number}
 use Rattle.ftd_rows.specs.Lists.{Pairs}

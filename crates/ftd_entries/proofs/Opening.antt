@@ -33,7 +33,7 @@ use Rattle.ftd_rules.proofs.Rising.{has_permuted}
 use Rattle.ftd_schema.specs.declared.TableName.TheVariants.{Years}
 use Rattle.ftd_schema.specs.Rows.{YearRow}
 use Rattle.ftd_schema.specs.Standing.{Tables}
-use Rattle.ftd_sql.specs.Tests.{is_year, is_year_of}
+use Rattle.ftd_schema.specs.Tests.{is_year, is_year_of}
 use Rattle.ftd_rows.specs.Rows.{year_row}
 use Rattle.ftd_rows.proofs.Found.{both}
 use Rattle.ftd_store.specs.Changes.{with_year, put_among}

@@ -10,7 +10,7 @@ use Rattle.ftd_rules.specs.declared.run.Voidable.{Voidable}
 use Rattle.ftd_schema.specs.declared.TableName.TheVariants.{Payments}
 use Rattle.ftd_schema.specs.Rows.{PaymentRow}
 use Rattle.ftd_schema.specs.Standing.{Tables, with_rows}
-use Rattle.ftd_sql.specs.Tests.{is_payment, voided_payment}
+use Rattle.ftd_schema.specs.Tests.{is_payment, voided_payment}
 use Rattle.ftd_tables.specs.Kept.{changed}
 use Rattle.ftd_store.specs.Changes.{with_payment, with_void_payment}
 use Rattle.ftd_store.specs.Finds.{FindsPayment, CountsPayments}

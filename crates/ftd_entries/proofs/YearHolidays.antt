@@ -20,7 +20,7 @@ use Rattle.ftd_rules.proofs.Rising.{has_all}
 use Rattle.ftd_schema.specs.declared.TableName.TheVariants.{AddedHolidays}
 use Rattle.ftd_schema.specs.Rows.{HolidayRow}
 use Rattle.ftd_schema.specs.Standing.{Tables}
-use Rattle.ftd_sql.specs.Tests.{is_holiday_of}
+use Rattle.ftd_schema.specs.Tests.{is_holiday_of}
 use Rattle.ftd_rows.specs.Cells.{day_number}
 use Rattle.ftd_rows.specs.Lists.{Pairs}
 use Rattle.ftd_rows.proofs.Found.{both}

@@ -18,7 +18,7 @@ use Rattle.ftd_schema.specs.declared.TableName.TheVariants.{ReportedYears, Added
 use Rattle.ftd_schema.specs.Rows.{AccountRow, FormRow, ReportedQuarterRow, ReportedYearRow}
 use Rattle.ftd_schema.specs.Rows.{CalendarYearRow, HolidayRow, RunRow, PaymentRow, ObligationRow}
 use Rattle.ftd_schema.specs.Standing.{Tables}
-use Rattle.ftd_sql.specs.Tests.{is_year_of}
+use Rattle.ftd_schema.specs.Tests.{is_year_of}
 use Rattle.ftd_rows.specs.Rows.{account_row, form_row, reported_row, reported_year_row}
 use Rattle.ftd_rows.specs.Rows.{calendar_year_row, holiday_row, year_row, run_row, payment_row}
 use Rattle.ftd_rows.specs.Rows.{obligation_row}

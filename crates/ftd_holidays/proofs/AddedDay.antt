@@ -23,7 +23,7 @@ use Rattle.ftd_schema.specs.declared.TableName.TheVariants.{Payments, Obligation
 use Rattle.ftd_schema.specs.declared.TableName.TheVariants.{ReportedYears, AddedHolidays}
 use Rattle.ftd_schema.specs.Rows.{YearRow}
 use Rattle.ftd_schema.specs.Standing.{Tables}
-use Rattle.ftd_sql.specs.Tests.{is_year_of}
+use Rattle.ftd_schema.specs.Tests.{is_year_of}
 use Rattle.ftd_rows.specs.Rows.{year_row, holiday_row}
 use Rattle.ftd_store.specs.Finds.{FindsCalendar, ListsAdded}
 use Rattle.ftd_machine.specs.declared.requests.Request.{Request}

@@ -20,8 +20,8 @@ use Rattle.ftd_rules.proofs.Cuts.{lt_or_le}
 use Rattle.ftd_rules.proofs.DueDates.{due_some}
 use Rattle.ftd_rules.proofs.Rising.{has_permuted}
 use Rattle.ftd_schema.specs.Rows.{ObligationRow}
-use Rattle.ftd_sql.specs.Orders.{AccountsRise}
-use Rattle.ftd_sql.specs.Tests.{is_due_over, with_due}
+use Rattle.ftd_schema.specs.Orders.{AccountsRise}
+use Rattle.ftd_schema.specs.Tests.{is_due_over, with_due}
 use Rattle.ftd_rows.specs.declared.obligations.AccountObligation.{AccountObligation}
 use Rattle.ftd_rows.specs.Cells.{day_number, rule_number}
 use Rattle.ftd_rows.specs.Lists.{Pairs, Lists}

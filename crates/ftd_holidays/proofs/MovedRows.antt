@@ -1,14 +1,13 @@
 -- Rows of obligations whose due dates are moved one after the other.
-use Rattle.std.proofs.Common.{◌≡◌, ℕ, ◌+◌, ◌<◌, Bool, true, false, List, [], ◌∷◌, map, take, length}
+use Rattle.std.proofs.Common.{◌≡◌, ℕ, ◌+◌, ◌<◌, true, false, List, [], ◌∷◌, map, take, length}
 use Rattle.std.proofs.Common.{get_or, inl, inr, refl, sym, ap, ◌∙◌, subst}
-use Rattle.std.specs.Prelude.{◌==◌, not, string_bytes}
+use Rattle.std.specs.Prelude.{string_bytes}
 use Rattle.std.proofs.lemmas.Bool.{true≢false, cases_Bool}
-use Rattle.ftd_days.proofs.Years.{eq_not, same_or_not}
 use Rattle.ftd_schema.specs.declared.TableName.{TableName}
 use Rattle.ftd_schema.specs.declared.TableName.TheVariants.{Obligations}
 use Rattle.ftd_schema.specs.Rows.{ObligationRow}
 use Rattle.ftd_schema.specs.Standing.{Tables, with_rows}
-use Rattle.ftd_sql.specs.Tests.{with_due}
+use Rattle.ftd_schema.specs.Tests.{with_due}
 use Rattle.ftd_tables.specs.Kept.{changed}
 use Rattle.ftd_rows.specs.declared.obligations.AccountObligation.{AccountObligation}
 use Rattle.ftd_rows.specs.Cells.{day_number}
@@ -16,14 +15,6 @@ use Rattle.ftd_rows.specs.Lists.{Pairs}
 use Rattle.ftd_store.specs.Changes.{with_due_date}
 use Rattle.ftd_store.proofs.Items.{has_more, has_still, has_now}
 use Rattle.ftd_holidays.specs.Moved.{is_row_of, IsDueThen, IsMoved, IsAfter, MovesDue}
-
--- days that a test finds not to differ
-pub same_where : (a b : ℕ) (differ : Bool) → differ ≡ not (a == b) → differ ≡ false → a ≡ b
-same_where a b differ is off =
-    elim (same_or_not a b) [
-      | inl same ↦ same
-      | inr apart ↦ absurd (true≢false (sym (is ∙ ap not (eq_not a b apart)) ∙ off))
-    ]
 
 -- ---- tables
 

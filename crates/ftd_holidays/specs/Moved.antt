@@ -7,7 +7,7 @@ use Rattle.ftd_schema.specs.declared.TableName.{TableName}
 use Rattle.ftd_schema.specs.declared.TableName.TheVariants.{Obligations}
 use Rattle.ftd_schema.specs.Rows.{ObligationRow}
 use Rattle.ftd_schema.specs.Standing.{Tables, with_rows}
-use Rattle.ftd_sql.specs.Tests.{is_obligation, with_due}
+use Rattle.ftd_schema.specs.Tests.{is_obligation, with_due}
 use Rattle.ftd_rows.specs.declared.obligations.AccountObligation.{AccountObligation}
 use Rattle.ftd_rows.specs.Cells.{day_number}
 use Rattle.ftd_rows.specs.Lists.{Pairs}

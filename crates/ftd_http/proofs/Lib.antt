@@ -1,2 +1,3 @@
 pub mod ServeFacts
 pub mod TableFacts
+pub mod ListeningFacts

@@ -3,3 +3,13 @@ pub mod Refusals
 pub mod Replying
 pub mod Serving
 pub mod Tables
+pub mod Listening
+pub use Rattle.ftd_desk.specs.Desks
+pub use Rattle.ftd_desk.specs.Words
+pub use Rattle.ftd_machine.specs.Checks
+pub use Rattle.ftd_messages.specs.Looks
+pub use Rattle.ftd_messages.specs.Messages
+pub use Rattle.ftd_ports.specs.Writing
+pub use Rattle.ftd_reports.specs.DueLists
+pub use Rattle.ftd_reports.specs.SchedulesB
+pub use Rattle.ftd_routes.specs.Routes

@@ -1,14 +1,12 @@
 -- Records posted in lists.
-use Rattle.std.proofs.Common.{◌≡◌, ◌⊎◌, refl, sym, ap, subst, ◌∙◌, ◌+◌, ◌<◌, ◌≤◌, inl, inr, arith}
+use Rattle.std.proofs.Common.{◌≡◌, ◌⊎◌, refl, sym, ap, subst, ◌∙◌, ◌<◌, ◌≤◌, inl, inr, arith}
 use Rattle.std.proofs.Common.{rules, Bool, true, false, ℕ, List, [], ◌∷◌, ◌++◌, length, map, Option}
 use Rattle.std.proofs.Common.{Some, None, Result, Ok, Err, length-append}
 use Rattle.std.specs.List.{cons_option, filter_map, list_any}
 use Rattle.std.specs.Prelude.{MatchResult, ◌||◌}
-use Rattle.std.proofs.lemmas.List.{append_assoc, append-nil, length-map, map-append}
+use Rattle.std.proofs.lemmas.List.{append_assoc, append-nil}
 use Rattle.std.proofs.lemmas.List.Elements.{filter_map-append}
 use Rattle.sqlite.specs.State.{Survives}
-use Rattle.ftd_csv.specs.Answers.{record_view}
-use Rattle.ftd_csv.specs.declared.record.Record.{Record}
 use Rattle.ftd_csv.specs.Records.{Said}
 use Rattle.ftd_machine.specs.State.{State}
 use Rattle.ftd_machine.specs.Checks.{Answer}
@@ -24,6 +22,7 @@ use Rattle.ftd_import.specs.Outcomes.{posts_of, record_in, request_in, skipped}
 use Rattle.ftd_import.specs.Imports.{AreOutcomes, Asks, HandlesOrLeaves, Posts, PostsNone, StopsIn}
 use Rattle.ftd_import.specs.Imports.{StopsWithin, most_together}
 use Rattle.ftd_import.specs.declared.summary.StopCause.{StopCause}
+use Rattle.ftd_import.specs.declared.summary.StopCause.TheVariants as cause
 use Rattle.ftd_import.specs.declared.summary.Summary.{Summary}
 use Rattle.ftd_import.proofs.Together.{all_again, all_together, either_after, none_together}
 use Rattle.ftd_import.proofs.Together.{some_again}
@@ -185,24 +184,6 @@ list_again failed later a b c rs p q r (Err why) short stays none same stops =
     stops_again failed later a b c rs p q r why short stays none same stops
 
 -- ---- lists of records
--- the records are those that were passed, the next list and those after it
-pub next_list : (xs rest list later : List Record) (passed : List (ℕ × Said))
-    → map record_view xs ≡ passed ++ map record_view rest → rest ≡ list ++ later
-    → map record_view xs ≡ passed ++ (map record_view list ++ map record_view later)
-next_list xs rest list later passed split parts = split
-    ∙ ap (λ (z : List Record). passed ++ map record_view z) parts
-    ∙ ap (λ (z : List (ℕ × Said)). passed ++ z) (map-append record_view list later)
-
-pub list_fits : (xs list later : List Record) (passed : List (ℕ × Said))
-    → map record_view xs ≡ passed ++ (map record_view list ++ map record_view later)
-    → length passed + length list ≤ length xs
-list_fits xs list later passed split =
-    let whole = sym (length-map xs record_view) ∙ ap length split
-    ∙ length-append passed (map record_view list ++ map record_view later) in
-    let next = length-append (map record_view list) (map record_view later) in
-    let listed = length-map list record_view in
-    omega arith
-
 regroup : (pre passed : List (ℕ × Said)) (at : ℕ × Said) (others more : List (ℕ × Said))
     → pre ++ ((passed ++ at ∷ others) ++ more) ≡ (pre ++ passed) ++ at ∷ (others ++ more)
 regroup pre passed at others more = simp append_assoc
@@ -284,6 +265,25 @@ stops_later failed a b c pre list more all p q r why split posts stops = record 
     together : (posts.outcomes ++ stops.outcomes) ++ stops.last ≡ posts.outcomes
         ++ (stops.outcomes ++ stops.last)
     together = append_assoc posts.outcomes stops.outcomes stops.last
+
+-- some lists were posted, and there was no memory to read the next
+pub stops_unread : (failed : Type 0) (a b : Held) (pre left all : List (ℕ × Said)) (p q : Summary)
+    → all ≡ pre ++ left → 0 < length left → Posts a b pre p q
+    → StopsWithin failed a b all (λ outcomes. Counts p outcomes q) cause.Memory
+stops_unread failed a b pre [] all p q split some posts = absurd (omega arith)
+stops_unread failed a b pre (at ∷ others) all p q split some posts = record {
+  passed = pre;
+  at = at;
+  others = others;
+  split = split;
+  outcomes = posts.outcomes;
+  are = posts.are;
+  told = posts.counts;
+  last = [];
+  stop = inl (refl, refl);
+  asks = inl (subst (λ (xs : List Outcome). Asks a b xs) (sym (append-nil posts.outcomes))
+      posts.asks);
+}
 
 -- ---- the whole text
 pub stops_told : (failed later : Type 0) (a b : Held) (rs : List (ℕ × Said)) (p q : Summary)

@@ -1,21 +1,20 @@
 -- Records that are counted with the answers to their posts.
-use Rattle.std.proofs.Common.{◌≡◌, refl, sym, ap, subst, ◌∙◌, ◌+◌, ◌<◌, suc, add-one, ℕ, List, []}
-use Rattle.std.proofs.Common.{◌∷◌, ◌++◌, length, map, take, drop, get_or, drop-cons}
-use Rattle.std.specs.List.{filter_map}
-use Rattle.std.proofs.lemmas.List.{append_assoc, append-nil, map-append}
+use Rattle.std.proofs.Common.{◌≡◌, refl, sym, ap, subst, ◌∙◌, ◌+◌, ◌<◌, ◌≤◌, suc, add-one, ℕ, List, []}
+use Rattle.std.proofs.Common.{◌∷◌, ◌++◌, length, map, take, drop, get_or, drop-cons, Some, None}
+use Rattle.std.proofs.Common.{arith}
+use Rattle.std.specs.List.{filter, filter_map}
+use Rattle.std.proofs.lemmas.List.{append_assoc, append-nil, drop_all, length-map, map-append}
+use Rattle.std.proofs.lemmas.List.{take_all}
 use Rattle.std.proofs.lemmas.List.Elements.{filter_map-append}
-use Rattle.ftd_csv.specs.Answers.{content_view, record_view, run_view}
-use Rattle.ftd_csv.specs.declared.record.Content.{Content}
-use Rattle.ftd_csv.specs.declared.record.Content.TheVariants.{Malformed, PayRun}
-use Rattle.ftd_csv.specs.declared.record.EmployerRun.{EmployerRun}
-use Rattle.ftd_csv.specs.declared.record.Record.{Record}
 use Rattle.ftd_csv.specs.Records.{Run, Said, malformed, pay_run}
 use Rattle.ftd_machine.specs.Checks.{Answer}
-use Rattle.ftd_machine.specs.declared.requests.Request.{Request}
-use Rattle.ftd_import.specs.Outcomes.{Counts, CountsAnswers, Outcome, answer_in, post_in, post_of}
-use Rattle.ftd_import.specs.Outcomes.{posted, posts_of, record_in, skipped}
+use Rattle.ftd_import.specs.Lists.{has_post, kept_of}
+use Rattle.ftd_import.specs.Outcomes.{Counts, CountsAnswers, Outcome, answer_in, posted, record_in}
+use Rattle.ftd_import.specs.Outcomes.{skipped}
+use Rattle.ftd_import.specs.declared.reading.Place.{Place}
 use Rattle.ftd_import.specs.declared.summary.Summary.{Summary}
-use Rattle.ftd_import.proofs.Outcomes.{counts_then, record_more, same}
+use Rattle.ftd_import.proofs.Places.{IsNext, is_malformed, is_run}
+use Rattle.ftd_import.proofs.Outcomes.{counts_then, same}
 
 -- some records were counted, and these answers are left
 pub record CountsSome (before : Summary) (passed : List (ℕ × Said)) (answers left : List Answer)
@@ -68,81 +67,59 @@ all_counted p q rs answers some = record {
   counts = some.counts;
 }
 
--- the records from one on are it and those after it
-pub record_rest : (xs : List Record) (i : ℕ) (x : Record) → i < length xs → x ≡ get_or xs i x
-    → map record_view (drop i xs) ≡ record_view x ∷ map record_view (drop (i + 1) xs)
-record_rest xs i x h is =
-    let on : drop i xs ≡ x ∷ drop (i + 1) xs =
-    rw add-one (drop-cons xs i x h ∙ ap (λ (z : Record). z ∷ drop (suc i) xs) (sym is)) in
-    ap (λ (z : List Record). map record_view z) on
-
--- what a record says by its content
-abbrev pub view_as : ℕ → Content → ℕ × Said
-view_as number said = (number, content_view said)
-
-module _ (xs : List Record) (i : ℕ) (x : Record) (here : i < length xs)
-    (is : x ≡ get_or xs i x) where
-  more_as : (said : Content) → x.content ≡ said → map record_view (take (i + 1) xs)
-      ≡ map record_view (take i xs) ++ view_as x.number said ∷ []
-  more_as said content = record_more xs i x here is
-      ∙ ap (λ (c : Content). map record_view (take i xs) ++ view_as x.number c ∷ []) content
-
-  rest_as : (said : Content) → x.content ≡ said → map record_view (drop i xs) ≡ view_as x.number
-      said ∷ map record_view (drop (i + 1) xs)
-  rest_as said content = record_rest xs i x here is
-      ∙ ap (λ (c : Content). view_as x.number c ∷ map record_view (drop (i + 1) xs)) content
-
-  -- ---- posts
-  pub posts_run : (run : EmployerRun) → x.content ≡ PayRun run
-      → posts_of (map record_view (take (i + 1) xs)) ≡ posts_of (map record_view (take i xs))
-      ++ post_of (run_view run) ∷ []
-  posts_run run content = ap posts_of (more_as (PayRun run) content) ∙ filter_map-append post_in
-      (map record_view (take i xs)) (view_as x.number (PayRun run) ∷ [])
-
-  no_post : (said : Content) → ((run : EmployerRun) → said ≡ PayRun run → ⊥)
-      → posts_of (view_as x.number said ∷ []) ≡ []
-  no_post (PayRun run) other = absurd (other run refl)
-  no_post (Malformed field) other = refl
-
-  pub posts_none : ((run : EmployerRun) → x.content ≡ PayRun run → ⊥)
-      → posts_of (map record_view (take (i + 1) xs)) ≡ posts_of (map record_view (take i xs))
-  posts_none other =
-      ap posts_of (more_as x.content refl) ∙ filter_map-append post_in (map record_view (take i xs))
-      (view_as x.number x.content ∷ [])
-      ∙ ap (λ (z : List Request). posts_of (map record_view (take i xs)) ++ z)
-      (no_post x.content other)
-      ∙ append-nil (posts_of (map record_view (take i xs)))
-
-  -- ---- answers
-  pub skipped_more : (field : ℕ) → x.content ≡ Malformed field
+module _ (records : List (ℕ × Said)) (i : ℕ) (place : Place) (next : IsNext records i place) where
+  pub skipped_more : (field : ℕ) → place.malformed ≡ Some field
       → (p q r : Summary) (answers left : List Answer)
-      → CountsSome p (map record_view (take i xs)) answers left q
-      → Counts q (skipped x.number field ∷ []) r
-      → CountsSome p (map record_view (take (i + 1) xs)) answers left r
-  skipped_more field content p q r answers left some counts =
+      → CountsSome p (take i records) answers left q
+      → Counts q (skipped place.number field ∷ []) r
+      → CountsSome p (take (i + 1) records) answers left r
+  skipped_more field bad p q r answers left some counts =
       subst (λ (rs : List (ℕ × Said)). CountsSome p rs answers left r)
-      (sym (more_as (Malformed field) content))
-      (some_skipped p q r (map record_view (take i xs)) answers left x.number field some counts)
+      (sym (next.more ∙ ap (λ (at : ℕ × Said). take i records ++ at ∷ [])
+      (is_malformed next.at place field next.kept bad)))
+      (some_skipped p q r (take i records) answers left place.number field some counts)
 
-  pub posted_more : (run : EmployerRun) → x.content ≡ PayRun run
+  pub posted_more : place.malformed ≡ None
       → (p q r : Summary) (answers left later : List Answer) (answer : Answer)
-      → CountsSome p (map record_view (take i xs)) answers left q → left ≡ answer ∷ later
-      → Counts q (posted x.number (run_view run) answer ∷ []) r
-      → CountsSome p (map record_view (take (i + 1) xs)) answers later r
-  posted_more run content p q r answers left later answer some first counts =
+      → CountsSome p (take i records) answers left q → left ≡ answer ∷ later
+      → ((run : Run) → Counts q (posted place.number run answer ∷ []) r)
+      → CountsSome p (take (i + 1) records) answers later r
+  posted_more none p q r answers left later answer some first counts =
+      let (run, at) = is_run next.at place next.kept none in
       subst (λ (rs : List (ℕ × Said)). CountsSome p rs answers later r)
-      (sym (more_as (PayRun run) content))
-      (some_posted p q r (map record_view (take i xs)) answers left later x.number
-      (run_view run) answer some first counts)
+      (sym (next.more ∙ ap (λ (x : ℕ × Said). take i records ++ x ∷ []) at))
+      (some_posted p q r (take i records) answers left later place.number run answer some first
+      (counts run))
 
-  pub left_same : (field : ℕ) → x.content ≡ Malformed field
-      → length (posts_of (map record_view (drop i xs))) ≡ length
-      (posts_of (map record_view (drop (i + 1) xs)))
-  left_same field content = ap (λ (rs : List (ℕ × Said)). length (posts_of rs))
-      (rest_as (Malformed field) content)
+-- ---- the answers that are left are as many as the posts that are left
+module _ (places : List Place) (i : ℕ) (default : Place) (here : i < length places) where
+  place_rest : drop i places ≡ get_or places i default ∷ drop (i + 1) places
+  place_rest = rw add-one (drop-cons places i default here)
 
-  pub left_less : (run : EmployerRun) → x.content ≡ PayRun run
-      → length (posts_of (map record_view (drop i xs))) ≡ suc
-      (length (posts_of (map record_view (drop (i + 1) xs))))
-  left_less run content = ap (λ (rs : List (ℕ × Said)). length (posts_of rs))
-      (rest_as (PayRun run) content)
+  pub left_same : (field : ℕ) → (get_or places i default).malformed ≡ Some field
+      → length (filter has_post (drop i places)) ≡ length (filter has_post (drop (i + 1) places))
+  left_same field bad = rw (place_rest, bad) refl
+
+  pub left_less : (get_or places i default).malformed ≡ None
+      → length (filter has_post (drop i places)) ≡ suc
+      (length (filter has_post (drop (i + 1) places)))
+  left_less none = rw (place_rest, none) refl
+
+pub nothing : {X : Type 0} (xs : List X) → length xs ≤ 0 → xs ≡ []
+nothing [] none = refl
+nothing (x ∷ xs) none = absurd (omega arith)
+
+-- every record was counted
+pub counted_all : (records : List (ℕ × Said)) (places : List Place) (i : ℕ) (p q : Summary)
+    (answers left : List Answer) → places ≡ map kept_of records → length places ≤ i
+    → length left ≡ length (filter has_post (drop i places))
+    → CountsSome p (take i records) answers left q → CountsAnswers p records answers q
+counted_all records places i p q answers left are end count some =
+    let long = ap length are ∙ length-map records kept_of in
+    let none : drop i places ≡ [] = drop_all i places end in
+    let last : length left ≡ length (filter has_post []) = rw none at count in
+    let no_answer : left ≡ [] = nothing left (omega arith) in
+    let all : take i records ≡ records = take_all i records (omega arith) in
+    all_counted p q records answers
+    (subst (λ (rs : List (ℕ × Said)). CountsSome p rs answers [] q) all
+    (subst (λ (ls : List Answer). CountsSome p (take i records) answers ls q) no_answer some))

@@ -1,6 +1,7 @@
 pub mod Again
 pub mod Counting
 pub mod Joining
+pub mod Places
 pub mod Texts
 pub mod Together
 pub mod Outcomes

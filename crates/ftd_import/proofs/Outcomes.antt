@@ -1,13 +1,10 @@
 -- Outcomes of records, one after the other.
-use Rattle.std.proofs.Common.{◌≡◌, refl, sym, ap, subst, ◌∙◌, ◌+◌, ◌<◌, inl, inr, arith, suc}
-use Rattle.std.proofs.Common.{add-one, Bool, ℕ, List, [], ◌∷◌, ◌++◌, length, map, take, drop}
-use Rattle.std.proofs.Common.{get_or, drop-cons, Some, None, length-append}
+use Rattle.std.proofs.Common.{◌≡◌, refl, sym, ap, subst, ◌∙◌, ◌+◌, inl, inr, arith}
+use Rattle.std.proofs.Common.{Bool, ℕ, List, [], ◌∷◌, ◌++◌, length, map}
+use Rattle.std.proofs.Common.{Some, None, length-append}
 use Rattle.std.specs.List.{filter, filter_map}
-use Rattle.std.proofs.lemmas.List.{append_assoc, append-nil, map-append, take-append-drop}
-use Rattle.std.proofs.lemmas.List.{take_more}
+use Rattle.std.proofs.lemmas.List.{append_assoc, append-nil, map-append}
 use Rattle.std.proofs.lemmas.List.Elements.{filter-append, filter_map-append}
-use Rattle.ftd_csv.specs.Answers.{record_view}
-use Rattle.ftd_csv.specs.declared.record.Record.{Record}
 use Rattle.ftd_csv.specs.Records.{Run, Said, pay_run, malformed}
 use Rattle.ftd_machine.specs.Checks.{Answer}
 use Rattle.ftd_desk.specs.Desks.{Held}
@@ -122,6 +119,15 @@ posts_then a b c rs ss p q r first second = record {
   asks = asks_then a b c first.outcomes second.outcomes first.asks second.asks;
 }
 
+pub posts_same : (a b : Held) (rs : List (ℕ × Said)) (p q r : Summary) → IsSame p q
+    → Posts a b rs q r → Posts a b rs p r
+posts_same a b rs p q r same posts = record {
+  outcomes = posts.outcomes;
+  are = posts.are;
+  counts = counts_then p q r [] posts.outcomes same posts.counts;
+  asks = posts.asks;
+}
+
 -- a pay run that was answered
 pub posts_one : (a b : Held) (number : ℕ) (run : Run) (answer : Answer) (p q : Summary)
     → Handles a b (post_of run) answer → fault_of answer ≡ None
@@ -174,21 +180,3 @@ posts_stop a b c rs at others all p q r why split posts stops keeps = record {
   stop = stops.stop;
   asks = asks_then a b c posts.outcomes stops.last posts.asks stops.asks;
 }
-
--- ---- the records from one on are it and those after it
-pub record_split : (xs : List Record) (i : ℕ) (x : Record) → i < length xs → x ≡ get_or xs i x
-    → map record_view xs ≡ map record_view (take i xs) ++ record_view x ∷ map record_view
-    (drop (i + 1) xs)
-record_split xs i x h is =
-    let on : drop i xs ≡ x ∷ drop (i + 1) xs =
-    rw add-one (drop-cons xs i x h ∙ ap (λ (z : Record). z ∷ drop (suc i) xs) (sym is)) in
-    ap (λ (z : List Record). map record_view z) (sym (take-append-drop i xs))
-    ∙ map-append record_view (take i xs) (drop i xs)
-    ∙ ap (λ (z : List Record). map record_view (take i xs) ++ map record_view z) on
-
-pub record_more : (xs : List Record) (i : ℕ) (x : Record) → i < length xs → x ≡ get_or xs i x
-    → map record_view (take (i + 1) xs) ≡ map record_view (take i xs) ++ record_view x ∷ []
-record_more xs i x h is =
-    ap (λ (z : List Record). map record_view z) (take_more xs i x h
-    ∙ ap (λ (y : Record). take i xs ++ y ∷ []) (sym is))
-    ∙ map-append record_view (take i xs) (x ∷ [])

@@ -1,9 +1,10 @@
 -- The records of a text, in lists.
-use Rattle.std.proofs.Common.{◌≡◌, ◌⊎◌, sym, subst, inl, inr, rules, true, ℕ, List, map, Some, Ok}
+use Rattle.std.proofs.Common.{◌≡◌, ◌⊎◌, sym, subst, refl, inl, inr, rules, true, ℕ, List, Some, Ok}
 use Rattle.std.proofs.Common.{Err}
 use Rattle.std.proofs.lemmas.Bool.{false≢true}
-use Rattle.ftd_csv.specs.Answers.{AreRecords, RecordsFail, record_view}
-use Rattle.ftd_csv.specs.declared.record.Record.{Record}
+use Rattle.ftd_csv.specs.Answers.{RecordsFail}
+use Rattle.ftd_csv.specs.Places.{Opens, records_left}
+use Rattle.ftd_csv.specs.declared.reading.Records.{Records}
 use Rattle.ftd_csv.specs.declared.record.RecordFault.{RecordFault}
 use Rattle.ftd_csv.specs.declared.record.RecordFault.TheVariants as text_fault
 use Rattle.ftd_csv.specs.Records.{Said}
@@ -46,28 +47,31 @@ stop_cause at why last (inr (posted number run answer, one, of, fault)) =
     fault_cause answer why fault
 stop_cause at why last (inr (skipped number field, one, of, fault)) = absurd (cc)
 
-module _ (text : List ℕ) (items : List Record) (are : AreRecords text items) (a b : Held)
+module _ (text : List ℕ) (records : Records) (opens : Opens text records) (a b : Held)
     (p q : Summary) (none : IsNothing p) where
-  pub text_posts : Posts a b (map record_view items) p q → Imports a b text q
+  all : records_left records ≡ numbered_in text
+  all = rw (opens.number, opens.left) refl
+
+  pub text_posts : Posts a b (records_left records) p q → Imports a b text q
   text_posts posts = record {
-    short = are.short;
-    header = are.header;
+    short = opens.short;
+    header = opens.header;
     outcomes = posts.outcomes;
-    are = subst (λ (rs : List (ℕ × Said)). AreOutcomes rs posts.outcomes) are.all posts.are;
+    are = subst (λ (rs : List (ℕ × Said)). AreOutcomes rs posts.outcomes) all posts.are;
     summary_is = summary_of p q posts.outcomes none posts.counts;
     asks = posts.asks;
   }
 
   pub text_stops : (failed later : Type 0) (why : StopCause) → (failed → later)
-      → StopsWithin failed a b (map record_view items) (λ outcomes. Counts p outcomes q) why
+      → StopsWithin failed a b (records_left records) (λ outcomes. Counts p outcomes q) why
       → StopsFor later a b text q why
   text_stops failed later why stays stops =
       let among : StopsAmong later a b text q why = record {
-        short = are.short;
-        header = are.header;
+        short = opens.short;
+        header = opens.header;
         stops = stops_told failed later a b (numbered_in text) p q why stays none
             (subst (λ (rs : List (ℕ × Said)). StopsWithin failed a b rs
-            (λ outcomes. Counts p outcomes q) why) are.all stops);
+            (λ outcomes. Counts p outcomes q) why) all stops);
       } in
       elim (stop_cause stops.at why stops.last stops.stop) [
         | inl memory ↦ subst (λ (c : StopCause). StopsFor later a b text q c) (sym memory)
@@ -77,10 +81,10 @@ module _ (text : List ℕ) (items : List Record) (are : AreRecords text items) (
       ]
 
   pub text_one_by_one : (failed : Type 0) (why : StopCause)
-      → StopsWithin failed a b (map record_view items) (λ outcomes. Counts p outcomes q) why
+      → StopsWithin failed a b (records_left records) (λ outcomes. Counts p outcomes q) why
       → failed ⊎ StopsFor ⊥ a b text q why
   text_one_by_one failed why stops =
-      elim (one_by_one failed a b (map record_view items) (λ outcomes. Counts p outcomes q) why
+      elim (one_by_one failed a b (records_left records) (λ outcomes. Counts p outcomes q) why
       stops) [
         | inl met ↦ inl met
         | inr plain ↦ inr (text_stops ⊥ ⊥ why (λ met. met) plain)

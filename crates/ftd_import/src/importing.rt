@@ -6,8 +6,8 @@ ghost use Rattle.ftd_import.specs.Imports.{Imports, Stops, StopsOneByOne, is_of_
 
 use crate::lists::post_lists;
 use crate::progress::Progress;
+use crate::reading::counted;
 use crate::summary::{Stopped, Summary, cause_of};
-use ftd_csv::records;
 use ftd_desk::Desk;
 use sqlite::Alter;
 use std::alloc::Global;
@@ -40,14 +40,14 @@ pub fn import<S: Alter, P: Progress>(
         (λ stopped. is_of_text stopped.cause ≡ true → desk.new ≡ desk.old) }
 {
     let mut done = Summary::none(alloc);
-    let records = match records(alloc, text) {
-        Ok(records) => records,
+    let (mut records, all) = match counted(alloc, text) {
+        Ok(counted) => counted,
         Err(fault) => {
             let cause = cause_of(fault);
             return Err(Stopped { done, cause });
         }
     };
-    let posted = post_lists(alloc, desk, &records, &mut done, progress);
+    let posted = post_lists(alloc, desk, &mut records, all, &mut done, progress);
     progress.end();
     match posted {
         Ok(()) => Ok(done),

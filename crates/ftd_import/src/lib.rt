@@ -5,6 +5,7 @@ mod importing;
 mod lists;
 mod posting;
 mod progress;
+mod reading;
 mod summary;
 
 pub use crate::importing::import;

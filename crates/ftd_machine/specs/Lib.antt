@@ -10,3 +10,6 @@ pub mod Step
 pub mod Runs
 pub mod Sound
 pub mod Laws
+pub use Rattle.ftd_days.specs.Calendar
+pub use Rattle.ftd_rules.specs.Liability
+pub use Rattle.ftd_rules.specs.Verdicts

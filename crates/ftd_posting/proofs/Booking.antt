@@ -31,8 +31,8 @@ use Rattle.ftd_store.specs.declared.tx.Tx.{Tx}
 use Rattle.ftd_store.proofs.Going.{goes_on, then_goes}
 use Rattle.ftd_rows.specs.Cells.{day_number}
 use Rattle.ftd_rows.specs.DaySums.{ListsDaySums}
-use Rattle.ftd_sql.specs.Orders.{RunsRise}
-use Rattle.ftd_sql.specs.Tests.{is_live_run_between}
+use Rattle.ftd_schema.specs.Orders.{RunsRise}
+use Rattle.ftd_schema.specs.Tests.{is_live_run_between}
 use Rattle.ftd_schema.specs.Rows.{RunRow}
 use Rattle.ftd_buckets.specs.declared.Patch.{Patch}
 use Rattle.ftd_buckets.specs.declared.Window.{Window}

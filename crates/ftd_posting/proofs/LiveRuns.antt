@@ -16,8 +16,8 @@ use Rattle.ftd_rules.specs.Lists.{Has}
 use Rattle.ftd_rules.proofs.Adding.{runs_same}
 use Rattle.ftd_rules.proofs.Walk.{liability-cons}
 use Rattle.ftd_schema.specs.Rows.{RunRow}
-use Rattle.ftd_sql.specs.Tests.{is_live_run_between}
-use Rattle.ftd_sql.specs.Orders.{RunsRise}
+use Rattle.ftd_schema.specs.Tests.{is_live_run_between}
+use Rattle.ftd_schema.specs.Orders.{RunsRise}
 use Rattle.ftd_rows.specs.Cells.{day_number, flag_number}
 use Rattle.ftd_rows.specs.Lists.{Pairs}
 use Rattle.ftd_rows.specs.Rows.{run_row}

@@ -15,7 +15,7 @@ use Rattle.ftd_rules.proofs.Only.{rows_one}
 use Rattle.ftd_rules.proofs.Stated.{piece_owed}
 use Rattle.ftd_schema.specs.declared.TableName.TheVariants.{Obligations}
 use Rattle.ftd_schema.specs.Standing.{Tables}
-use Rattle.ftd_sql.specs.Tests.{is_obligation_between}
+use Rattle.ftd_schema.specs.Tests.{is_obligation_between}
 use Rattle.ftd_rows.specs.Cells.{day_number}
 use Rattle.ftd_rows.specs.Rows.{obligation_row}
 use Rattle.ftd_rows.proofs.Found.{both}

@@ -28,8 +28,8 @@ use Rattle.ftd_schema.specs.declared.TableName.TheVariants.{Payments, Obligation
 use Rattle.ftd_schema.specs.declared.TableName.TheVariants.{ReportedYears, AddedHolidays}
 use Rattle.ftd_schema.specs.Rows.{RunRow, ObligationRow, YearRow}
 use Rattle.ftd_schema.specs.Standing.{Tables, with_rows}
-use Rattle.ftd_sql.specs.Tests.{is_year_of, is_live_run_between}
-use Rattle.ftd_sql.specs.Orders.{RunsRise}
+use Rattle.ftd_schema.specs.Tests.{is_year_of, is_live_run_between}
+use Rattle.ftd_schema.specs.Orders.{RunsRise}
 use Rattle.ftd_rows.specs.Cells.{day_number}
 use Rattle.ftd_rows.specs.DaySums.{ListsDaySums}
 use Rattle.ftd_rows.specs.Rows.{year_row, obligation_row}

@@ -17,7 +17,7 @@ use Rattle.ftd_rules.specs.Lists.{Has}
 use Rattle.ftd_rules.proofs.Cuts.{lt_or_le}
 use Rattle.ftd_rules.proofs.Rising.{has_permuted}
 use Rattle.ftd_schema.specs.Rows.{ObligationRow}
-use Rattle.ftd_sql.specs.Tests.{is_obligation_between}
+use Rattle.ftd_schema.specs.Tests.{is_obligation_between}
 use Rattle.ftd_rows.specs.Cells.{day_number}
 use Rattle.ftd_rows.specs.Rows.{obligation_row}
 use Rattle.ftd_rows.proofs.Found.{both}

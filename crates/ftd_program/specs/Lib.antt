@@ -4,3 +4,9 @@ pub mod Refusals
 pub mod Replies
 pub mod Summaries
 pub mod Telling
+pub use Rattle.ftd_days.specs.Text
+pub use Rattle.ftd_desk.specs.Desks
+pub use Rattle.ftd_machine.specs.Limits
+pub use Rattle.ftd_ports.specs.Writing
+pub use Rattle.ftd_rules.specs.Liability
+pub use Rattle.ftd_words.specs.Table

@@ -22,7 +22,7 @@ use Rattle.ftd_rules.proofs.Status.{quarter_is, quarter_only}
 use Rattle.ftd_rows.proofs.Found.{both}
 use Rattle.ftd_schema.specs.Rows.{RunRow}
 use Rattle.ftd_schema.specs.Standing.{Tables}
-use Rattle.ftd_sql.specs.Tests.{is_live_run_between}
+use Rattle.ftd_schema.specs.Tests.{is_live_run_between}
 use Rattle.ftd_rows.specs.Cells.{day_number}
 use Rattle.ftd_rows.specs.Rows.{run_row}
 use Rattle.ftd_rows.specs.Lists.{Pairs}

@@ -1,5 +1,5 @@
 -- The obligation rows that were read are those of the account's obligations that begin on the days.
-use Rattle.std.proofs.Common.{◌≡◌, ℕ, ℤ, pos, inl, inr, List, [], ◌∷◌, ◌++◌, map, Bool, false, ◌&&◌}
+use Rattle.std.proofs.Common.{◌≡◌, ℕ, pos, inl, inr, List, [], ◌∷◌, ◌++◌, map, Bool, false, ◌&&◌}
 use Rattle.std.proofs.Common.{Vec, refl, sym, ap, ◌∙◌, subst, arith}
 use Rattle.std.proofs.Math.IntN.{◌+ℤ◌, -ℤ-+ℤ_cancel}
 use Rattle.std.specs.Prelude.{filter, nat_le, int_le}
@@ -14,8 +14,8 @@ use Rattle.ftd_rules.specs.Obligations.{ByFirstDay}
 use Rattle.ftd_rules.proofs.Rising.{sorted_is, next_do_not_fall}
 use Rattle.ftd_tables.specs.Order.{EachToNext}
 use Rattle.ftd_schema.specs.Rows.{ObligationRow}
-use Rattle.ftd_sql.specs.Orders.{ObligationsRise}
-use Rattle.ftd_sql.specs.Tests.{is_obligation_between}
+use Rattle.ftd_schema.specs.Orders.{ObligationsRise}
+use Rattle.ftd_schema.specs.Tests.{is_obligation_between}
 use Rattle.ftd_rows.specs.Cells.{day_number, rule_number}
 use Rattle.ftd_rows.specs.Lists.{Pairs, Lists, ListsFirst}
 use Rattle.ftd_rows.specs.Rows.{obligation_row}

@@ -13,7 +13,7 @@ use Rattle.ftd_rules.specs.Payments.{counts_by}
 use Rattle.ftd_rules.proofs.Cuts.{lt_or_le}
 use Rattle.ftd_schema.specs.Rows.{PaymentRow}
 use Rattle.ftd_schema.specs.Standing.{Tables}
-use Rattle.ftd_sql.specs.Tests.{is_live_payment_between}
+use Rattle.ftd_schema.specs.Tests.{is_live_payment_between}
 use Rattle.ftd_rows.specs.Cells.{day_number}
 use Rattle.ftd_rows.specs.Lists.{Pairs}
 use Rattle.ftd_rows.specs.Rows.{payment_row}

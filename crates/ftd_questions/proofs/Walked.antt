@@ -9,9 +9,9 @@ use Rattle.sqlite.specs.State as database
 use Rattle.sqlite.specs.State.{HasCleanDisk, IsUnchanged}
 use Rattle.ftd_days.specs.Calendar.{quarter_start}
 use Rattle.ftd_rules.specs.declared.Obligation.{Obligation}
-use Rattle.ftd_sql.specs.States.{CrashKeeps}
-use Rattle.ftd_sql.specs.Orders.{ObligationsRise}
-use Rattle.ftd_sql.proofs.Controls.{crash_then}
+use Rattle.ftd_schema.specs.States.{CrashKeeps}
+use Rattle.ftd_schema.specs.Orders.{ObligationsRise}
+use Rattle.ftd_schema.proofs.Controls.{crash_then}
 use Rattle.ftd_schema.specs.Standing.{Tables, Stands}
 use Rattle.ftd_schema.specs.declared.TableName.TheVariants.{Obligations}
 use Rattle.ftd_rows.specs.Lists.{Lists, ListsFirst}

@@ -49,6 +49,13 @@ pub(crate) fn has_next_day(obligations: &[Obligation]) -> bool
     obligations.iter().any(|obligation| is_next_day(obligation))
 }
 
+/// Whether the obligation begins in the quarter.
+fn begins_in(obligation: &Obligation, quarter: Quarter) -> bool
+    ensures { result ≡ begins_in quarter obligation.now }
+{
+    obligation.first.quarter() == quarter
+}
+
 /// How the return of the quarter stands, by what is known of its return period, and whether a
 /// next-day obligation begins in that.
 pub(crate) fn quarter_return(
@@ -139,7 +146,7 @@ pub(crate) fn due_rows(
 {
     let mut rows = Vec::new(alloc);
     for obligation in obligations {
-        if obligation.first.quarter() == quarter {
+        if begins_in(obligation, quarter) {
             match due_row(*obligation, as_of, of_return) {
                 Some(row) => rows.push(row)?,
                 None => return Err(StoreFault::Failed),

@@ -13,7 +13,7 @@ use Rattle.ftd_rules.specs.Lists.{Has}
 use Rattle.ftd_rules.proofs.Rising.{has_permuted}
 use Rattle.ftd_tables.specs.Kept.{changed}
 use Rattle.ftd_schema.specs.Rows.{ObligationRow}
-use Rattle.ftd_sql.specs.Tests.{is_obligation, is_obligation_between, with_terms}
+use Rattle.ftd_schema.specs.Tests.{is_obligation, is_obligation_between, with_terms}
 use Rattle.ftd_rows.specs.Cells.{day_number}
 use Rattle.ftd_rows.specs.Rows.{obligation_row}
 use Rattle.ftd_rows.proofs.Found.{both}

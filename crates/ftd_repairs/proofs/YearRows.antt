@@ -14,7 +14,7 @@ use Rattle.ftd_rules.specs.Years.{YearsFrom}
 use Rattle.ftd_rules.proofs.Schedules.{years_within}
 use Rattle.ftd_tables.specs.Kept.{changed}
 use Rattle.ftd_schema.specs.Rows.{YearRow}
-use Rattle.ftd_sql.specs.Tests.{is_year, is_year_of}
+use Rattle.ftd_schema.specs.Tests.{is_year, is_year_of}
 use Rattle.ftd_rows.specs.Rows.{year_row}
 use Rattle.ftd_rows.proofs.Found.{both, same_bytes}
 use Rattle.ftd_store.specs.Changes.{put_among}

@@ -4,3 +4,13 @@ pub mod Replaced
 pub mod Placing
 pub mod Rescheduled
 pub mod Reposted
+pub use Rattle.ftd_buckets.specs.Histories
+pub use Rattle.ftd_days.specs.Holidays
+pub use Rattle.ftd_machine.specs.History
+pub use Rattle.ftd_machine.specs.Posting
+pub use Rattle.ftd_rows.specs.Amounts
+pub use Rattle.ftd_rules.specs.Liability
+pub use Rattle.ftd_rules.specs.Lists
+pub use Rattle.ftd_rules.specs.Obligations
+pub use Rattle.ftd_store.specs.Changes
+pub use Rattle.ftd_store.specs.Frame

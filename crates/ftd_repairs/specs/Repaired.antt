@@ -11,8 +11,8 @@ use Rattle.ftd_buckets.specs.Windows.{IsNeeded, IsLastNeeded}
 use Rattle.ftd_buckets.specs.Patches.{AreSumsOf, IsPatch}
 use Rattle.ftd_schema.specs.declared.TableName.TheVariants.{Runs}
 use Rattle.ftd_schema.specs.Standing.{Tables}
-use Rattle.ftd_sql.specs.Orders.{RunsRise}
-use Rattle.ftd_sql.specs.Tests.{is_live_run_between}
+use Rattle.ftd_schema.specs.Orders.{RunsRise}
+use Rattle.ftd_schema.specs.Tests.{is_live_run_between}
 use Rattle.ftd_rows.specs.Cells.{day_number}
 use Rattle.ftd_rows.specs.DaySums.{ListsDaySums}
 

@@ -10,7 +10,8 @@ ghost use Rattle.ftd_repairs.specs.Rescheduled.{IsRescheduled, IsUnnamed, HasLin
 ghost use Rattle.ftd_repairs.specs.Rescheduled.{PutsRows};
 ghost use Rattle.ftd_repairs.specs.Replaced.{AreBetween};
 ghost use Rattle.ftd_repairs.specs.Reposted.{Places, RepairsRows};
-ghost use Rattle.ftd_store.specs.Frame.{Turns};
+ghost use Rattle.ftd_store.specs.Changes.{with_year};
+ghost use Rattle.ftd_store.specs.Frame.{Turns, Writes};
 
 use crate::Difference;
 use crate::comparing::difference;
@@ -121,6 +122,21 @@ fn put_rows<S: Alter>(
     Ok(())
 }
 
+/// The line becomes another one, here and in the account's row of its year.
+fn put_line<S: Alter>(
+    tx: &mut Tx<'_, S>,
+    account: &str,
+    line: &mut YearLine,
+    after: YearLine,
+) -> Result<(), StoreFault>
+    requires { IsStorable after.lookback }
+    ensures line { line.new ≡ after }
+    ensures call { Writes S.Store tx.old tx.new result (with_year account.now after) }
+{
+    *line = after;
+    tx.put_year(account, *line)
+}
+
 /// Puts the patch in the place of the account's obligations that begin on its days, which are
 /// given, and its openings and turns into the account's lines, here and in the table.
 fn put_patch<S: Alter>(
@@ -140,8 +156,7 @@ fn put_patch<S: Alter>(
     put_rows(tx, account, gone, patch)?;
     for i in 0..lines.len() {
         if let Some(after) = rescheduled(&lines[i], patch.years.as_slice()) {
-            lines[i] = after;
-            tx.put_year(account, lines[i])?;
+            put_line(tx, account, &mut lines[i], after)?;
         }
     }
     Ok(())

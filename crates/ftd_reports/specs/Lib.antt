@@ -3,3 +3,8 @@ pub mod DueLists
 pub mod DueTexts
 pub mod SchedulesB
 pub mod LateTexts
+pub use Rattle.ftd_days.specs.Digits
+pub use Rattle.ftd_days.specs.Text
+pub use Rattle.ftd_ports.specs.Writing
+pub use Rattle.ftd_rules.specs.Liability
+pub use Rattle.ftd_rules.specs.Verdicts

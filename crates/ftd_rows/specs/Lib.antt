@@ -6,3 +6,4 @@ pub mod Reading
 pub mod Lists
 pub mod DaySums
 pub mod Years
+pub use Rattle.ftd_rules.specs.Liability

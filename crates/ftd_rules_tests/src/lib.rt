@@ -1,10 +1,8 @@
-//! Worked examples of the rules, through their public calls: obligations of whole histories,
-//! lookback totals, due dates, dates of returns and makeup dates, verdicts.
+//! Tests of what no text of examples can say: the texts of faults that the program words otherwise,
+//! and readers and writers that fail.
 #![tactic(auto)]
 
 #[cfg(test)]
-mod history;
+mod faults;
 #[cfg(test)]
-mod returns;
-#[cfg(test)]
-mod verdict;
+mod writers;

@@ -1,6 +1,9 @@
 //! The desk's twelve tables: their names, for code and for contracts; the typed rows of each, and
-//! the rows for which a database stands.
+//! the rows for which a database stands; the SQL statements, each text once, and what each means in
+//! typed rows.
 #![tactic(auto)]
+
+pub mod texts;
 
 ghost use Rattle.std.specs.Prelude.{◌≡◌};
 ghost use Rattle.ftd_schema.specs.Names.{name_of, is_taken, has_any};

@@ -9,9 +9,9 @@ use Rattle.ftd_schema.specs.declared.TableName.TheVariants.{Metas}
 use Rattle.ftd_schema.specs.Names.{name_of, later_names, has_any}
 use Rattle.ftd_schema.specs.Rows.{MetaRow, cells_of}
 use Rattle.ftd_schema.specs.Layout.{table_of}
-use Rattle.ftd_sql.specs.Answers.{meta_shown}
+use Rattle.ftd_schema.specs.Answers.{meta_shown}
 use Rattle.std.specs.Prelude.{map}
-use Rattle.ftd_sql.proofs.Meanings.{shows_metas}
+use Rattle.ftd_schema.proofs.Meanings.{shows_metas}
 use Rattle.ftd_setup.specs.declared.opening.OpenFault.{OpenFault}
 use Rattle.ftd_setup.specs.declared.opening.OpenFault.TheVariants.{NotOurs, Newer, Store}
 use Rattle.ftd_setup.specs.Versions.{ReadsVersion, HasVersion, IsStoreFault, Opens, OpensByReading}

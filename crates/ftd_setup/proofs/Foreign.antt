@@ -17,7 +17,7 @@ use Rattle.ftd_schema.specs.declared.TableName.TheVariants.{Payments, Obligation
 use Rattle.ftd_schema.specs.declared.TableName.TheVariants.{ReportedYears, AddedHolidays}
 use Rattle.ftd_schema.specs.Names.{name_of, all_names, is_taken}
 use Rattle.ftd_schema.specs.Standing.{IsForeign}
-use Rattle.ftd_sql.proofs.Making.{self_named}
+use Rattle.ftd_schema.proofs.Making.{self_named}
 use Rattle.ftd_setup.specs.Versions.{IsNew}
 
 unfound : {X : Type 0} (p : X → Bool) (i k : ℕ) (xs : List X) (x : X) → position_from p i xs ≡ None

@@ -13,9 +13,9 @@ use Rattle.sqlite.specs.declared.types.Value.{Value}
 use Rattle.sqlite.specs.Values.{bound_value}
 use Rattle.sqlite.specs.declared.types.Value.TheVariants.{Int, Text}
 use Rattle.sqlite_value.specs.Order.{column}
-use Rattle.ftd_sql.specs.Answers.{name_shown}
-use Rattle.ftd_sql.specs.declared.texts.TheConstants.{LIST_ACCOUNTS}
-use Rattle.ftd_sql.proofs.Meanings.{lists_names}
+use Rattle.ftd_schema.specs.Answers.{name_shown}
+use Rattle.ftd_schema.specs.declared.texts.TheConstants.{LIST_ACCOUNTS}
+use Rattle.ftd_schema.proofs.Meanings.{lists_names}
 use Rattle.sqlite.specs.State.{State, Executes, Shown, IsUnchanged}
 use Rattle.sqlite_tied.specs.Compute.{everything}
 use Rattle.ftd_tables.specs.Kept.{changed}
@@ -29,11 +29,11 @@ use Rattle.ftd_schema.specs.Rows.{cells_of, AccountRow}
 use Rattle.ftd_schema.specs.Standing.{Tables, no_rows, with_rows, Stands, KeepsForeign, Becomes}
 use Rattle.ftd_schema.specs.Standing.{IsFirst, StandsAsFirst, first_rows}
 use Rattle.ftd_schema.proofs.OneOfAll.{foreign_then, stands_same, set_own, set_twice}
-use Rattle.ftd_sql.specs.Making.{AreFree, IsFree, add_of}
-use Rattle.ftd_sql.specs.Tests.{is_tag, with_version}
-use Rattle.ftd_sql.proofs.Controls.{keeps_tables_then}
-use Rattle.ftd_sql.proofs.Making.{AreMade, all_made, later_made}
-use Rattle.ftd_sql.proofs.Writing.{adds}
+use Rattle.ftd_schema.specs.Making.{AreFree, IsFree, add_of}
+use Rattle.ftd_schema.specs.Tests.{is_tag, with_version}
+use Rattle.ftd_schema.proofs.Controls.{keeps_tables_then}
+use Rattle.ftd_schema.proofs.Making.{AreMade, all_made, later_made}
+use Rattle.ftd_schema.proofs.Writing.{adds}
 use Rattle.ftd_setup.specs.Versions.{IsNew, IsMade, KeepsRows, tag_row, on_form_941, IsMigrated}
 use Rattle.ftd_setup.proofs.Foreign.{all_foreign}
 

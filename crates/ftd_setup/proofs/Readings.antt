@@ -20,7 +20,7 @@ use Rattle.ftd_schema.specs.declared.TableName.TheVariants.{Metas}
 use Rattle.ftd_schema.specs.Names.{name_of}
 use Rattle.ftd_schema.specs.Rows.{MetaRow, cells_of}
 use Rattle.ftd_schema.specs.Layout.{table_of}
-use Rattle.ftd_sql.specs.Answers.{meta_shown}
+use Rattle.ftd_schema.specs.Answers.{meta_shown}
 use Rattle.ftd_setup.specs.Versions.{is_tagged, ReadsVersion, HasVersion}
 
 -- ---- the cells of the tag

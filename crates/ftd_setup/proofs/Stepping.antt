@@ -5,8 +5,8 @@ use Rattle.sqlite.specs.Store as store
 use Rattle.sqlite.specs.State.{State}
 use Rattle.sqlite.specs.declared.transaction.Transaction.{Transaction}
 use Rattle.ftd_rows.specs.declared.faults.StoreFault.{StoreFault}
-use Rattle.ftd_sql.specs.States.{CrashKeeps, within}
-use Rattle.ftd_sql.proofs.Controls.{keeps_self, keeps_then, crash_then}
+use Rattle.ftd_schema.specs.States.{CrashKeeps, within}
+use Rattle.ftd_schema.proofs.Controls.{keeps_self, keeps_then, crash_then}
 use Rattle.ftd_setup.specs.Steps.{Steps}
 
 -- a crash now finds what it finds now

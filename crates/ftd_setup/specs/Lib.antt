@@ -1,3 +1,12 @@
 pub mod Steps
 pub mod Versions
 pub mod Ended
+pub use Rattle.ftd_schema.specs.Answers
+pub use Rattle.ftd_schema.specs.Making
+pub use Rattle.ftd_schema.specs.Names
+pub use Rattle.ftd_schema.specs.Rows
+pub use Rattle.ftd_schema.specs.Standing
+pub use Rattle.ftd_schema.specs.States
+pub use Rattle.ftd_schema.specs.Tests
+pub use Rattle.ftd_tables.specs.Kept
+pub use Rattle.ftd_tables.specs.TextKinds

@@ -21,9 +21,9 @@ use Rattle.ftd_schema.specs.Layout.{table_of}
 use Rattle.ftd_schema.specs.Rows.{cells_of, MetaRow, AccountRow, FormRow}
 use Rattle.ftd_schema.specs.Standing.{Tables, no_rows, with_rows, Stands, KeepsForeign, IsFirst}
 use Rattle.ftd_schema.specs.Standing.{StandsAsFirst}
-use Rattle.ftd_sql.specs.Making.{IsFree}
-use Rattle.ftd_sql.specs.States.{ShowsAgain}
-use Rattle.ftd_sql.specs.declared.texts.TheConstants.{LIST_METAS}
+use Rattle.ftd_schema.specs.Making.{IsFree}
+use Rattle.ftd_schema.specs.States.{ShowsAgain}
+use Rattle.ftd_schema.specs.declared.texts.TheConstants.{LIST_METAS}
 use Rattle.ftd_setup.specs.declared.opening.Change.{Change}
 use Rattle.ftd_setup.specs.declared.opening.Change.TheVariants.{Make, Migrate}
 use Rattle.ftd_setup.specs.declared.opening.OpenFault.{OpenFault}

@@ -6,16 +6,15 @@ ghost use Rattle.ftd_tables.specs.Kept.{changed};
 ghost use Rattle.ftd_schema.specs.declared.TableName.TheVariants.{Metas, Accounts, Forms};
 ghost use Rattle.ftd_schema.specs.Rows.{AccountRow};
 ghost use Rattle.ftd_schema.specs.Standing.{Tables, with_rows, Stands, Becomes};
-ghost use Rattle.ftd_sql.specs.Answers.{name_shown};
-ghost use Rattle.ftd_sql.specs.Tests.{is_tag, with_version};
+ghost use Rattle.ftd_schema.specs.Answers.{name_shown};
+ghost use Rattle.ftd_schema.specs.Tests.{is_tag, with_version};
 ghost use Rattle.ftd_setup.specs.Steps.{Steps};
 ghost use Rattle.ftd_setup.specs.Versions.{on_form_941, IsMigrated};
 
 use crate::making::{Indexes, VERSION, make_indexes, make_tables};
 use crate::steps::{read, run};
 use ftd_rows::StoreFault;
-use ftd_schema::LATER;
-use ftd_sql::texts;
+use ftd_schema::{LATER, texts};
 use sqlite::types::ValueRef;
 use sqlite::{Alter, Row, Transaction, params};
 

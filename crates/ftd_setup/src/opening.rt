@@ -4,9 +4,9 @@ ghost use Rattle.std.specs.Prelude.{◌≡◌, true, false, [], IsTrue, IfOk, If
 ghost use Rattle.sqlite.specs.State.{HasCleanDisk, IsUnchanged, Survives, Shown};
 ghost use Rattle.sqlite.specs.Held.{state};
 ghost use Rattle.ftd_schema.specs.Names.{all_names, has_any};
-ghost use Rattle.ftd_sql.specs.Making.{IsFree};
-ghost use Rattle.ftd_sql.specs.States.{CrashKeeps, ShowsAgain};
-ghost use Rattle.ftd_sql.specs.declared.texts.TheConstants.{LIST_METAS};
+ghost use Rattle.ftd_schema.specs.Making.{IsFree};
+ghost use Rattle.ftd_schema.specs.States.{CrashKeeps, ShowsAgain};
+ghost use Rattle.ftd_schema.specs.declared.texts.TheConstants.{LIST_METAS};
 ghost use Rattle.ftd_setup.specs.Ended.{held, Ended};
 ghost use Rattle.ftd_setup.specs.Steps.{Steps};
 ghost use Rattle.ftd_setup.specs.Versions.{IsNew, IsMade, is_tagged, Becomes, MayBecome};
@@ -16,8 +16,7 @@ use crate::making::{Indexes, make};
 use crate::migrating::migrate;
 use crate::versions::{is_tagged, told};
 use ftd_rows::StoreFault;
-use ftd_schema::{ALL, LATER, has_any};
-use ftd_sql::texts;
+use ftd_schema::{ALL, LATER, has_any, texts};
 use sqlite::{Alter, Connection, Row, Transaction};
 use thiserror::Error;
 

@@ -5,14 +5,14 @@ use Rattle.std.specs.Ordering.{int_eq}
 use Rattle.std.proofs.lemmas.Bool.Decides.{Decides-int_eq}
 use Rattle.ftd_schema.specs.Rows.{AccountRow, FormRow, ReportedQuarterRow, ReportedYearRow}
 use Rattle.ftd_schema.specs.Rows.{CalendarYearRow, HolidayRow, RunRow, PaymentRow, ObligationRow}
-use Rattle.ftd_sql.specs.Answers.{account_shown, form_shown, reported_shown, reported_year_shown}
-use Rattle.ftd_sql.specs.Answers.{calendar_year_shown, holiday_shown, run_shown, live_run_shown}
-use Rattle.ftd_sql.specs.Answers.{payment_shown, live_payment_shown, obligation_shown}
-use Rattle.ftd_sql.specs.Answers.{account_obligation_shown}
-use Rattle.ftd_sql.specs.Tests.{is_account, is_form_of, is_reported, is_reported_year}
-use Rattle.ftd_sql.specs.Tests.{is_calendar_year, is_holiday_of, is_run, is_live_run_between}
-use Rattle.ftd_sql.specs.Tests.{is_payment, is_live_payment_between, is_obligation_between}
-use Rattle.ftd_sql.specs.Tests.{is_due_over}
+use Rattle.ftd_schema.specs.Answers.{account_shown, form_shown, reported_shown, reported_year_shown}
+use Rattle.ftd_schema.specs.Answers.{calendar_year_shown, holiday_shown, run_shown, live_run_shown}
+use Rattle.ftd_schema.specs.Answers.{payment_shown, live_payment_shown, obligation_shown}
+use Rattle.ftd_schema.specs.Answers.{account_obligation_shown}
+use Rattle.ftd_schema.specs.Tests.{is_account, is_form_of, is_reported, is_reported_year}
+use Rattle.ftd_schema.specs.Tests.{is_calendar_year, is_holiday_of, is_run, is_live_run_between}
+use Rattle.ftd_schema.specs.Tests.{is_payment, is_live_payment_between, is_obligation_between}
+use Rattle.ftd_schema.specs.Tests.{is_due_over}
 use Rattle.ftd_days.specs.Calendar.{quarter_year, quarter_number}
 use Rattle.ftd_days.specs.declared.cents.Cents.{Cents}
 use Rattle.ftd_rules.specs.declared.Form.{Form}

@@ -7,7 +7,7 @@ use Rattle.std.proofs.lemmas.Int.{ints}
 use Rattle.std.proofs.lemmas.List.Sorted.{IsNonDecreasingBy-from_all_adjacent}
 use Rattle.ftd_tables.specs.Order.{EachToNext}
 use Rattle.ftd_schema.specs.Rows.{RunRow}
-use Rattle.ftd_sql.specs.Orders.{RunsRise}
+use Rattle.ftd_schema.specs.Orders.{RunsRise}
 use Rattle.ftd_rules.specs.declared.DaySum.{DaySum}
 use Rattle.ftd_rules.specs.Liability.{liability}
 use Rattle.ftd_rules.specs.declared.run.PayRun.{PayRun}

@@ -3,7 +3,7 @@
 use Rattle.std.proofs.Common.{◌≡◌, ◌<◌, ◌^◌, arith, length, ℕ, pos, List, [], ◌∷◌, map, Result, Ok}
 use Rattle.std.proofs.Common.{Err, Option, Bool, true, false, sym, subst, ◌∙◌}
 use Rattle.std.specs.Borrow.{MutBor}
-use Rattle.ftd_sql.specs.States.{CrashKeeps}
+use Rattle.ftd_schema.specs.States.{CrashKeeps}
 use Rattle.std.specs.Prelude.{filter, min, IfOk, OnOk}
 use Rattle.sqlite.specs.Order.{Row}
 use Rattle.sqlite.specs.Store as store
@@ -12,8 +12,8 @@ use Rattle.ftd_tables.specs.Kept.{changed}
 use Rattle.ftd_schema.specs.declared.TableName.{TableName}
 use Rattle.ftd_schema.specs.Rows.{RowOf}
 use Rattle.ftd_schema.specs.Standing.{Tables, Stands, with_rows}
-use Rattle.ftd_sql.proofs.Controls.{unchanged_then}
-use Rattle.ftd_sql.proofs.Meanings as meaning
+use Rattle.ftd_schema.proofs.Controls.{unchanged_then}
+use Rattle.ftd_schema.proofs.Meanings as meaning
 use Rattle.ftd_rows.specs.declared.faults.StoreFault.{StoreFault}
 use Rattle.ftd_rows.specs.Cells.{count_cells}
 use Rattle.ftd_tables.proofs.Counting.{greatest_count}

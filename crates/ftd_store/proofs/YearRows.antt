@@ -8,9 +8,9 @@ use Rattle.sqlite.specs.declared.types.Value.TheVariants.{Int}
 use Rattle.sqlite.specs.Values.{or_null, bound_value}
 use Rattle.ftd_tables.specs.Kept.{changed}
 use Rattle.ftd_schema.specs.Rows.{YearRow}
-use Rattle.ftd_sql.specs.Answers.{year_shown}
-use Rattle.ftd_sql.specs.Orders.{YearsRise}
-use Rattle.ftd_sql.specs.Tests.{is_year, is_year_of, with_figures}
+use Rattle.ftd_schema.specs.Answers.{year_shown}
+use Rattle.ftd_schema.specs.Orders.{YearsRise}
+use Rattle.ftd_schema.specs.Tests.{is_year, is_year_of, with_figures}
 use Rattle.ftd_rows.specs.declared.cells.StoredDay.{StoredDay}
 use Rattle.ftd_rows.specs.declared.years.StoredYear.{StoredYear}
 use Rattle.ftd_rows.specs.Cells.{day_number, schedule_number, year_cells}

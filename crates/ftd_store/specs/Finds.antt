@@ -8,12 +8,12 @@ use Rattle.ftd_schema.specs.declared.TableName.TheVariants.{Payments, Obligation
 use Rattle.ftd_schema.specs.declared.TableName.TheVariants.{ReportedYears, AddedHolidays}
 use Rattle.ftd_schema.specs.Rows.{HolidayRow, YearRow, PaymentRow, ObligationRow}
 use Rattle.ftd_schema.specs.Standing.{Tables}
-use Rattle.ftd_sql.specs.Tests.{is_account, is_form_of, is_reported, is_reported_year}
-use Rattle.ftd_sql.specs.Tests.{is_calendar_year, is_holiday_of, is_year_of, is_run, is_run_of}
-use Rattle.ftd_sql.specs.Tests.{is_live_run_between, is_payment, is_payment_of}
-use Rattle.ftd_sql.specs.Tests.{is_live_payment_between, is_obligation_between, is_due_over}
-use Rattle.ftd_sql.specs.Orders.{HolidaysRise, YearsRise, RunsRise, PaymentsRise, ObligationsRise}
-use Rattle.ftd_sql.specs.Orders.{AccountsRise}
+use Rattle.ftd_schema.specs.Tests.{is_account, is_form_of, is_reported, is_reported_year}
+use Rattle.ftd_schema.specs.Tests.{is_calendar_year, is_holiday_of, is_year_of, is_run, is_run_of}
+use Rattle.ftd_schema.specs.Tests.{is_live_run_between, is_payment, is_payment_of}
+use Rattle.ftd_schema.specs.Tests.{is_live_payment_between, is_obligation_between, is_due_over}
+use Rattle.ftd_schema.specs.Orders.{HolidaysRise, YearsRise, RunsRise, PaymentsRise, ObligationsRise}
+use Rattle.ftd_schema.specs.Orders.{AccountsRise}
 use Rattle.ftd_days.specs.Calendar.{quarter_year, quarter_number}
 use Rattle.ftd_days.specs.declared.cents.Cents.{Cents}
 use Rattle.ftd_rules.specs.declared.DaySum.{DaySum}

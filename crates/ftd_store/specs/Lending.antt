@@ -3,7 +3,7 @@ use Rattle.std.specs.Prelude.{Result}
 use Rattle.std.specs.Borrow.{Fml, RattleType, MutBor, RestsIfErr}
 use Rattle.sqlite.specs.Store as store
 use Rattle.sqlite.specs.State.{HasCleanDisk}
-use Rattle.ftd_sql.specs.States.{CrashKeeps}
+use Rattle.ftd_schema.specs.States.{CrashKeeps}
 use Rattle.ftd_rows.specs.declared.faults.StoreFault.{StoreFault}
 use Rattle.ftd_store.specs.declared.store.Store.{Store}
 use Rattle.ftd_store.specs.declared.tx.Tx.{Tx}

@@ -8,3 +8,15 @@ pub mod Lending
 pub mod Opened
 pub mod Walking
 pub mod RowsLending
+pub use Rattle.ftd_days.specs.Business
+pub use Rattle.ftd_days.specs.Calendar
+pub use Rattle.ftd_rows.specs.Amounts
+pub use Rattle.ftd_rows.specs.Cells
+pub use Rattle.ftd_rows.specs.Reading
+pub use Rattle.ftd_rows.specs.Rows
+pub use Rattle.ftd_schema.specs.Making
+pub use Rattle.ftd_schema.specs.Names
+pub use Rattle.ftd_schema.specs.States
+pub use Rattle.ftd_schema.specs.Tests
+pub use Rattle.ftd_setup.specs.Versions
+pub use Rattle.ftd_tables.specs.TextKinds

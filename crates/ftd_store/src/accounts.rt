@@ -7,7 +7,7 @@ ghost use Rattle.ftd_store.specs.Frame.{Reads, Writes};
 use crate::tx::Tx;
 use ftd_rows::{Account, StoreFault, StoredDay, StoredFlag, StoredForm};
 use ftd_rules::Form;
-use ftd_sql::texts;
+use ftd_schema::texts;
 use sqlite::{Alter, params};
 
 impl<'store, S: Alter> Tx<'store, S> {

@@ -9,7 +9,7 @@ ghost use Rattle.ftd_store.specs.Frame.{Reads, Writes};
 use crate::tx::Tx;
 use ftd_days::Day;
 use ftd_rows::{StoreFault, StoredDay};
-use ftd_sql::texts;
+use ftd_schema::texts;
 use sqlite::{Alter, params};
 use std::alloc::Global;
 

@@ -2,7 +2,7 @@
 
 ghost use Rattle.std.specs.Prelude.{filter, All};
 ghost use Rattle.ftd_schema.specs.declared.TableName.TheVariants.{Obligations};
-ghost use Rattle.ftd_sql.specs.Tests.{is_obligation};
+ghost use Rattle.ftd_schema.specs.Tests.{is_obligation};
 ghost use Rattle.ftd_rows.specs.Amounts.{IsStorable};
 ghost use Rattle.ftd_rows.specs.Cells.{day_number};
 ghost use Rattle.ftd_rows.specs.Rows.{obligation_row};
@@ -15,7 +15,7 @@ use crate::tx::Tx;
 use ftd_days::Day;
 use ftd_rows::{AccountObligation, StoreFault, StoredCents, StoredDay, StoredRule};
 use ftd_rules::Obligation;
-use ftd_sql::texts;
+use ftd_schema::texts;
 use sqlite::{Alter, params};
 use std::alloc::Global;
 

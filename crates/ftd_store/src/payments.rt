@@ -2,7 +2,7 @@
 
 ghost use Rattle.std.specs.Prelude.{pos, filter};
 ghost use Rattle.ftd_schema.specs.declared.TableName.TheVariants.{Payments};
-ghost use Rattle.ftd_sql.specs.Tests.{is_payment};
+ghost use Rattle.ftd_schema.specs.Tests.{is_payment};
 ghost use Rattle.ftd_rows.specs.Amounts.{IsStorable};
 ghost use Rattle.ftd_store.specs.Changes.{with_payment, with_void_payment};
 ghost use Rattle.ftd_store.specs.Finds.{FindsPayment, CountsPayments, ListsPayments};
@@ -12,7 +12,7 @@ use crate::tx::Tx;
 use ftd_days::Day;
 use ftd_rows::{StoreFault, StoredCents, StoredDay, StoredFlag};
 use ftd_rules::{Payment, Voidable};
-use ftd_sql::texts;
+use ftd_schema::texts;
 use sqlite::{Alter, params};
 use std::alloc::Global;
 

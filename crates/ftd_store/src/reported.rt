@@ -8,7 +8,7 @@ ghost use Rattle.ftd_store.specs.Frame.{Reads, Writes};
 use crate::tx::Tx;
 use ftd_days::{Cents, Quarter};
 use ftd_rows::{StoreFault, StoredCents};
-use ftd_sql::texts;
+use ftd_schema::texts;
 use sqlite::{Alter, params};
 
 impl<'store, S: Alter> Tx<'store, S> {

@@ -2,7 +2,7 @@
 
 ghost use Rattle.std.specs.Prelude.{pos, filter};
 ghost use Rattle.ftd_schema.specs.declared.TableName.TheVariants.{Runs};
-ghost use Rattle.ftd_sql.specs.Tests.{is_run};
+ghost use Rattle.ftd_schema.specs.Tests.{is_run};
 ghost use Rattle.ftd_rows.specs.Amounts.{HasStorableAmounts};
 ghost use Rattle.ftd_store.specs.Changes.{with_run, with_void_run};
 ghost use Rattle.ftd_store.specs.Finds.{FindsRun, CountsRuns, ListsLiability};
@@ -12,7 +12,7 @@ use crate::tx::Tx;
 use ftd_days::Day;
 use ftd_rows::{StoreFault, StoredCents, StoredDay, StoredFlag, sums_of};
 use ftd_rules::{DaySum, PayRun, Voidable};
-use ftd_sql::texts;
+use ftd_schema::texts;
 use sqlite::{Alter, params};
 use std::alloc::Global;
 

@@ -8,7 +8,7 @@ ghost use Rattle.ftd_store.specs.Frame.{Reads, Writes};
 use crate::tx::Tx;
 use ftd_rows::{StoreFault, StoredCents, StoredSchedule, StoredYear, open_years, stored_turn};
 use ftd_rules::YearLine;
-use ftd_sql::texts;
+use ftd_schema::texts;
 use sqlite::{Alter, params};
 use std::alloc::Global;
 

@@ -4,3 +4,4 @@ pub mod Parses
 pub mod Values
 pub mod Asking
 pub mod Tasks
+pub use Rattle.ftd_days.specs.Spelling

@@ -1,14 +1,18 @@
-use Rattle.std.proofs.Common.{◌+◌, drop, map}
+use Rattle.std.proofs.Common.{◌+◌, length}
 use Rattle.std.specs.BTreeMap.{IsOrdered}
 use Rattle.std.specs.Ordering.{nat_cmp}
-use Rattle.ftd_csv.specs.Answers.{said_in}
+use Rattle.ftd_csv.specs.Places.{CanAdvance, number_of, said_left}
 use Rattle.ftd_cli.specs.Taking.{HasTaken}
 use Rattle.ftd_cli.proofs.runs.take_records.Given as goal
 
--- the records up to the index are taken
-abbrev pub invariant-loop-record : goal.invariant-loop-record
-invariant-loop-record l = record {
+-- the records up to the one at which the reader stands are taken
+abbrev pub invariant-loop-runs : goal.invariant-loop-runs
+invariant-loop-runs l = record {
+  can : CanAdvance l.records;
   ordered : IsOrdered nat_cmp l.runs;
-  taken : HasTaken l.account l.year (map said_in l.records)
-      (map said_in (drop l.record-index l.records)) (2 + l.record-index) l.runs.entries;
+  taken : HasTaken l.account l.year (said_left l.fn.records) (said_left l.records)
+      (number_of l.records + 1) l.runs.entries;
 }
+
+abbrev pub decreases-loop-runs : goal.decreases-loop-runs
+decreases-loop-runs l = length (said_left l.records)

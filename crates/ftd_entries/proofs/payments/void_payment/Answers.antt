@@ -2,7 +2,7 @@ use Rattle.std.proofs.Common.{rules, pos, filter, Option, Ok}
 use Rattle.ftd_rules.specs.declared.payment.Payment.{Payment}
 use Rattle.ftd_rules.specs.declared.run.Voidable.{Voidable}
 use Rattle.ftd_schema.specs.declared.TableName.TheVariants.{Payments}
-use Rattle.ftd_sql.specs.Tests.{is_payment}
+use Rattle.ftd_schema.specs.Tests.{is_payment}
 use Rattle.ftd_store.specs.Changes.{with_void_payment}
 use Rattle.ftd_store.specs.Finds.{FindsPayment}
 use Rattle.ftd_machine.specs.declared.entries.Account.{Account}

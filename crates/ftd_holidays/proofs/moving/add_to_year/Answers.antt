@@ -8,8 +8,8 @@ use Rattle.ftd_store.proofs.Going.{fails_after}
 use Rattle.ftd_store.proofs.Replaced.{all_taken}
 use Rattle.ftd_store.proofs.Turning.{writes_turn, one_turns, turns_on, turns_then}
 use Rattle.ftd_holidays.specs.Moved.{IsDueThen, MovesDue}
-use Rattle.ftd_holidays.proofs.MovedRows.{same_where, moves_none, moves_same, moves_more}
-use Rattle.ftd_holidays.proofs.moving.add_to_year.Goals.{then-ne+in_ok-move_due, else-ne}
+use Rattle.ftd_holidays.proofs.MovedRows.{moves_none, moves_same, moves_more}
+use Rattle.ftd_holidays.proofs.moving.add_to_year.Goals.{in-Some+in_ok-move_row, in_default}
 use Rattle.ftd_holidays.proofs.moving.add_to_year.Goals as goal
 
 pub loop-owed-init : goal.loop-owed-init
@@ -24,13 +24,13 @@ loop-owed-init g c =
     (writes_turn g.S.Store c.args.tx.now c.add_added.new.self _ change
     c.in_ok-add_added.ensures.call)
 
-pub returns-in_err-move_due : goal.returns-in_err-move_due
-returns-in_err-move_due g c =
-    let is : c.from_residual-in_err-move_due.result ≡ Err c.in_err-move_due.field-0.0 =
+pub returns-in_err-move_row : goal.returns-in_err-move_row
+returns-in_err-move_row g c =
+    let is : c.from_residual-in_err-move_row.result ≡ Err c.in_err-move_row.field-0.0 =
     search rules in
     record {
-      call = fails_after g.S.Store c.args.tx.now c.loop-owed.tx c.move_due.new.self _ _ _ _
-          is c.loop-owed.invariant.frame c.in_err-move_due.ensures.call.frame;
+      call = fails_after g.S.Store c.args.tx.now c.loop-owed.tx c.move_row.new.tx _ _ _ _
+          is c.loop-owed.invariant.frame c.in_err-move_row.ensures.call.frame;
     }
 
 pub loop-owed-preserved : goal.loop-owed-preserved
@@ -41,27 +41,24 @@ loop-owed-preserved g c =
     let i : ℕ = c.loop-owed.owed-index in
     let x : AccountObligation = c.owed-item.result in
     let some : i < length given = c.loop-owed-test.true in
-    let due : ℕ = c.due_of-due.result in
-    let is : IsDueThen hs x due = c.due_of-due.ensures.due in
-    let So : ℕ → Tables → Tables → Type 0 = λ n t. MovesDue hs (take n given) (With t) in
-    elim c.if-ne.branch [
-      | then-ne+in_ok-move_due w ↦
-          (let change : Tables → Tables = with_due_date (string_bytes x.account) x.obligation.first
+    let So : ℕ → Tables → Tables → Type 0 = λ n t u. MovesDue hs (take n given) (With t) u in
+    elim c.match-new_due.branch [
+      | in-Some+in_ok-move_row w ↦
+          (let due : ℕ = w.in-Some.due in
+          let is : IsDueThen hs x due = w.in-Some.ensures.0 in
+          let change : Tables → Tables = with_due_date (string_bytes x.account) x.obligation.first
           due in
-          let moved = rw w.deref.ensures at w.in_ok-move_due.ensures.call in
-          rw w.tx-is (turns_then g.S.Store c.args.tx.now c.loop-owed.tx w.move_due.new.self tt _ tt
+          rw w.tx-is (turns_then g.S.Store c.args.tx.now c.loop-owed.tx w.move_row.new.tx tt _ tt
           (λ done. So i) (λ done t u. u ≡ change t) (λ done. So (i + 1))
           (λ t u v so_far made. subst (So (i + 1) t) (sym made)
           (moves_more hs given i x some c.owed-item.is due is (With t) u so_far))
-          c.loop-owed.invariant (one_turns g.S.Store c.loop-owed.tx w.move_due.new.self _ _ change
-          moved)))
-      | else-ne w ↦
-          (let same : due ≡ x.obligation.due = same_where due x.obligation.due c.ne.result
-          c.ne.ensures w.if-ne.false in
+          c.loop-owed.invariant (one_turns g.S.Store c.loop-owed.tx w.move_row.new.tx _ _ change
+          w.in_ok-move_row.ensures.call)))
+      | in_default w ↦
           rw w.tx-is (turns_on g.S.Store c.args.tx.now c.loop-owed.tx tt tt (λ done. So i)
           (λ done. So (i + 1))
-          (λ t u so_far. moves_same hs given i x some c.owed-item.is
-          (subst (IsDueThen hs x) same is) (With t) u so_far) c.loop-owed.invariant))
+          (λ t u so_far. moves_same hs given i x some c.owed-item.is w.in_default.ensures (With t) u
+          so_far) c.loop-owed.invariant)
     ]
 
 pub returns : goal.returns

@@ -1,15 +1,17 @@
-use Rattle.std.proofs.Common.{◌≡◌, ◌≤◌, ◌+◌, length, map, take, drop}
+use Rattle.std.proofs.Common.{◌≡◌, ◌≤◌, ◌+◌, ℕ, List, length, map, take, drop}
 use Rattle.std.specs.Prelude.{vec_len, vec_capacity}
-use Rattle.ftd_csv.specs.Answers.{record_view}
-use Rattle.ftd_import.specs.Outcomes.{posts_of, tally}
+use Rattle.std.specs.List.{filter}
+use Rattle.ftd_csv.specs.Records.{Said}
+use Rattle.ftd_import.specs.Lists.{has_post, kept_of}
+use Rattle.ftd_import.specs.Outcomes.{tally}
 use Rattle.ftd_import.proofs.Counting.{CountsSome}
 use Rattle.ftd_import.proofs.lists.count_all.Given as goal
 
-abbrev pub invariant-loop-record : goal.invariant-loop-record
-invariant-loop-record l = record {
-  some : CountsSome l.fn.done (map record_view (take l.record-index l.records)) l.answers l.left
-      l.done;
-  left : length l.left ≡ length (posts_of (map record_view (drop l.record-index l.records)));
-  room : vec_len l.done.notes + length l.records ≤ vec_capacity l.done.notes + l.record-index;
-  grows : tally l.done ≤ tally l.fn.done + l.record-index;
+abbrev pub invariant-loop-place : goal.invariant-loop-place
+invariant-loop-place l = record {
+  some : (records : List (ℕ × Said)) → l.places ≡ map kept_of records
+      → CountsSome l.fn.done (take l.place-index records) l.answers l.left l.done;
+  left : length l.left ≡ length (filter has_post (drop l.place-index l.places));
+  room : vec_len l.done.notes + length l.places ≤ vec_capacity l.done.notes + l.place-index;
+  grows : tally l.done ≤ tally l.fn.done + l.place-index;
 }

@@ -1,45 +1,73 @@
-use Rattle.std.proofs.Common.{◌+◌, ◌∷◌, [], arith, map, take, drop}
-use Rattle.ftd_csv.specs.Answers.{record_view}
+use Rattle.std.proofs.Common.{◌+◌, ◌∷◌, [], ◌∙◌, None, arith, subst, sym, take}
+use Rattle.std.proofs.Common.{drop, List, ℕ}
+use Rattle.ftd_csv.specs.Records.{Said}
 use Rattle.ftd_desk.specs.Desks.{held}
-use Rattle.ftd_import.proofs.Outcomes.{posts_none, posts_stop, posts_then, record_more}
-use Rattle.ftd_import.proofs.Outcomes.{record_split}
+use Rattle.ftd_import.specs.Imports.{Posts}
+use Rattle.ftd_import.specs.declared.reading.Place.{Place}
+use Rattle.ftd_import.proofs.Outcomes.{posts_none, posts_stop, posts_then}
+use Rattle.ftd_import.proofs.Places.{next_of, next_posts, next_split, post_there}
 use Rattle.ftd_import.proofs.posting.post_all.Goals as goal
 
-pub loop-record-init : goal.loop-record-init
-loop-record-init g c = record {
-  posts = posts_none (held g.S.Store c.args.desk.now) c.args.done.now;
+pub loop-place-init : goal.loop-place-init
+loop-place-init g c = record {
+  left = λ records is. c.as_slice-left.ensures.value ∙ is.posts;
+  posts = λ records is. posts_none (held g.S.Store c.args.desk.now) c.args.done.now;
   grows = omega arith;
   stopped = λ was. was;
 }
 
-pub loop-record-preserved : goal.loop-record-preserved
-loop-record-preserved g c =
-    let xs = c.args.records.now in
-    let i = c.loop-record.record-index in
-    let x = c.record-item.result in
-    record {
-      posts = rw (record_more xs i x c.loop-record-test.true c.record-item.is)
-          (posts_then (held g.S.Store c.args.desk.now) (held g.S.Store c.loop-record.desk)
-          (held g.S.Store c.post_record.new.desk) (map record_view (take i xs)) (record_view x ∷ [])
-          c.args.done.now c.loop-record.done c.post_record.new.done c.loop-record.invariant.posts
-          c.in-Ok.ensures.posts);
-      grows = let before = c.loop-record.invariant.grows in let one = c.in-Ok.ensures.grows in
-          omega arith;
-      stopped = λ was. c.in-Ok.ensures.stopped (c.loop-record.invariant.stopped was);
-    }
+pub post_record-requires-clause-there : goal.post_record-requires-clause-there
+post_record-requires-clause-there g c =
+    let (records, is) = c.requires.list in
+    let i = c.loop-place.place-index in
+    let d : Place = record { number = 0; malformed = None } in
+    let next = next_of records c.as_slice-places.result.now i d
+    (c.as_slice-places.ensures.value ∙ is.places) c.loop-place-test.true in
+    λ none. post_there records i _ c.loop-place.left.now next
+    (c.loop-place.invariant.left records is) none
 
-pub returns-in-Err-clause-stopped : goal.returns-in-Err-clause-stopped
-returns-in-Err-clause-stopped g c = λ was. c.in-Err.ensures.stopped
-    (c.loop-record.invariant.stopped was)
+pub loop-place-preserved : goal.loop-place-preserved
+loop-place-preserved g c =
+    let ps = c.as_slice-places.result.now in
+    let i = c.loop-place.place-index in
+    let d : Place = record { number = 0; malformed = None } in
+    let before = held g.S.Store c.args.desk.now in
+    let between = held g.S.Store c.loop-place.desk in
+    let after = held g.S.Store c.post_record.new.desk in
+    record {
+      left = λ records is.
+          let next = next_of records ps i d (c.as_slice-places.ensures.value ∙ is.places)
+          c.loop-place-test.true in
+          c.in-Ok.ensures.left next.at (drop (i + 1) records) next.kept
+          (next_posts records i _ c.loop-place.left.now next
+          (c.loop-place.invariant.left records is));
+      posts = λ records is.
+          let next = next_of records ps i d (c.as_slice-places.ensures.value ∙ is.places)
+          c.loop-place-test.true in
+          subst (λ (rs : List (ℕ × Said)). Posts before after rs c.args.done.now
+          c.post_record.new.done) (sym next.more)
+          (posts_then before between after (take i records) (next.at ∷ []) c.args.done.now
+          c.loop-place.done c.post_record.new.done (c.loop-place.invariant.posts records is)
+          (c.in-Ok.ensures.posts next.at (drop (i + 1) records) next.kept
+          (next_posts records i _ c.loop-place.left.now next
+          (c.loop-place.invariant.left records is))));
+      grows = let so_far = c.loop-place.invariant.grows in let one = c.in-Ok.ensures.grows in
+          omega arith;
+      stopped = λ was. c.in-Ok.ensures.stopped (c.loop-place.invariant.stopped was);
+    }
 
 pub returns-in-Err-clause-posts : goal.returns-in-Err-clause-posts
 returns-in-Err-clause-posts g c =
-    let xs = c.args.records.now in
-    let i = c.loop-record.record-index in
-    let x = c.record-item.result in
-    posts_stop (held g.S.Store c.args.desk.now) (held g.S.Store c.loop-record.desk)
-    (held g.S.Store c.post_record.new.desk) (map record_view (take i xs)) (record_view x)
-    (map record_view (drop (i + 1) xs)) (map record_view xs)
-    c.args.done.now c.loop-record.done c.post_record.new.done c.in-Err.cause
-    (record_split xs i x c.loop-record-test.true c.record-item.is) c.loop-record.invariant.posts
-    c.in-Err.ensures.stops c.in-Err.ensures.same
+    let i = c.loop-place.place-index in
+    let d : Place = record { number = 0; malformed = None } in
+    λ records is.
+    let next = next_of records c.as_slice-places.result.now i d
+    (c.as_slice-places.ensures.value ∙ is.places) c.loop-place-test.true in
+    posts_stop (held g.S.Store c.args.desk.now) (held g.S.Store c.loop-place.desk)
+    (held g.S.Store c.post_record.new.desk) (take i records) next.at
+    (drop (i + 1) records) records
+    c.args.done.now c.loop-place.done c.post_record.new.done c.in-Err.cause
+    (next_split records i _ next) (c.loop-place.invariant.posts records is)
+    (c.in-Err.ensures.stops next.at (drop (i + 1) records) next.kept
+    (next_posts records i _ c.loop-place.left.now next (c.loop-place.invariant.left records is)))
+    c.in-Err.ensures.same

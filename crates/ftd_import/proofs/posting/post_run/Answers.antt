@@ -1,5 +1,4 @@
 use Rattle.std.proofs.Common.{sym, subst}
-use Rattle.ftd_csv.specs.Answers.{run_view}
 use Rattle.ftd_machine.specs.declared.requests.Request.{Request}
 use Rattle.ftd_desk.specs.Desks.{held}
 use Rattle.ftd_desk.specs.Words.{Handles}
@@ -10,17 +9,17 @@ pub returns-in-Some-clause-stops : goal.returns-in-Some-clause-stops
 returns-in-Some-clause-stops g c =
     let before = held g.S.Store c.args.desk.now in
     let after = held g.S.Store c.handle-answer.new.self in
-    let run = run_view c.args.run.now in
+    λ run is.
     faulted before after c.args.number run c.handle-answer.result c.in-Some.cause
-    (subst (λ (r : Request). Handles before after r c.handle-answer.result) c.in-Ok.ensures
+    (subst (λ (r : Request). Handles before after r c.handle-answer.result) is
     c.handle-answer.ensures.handles) (sym c.in-Some.ensures)
 
 pub returns-clause-posts : goal.returns-clause-posts
 returns-clause-posts g c =
     let before = held g.S.Store c.args.desk.now in
     let after = held g.S.Store c.handle-answer.new.self in
-    let run = run_view c.args.run.now in
+    λ run is.
     posts_one before after c.args.number run c.handle-answer.result c.args.done.now c.count.new.self
-    (subst (λ (r : Request). Handles before after r c.handle-answer.result) c.in-Ok.ensures
+    (subst (λ (r : Request). Handles before after r c.handle-answer.result) is
     c.handle-answer.ensures.handles) (sym c.in-None.ensures)
     (c.count.ensures.counts run)

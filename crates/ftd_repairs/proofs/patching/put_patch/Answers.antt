@@ -1,5 +1,4 @@
-use Rattle.std.proofs.Common.{◌≡◌, ◌<◌, ◌+◌, ◌∙◌, ℕ, List, length, set, refl, ap, sym, subst, arith}
-use Rattle.std.proofs.lemmas.Grind.{get_or-set_at}
+use Rattle.std.proofs.Common.{◌≡◌, ◌<◌, ◌+◌, ℕ, List, length, set, ap, sym, subst, arith}
 use Rattle.std.proofs.Math.ListN.{drop_of_length-le}
 use Rattle.std.proofs.lemmas.List.Elements.{All-set, All-get_or}
 use Rattle.ftd_days.specs.declared.cents.Cents.{Cents}
@@ -13,7 +12,7 @@ use Rattle.ftd_repairs.specs.Rescheduled.{HasLines, IsRescheduled, IsUnnamed, Pu
 use Rattle.ftd_store.proofs.Turning.{writes_turn, turns_on, turns_then}
 use Rattle.ftd_repairs.proofs.Putting.{PutSoFar, put_none, put_more, put_same, put_all}
 use Rattle.ftd_repairs.proofs.patching.put_patch.Goals as goal
-use Rattle.ftd_repairs.proofs.patching.put_patch.Goals.{in-Some+in_ok-put_year, in_default}
+use Rattle.ftd_repairs.proofs.patching.put_patch.Goals.{in-Some+in_ok-put_line, in_default}
 
 pub loop-i-init : goal.loop-i-init
 loop-i-init g c =
@@ -47,27 +46,25 @@ loop-i-preserved g c =
     AreBetween name patch.from patch.to c.args.gone.now t → HasLines name lines t
     → PutSoFar name lines patch n ls t u in
     elim c.match-rescheduled.branch [
-      | in-Some+in_ok-put_year w ↦
+      | in-Some+in_ok-put_line w ↦
           (let after : YearLine = w.in-Some.after in
           let scheduled : IsRescheduled patch.years x after =
           rw (c.as_slice.ensures, ← c.index-lines-i.is) at w.in-Some.ensures in
-          let stored : w.index-lines-i-in-Some.result ≡ after = w.index-lines-i-in-Some.is
-          ∙ get_or-set_at now i i after w.index-lines-i-in-Some.result refl (omega arith) in
           let holds : Holds x = subst Holds (sym c.index-lines-i.is)
           (All-get_or Holds now i x (omega arith) c.loop-i.invariant.lookbacks) in
           let still : Holds after = subst (λ (amount : Cents). IsStorable amount)
           (sym (ap (λ (l : YearLine). l.lookback) scheduled.3)) holds in
-          rw (w.tx-is, w.lines-is) (record {
+          rw (w.tx-is, w.lines-is, w.put_line.ensures.line) (record {
             lookbacks = All-set Holds now i after still c.loop-i.invariant.lookbacks;
-            call = turns_then g.S.Store c.args.tx.now c.loop-i.tx w.put_year.new.self tt _ tt
+            call = turns_then g.S.Store c.args.tx.now c.loop-i.tx w.put_line.new.tx tt _ tt
                 (λ done. So i now) (λ done t u. u ≡ with_year name after t)
                 (λ done. So (i + 1) (set now i after))
                 (λ t u v so_far is gone had. subst (λ (z : Tables). PutSoFar name lines patch
                 (i + 1) (set now i after) t z) (sym is)
                 (put_more name lines patch i now x after t u some c.index-lines-i.is scheduled
                 (so_far gone had)))
-                c.loop-i.invariant.call (writes_turn g.S.Store c.loop-i.tx w.put_year.new.self _
-                (with_year name after) (rw stored at w.in_ok-put_year.ensures.call));
+                c.loop-i.invariant.call (writes_turn g.S.Store c.loop-i.tx w.put_line.new.tx _
+                (with_year name after) w.in_ok-put_line.ensures.call);
           }))
       | in_default w ↦
           (let unnamed : IsUnnamed patch.years x = rw (c.as_slice.ensures, ← c.index-lines-i.is) at

@@ -1,7 +1,7 @@
 use Rattle.std.proofs.Common.{List, subst}
 use Rattle.ftd_rules.specs.declared.Obligation.{Obligation}
 use Rattle.ftd_rules.specs.Obligations.{ByFirstDay}
-use Rattle.ftd_sql.specs.Orders.{ObligationsRise}
+use Rattle.ftd_schema.specs.Orders.{ObligationsRise}
 use Rattle.ftd_rows.specs.Rows.{obligation_row}
 use Rattle.ftd_store.specs.Finds.{ListsObligations}
 use Rattle.ftd_store.proofs.Telling.{reads_on}

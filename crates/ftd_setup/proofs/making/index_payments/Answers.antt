@@ -1,7 +1,7 @@
 use Rattle.std.proofs.Common.{refl}
-use Rattle.ftd_sql.specs.States.{within}
+use Rattle.ftd_schema.specs.States.{within}
 use Rattle.ftd_schema.specs.declared.TableName.TheVariants.{Payments}
-use Rattle.ftd_sql.proofs.Indexing.{indexes_payments, indexes}
+use Rattle.ftd_schema.proofs.Indexing.{indexes_payments, indexes}
 use Rattle.ftd_setup.specs.Versions.{KeepsRows}
 use Rattle.ftd_setup.proofs.Stepping.{steps_none, steps_so}
 use Rattle.ftd_setup.proofs.making.index_payments.Goals as goal

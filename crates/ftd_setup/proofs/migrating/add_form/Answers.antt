@@ -1,4 +1,4 @@
-use Rattle.ftd_sql.specs.States.{within}
+use Rattle.ftd_schema.specs.States.{within}
 use Rattle.ftd_setup.proofs.Made.{form_added}
 use Rattle.ftd_setup.proofs.Stepping.{steps_so}
 use Rattle.ftd_setup.proofs.migrating.add_form.Goals as goal

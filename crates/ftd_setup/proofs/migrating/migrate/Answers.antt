@@ -1,4 +1,4 @@
-use Rattle.ftd_sql.specs.States.{within}
+use Rattle.ftd_schema.specs.States.{within}
 use Rattle.ftd_setup.specs.Versions.{IsMigrated}
 use Rattle.ftd_setup.proofs.Made.{IsExtended, HasForms, extended, formed, migrated}
 use Rattle.ftd_setup.proofs.Stepping.{steps_then, steps_both}

@@ -2,8 +2,8 @@ use Rattle.std.proofs.Common.{◌≡◌, ◌∷◌, true, false, inr, rules, ref
 use Rattle.std.specs.Prelude.{is_err}
 use Rattle.ftd_machine.specs.declared.replies.Refusal.TheVariants as refusal
 use Rattle.ftd_questions.specs.Faults.{refusal_of}
-use Rattle.ftd_sql.specs.States.{CrashKeeps}
-use Rattle.ftd_sql.proofs.Controls.{crash_then}
+use Rattle.ftd_schema.specs.States.{CrashKeeps}
+use Rattle.ftd_schema.proofs.Controls.{crash_then}
 use Rattle.ftd_store.specs.Seen.{seen, shown}
 use Rattle.ftd_store.specs.declared.store.Store.{Store}
 use Rattle.ftd_desk.specs.Desks.{Held, held}

@@ -1,9 +1,9 @@
 use Rattle.ftd_schema.specs.declared.TableName.TheVariants.{Accounts}
-use Rattle.ftd_sql.specs.declared.texts.TheConstants.{READ_ACCOUNT}
-use Rattle.ftd_sql.specs.Answers.{account_shown}
-use Rattle.ftd_sql.proofs.Asking.{reads_account}
-use Rattle.ftd_sql.proofs.Reading.{asking}
-use Rattle.ftd_sql.proofs.Meanings.{shows_account}
+use Rattle.ftd_schema.specs.declared.texts.TheConstants.{READ_ACCOUNT}
+use Rattle.ftd_schema.specs.Answers.{account_shown}
+use Rattle.ftd_schema.proofs.Asking.{reads_account}
+use Rattle.ftd_schema.proofs.Reading.{asking}
+use Rattle.ftd_schema.proofs.Meanings.{shows_account}
 use Rattle.ftd_rows.specs.Cells.{account_cells}
 use Rattle.ftd_store.proofs.Same.{account_is}
 use Rattle.ftd_store.proofs.Telling.{finds}

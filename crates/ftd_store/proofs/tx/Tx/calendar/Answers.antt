@@ -1,11 +1,11 @@
 use Rattle.std.proofs.Common.{pos, None, Some, Ok, Vec, Global, ℕ}
 use Rattle.ftd_schema.specs.declared.TableName.TheVariants.{Holidays}
-use Rattle.ftd_sql.specs.declared.texts.TheConstants.{LIST_HOLIDAYS}
-use Rattle.ftd_sql.specs.Answers.{holiday_shown}
-use Rattle.ftd_sql.specs.Orders.{HolidaysRise}
-use Rattle.ftd_sql.proofs.Asking.{lists_holidays}
-use Rattle.ftd_sql.proofs.Reading.{asking}
-use Rattle.ftd_sql.proofs.Meanings.{holidays_in_order}
+use Rattle.ftd_schema.specs.declared.texts.TheConstants.{LIST_HOLIDAYS}
+use Rattle.ftd_schema.specs.Answers.{holiday_shown}
+use Rattle.ftd_schema.specs.Orders.{HolidaysRise}
+use Rattle.ftd_schema.proofs.Asking.{lists_holidays}
+use Rattle.ftd_schema.proofs.Reading.{asking}
+use Rattle.ftd_schema.proofs.Meanings.{holidays_in_order}
 use Rattle.ftd_rows.specs.Cells.{day_cells}
 use Rattle.ftd_store.specs.Finds.{IsHoliday}
 use Rattle.ftd_store.proofs.Same.{holiday_is}

@@ -1,8 +1,8 @@
 use Rattle.ftd_schema.specs.declared.TableName.TheVariants.{Payments}
-use Rattle.ftd_sql.specs.declared.texts.TheConstants.{COUNT_PAYMENTS}
-use Rattle.ftd_sql.proofs.Asking.{counts_payments}
-use Rattle.ftd_sql.proofs.Reading.{counting}
-use Rattle.ftd_sql.proofs.Meanings.{payments_counted}
+use Rattle.ftd_schema.specs.declared.texts.TheConstants.{COUNT_PAYMENTS}
+use Rattle.ftd_schema.proofs.Asking.{counts_payments}
+use Rattle.ftd_schema.proofs.Reading.{counting}
+use Rattle.ftd_schema.proofs.Meanings.{payments_counted}
 use Rattle.ftd_store.proofs.Telling.{counts}
 use Rattle.ftd_store.proofs.tx.Tx.count_payments.Goals as goal
 

@@ -1,8 +1,8 @@
 use Rattle.ftd_schema.specs.declared.TableName.TheVariants.{Runs}
-use Rattle.ftd_sql.specs.declared.texts.TheConstants.{COUNT_RUNS}
-use Rattle.ftd_sql.proofs.Asking.{counts_runs}
-use Rattle.ftd_sql.proofs.Reading.{counting}
-use Rattle.ftd_sql.proofs.Meanings.{runs_counted}
+use Rattle.ftd_schema.specs.declared.texts.TheConstants.{COUNT_RUNS}
+use Rattle.ftd_schema.proofs.Asking.{counts_runs}
+use Rattle.ftd_schema.proofs.Reading.{counting}
+use Rattle.ftd_schema.proofs.Meanings.{runs_counted}
 use Rattle.ftd_store.proofs.Telling.{counts}
 use Rattle.ftd_store.proofs.tx.Tx.count_runs.Goals as goal
 

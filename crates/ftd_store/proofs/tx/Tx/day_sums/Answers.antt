@@ -1,12 +1,12 @@
 use Rattle.std.proofs.Common.{Ok, Vec, Global}
 use Rattle.ftd_rules.specs.declared.run.PayRun.{PayRun}
 use Rattle.ftd_schema.specs.declared.TableName.TheVariants.{Runs}
-use Rattle.ftd_sql.specs.declared.texts.TheConstants.{LIST_RUNS}
-use Rattle.ftd_sql.specs.Answers.{live_run_shown}
-use Rattle.ftd_sql.specs.Orders.{RunsRise}
-use Rattle.ftd_sql.proofs.Asking.{lists_runs}
-use Rattle.ftd_sql.proofs.Reading.{asking}
-use Rattle.ftd_sql.proofs.Meanings.{runs_in_order}
+use Rattle.ftd_schema.specs.declared.texts.TheConstants.{LIST_RUNS}
+use Rattle.ftd_schema.specs.Answers.{live_run_shown}
+use Rattle.ftd_schema.specs.Orders.{RunsRise}
+use Rattle.ftd_schema.proofs.Asking.{lists_runs}
+use Rattle.ftd_schema.proofs.Reading.{asking}
+use Rattle.ftd_schema.proofs.Meanings.{runs_in_order}
 use Rattle.ftd_rows.specs.Cells.{day_number, pay_run_cells}
 use Rattle.ftd_rows.specs.DaySums.{IsLiveRun}
 use Rattle.ftd_store.proofs.Same.{live_run_is}

@@ -1,10 +1,10 @@
 use Rattle.ftd_schema.specs.declared.TableName.TheVariants.{Obligations}
-use Rattle.ftd_sql.specs.declared.texts.TheConstants.{LIST_DUE_OVER}
-use Rattle.ftd_sql.specs.Answers.{account_obligation_shown}
-use Rattle.ftd_sql.specs.Orders.{AccountsRise}
-use Rattle.ftd_sql.proofs.Asking.{lists_due_over}
-use Rattle.ftd_sql.proofs.Reading.{asking}
-use Rattle.ftd_sql.proofs.Meanings.{due_over_in_order}
+use Rattle.ftd_schema.specs.declared.texts.TheConstants.{LIST_DUE_OVER}
+use Rattle.ftd_schema.specs.Answers.{account_obligation_shown}
+use Rattle.ftd_schema.specs.Orders.{AccountsRise}
+use Rattle.ftd_schema.proofs.Asking.{lists_due_over}
+use Rattle.ftd_schema.proofs.Reading.{asking}
+use Rattle.ftd_schema.proofs.Meanings.{due_over_in_order}
 use Rattle.ftd_rows.specs.Cells.{day_number, account_obligation_cells}
 use Rattle.ftd_store.specs.Finds.{IsAccountObligation}
 use Rattle.ftd_store.proofs.Same.{account_obligation_is}

@@ -1,9 +1,9 @@
 use Rattle.ftd_schema.specs.declared.TableName.TheVariants.{Forms}
-use Rattle.ftd_sql.specs.declared.texts.TheConstants.{READ_FORM}
-use Rattle.ftd_sql.specs.Answers.{form_shown}
-use Rattle.ftd_sql.proofs.Asking.{reads_form}
-use Rattle.ftd_sql.proofs.Reading.{asking}
-use Rattle.ftd_sql.proofs.Meanings.{shows_form}
+use Rattle.ftd_schema.specs.declared.texts.TheConstants.{READ_FORM}
+use Rattle.ftd_schema.specs.Answers.{form_shown}
+use Rattle.ftd_schema.proofs.Asking.{reads_form}
+use Rattle.ftd_schema.proofs.Reading.{asking}
+use Rattle.ftd_schema.proofs.Meanings.{shows_form}
 use Rattle.ftd_rows.specs.Cells.{form_cells}
 use Rattle.ftd_store.proofs.Same.{form_is}
 use Rattle.ftd_store.proofs.Telling.{finds}

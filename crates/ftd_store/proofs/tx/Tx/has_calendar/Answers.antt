@@ -2,11 +2,11 @@ use Rattle.std.proofs.Common.{◌≡◌, ℕ, pos, Bool, Option, None, Some, Ok,
 use Rattle.std.specs.Prelude.{is_some, if◌then◌else◌}
 use Rattle.ftd_schema.specs.declared.TableName.TheVariants.{CalendarYears}
 use Rattle.ftd_schema.specs.Rows.{CalendarYearRow}
-use Rattle.ftd_sql.specs.declared.texts.TheConstants.{READ_CALENDAR_YEAR}
-use Rattle.ftd_sql.specs.Answers.{calendar_year_shown}
-use Rattle.ftd_sql.proofs.Asking.{reads_calendar_year}
-use Rattle.ftd_sql.proofs.Reading.{asking}
-use Rattle.ftd_sql.proofs.Meanings.{shows_calendar_year}
+use Rattle.ftd_schema.specs.declared.texts.TheConstants.{READ_CALENDAR_YEAR}
+use Rattle.ftd_schema.specs.Answers.{calendar_year_shown}
+use Rattle.ftd_schema.proofs.Asking.{reads_calendar_year}
+use Rattle.ftd_schema.proofs.Reading.{asking}
+use Rattle.ftd_schema.proofs.Meanings.{shows_calendar_year}
 use Rattle.ftd_rows.specs.Cells.{count_cells}
 use Rattle.ftd_rows.specs.Reading.{rows_of}
 use Rattle.ftd_rows.specs.Rows.{calendar_year_row}

@@ -1,10 +1,10 @@
 use Rattle.ftd_schema.specs.declared.TableName.TheVariants.{Obligations}
-use Rattle.ftd_sql.specs.declared.texts.TheConstants.{LIST_OBLIGATIONS}
-use Rattle.ftd_sql.specs.Answers.{obligation_shown}
-use Rattle.ftd_sql.specs.Orders.{ObligationsRise}
-use Rattle.ftd_sql.proofs.Asking.{lists_obligations}
-use Rattle.ftd_sql.proofs.Reading.{asking}
-use Rattle.ftd_sql.proofs.Meanings.{obligations_in_order}
+use Rattle.ftd_schema.specs.declared.texts.TheConstants.{LIST_OBLIGATIONS}
+use Rattle.ftd_schema.specs.Answers.{obligation_shown}
+use Rattle.ftd_schema.specs.Orders.{ObligationsRise}
+use Rattle.ftd_schema.proofs.Asking.{lists_obligations}
+use Rattle.ftd_schema.proofs.Reading.{asking}
+use Rattle.ftd_schema.proofs.Meanings.{obligations_in_order}
 use Rattle.ftd_rows.specs.Cells.{day_number, obligation_cells}
 use Rattle.ftd_store.specs.Finds.{IsObligation}
 use Rattle.ftd_store.proofs.Same.{obligation_is}

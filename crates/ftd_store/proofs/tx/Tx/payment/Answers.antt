@@ -1,10 +1,10 @@
 use Rattle.std.proofs.Common.{pos}
 use Rattle.ftd_schema.specs.declared.TableName.TheVariants.{Payments}
-use Rattle.ftd_sql.specs.declared.texts.TheConstants.{READ_PAYMENT}
-use Rattle.ftd_sql.specs.Answers.{payment_shown}
-use Rattle.ftd_sql.proofs.Asking.{reads_payment}
-use Rattle.ftd_sql.proofs.Reading.{asking}
-use Rattle.ftd_sql.proofs.Meanings.{shows_payment}
+use Rattle.ftd_schema.specs.declared.texts.TheConstants.{READ_PAYMENT}
+use Rattle.ftd_schema.specs.Answers.{payment_shown}
+use Rattle.ftd_schema.proofs.Asking.{reads_payment}
+use Rattle.ftd_schema.proofs.Reading.{asking}
+use Rattle.ftd_schema.proofs.Meanings.{shows_payment}
 use Rattle.ftd_rows.specs.Cells.{stored_payment_cells}
 use Rattle.ftd_store.proofs.Same.{payment_is}
 use Rattle.ftd_store.proofs.Telling.{finds}

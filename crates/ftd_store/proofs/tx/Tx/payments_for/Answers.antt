@@ -1,10 +1,10 @@
 use Rattle.ftd_schema.specs.declared.TableName.TheVariants.{Payments}
-use Rattle.ftd_sql.specs.declared.texts.TheConstants.{LIST_PAYMENTS}
-use Rattle.ftd_sql.specs.Answers.{live_payment_shown}
-use Rattle.ftd_sql.specs.Orders.{PaymentsRise}
-use Rattle.ftd_sql.proofs.Asking.{lists_payments}
-use Rattle.ftd_sql.proofs.Reading.{asking}
-use Rattle.ftd_sql.proofs.Meanings.{payments_in_order}
+use Rattle.ftd_schema.specs.declared.texts.TheConstants.{LIST_PAYMENTS}
+use Rattle.ftd_schema.specs.Answers.{live_payment_shown}
+use Rattle.ftd_schema.specs.Orders.{PaymentsRise}
+use Rattle.ftd_schema.proofs.Asking.{lists_payments}
+use Rattle.ftd_schema.proofs.Reading.{asking}
+use Rattle.ftd_schema.proofs.Meanings.{payments_in_order}
 use Rattle.ftd_rows.specs.Cells.{day_number, payment_cells}
 use Rattle.ftd_store.specs.Finds.{IsLivePayment}
 use Rattle.ftd_store.proofs.Same.{live_payment_is}

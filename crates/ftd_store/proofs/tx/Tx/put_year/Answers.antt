@@ -2,10 +2,10 @@ use Rattle.std.proofs.Common.{refl, ap}
 use Rattle.ftd_schema.specs.declared.TableName.TheVariants.{Years}
 use Rattle.ftd_schema.specs.Standing.{with_rows}
 use Rattle.ftd_schema.proofs.OneOfAll.{stands_same}
-use Rattle.ftd_sql.specs.declared.texts.TheConstants.{SET_YEAR}
-use Rattle.ftd_sql.proofs.Changing.{sets_year}
-use Rattle.ftd_sql.proofs.Meanings.{figures_set}
-use Rattle.ftd_sql.proofs.Writing.{changing}
+use Rattle.ftd_schema.specs.declared.texts.TheConstants.{SET_YEAR}
+use Rattle.ftd_schema.proofs.Changing.{sets_year}
+use Rattle.ftd_schema.proofs.Meanings.{figures_set}
+use Rattle.ftd_schema.proofs.Writing.{changing}
 use Rattle.ftd_rows.specs.Rows.{year_row}
 use Rattle.ftd_store.specs.Seen.{shown}
 use Rattle.ftd_store.proofs.Going.{goes_on}

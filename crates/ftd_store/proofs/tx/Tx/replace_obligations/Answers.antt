@@ -1,7 +1,7 @@
 use Rattle.std.proofs.Common.{◌≡◌, List, Err, not, filter, take, refl, ap, rules, arith}
 use Rattle.ftd_rules.specs.declared.Obligation.{Obligation}
 use Rattle.ftd_schema.specs.declared.TableName.TheVariants.{Obligations}
-use Rattle.ftd_sql.specs.Tests.{is_obligation_between}
+use Rattle.ftd_schema.specs.Tests.{is_obligation_between}
 use Rattle.ftd_rows.specs.Cells.{day_number}
 use Rattle.ftd_rows.specs.Rows.{obligation_row}
 use Rattle.ftd_store.specs.Changes.{adding, with_obligations}

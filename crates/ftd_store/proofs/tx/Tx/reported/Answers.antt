@@ -1,11 +1,11 @@
 use Rattle.std.proofs.Common.{pos}
 use Rattle.ftd_days.specs.Calendar.{quarter_year, quarter_number}
 use Rattle.ftd_schema.specs.declared.TableName.TheVariants.{ReportedQuarters}
-use Rattle.ftd_sql.specs.declared.texts.TheConstants.{READ_REPORTED}
-use Rattle.ftd_sql.specs.Answers.{reported_shown}
-use Rattle.ftd_sql.proofs.Asking.{reads_reported}
-use Rattle.ftd_sql.proofs.Reading.{asking}
-use Rattle.ftd_sql.proofs.Meanings.{shows_reported}
+use Rattle.ftd_schema.specs.declared.texts.TheConstants.{READ_REPORTED}
+use Rattle.ftd_schema.specs.Answers.{reported_shown}
+use Rattle.ftd_schema.proofs.Asking.{reads_reported}
+use Rattle.ftd_schema.proofs.Reading.{asking}
+use Rattle.ftd_schema.proofs.Meanings.{shows_reported}
 use Rattle.ftd_rows.specs.Cells.{cents_cells}
 use Rattle.ftd_store.proofs.Same.{reported_is}
 use Rattle.ftd_store.proofs.Telling.{finds}

@@ -1,10 +1,10 @@
 use Rattle.std.proofs.Common.{pos}
 use Rattle.ftd_schema.specs.declared.TableName.TheVariants.{ReportedYears}
-use Rattle.ftd_sql.specs.declared.texts.TheConstants.{READ_REPORTED_YEAR}
-use Rattle.ftd_sql.specs.Answers.{reported_year_shown}
-use Rattle.ftd_sql.proofs.Asking.{reads_reported_year}
-use Rattle.ftd_sql.proofs.Reading.{asking}
-use Rattle.ftd_sql.proofs.Meanings.{shows_reported_year}
+use Rattle.ftd_schema.specs.declared.texts.TheConstants.{READ_REPORTED_YEAR}
+use Rattle.ftd_schema.specs.Answers.{reported_year_shown}
+use Rattle.ftd_schema.proofs.Asking.{reads_reported_year}
+use Rattle.ftd_schema.proofs.Reading.{asking}
+use Rattle.ftd_schema.proofs.Meanings.{shows_reported_year}
 use Rattle.ftd_rows.specs.Cells.{cents_cells}
 use Rattle.ftd_store.proofs.Same.{reported_year_is}
 use Rattle.ftd_store.proofs.Telling.{finds}

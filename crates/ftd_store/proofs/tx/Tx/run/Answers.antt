@@ -1,10 +1,10 @@
 use Rattle.std.proofs.Common.{pos}
 use Rattle.ftd_schema.specs.declared.TableName.TheVariants.{Runs}
-use Rattle.ftd_sql.specs.declared.texts.TheConstants.{READ_RUN}
-use Rattle.ftd_sql.specs.Answers.{run_shown}
-use Rattle.ftd_sql.proofs.Asking.{reads_run}
-use Rattle.ftd_sql.proofs.Reading.{asking}
-use Rattle.ftd_sql.proofs.Meanings.{shows_run}
+use Rattle.ftd_schema.specs.declared.texts.TheConstants.{READ_RUN}
+use Rattle.ftd_schema.specs.Answers.{run_shown}
+use Rattle.ftd_schema.proofs.Asking.{reads_run}
+use Rattle.ftd_schema.proofs.Reading.{asking}
+use Rattle.ftd_schema.proofs.Meanings.{shows_run}
 use Rattle.ftd_rows.specs.Cells.{stored_run_cells}
 use Rattle.ftd_store.proofs.Same.{run_is}
 use Rattle.ftd_store.proofs.Telling.{finds}

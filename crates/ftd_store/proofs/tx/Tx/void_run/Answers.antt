@@ -1,9 +1,9 @@
 use Rattle.std.proofs.Common.{pos}
 use Rattle.ftd_schema.specs.declared.TableName.TheVariants.{Runs}
-use Rattle.ftd_sql.specs.declared.texts.TheConstants.{VOID_RUN}
-use Rattle.ftd_sql.proofs.Changing.{voids_run}
-use Rattle.ftd_sql.proofs.Writing.{changing}
-use Rattle.ftd_sql.proofs.Meanings.{run_voided}
+use Rattle.ftd_schema.specs.declared.texts.TheConstants.{VOID_RUN}
+use Rattle.ftd_schema.proofs.Changing.{voids_run}
+use Rattle.ftd_schema.proofs.Writing.{changing}
+use Rattle.ftd_schema.proofs.Meanings.{run_voided}
 use Rattle.ftd_store.proofs.Telling.{changes_one}
 use Rattle.ftd_store.proofs.tx.Tx.void_run.Goals as goal
 

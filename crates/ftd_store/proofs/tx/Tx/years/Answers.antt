@@ -1,11 +1,11 @@
 use Rattle.std.proofs.Common.{Ok, Vec, Global, sym, subst}
 use Rattle.ftd_schema.specs.declared.TableName.TheVariants.{Years}
-use Rattle.ftd_sql.specs.declared.texts.TheConstants.{LIST_YEARS}
-use Rattle.ftd_sql.specs.Answers.{year_shown}
-use Rattle.ftd_sql.specs.Orders.{YearsRise}
-use Rattle.ftd_sql.proofs.Asking.{lists_years}
-use Rattle.ftd_sql.proofs.Reading.{asking}
-use Rattle.ftd_sql.proofs.Meanings.{years_in_order}
+use Rattle.ftd_schema.specs.declared.texts.TheConstants.{LIST_YEARS}
+use Rattle.ftd_schema.specs.Answers.{year_shown}
+use Rattle.ftd_schema.specs.Orders.{YearsRise}
+use Rattle.ftd_schema.proofs.Asking.{lists_years}
+use Rattle.ftd_schema.proofs.Reading.{asking}
+use Rattle.ftd_schema.proofs.Meanings.{years_in_order}
 use Rattle.ftd_rules.specs.declared.YearLine.{YearLine}
 use Rattle.ftd_rules.specs.Years.{OnlyFirstCarried}
 use Rattle.ftd_rows.specs.declared.years.StoredYear.{StoredYear}

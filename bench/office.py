@@ -1,0 +1,147 @@
+"""A desk that is asked over HTTP: requests as lines of words, as `post elm 1 2024-05-08 40000.00`, and answers as lines."""
+
+import json
+import os
+import socket
+import subprocess
+import sys
+import threading
+
+TOP = os.path.dirname(os.path.dirname(os.path.abspath(__file__)))
+FTD = os.path.join(TOP, "crates", "ftd", "out", "ftd")
+# A connection has so many messages at most.
+MESSAGES = 100
+
+
+def program_of(words):
+    """The path of the program: the first word, or that of the build of this repository."""
+    path = os.path.abspath(words[0] if words else FTD)
+    if not os.access(path, os.X_OK):
+        sys.exit(f"no program {path}: first run the test command, or `rt run` in crates/ftd")
+    return path
+
+
+def body_of(words):
+    """The method, the end of the target and the body of a request of an account."""
+    verb, rest = words[0], words[2:]
+    if verb == "report" and rest[0] == "year":
+        return "POST", "reported-years", {"year": int(rest[1]), "amount": rest[2]}
+    if verb == "report":
+        return "POST", "reported", {"quarter": rest[0], "amount": rest[1]}
+    if verb == "open":
+        return "POST", "years", {"year": int(rest[0])}
+    if verb == "post":
+        fit, ss, medicare = [*rest[2:], "0.00", "0.00"][:3]
+        return "POST", "runs", {"run": int(rest[0]), "payday": rest[1], "fit": fit, "ss": ss, "medicare": medicare}
+    if verb == "pay":
+        return "POST", "payments", {"payment": int(rest[0]), "paid": rest[1], "for": rest[2], "amount": rest[3]}
+    if verb in ("void", "void-pay"):
+        return "DELETE", f"{'runs' if verb == 'void' else 'payments'}/{rest[0]}", None
+    return "GET", "/".join([verb, *rest]), None
+
+
+def message_of(line):
+    """The bytes of a request's message."""
+    words = line.split(" ")
+    if words[0] == "calendar":
+        method, target, body = "POST", "/calendars", {"year": int(words[1]), "days": words[2:]}
+    elif words[0] == "add-holiday":
+        method, target, body = "POST", "/holidays", {"day": words[1]}
+    elif words[0] == "enrol":
+        form = "943" if "943" in words else "941"
+        method, target = "POST", "/accounts"
+        body = {"account": words[1], "start": words[2], "carried": "carried" in words, "form": form}
+    else:
+        method, end, body = body_of(words)
+        target = f"/accounts/{words[1]}/{end}"
+    text = "" if body is None else json.dumps(body)
+    length = f"Content-Length: {len(text)}\r\n" if method == "POST" else ""
+    return f"{method} {target} HTTP/1.1\r\n{length}\r\n{text}".encode()
+
+
+def rows_of(text):
+    """The lines of a due list or of Schedule B; the totals have to be those of the lines."""
+    head, *lines = text.split("\n")[:-1]
+    rows = [line.split() for line in lines]
+    cents = lambda row, place: int(row[place].replace(".", ""))
+    if head.startswith("DUE LIST"):
+        *rows, total = rows
+        assert total[0] == "TOTAL" and cents(total, 1) == sum(cents(row, 3) for row in rows), text
+    else:
+        days, months = [row for row in rows if len(row[0]) == 10], [row for row in rows if len(row[0]) == 7]
+        for month in months:
+            assert cents(month, 1) == sum(cents(row, 1) for row in days if row[0].startswith(month[0])), text
+        assert len(months) == 3 and cents(rows[-1], 1) == sum(cents(row, 1) for row in days), text
+        rows = days
+    return "".join(" ".join(row) + "; " for row in rows)
+
+
+def told(body):
+    """The answer as a line."""
+    if not body.startswith("{"):
+        return rows_of(body)
+    answer = json.loads(body)
+    if "refused" in answer:
+        word = "failed" if answer["refused"] in (21, 22) else "refused"
+        return " ".join([word, str(answer["refused"]), answer["name"], *([answer["detail"]] if "detail" in answer else [])])
+    if "kind" in answer:
+        return " ".join([answer["kind"], answer["reason"], *([answer["turn"]] if "turn" in answer else [])])
+    if answer["reply"] == "posted":
+        return f"{answer['from']}..{answer['to']} -{answer['removed']} +{answer['added']}"
+    return answer["reply"]
+
+
+class Office:
+    """A server over a file, for so many requests; the connections are used one after the other."""
+
+    def __init__(self, program, file, requests):
+        self.left = -(-requests // MESSAGES)
+        words = [program, "serve", "--db", file, "--port", str(free_port()), "--connections", str(self.left)]
+        self.server = subprocess.Popen(words, stdout=subprocess.PIPE, text=True)
+        said = self.server.stdout.readline()
+        assert said.startswith("listening 127.0.0.1:"), said
+        self.port = int(said.split(":")[1])
+
+    def ask_some(self, lines):
+        """The answers to at most a hundred requests, which go as one connection."""
+        sent = b"".join(message_of(line) for line in lines)
+        with socket.create_connection(("127.0.0.1", self.port), timeout=60) as peer:
+            given = threading.Thread(target=send, args=(peer, sent))
+            given.start()
+            said = b""
+            while piece := peer.recv(65536):
+                said += piece
+            given.join()
+        self.left -= 1
+        return [told(body) for body in bodies(said)]
+
+    def ask(self, lines):
+        """The answers to requests."""
+        return [answer for place in range(0, len(lines), MESSAGES) for answer in self.ask_some(lines[place : place + MESSAGES])]
+
+    def close(self):
+        """Waits for the end of the server, all of whose connections were used."""
+        assert self.left == 0, self.left
+        if self.server.wait(60):
+            sys.exit(f"serve ended with status {self.server.returncode}")
+
+
+def free_port():
+    with socket.socket() as it:
+        it.bind(("127.0.0.1", 0))
+        return it.getsockname()[1]
+
+
+def send(peer, sent):
+    """Sends the bytes, and then says that no more come."""
+    peer.sendall(sent)
+    peer.shutdown(socket.SHUT_WR)
+
+
+def bodies(said):
+    """The bodies of answers, one after the other."""
+    while said:
+        head, _, rest = said.partition(b"\r\n\r\n")
+        length = next(int(line[16:]) for line in head.split(b"\r\n") if line.startswith(b"Content-Length: "))
+        yield rest[:length].decode()
+        said = rest[length:]

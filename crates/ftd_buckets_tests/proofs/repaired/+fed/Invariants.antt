@@ -1,4 +1,0 @@
-use Rattle.ftd_buckets_tests.proofs.repaired.+fed.Given as goal
-
-abbrev pub decreases-fed : goal.decreases-fed
-decreases-fed l = l.depth

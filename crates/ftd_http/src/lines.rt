@@ -1,0 +1,95 @@
+//! The lines of a server.
+
+ghost use Rattle.std.specs.Prelude.{◌≡◌, true, OnOk, OnErr, Some};
+ghost use Rattle.std.specs.List.{flat_map};
+ghost use Rattle.std.specs.Io.KnownBytes.{Appends};
+ghost use Rattle.ftd_ports.specs.Writing.{WritesPrefix};
+ghost use Rattle.ftd_http.specs.Listening.{IsToldMore, failed_line, cause_text, listening_line};
+ghost use Rattle.ftd_http.specs.Listening.{stop_line};
+
+use crate::connection::Cause;
+use crate::stop::Stop;
+use ftd_ports::{Target, WriteFault, write_pieces};
+use itoa::Buffer;
+
+/// Tells at which port the server listens.
+pub fn tell_listening<W: Target>(port: u16, out: &mut W) -> Result<(), WriteFault>
+    ensures ok { OnOk result (Appends (W.taken out.old) (W.taken out.new) (listening_line port)) }
+    ensures err { OnErr result
+        (WritesPrefix (W.taken out.old) (W.taken out.new) (listening_line port)) }
+    ensures fault { OnErr result (W.failed out.new ≡ true) }
+{
+    let mut digits = Buffer::new();
+    let port = digits.format(port).as_bytes();
+    write_pieces(out, &[b"listening 127.0.0.1:", port, b"\n"])
+}
+
+/// Goes on with what was told: these pieces, unless an earlier line met a fault.
+fn tell_more<W: Target>(
+    told: Result<(), WriteFault>,
+    pieces: &[&[u8]],
+    err: &mut W,
+) -> Result<(), WriteFault>
+    ensures { IsToldMore told result (W.taken err.old) (W.taken err.new)
+        (W.failed err.old) (W.failed err.new) (flat_map (λ piece. piece.now) pieces.now) }
+{
+    match told {
+        Ok(()) => write_pieces(err, pieces),
+        Err(fault) => Err(fault),
+    }
+}
+
+/// Tells of a connection that failed.
+pub fn tell_failed<W: Target>(
+    told: Result<(), WriteFault>,
+    number: u32,
+    cause: Cause,
+    err: &mut W,
+) -> Result<(), WriteFault>
+    ensures { IsToldMore told result (W.taken err.old) (W.taken err.new)
+        (W.failed err.old) (W.failed err.new) (failed_line number cause) }
+{
+    let mut digits = Buffer::new();
+    let number = digits.format(number).as_bytes();
+    let pieces: [&[u8]; 5] = [
+        b"connection ",
+        number,
+        b" failed ",
+        cause_text(cause),
+        b"\n",
+    ];
+    tell_more(told, &pieces, err)
+}
+
+/// Tells why the server stopped.
+pub fn tell_stop<W: Target>(
+    told: Result<(), WriteFault>,
+    stop: Stop,
+    err: &mut W,
+) -> Result<(), WriteFault>
+    ensures { IsToldMore told result (W.taken err.old) (W.taken err.new)
+        (W.failed err.old) (W.failed err.new) (stop_line (Some stop)) }
+{
+    tell_more(told, &[stop_line(stop)], err)
+}
+
+/// The last line of a server that stopped.
+fn stop_line(stop: Stop) -> &'static [u8]
+    ensures { result.now ≡ stop_line (Some stop) }
+{
+    match stop {
+        Stop::Net => b"failed Net\n",
+        Stop::Output => b"failed Output\n",
+    }
+}
+
+/// Why a connection failed, in a word.
+fn cause_text(cause: Cause) -> &'static [u8]
+    ensures { result.now ≡ cause_text cause }
+{
+    match cause {
+        Cause::Read => b"Read",
+        Cause::Write => b"Write",
+        Cause::Memory => b"Memory",
+    }
+}

@@ -1,6 +1,0 @@
-pub mod States
-pub mod Given
-pub mod Answers
-pub mod Tests
-pub mod Orders
-pub mod Making

@@ -1,5 +1,0 @@
-//! Worked command lines, through `decide`.
-#![tactic(auto)]
-
-#[cfg(test)]
-mod command_lines;
