@@ -113,7 +113,7 @@ class Run:
     def serve(self):
         """Starts the server, and waits until it listens."""
         words = ["serve", "--db", "office.db", "--port", str(self.port), "--connections", str(self.example.requests())]
-        self.server = subprocess.Popen([self.program, *words], cwd=self.folder, stdout=subprocess.PIPE, text=True)
+        self.server = subprocess.Popen([self.program, *words], cwd=self.folder, stdout=subprocess.PIPE, stderr=subprocess.DEVNULL, text=True)
         self.server.stdout.readline()
 
     def printed(self, step):

@@ -9,6 +9,9 @@ use std::io::{self, ErrorKind};
 /// Why the program does not do what was asked. Its text is what is printed on standard error.
 #[derive(Clone, Copy, Debug, PartialEq, Eq, thiserror::Error)]
 pub enum ProgramFault {
+    /// A word of the command line is no UTF-8.
+    #[error("error: a word of the command line is no UTF-8")]
+    NotText,
     /// A file can't be opened, made or read.
     #[error("failed File")]
     File,
@@ -33,6 +36,16 @@ pub enum ProgramFault {
     /// The database failed while it was opened.
     #[error("failed 22 Store")]
     Store,
+}
+
+impl ProgramFault {
+    /// The exit status: 2 for a fault of usage, and else 3.
+    pub fn status(self) -> u8 {
+        match self {
+            ProgramFault::NotText => 2,
+            _ => 3,
+        }
+    }
 }
 
 impl From<Error> for ProgramFault {

@@ -4,11 +4,15 @@ use crate::faults::ProgramFault;
 use ftd_csv::MOST_BYTES;
 use std::env;
 use std::fs::File;
-use std::io::Read;
+use std::io::{ErrorKind, Read};
 
-/// The words of the command line, the program's name first.
+/// The words of the command line, the program's name first. `NotText` where one is no UTF-8.
 pub fn words(rt: &HostRuntime) -> Result<Vec<String>, ProgramFault> {
-    Ok(env::args(rt)?.collect(rt.alloc())?)
+    match env::args(rt) {
+        Ok(words) => Ok(words.collect(rt.alloc())?),
+        Err(error) if error.kind() == ErrorKind::InvalidData => Err(ProgramFault::NotText),
+        Err(error) => Err(error.into()),
+    }
 }
 
 /// As many bytes as are looked at: one more than a text of pay runs may have, by which a longer one

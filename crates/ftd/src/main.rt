@@ -10,15 +10,16 @@ use crate::input::{import_input, standard_input, words};
 use crate::progress::ProgressLine;
 use ftd_desk::Desk;
 use ftd_http::{Limits, serve_on};
+use ftd_machine::Request;
 use ftd_ports::Port;
 use ftd_program::{perform, print_plain, tell};
 use ftd_store::Store;
 use ftd_words::{Job, LocalTask, PlainTask, ServeTask, Task, decide};
 use sqlite::{Alter, Connection, FileStore};
 use sqlite_disk::Disk;
-use std::io;
 use std::net::TcpListener;
 use std::process::ExitCode;
+use std::{fs, io};
 
 fn main(rt: HostRuntime) -> ExitCode {
     match run(&rt) {
@@ -26,7 +27,7 @@ fn main(rt: HostRuntime) -> ExitCode {
         Err(fault) => {
             // Where standard error fails as well, the status still tells.
             let _ = eprint!(rt; "{fault}\n");
-            ExitCode::from(3)
+            ExitCode::from(fault.status())
         }
     }
 }
@@ -106,10 +107,51 @@ fn over_files<D: Disk + Drop>(
     done
 }
 
+/// Whether a work tells of a file that it made: all do but those by which a desk begins.
+fn tells_of_new_file(work: &Work<'_>) -> bool {
+    match work {
+        Work::Job(task, _) => !matches!(
+            task.job,
+            Job::Ask(Request::Calendar { .. }) | Job::Ask(Request::Enrol { .. })
+        ),
+        Work::Serve(..) => true,
+    }
+}
+
 /// Does the work with the desk of the database file, which is made where it is not there. Each page
-/// of a file that is made carries a sum, so that a byte that changes on the disk is noticed.
+/// of a file that is made carries a sum, so that a byte that changes on the disk is noticed. That it
+/// was made is told on standard error, by a server before it serves, else below what is told there.
 fn over_file(rt: &HostRuntime, db: &str, work: &Work<'_>) -> Result<u8, ProgramFault> {
-    over_files(rt, Connection::open_with_sums(rt, db)?, work)
+    if is_cut_short(rt, db)? {
+        return Err(ProgramFault::Corrupt);
+    }
+    let is_new = fs::exists(rt, db).is_ok_and(|is_there| !is_there) && tells_of_new_file(work);
+    let conn = Connection::open_with_sums(rt, db)?;
+    let begins = matches!(work, Work::Serve(..));
+    if is_new && begins {
+        tell_made(rt, db);
+    }
+    let status = over_files(rt, conn, work)?;
+    if is_new && !begins {
+        tell_made(rt, db);
+    }
+    Ok(status)
+}
+
+/// The length of a log without frames, in bytes.
+const EMPTY_LOG: u64 = 32;
+
+/// Whether the file holds nothing beside a log with frames, and so was cut short: it is no new one.
+fn is_cut_short(rt: &HostRuntime, db: &str) -> Result<bool, ProgramFault> {
+    let log = format!(in rt.alloc(); "{db}-wal")?;
+    let is_empty = fs::metadata(rt, db).is_ok_and(|it| it.len() < 2);
+    Ok(is_empty && fs::metadata(rt, log.as_str()).is_ok_and(|it| it.len() > EMPTY_LOG))
+}
+
+/// Tells that the file was made.
+fn tell_made(rt: &HostRuntime, db: &str) {
+    // Where standard error fails, the file is there all the same.
+    let _ = eprint!(rt; "made {db}\n");
 }
 
 /// Does the job of the task.

@@ -46,6 +46,7 @@ line_end = 13 ∷ 10 ∷ []
 abbrev pub status_text : Status → List ℕ
 status_text status.Okay = codes "200 OK"
 status_text status.BadRequest = codes "400 Bad Request"
+status_text status.Forbidden = codes "403 Forbidden"
 status_text status.NotFound = codes "404 Not Found"
 status_text status.MethodNotAllowed = codes "405 Method Not Allowed"
 status_text status.Conflict = codes "409 Conflict"

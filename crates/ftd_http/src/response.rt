@@ -149,6 +149,7 @@ fn status_text(status: Status) -> &'static [u8]
     match status {
         Status::Okay => b"200 OK",
         Status::BadRequest => b"400 Bad Request",
+        Status::Forbidden => b"403 Forbidden",
         Status::NotFound => b"404 Not Found",
         Status::MethodNotAllowed => b"405 Method Not Allowed",
         Status::Conflict => b"409 Conflict",

@@ -10,7 +10,7 @@ use httparse::spans::HeaderSpan;
 
 /// Whether a text is this word, without regard to ASCII case.
 #[tactic(auto, unfolding(crate::specs::Fields::is_word))]
-fn is_word(word: &[u8], text: &[u8]) -> bool
+pub fn is_word(word: &[u8], text: &[u8]) -> bool
     ensures { result ≡ is_word word.now text.now }
 {
     word.eq_ignore_ascii_case(text)

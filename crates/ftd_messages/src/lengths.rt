@@ -6,6 +6,7 @@ ghost use Rattle.ftd_messages.specs.Heads.{number_in, body_length_of, asks_to_cl
 
 use crate::Status;
 use crate::fields::{are_all, find, has_value};
+use crate::origins::origin_fault;
 use ftd_days::digits::number;
 use httparse::spans::HeaderSpan;
 
@@ -32,6 +33,9 @@ pub fn body_length(buf: &[u8], method: &[u8], headers: &[HeaderSpan]) -> Result<
     ensures value { result ≡ body_length_of method.now (map (header_bytes buf.now) headers.now) }
     ensures limit { IfOk result (λ count. count ≤ 1_048_576) }
 {
+    if let Some(fault) = origin_fault(buf, headers) {
+        return Err(fault);
+    }
     if find(buf, headers, b"transfer-encoding").is_some() {
         return Err(Status::NotImplemented);
     }

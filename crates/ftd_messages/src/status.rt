@@ -7,6 +7,8 @@ pub enum Status {
     Okay,
     /// 400: the head, or the form of the request, is at fault.
     BadRequest,
+    /// 403: the message was not sent to this machine by name, or comes from a foreign page.
+    Forbidden,
     /// 404: no route matches the target.
     NotFound,
     /// 405: the route has another method.
