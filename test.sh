@@ -22,7 +22,7 @@ count() {
     fi
 }
 
-RT_JOBS=$(./.ci/jobs.sh) count rt ci
+count rt ci
 if [ -x crates/ftd/out/ftd ]; then
     count python3 examples/run.py crates/ftd/out/ftd
 else

@@ -1,82 +1,63 @@
 -- One connection more.
-use Rattle.std.proofs.Common.{◌≡◌, ℕ, ◌+◌, List, [], ◌∷◌, ◌++◌, ◌<◌, length, Option, Some, None}
-use Rattle.std.proofs.Common.{Result, Ok, Err, Bool, true, refl, sym, ap, ◌∙◌, subst, append_assoc}
-use Rattle.std.proofs.Common.{append-nil, arith}
+use Rattle.std.proofs.Common.{◌≡◌, ℕ, ◌+◌, List, [], ◌∷◌, ◌++◌, length, Option, All}
+use Rattle.std.proofs.Common.{Result, Ok, Err, Bool, true, false, not, refl, sym, ap, ◌∙◌, subst, append_assoc}
+use Rattle.std.proofs.Common.{append-nil, arith, length-append, Some}
 use Rattle.std.specs.Prelude.{OnOk, OnErr}
 use Rattle.std.specs.Io.KnownBytes.{Appends}
 use Rattle.std.proofs.KnownBytes.{Appends-nil, Appends-trans}
+use Rattle.std.proofs.lemmas.List.Elements.{All-nil, All-push}
 use Rattle.ftd_ports.specs.declared.writing.WriteFault.{WriteFault}
 use Rattle.ftd_ports.specs.Writing.{WritesPrefix}
-use Rattle.ftd_http.specs.declared.connection.Cause.{Cause}
+use Rattle.ftd_http.specs.declared.outcome.Outcome.{Outcome}
+use Rattle.ftd_http.specs.declared.outcome.Turn.{Turn}
 use Rattle.ftd_http.specs.declared.stop.Stop.{Stop}
-use Rattle.ftd_http.specs.declared.stop.Stop.TheVariants as stop
-use Rattle.ftd_http.specs.Listening.{HasServed, IsAnnounced, stop_line, Goes, HasTaken, IsTold}
-use Rattle.ftd_http.specs.Listening.{IsToldMore, failed_line, failed_lines, fault_line}
+use Rattle.ftd_http.specs.Listening.{HasTaken, IsTold, IsToldMore, IsTurn, none, more}
+use Rattle.ftd_http.specs.Listening.{outcome_line, stop_line, stop_of, turn_lines}
 
--- the desk after one connection more
-pub goes_more : {D : Type 0} (serves : D → Option Cause → D → Type 0) (before now after : D)
-    (faults : List (Option Cause)) (fault : Option Cause)
-    → Goes serves before faults now → serves now fault after
-    → Goes serves before (faults ++ fault ∷ []) after
-goes_more serves before now after [] fault g s = (
-  after,
-  subst (λ z. serves z fault after) g s,
-  refl,
-)
-goes_more serves before now after (f ∷ faults) fault g s =
-    (g.0, g.1, goes_more serves g.0 now after faults fault g.2 s)
+is_true : (b : Bool) → not b ≡ false → b ≡ true
+is_true true same = refl
+is_true false same = cc
 
-shift : (number : ℕ) (fault : Option Cause) (faults : List (Option Cause))
-    → (number + 1) + length faults ≡ number + length (fault ∷ faults)
-shift number fault faults = omega arith
+shift : (number : ℕ) (turn : Turn) (turns : List Turn)
+    → (number + 1) + length turns ≡ number + length (turn ∷ turns)
+shift number turn turns = omega arith
 
 -- the lines with one connection more
-pub lines_more : (number : ℕ) (faults : List (Option Cause)) (fault : Option Cause)
-    → failed_lines number (faults ++ fault ∷ []) ≡ failed_lines number faults ++ fault_line
-    (number + length faults) fault
-lines_more number [] None = refl
-lines_more number [] (Some fault) = append-nil (failed_line number fault)
-    ∙ ap (λ n. failed_line n fault) (omega arith)
-lines_more number (None ∷ faults) fault =
-    lines_more (number + 1) faults fault
-    ∙ ap (λ n. failed_lines (number + 1) faults ++ fault_line n fault) (shift number None faults)
-lines_more number (Some f ∷ faults) fault =
-    ap (λ z. failed_line number f ++ z)
-    (lines_more (number + 1) faults fault
-    ∙ ap (λ n. failed_lines (number + 1) faults ++ fault_line n fault)
-    (shift number (Some f) faults))
-    ∙ sym (append_assoc (failed_line number f) (failed_lines (number + 1) faults)
-    (fault_line (number + length (Some f ∷ faults)) fault))
+pub lines_more : (number : ℕ) (turns : List Turn) (turn : Turn)
+    → turn_lines number (turns ++ turn ∷ []) ≡ turn_lines number turns ++ outcome_line
+    (number + length turns) turn.outcome
+lines_more number [] turn = append-nil (outcome_line number turn.outcome)
+    ∙ ap (λ n. outcome_line n turn.outcome) (omega arith)
+lines_more number (t ∷ turns) turn =
+    ap (λ z. outcome_line number t.outcome ++ z)
+    (lines_more (number + 1) turns turn
+    ∙ ap (λ n. turn_lines (number + 1) turns ++ outcome_line n turn.outcome)
+    (shift number t turns))
+    ∙ sym (append_assoc (outcome_line number t.outcome) (turn_lines (number + 1) turns)
+    (outcome_line (number + length (t ∷ turns)) turn.outcome))
 
 -- a longer text has the same prefixes
-pub prefix_longer : (before after : Option (List ℕ)) (text more : List ℕ)
-    → WritesPrefix before after text → WritesPrefix before after (text ++ more)
-prefix_longer before after text more p =
+pub prefix_longer : (before after : Option (List ℕ)) (text others : List ℕ)
+    → WritesPrefix before after text → WritesPrefix before after (text ++ others)
+prefix_longer before after text others p =
     record {
       written = p.written;
-      unwritten = p.unwritten ++ more;
-      parts = ap (λ z. z ++ more) p.parts ∙ append_assoc p.written p.unwritten more;
+      unwritten = p.unwritten ++ others;
+      parts = ap (λ z. z ++ others) p.parts ∙ append_assoc p.written p.unwritten others;
       appends = p.appends;
     }
 
 -- a prefix of what follows a text
-pub prefix_after : (before now after : Option (List ℕ)) (text more : List ℕ)
-    → Appends before now text → WritesPrefix now after more → WritesPrefix before after
-    (text ++ more)
-prefix_after before now after text more a p =
+pub prefix_after : (before now after : Option (List ℕ)) (text others : List ℕ)
+    → Appends before now text → WritesPrefix now after others → WritesPrefix before after
+    (text ++ others)
+prefix_after before now after text others a p =
     record {
       written = text ++ p.written;
       unwritten = p.unwritten;
       parts = ap (λ z. text ++ z) p.parts ∙ sym (append_assoc text p.written p.unwritten);
       appends = Appends-trans before now after text p.written a p.appends;
     }
-
--- nothing more was told
-pub told_more : (told : Result (Unit {0}) WriteFault) (before now : Option (List ℕ)) (failed : Bool)
-    (text : List ℕ) → IsTold told before now failed text → IsTold told before now failed
-    (text ++ [])
-told_more told before now failed text t = subst (λ z. IsTold told before now failed z)
-    (sym (append-nil text)) t
 
 -- one line more, after all that was told before
 pub told_line : (result : Result (Unit {0}) WriteFault) (now after : Option (List ℕ))
@@ -100,114 +81,84 @@ pub told_of : (result : Result (Unit {0}) WriteFault) (now after : Option (List 
 told_of (Ok done) now after failed line a p f = a
 told_of (Err fault) now after failed line a p f = (p, f)
 
-length_more : (faults : List (Option Cause)) (fault : Option Cause) → length (faults ++ fault ∷ [])
-    ≡ length faults + 1
-length_more [] fault = refl
-length_more (f ∷ faults) fault =
-    let rest : length (faults ++ fault ∷ []) ≡ length faults + 1 = length_more faults fault in
-    omega arith
+-- nothing is told of a server whose port was
+pub told_no_stop : (announced : Result (Unit {0}) Stop) (err : Option (List ℕ)) (failed : Bool)
+    → announced ≡ Ok _
+    → (told : Result (Unit {0}) WriteFault) × IsTold told err err failed
+    (stop_line (stop_of announced))
+told_no_stop announced err failed e = (
+  Ok _,
+  subst (λ r. IsTold (Ok _) err err failed (stop_line (stop_of r))) (sym e)
+      (Appends-nil err),
+)
 
--- before the first connection
-pub takes_none : {D : Type 0} (serves : D → Option Cause → D → Type 0) (desk : D)
-    (err : Option (List ℕ)) (failed : Bool) → HasTaken serves desk desk (Ok _) err err failed 0
-takes_none serves desk err failed = record {
-  faults = [];
-  count_is = refl;
-  desk = refl;
-  lines = Appends-nil err;
-}
+module _ {D : Type 0} (serves : D → Outcome → D → Type 0) (asks : D → Bool → D → Type 0) where
+  -- the connections taken so far, after each of which the desk answered
+  abbrev pub Going : D → D → Result (Unit {0}) WriteFault → Option (List ℕ) → Option (List ℕ) → Bool
+      → ℕ → ℕ → Type 0
+  Going start now told err_before err_after failed first taken =
+      (h : HasTaken serves asks start now told err_before err_after failed first taken)
+      × All (λ turn. turn.answers ≡ true) h.turns
 
--- one connection more was taken
-pub takes_more : {D : Type 0} (serves : D → Option Cause → D → Type 0) (before now after : D)
-    (told result : Result (Unit {0}) WriteFault)
-    (err_before err_now err_after : Option (List ℕ)) (failed_now failed_after : Bool) (count : ℕ)
-    (fault : Option Cause)
-    → HasTaken serves before now told err_before err_now failed_now count → serves now fault after
-    → IsToldMore told result err_now err_after failed_now failed_after
-    (fault_line (count + 1) fault)
-    → HasTaken serves before after result err_before err_after failed_after (count + 1)
-takes_more serves before now after told result err_before err_now err_after failed_now failed_after
-    count fault h s m =
-    let number : 1 + length h.faults ≡ count + 1 = ap (λ n. 1 + n) h.count_is ∙ omega arith in
-    let whole : failed_lines 1 h.faults ++ fault_line (count + 1) fault ≡ failed_lines 1
-    (h.faults ++ fault ∷ []) =
-    sym (lines_more 1 h.faults fault ∙ ap (λ n. failed_lines 1 h.faults ++ fault_line n fault)
-    number) in
-    record {
-      faults = h.faults ++ fault ∷ [];
-      count_is = length_more h.faults fault ∙ ap (λ n. n + 1) h.count_is;
-      desk = goes_more serves before now after h.faults fault h.desk s;
-      lines = subst (λ z. IsTold result err_before err_after failed_after z) whole
-          (m err_before (failed_lines 1 h.faults) h.lines);
-    }
+  -- before the first connection
+  pub takes_none : (desk : D) (err : Option (List ℕ)) (failed : Bool) (first : ℕ)
+      → Going desk desk (Ok _) err err failed first first
+  takes_none desk err failed first = (
+    record { turns = []; count = omega arith; desk = none; lines = Appends-nil err },
+    All-nil (λ turn. turn.answers ≡ true),
+  )
 
--- a server that told no port
-pub serves_none : {D : Type 0} (serves : D → Option Cause → D → Type 0) (connections : ℕ) (desk : D)
-    (announced : Result (Unit {0}) Stop) (cause : Stop)
-    (out_before out_after : Option (List ℕ)) (out_failed : Bool)
-    (result : Result (Unit {0}) WriteFault) (err_before err_after : Option (List ℕ))
-    (failed_before failed_after : Bool)
-    → announced ≡ Err cause → IsAnnounced announced out_before out_after out_failed
-    → IsToldMore (Ok _) result err_before err_after failed_before failed_after
-    (stop_line (Some cause))
-    → HasServed serves connections desk desk out_before out_after out_failed err_before err_after
-    failed_after 3
-serves_none serves connections desk announced cause out_before out_after out_failed result
-    err_before err_after failed_before failed_after e a m =
-    record {
-      announced = Err cause;
-      port = subst (λ z. IsAnnounced z out_before out_after out_failed) e a;
-      stop = Some cause;
-      faults = [];
-      taken = (refl, refl);
-      desk = refl;
-      told = result;
-      lines = m err_before [] (Appends-nil err_before);
-      status_is = refl;
-    }
+  -- one connection more was taken
+  pub takes_more : (start now after : D) (told result : Result (Unit {0}) WriteFault)
+      (err_before err_now err_after : Option (List ℕ)) (failed_now failed_after : Bool)
+      (first taken : ℕ) (turn : Turn)
+      → Going start now told err_before err_now failed_now first taken
+      → IsTurn serves asks now turn after
+      → IsToldMore told result err_now err_after failed_now failed_after
+      (outcome_line (taken + 1) turn.outcome)
+      → HasTaken serves asks start after result err_before err_after failed_after first (taken + 1)
+  takes_more start now after told result err_before err_now err_after failed_now failed_after first
+      taken turn (h, all) t m =
+      let number : (first + 1) + length h.turns ≡ taken + 1 =
+      (let c = h.count in omega arith) in
+      let whole : turn_lines (first + 1) h.turns ++ outcome_line (taken + 1) turn.outcome
+      ≡ turn_lines (first + 1) (h.turns ++ turn ∷ []) =
+      sym (lines_more (first + 1) h.turns turn
+      ∙ ap (λ n. turn_lines (first + 1) h.turns ++ outcome_line n turn.outcome) number) in
+      record {
+        turns = h.turns ++ turn ∷ [];
+        count = (let c = h.count in let l = length-append h.turns (turn ∷ []) in omega arith);
+        desk = more h.turns now turn after h.desk all t;
+        lines = subst (λ z. IsTold result err_before err_after failed_after z) whole
+            (m err_before (turn_lines (first + 1) h.turns) h.lines);
+      }
 
--- a server that took all its connections
-pub serves_all : {D : Type 0} (serves : D → Option Cause → D → Type 0) (connections : ℕ)
-    (before after : D) (out_before out_after : Option (List ℕ)) (out_failed : Bool)
-    (told : Result (Unit {0}) WriteFault) (err_before err_after : Option (List ℕ)) (failed : Bool)
-    → IsAnnounced (Ok _) out_before out_after out_failed
-    → HasTaken serves before after told err_before err_after failed connections
-    → HasServed serves connections before after out_before out_after out_failed err_before err_after
-    failed 0
-serves_all serves connections before after out_before out_after out_failed told err_before err_after
-    failed a h =
-    record {
-      announced = Ok _;
-      port = a;
-      stop = None;
-      faults = h.faults;
-      taken = h.count_is;
-      desk = h.desk;
-      told = told;
-      lines = told_more told err_before err_after failed (failed_lines 1 h.faults) h.lines;
-      status_is = refl;
-    }
+  -- one connection more was taken, after which the desk answered
+  pub goes_more : (start now after : D) (told result : Result (Unit {0}) WriteFault)
+      (err_before err_now err_after : Option (List ℕ)) (failed_now failed_after : Bool)
+      (first taken : ℕ) (turn : Turn)
+      → Going start now told err_before err_now failed_now first taken
+      → IsTurn serves asks now turn after
+      → IsToldMore told result err_now err_after failed_now failed_after
+      (outcome_line (taken + 1) turn.outcome) → not turn.answers ≡ false
+      → Going start after result err_before err_after failed_after first (taken + 1)
+  unfolding takes_more
+  goes_more start now after told result err_before err_now err_after failed_now failed_after first
+      taken turn going t m answers = (
+        takes_more start now after told result err_before err_now err_after failed_now failed_after
+            first taken turn going t m,
+        All-push (λ turn. turn.answers ≡ true) going.0.turns turn going.1
+            (is_true turn.answers answers),
+      )
 
--- a server whose listener failed
-pub serves_fewer : {D : Type 0} (serves : D → Option Cause → D → Type 0) (connections : ℕ)
-    (before after : D) (out_before out_after : Option (List ℕ)) (out_failed : Bool)
-    (told result : Result (Unit {0}) WriteFault) (err_before err_now err_after : Option (List ℕ))
-    (failed_now failed_after : Bool) (taken : ℕ)
-    → IsAnnounced (Ok _) out_before out_after out_failed → taken < connections
-    → HasTaken serves before after told err_before err_now failed_now taken
-    → IsToldMore told result err_now err_after failed_now failed_after (stop_line (Some stop.Net))
-    → HasServed serves connections before after out_before out_after out_failed err_before err_after
-    failed_after 3
-serves_fewer serves connections before after out_before out_after out_failed told result err_before
-    err_now err_after failed_now failed_after taken a less h m =
-    record {
-      announced = Ok _;
-      port = a;
-      stop = Some stop.Net;
-      faults = h.faults;
-      taken = subst (λ n. n < connections) (sym h.count_is) less;
-      desk = h.desk;
-      told = result;
-      lines = m err_before (failed_lines 1 h.faults) h.lines;
-      status_is = refl;
-    }
+  -- all connections were taken
+  pub takes_all : (start now : D) (told : Result (Unit {0}) WriteFault)
+      (err_before err_now : Option (List ℕ)) (failed : Bool) (first taken all : ℕ)
+      → Going start now told err_before err_now failed first taken → taken ≡ all
+      → (told : Result (Unit {0}) WriteFault)
+      × HasTaken serves asks start now told err_before err_now failed first all
+  takes_all start now told err_before err_now failed first taken all going same = (
+    told,
+    subst (λ n. HasTaken serves asks start now told err_before err_now failed first n) same
+        going.0,
+  )

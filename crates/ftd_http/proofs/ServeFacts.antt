@@ -21,7 +21,7 @@ use Rattle.ftd_http.specs.Responses.{Said, response_text}
 use Rattle.ftd_routes.specs.Asking.{asked_of}
 use Rattle.ftd_http.specs.Replying.{Responds}
 use Rattle.ftd_routes.specs.declared.ask.Asked.{Asked}
-use Rattle.ftd_http.specs.Serving.{Ends, closed, truncated, bad, asked, limit, AreMessages}
+use Rattle.ftd_http.specs.Serving.{Ends, closed, truncated, bad, asked, limit, idled, AreMessages}
 use Rattle.ftd_http.specs.Serving.{closes_after, refusal_text, IsAnswer, none, more, Answered}
 use Rattle.ftd_http.specs.Serving.{Broken, Serves, BreaksOff, unasked, in_answer, in_refusal}
 use Rattle.ftd_http.specs.Serving.{Breaks, HasEnded, HasFailed, Talk}
@@ -131,11 +131,11 @@ module _ {M : Type 0} (goes : M → Request → Answer → M → Type 0) where
 
   -- the bytes end
   pub ends_closed : (start now : M) (left left' taken taken' : Option (List ℕ)) (kept : List ℕ)
-      (answered : ℕ)
+      (answered : ℕ) (is_idle : Bool)
       → Talk goes start now left left' taken taken' kept answered → kept ≡ [] → IsAtEnd left'
-      → Serves (Answered goes start now) left left' taken taken'
+      → Serves (Answered goes start now) left left' is_idle taken taken'
       (record { answered = answered; end = end.Closed })
-  ends_closed start now left left' taken taken' kept answered talk none_left at_end =
+  ends_closed start now left left' taken taken' kept answered is_idle talk none_left at_end =
       let same = talk.count in
       record {
         read = talk.read;
@@ -152,12 +152,35 @@ module _ {M : Type 0} (goes : M → Request → Answer → M → Type 0) where
         count = omega arith;
       }
 
+  -- the peer is idle for too long
+  pub ends_idle : (start now : M) (left left' taken taken' : Option (List ℕ)) (kept : List ℕ)
+      (answered : ℕ) (is_idle : Bool)
+      → Talk goes start now left left' taken taken' kept answered → kept ≡ [] → is_idle ≡ true
+      → Serves (Answered goes start now) left left' is_idle taken taken'
+      (record { answered = answered; end = end.Idle })
+  ends_idle start now left left' taken taken' kept answered is_idle talk none_left is_so =
+      let same = talk.count in
+      record {
+        read = talk.read;
+        messages = talk.messages;
+        rest = kept;
+        refusal = None;
+        text = talk.text;
+        gives = talk.gives;
+        are = talk.are;
+        ends = idled talk.messages talk.stay none_left;
+        at_end = is_so;
+        answers = talk.answers;
+        written = same_text taken taken' talk.text talk.written;
+        count = omega arith;
+      }
+
   pub ends_truncated : (start now : M) (left left' taken taken' : Option (List ℕ)) (kept : List ℕ)
-      (answered : ℕ)
+      (answered : ℕ) (is_idle : Bool)
       → Talk goes start now left left' taken taken' kept answered → IsCut kept → IsAtEnd left'
-      → Serves (Answered goes start now) left left' taken taken'
+      → Serves (Answered goes start now) left left' is_idle taken taken'
       (record { answered = answered; end = end.Truncated })
-  ends_truncated start now left left' taken taken' kept answered talk cut at_end =
+  ends_truncated start now left left' taken taken' kept answered is_idle talk cut at_end =
       let same = talk.count in
       record {
         read = talk.read;
@@ -176,12 +199,13 @@ module _ {M : Type 0} (goes : M → Request → Answer → M → Type 0) where
 
   -- a message is refused
   pub ends_refused : (start now : M) (left left' taken mid taken' : Option (List ℕ)) (kept : List ℕ)
-      (answered : ℕ) (status : Status)
+      (answered : ℕ) (is_idle : Bool) (status : Status)
       → Talk goes start now left left' taken mid kept answered → IsRefused kept status
       → Appends mid taken' (refusal_text (Some status))
-      → Serves (Answered goes start now) left left' taken taken'
+      → Serves (Answered goes start now) left left' is_idle taken taken'
       (record { answered = answered + 1; end = end.BadMessage })
-  ends_refused start now left left' taken mid taken' kept answered status talk refused written =
+  ends_refused start now left left' taken mid taken' kept answered is_idle status talk refused
+      written =
       let same = talk.count in
       record {
         read = talk.read;
@@ -201,15 +225,16 @@ module _ {M : Type 0} (goes : M → Request → Answer → M → Type 0) where
 
   -- a message is answered, and is the last
   last : (start now later : M) (left left' taken mid taken' : Option (List ℕ)) (buf : List ℕ)
-      (answered : ℕ) (parts : Parts) (message : Message) (answer : List ℕ) (why_ends : End)
+      (answered : ℕ) (is_idle : Bool) (parts : Parts) (message : Message) (answer : List ℕ)
+      (why_ends : End)
       → (talk : Talk goes start now left left' taken mid buf answered)
       → IsMessageAt buf parts message → IsAnswer goes answered now message answer later
       → Appends mid taken' answer → Ends (drop parts.end buf) (talk.messages ++ message ∷ []) None
-      why_ends → HasEnded why_ends left'
-      → Serves (Answered goes start later) left left' taken taken'
+      why_ends → HasEnded why_ends left' is_idle
+      → Serves (Answered goes start later) left left' is_idle taken taken'
       (record { answered = answered + 1; end = why_ends })
-  last start now later left left' taken mid taken' buf answered parts message answer why_ends talk
-      at is written ends at_end =
+  last start now later left left' taken mid taken' buf answered is_idle parts message answer why_ends
+      talk at is written ends at_end =
       let same = talk.count in
       record {
         read = talk.read;
@@ -229,29 +254,31 @@ module _ {M : Type 0} (goes : M → Request → Answer → M → Type 0) where
       }
 
   pub ends_asked : (start now later : M) (left left' taken mid taken' : Option (List ℕ))
-      (buf : List ℕ) (answered : ℕ) (parts : Parts) (message : Message) (answer : List ℕ)
+      (buf : List ℕ) (answered : ℕ) (is_idle : Bool) (parts : Parts) (message : Message)
+      (answer : List ℕ)
       → Talk goes start now left left' taken mid buf answered → IsMessageAt buf parts message
       → IsAnswer goes answered now message answer later
       → Appends mid taken' answer → parts.closes ≡ true
-      → Serves (Answered goes start later) left left' taken taken'
+      → Serves (Answered goes start later) left left' is_idle taken taken'
       (record { answered = answered + 1; end = end.Asked })
-  ends_asked start now later left left' taken mid taken' buf answered parts message answer talk at
-      is written asks =
-      last start now later left left' taken mid taken' buf answered parts message answer end.Asked
-      talk at is written
+  ends_asked start now later left left' taken mid taken' buf answered is_idle parts message answer
+      talk at is written asks =
+      last start now later left left' taken mid taken' buf answered is_idle parts message answer
+      end.Asked talk at is written
       (asked talk.messages message talk.stay (sym at.closes ∙ asks)) tt
 
   pub ends_limit : (start now later : M) (left left' taken mid taken' : Option (List ℕ))
-      (buf : List ℕ) (answered : ℕ) (parts : Parts) (message : Message) (answer : List ℕ)
+      (buf : List ℕ) (answered : ℕ) (is_idle : Bool) (parts : Parts) (message : Message)
+      (answer : List ℕ)
       → Talk goes start now left left' taken mid buf answered → IsMessageAt buf parts message
       → IsAnswer goes answered now message answer later
       → Appends mid taken' answer → parts.closes ≡ false → answered ≡ 99
-      → Serves (Answered goes start later) left left' taken taken'
+      → Serves (Answered goes start later) left left' is_idle taken taken'
       (record { answered = answered + 1; end = end.Limit })
-  ends_limit start now later left left' taken mid taken' buf answered parts message answer talk at
-      is written stays full =
-      last start now later left left' taken mid taken' buf answered parts message answer end.Limit
-      talk at is written
+  ends_limit start now later left left' taken mid taken' buf answered is_idle parts message answer
+      talk at is written stays full =
+      last start now later left left' taken mid taken' buf answered is_idle parts message answer
+      end.Limit talk at is written
       (limit talk.messages message talk.stay (sym at.closes ∙ stays) (sym talk.count ∙ full)) tt
 
   -- serving fails in the next message

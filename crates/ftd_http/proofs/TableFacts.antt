@@ -1,5 +1,5 @@
 -- What is said of a desk before and after each request, said of the states that it stands for.
-use Rattle.std.proofs.Common.{◌≡◌, ◌++◌, ℕ, Bool, List, length, Option, Result, Ok, Err, refl}
+use Rattle.std.proofs.Common.{◌≡◌, ◌++◌, ℕ, Bool, List, [], length, Option, Result, Ok, Err, refl}
 use Rattle.std.specs.Prelude.{IfOk, IfErr}
 use Rattle.sqlite.specs.Store as store
 use Rattle.ftd_machine.specs.State.{State}
@@ -102,6 +102,10 @@ module _ {S : Type 0} (g : store.Ghosts S) where
       (one_answer (length before) now later message answer last)
       (λ s m end one other. more before said m message answer end one other)
 
+  -- no message was answered
+  pub answers_none : (desk : Desk S) → AnsweredBy (held g desk) (held g desk) [] []
+  answers_none desk = all_answers desk desk [] [] none
+
   breaks_off : (before : ℕ) (rest part : List ℕ) (cause : Cause) (now later : Desk S)
       → BreaksOff goes before rest now later part cause
       → Follows (held g now) (held g later) (λ s end. BreaksOff Goes before rest s end part cause)
@@ -128,10 +132,10 @@ module _ {S : Type 0} (g : store.Ghosts S) where
       (λ s m end one other. (m, one, other))
 
   module _ (start later : Desk S) (left left' taken taken' : Option (List ℕ)) where
-    pub served_by : (r : Result Served ServeFault)
-        → IfOk r (Serves (Answered goes start later) left left' taken taken')
-        → IfOk r (Serves (AnsweredBy (held g start) (held g later)) left left' taken taken')
-    served_by (Ok served) h = record {
+    pub served_by : (is_idle : Bool) (r : Result Served ServeFault)
+        → IfOk r (Serves (Answered goes start later) left left' is_idle taken taken')
+        → IfOk r (Serves (AnsweredBy (held g start) (held g later)) left left' is_idle taken taken')
+    served_by is_idle (Ok served) h = record {
       read = h.read;
       messages = h.messages;
       rest = h.rest;
@@ -145,7 +149,7 @@ module _ {S : Type 0} (g : store.Ghosts S) where
       written = h.written;
       count = h.count;
     }
-    served_by (Err fault) h = h
+    served_by is_idle (Err fault) h = h
 
     pub broken_by : (source_failed target_failed : Bool) (r : Result Served ServeFault)
         → IfErr r (Breaks (Broken goes start later) left left' source_failed taken taken'

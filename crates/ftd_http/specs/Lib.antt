@@ -3,6 +3,7 @@ pub mod Refusals
 pub mod Replying
 pub mod Serving
 pub mod Tables
+pub mod Wires
 pub mod Listening
 pub use Rattle.ftd_desk.specs.Desks
 pub use Rattle.ftd_desk.specs.Words

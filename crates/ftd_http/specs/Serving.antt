@@ -23,11 +23,13 @@ pub record AreOpen (messages : List Message) : Type 0 where
   pub few : length messages < 100
 
 -- How a stream ends after these messages, where `rest` is what comes after them: between two
--- messages; inside one; with one that its head refuses, by a status; after the last of them, which
+-- messages, since the peer closed it or was idle for too long; inside one; with one that its head refuses, by a status; after the last of them, which
 -- asks for it; or after the hundredth.
 pub data Ends (rest : List ℕ) : List Message → Option Status → End → Type 0 where
   closed : (messages : List Message) → AreOpen messages → rest ≡ []
       → Ends rest messages None end.Closed
+  idled : (messages : List Message) → AreOpen messages → rest ≡ []
+      → Ends rest messages None end.Idle
   truncated : (messages : List Message) → AreOpen messages → IsCut rest
       → Ends rest messages None end.Truncated
   bad : (messages : List Message) (status : Status) → AreOpen messages → IsRefused rest status
@@ -97,13 +99,14 @@ module _ {M : Type 0} (goes : M → Request → Answer → M → Type 0) where
       (now : M) × Answers start messages text now
       × BreaksOff (length messages) rest now later part cause
 
--- where the peer made the end, it has no byte left
-abbrev pub HasEnded : End → Option (List ℕ) → Type 0
-HasEnded end.Closed left = IsAtEnd left
-HasEnded end.Truncated left = IsAtEnd left
-HasEnded end.Asked left = Unit {0}
-HasEnded end.Limit left = Unit {0}
-HasEnded end.BadMessage left = Unit {0}
+-- where the peer made the end, it has no byte left, or was idle for too long
+abbrev pub HasEnded : End → Option (List ℕ) → Bool → Type 0
+HasEnded end.Closed left idle = IsAtEnd left
+HasEnded end.Truncated left idle = IsAtEnd left
+HasEnded end.Idle left idle = idle ≡ true
+HasEnded end.Asked left idle = Unit {0}
+HasEnded end.Limit left idle = Unit {0}
+HasEnded end.BadMessage left idle = Unit {0}
 
 -- a read or a write is the cause only where the source or the target has failed
 abbrev pub HasFailed : Cause → Bool → Bool → Type 0
@@ -114,7 +117,8 @@ HasFailed why.Memory source_failed target_failed = Unit {0}
 -- A connection that was served: the bytes read are messages up to an end, and what was written are
 -- their answers, which came about so.
 pub record Serves (answered : List Message → List ℕ → Type 0)
-    (left left' taken taken' : Option (List ℕ)) (served : Served) : Type 0 where
+    (left left' : Option (List ℕ)) (idle : Bool) (taken taken' : Option (List ℕ))
+    (served : Served) : Type 0 where
   pub read : List ℕ
   pub messages : List Message
   pub rest : List ℕ
@@ -123,7 +127,7 @@ pub record Serves (answered : List Message → List ℕ → Type 0)
   pub gives : Consumes left left' read
   pub are : AreMessages read messages rest
   pub ends : Ends rest messages refusal served.end
-  pub at_end : HasEnded served.end left'
+  pub at_end : HasEnded served.end left' idle
   pub answers : answered messages text
   pub written : Appends taken taken' (text ++ refusal_text refusal)
   pub count : served.answered ≡ length messages + refusal_count refusal
@@ -163,7 +167,7 @@ module _ {M : Type 0} (goes : M → Request → Answer → M → Type 0) where
 
   -- What the next message makes of a connection that was served so far: it is answered, and the
   -- connection stays open; or the connection ends; or serving fails.
-  module _ (now later : M) (left left' : Option (List ℕ)) (source_failed : Bool)
+  module _ (now later : M) (left left' : Option (List ℕ)) (idle source_failed : Bool)
       (taken taken' : Option (List ℕ)) (target_failed : Bool)
       (kept kept' : List ℕ) (answered : ℕ) where
     abbrev pub Proceeds : Result (Option Served) ServeFault → Type 0
@@ -174,7 +178,7 @@ module _ {M : Type 0} (goes : M → Request → Answer → M → Type 0) where
     Proceeds (Ok (Some served)) =
         (start : M) (first said : Option (List ℕ))
         → Talk start now first left said taken kept answered
-        → Serves (Answered goes start later) first left' said taken' served
+        → Serves (Answered goes start later) first left' idle said taken' served
     Proceeds (Err fault) =
         (start : M) (first said : Option (List ℕ))
         → Talk start now first left said taken kept answered

@@ -13,8 +13,8 @@ ghost use Rattle.ftd_http.specs.Serving.{IsAnswer, BreaksOff, HasFailed, refusal
 use crate::machine::Machine;
 use crate::respond::respond;
 use crate::response::{bare, write_response};
-use ftd_messages::{Next, Parts, ReadFault, Status, next_message};
-use ftd_ports::{Source, Target, WriteFault};
+use ftd_messages::{Next, Parts, Peer, ReadFault, Status, next_message};
+use ftd_ports::{Target, WriteFault};
 use ftd_routes::{Ask, make_router, what_is_asked};
 use matchit::Router;
 use std::alloc::Global;
@@ -32,6 +32,8 @@ pub enum End {
     BadMessage,
     /// The peer closed it, inside a message.
     Truncated,
+    /// The peer was idle for too long, between two messages.
+    Idle,
 }
 
 /// A connection that was served.
@@ -69,14 +71,15 @@ const LIMIT: u32 = 100;
 
 /// Serves one connection: reads messages from the source, has each answered, and writes the answers
 /// to the target.
-pub fn serve_machine<M: Machine, R: Source, W: Target>(
+pub fn serve_machine<M: Machine, R: Peer, W: Target>(
     alloc: Global,
     machine: &mut M,
     source: &mut R,
     target: &mut W,
 ) -> Result<Served, ServeFault>
     ensures ok { IfOk result (Serves (Answered M.goes machine.old machine.new)
-        (R.left source.old) (R.left source.new) (W.taken target.old) (W.taken target.new)) }
+        (R.left source.old) (R.left source.new) (R.idle source.new)
+        (W.taken target.old) (W.taken target.new)) }
     ensures err { IfErr result (Breaks (Broken M.goes machine.old machine.new)
         (R.left source.old) (R.left source.new) (R.failed source.new)
         (W.taken target.old) (W.taken target.new) (W.failed target.new)) }
@@ -97,7 +100,7 @@ pub fn serve_machine<M: Machine, R: Source, W: Target>(
 
 /// Serves the next message of a connection, after so many others. None where the connection stays
 /// open after the answer.
-fn serve_next<M: Machine, R: Source, W: Target>(
+fn serve_next<M: Machine, R: Peer, W: Target>(
     alloc: Global,
     router: &Router<Ask>,
     machine: &mut M,
@@ -109,7 +112,7 @@ fn serve_next<M: Machine, R: Source, W: Target>(
     requires routes { router.now ≡ all_routes }
     requires few { answered < 100 }
     ensures { Proceeds M.goes machine.old machine.new
-        (R.left source.old) (R.left source.new) (R.failed source.new)
+        (R.left source.old) (R.left source.new) (R.idle source.new) (R.failed source.new)
         (W.taken target.old) (W.taken target.new) (W.failed target.new)
         buf.old.items buf.new.items answered result }
 {
@@ -126,6 +129,7 @@ fn serve_next<M: Machine, R: Source, W: Target>(
         },
         Next::Closed => return Ok(Some(ended(answered, End::Closed))),
         Next::Truncated => return Ok(Some(ended(answered, End::Truncated))),
+        Next::Idle => return Ok(Some(ended(answered, End::Idle))),
     };
     match answer(alloc, router, machine, target, buf, &parts, answered) {
         Ok(()) => {}
@@ -170,7 +174,7 @@ fn refuse<W: Target>(alloc: Global, target: &mut W, status: Status) -> Result<()
         (WritesPrefix (W.taken target.old) (W.taken target.new) (refusal_text (Some status))) }
     ensures fault { OnErr result (W.failed target.new ≡ true) }
 {
-    write_response(target, &bare(alloc, status), true)
+    write_response(alloc, target, &bare(alloc, status), true)
 }
 
 /// Answers the message at the front of the buffer, after so many others.
@@ -206,7 +210,12 @@ fn answer<M: Machine, W: Target>(
     let Ok(response) = respond(alloc, machine, &asked) else {
         return Err(Cause::Memory);
     };
-    match write_response(target, &response, closes_after(answered, parts.closes)) {
+    match write_response(
+        alloc,
+        target,
+        &response,
+        closes_after(answered, parts.closes),
+    ) {
         Ok(()) => Ok(()),
         Err(_) => Err(Cause::Write),
     }

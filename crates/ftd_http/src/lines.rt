@@ -4,12 +4,13 @@ ghost use Rattle.std.specs.Prelude.{◌≡◌, true, OnOk, OnErr, Some};
 ghost use Rattle.std.specs.List.{flat_map};
 ghost use Rattle.std.specs.Io.KnownBytes.{Appends};
 ghost use Rattle.ftd_ports.specs.Writing.{WritesPrefix};
-ghost use Rattle.ftd_http.specs.Listening.{IsToldMore, failed_line, cause_text, listening_line};
-ghost use Rattle.ftd_http.specs.Listening.{stop_line};
+ghost use Rattle.ftd_http.specs.Listening.{IsTold, IsToldMore, cause_text, failed_line};
+ghost use Rattle.ftd_http.specs.Listening.{listening_line, outcome_line, stop_line};
 
 use crate::connection::Cause;
+use crate::outcome::Outcome;
 use crate::stop::Stop;
-use ftd_ports::{Target, WriteFault, write_pieces};
+use ftd_ports::{Target, WriteFault, write_all, write_pieces};
 use itoa::Buffer;
 
 /// Tells at which port the server listens.
@@ -39,38 +40,48 @@ fn tell_more<W: Target>(
     }
 }
 
-/// Tells of a connection that failed.
-pub fn tell_failed<W: Target>(
+/// Tells of a connection that failed, and why.
+fn tell_failed<W: Target>(
     told: Result<(), WriteFault>,
     number: u32,
-    cause: Cause,
+    why: &[u8],
     err: &mut W,
 ) -> Result<(), WriteFault>
     ensures { IsToldMore told result (W.taken err.old) (W.taken err.new)
-        (W.failed err.old) (W.failed err.new) (failed_line number cause) }
+        (W.failed err.old) (W.failed err.new) (failed_line number why.now) }
 {
     let mut digits = Buffer::new();
     let number = digits.format(number).as_bytes();
-    let pieces: [&[u8]; 5] = [
-        b"connection ",
-        number,
-        b" failed ",
-        cause_text(cause),
-        b"\n",
-    ];
-    tell_more(told, &pieces, err)
+    tell_more(
+        told,
+        &[b"connection ", number, b" failed ", why, b"\n"],
+        err,
+    )
 }
 
-/// Tells why the server stopped.
-pub fn tell_stop<W: Target>(
+/// Tells of a connection where it failed, or the listener did not give it.
+pub fn tell_outcome<W: Target>(
     told: Result<(), WriteFault>,
-    stop: Stop,
+    number: u32,
+    outcome: Outcome,
     err: &mut W,
 ) -> Result<(), WriteFault>
     ensures { IsToldMore told result (W.taken err.old) (W.taken err.new)
-        (W.failed err.old) (W.failed err.new) (stop_line (Some stop)) }
+        (W.failed err.old) (W.failed err.new) (outcome_line number outcome) }
 {
-    tell_more(told, &[stop_line(stop)], err)
+    match outcome {
+        Outcome::Served => told,
+        Outcome::Missed => tell_failed(told, number, b"Accept", err),
+        Outcome::Failed(cause) => tell_failed(told, number, cause_text(cause), err),
+    }
+}
+
+/// Tells why the server stopped.
+pub fn tell_stop<W: Target>(stop: Stop, err: &mut W) -> Result<(), WriteFault>
+    ensures { IsTold result (W.taken err.old) (W.taken err.new) (W.failed err.new)
+        (stop_line (Some stop)) }
+{
+    write_all(err, stop_line(stop))
 }
 
 /// The last line of a server that stopped.

@@ -9,7 +9,8 @@ use crate::connection::{ServeFault, Served, serve_machine};
 use crate::machine::Machine;
 use ftd_desk::Desk;
 use ftd_machine::{Answer, Request};
-use ftd_ports::{Source, Target};
+use ftd_messages::Peer;
+use ftd_ports::Target;
 use sqlite::Alter;
 use std::alloc::Global;
 
@@ -26,9 +27,10 @@ impl<S: Alter> Machine for Desk<S> {
 }
 
 /// Serves one connection: reads messages from the source, has the desk answer each, and writes the
-/// answers to the target. A connection has at most a hundred messages; what it takes in memory is
-/// one message and one answer. `ServeFault` where a read or a write fails, or there is no memory.
-pub fn serve<S: Alter, R: Source, W: Target>(
+/// answers to the target, each in one call where the target takes it whole. A connection has at most
+/// a hundred messages; what it takes in memory is one message, and one answer twice. `ServeFault`
+/// where a read or a write fails, or there is no memory.
+pub fn serve<S: Alter, R: Peer, W: Target>(
     alloc: Global,
     desk: &mut Desk<S>,
     source: &mut R,
@@ -36,7 +38,8 @@ pub fn serve<S: Alter, R: Source, W: Target>(
 ) -> Result<Served, ServeFault>
     ensures ok { IfOk result
         (Serves (AnsweredBy (held S.Store desk.old) (held S.Store desk.new))
-        (R.left source.old) (R.left source.new) (W.taken target.old) (W.taken target.new)) }
+        (R.left source.old) (R.left source.new) (R.idle source.new)
+        (W.taken target.old) (W.taken target.new)) }
     ensures err { IfErr result
         (Breaks (BrokenBy (held S.Store desk.old) (held S.Store desk.new))
         (R.left source.old) (R.left source.new) (R.failed source.new)

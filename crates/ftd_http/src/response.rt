@@ -1,6 +1,6 @@
 //! Responses.
 
-ghost use Rattle.std.specs.Prelude.{◌≡◌, ◌++◌, true, Some, OnOk, OnErr};
+ghost use Rattle.std.specs.Prelude.{◌≡◌, ◌++◌, true, Some, IfOk, OnOk, OnErr};
 ghost use Rattle.std.specs.Fmt.{decimal};
 ghost use Rattle.std.specs.Io.KnownBytes.{Appends};
 ghost use Rattle.ftd_ports.specs.Writing.{WritesPrefix};
@@ -9,7 +9,7 @@ ghost use Rattle.ftd_http.specs.Responses.{status_text, allow_line, content_line
 ghost use Rattle.ftd_http.specs.Responses.{head_text, response_text};
 
 use ftd_messages::Status;
-use ftd_ports::{Target, WriteFault, write_all, write_pieces};
+use ftd_ports::{Port, Target, WriteFault, write_all, write_pieces};
 use ftd_routes::Method;
 use itoa::Buffer;
 use std::alloc::{AllocError, Global};
@@ -94,9 +94,40 @@ pub fn add_number(text: &mut Vec<u8>, number: u64) -> Result<(), AllocError>
     text.extend_from_slice(buffer.format(number).as_bytes())
 }
 
-/// Writes a response. Where the target fails, a prefix of it was written.
-#[tactic(auto, unfolding(crate::specs::Responses::response_text))]
+/// Writes a response: with one call of the target, where there is memory for its bytes in a row and
+/// the target takes them all. Where the target fails, a prefix of it was written.
 pub fn write_response<W: Target>(
+    alloc: Global,
+    target: &mut W,
+    response: &Response,
+    closes: bool,
+) -> Result<(), WriteFault>
+    ensures ok { OnOk result (Appends (W.taken target.old) (W.taken target.new)
+        (response_text (said_of response.now) closes)) }
+    ensures err { OnErr result (WritesPrefix (W.taken target.old) (W.taken target.new)
+        (response_text (said_of response.now) closes)) }
+    ensures fault { OnErr result (W.failed target.new ≡ true) }
+{
+    match response_text(alloc, response, closes) {
+        Ok(text) => write_all(target, text.as_slice()),
+        Err(_) => write_parts(target, response, closes),
+    }
+}
+
+/// The bytes of a response in a row.
+fn response_text(alloc: Global, response: &Response, closes: bool) -> Result<Vec<u8>, AllocError>
+    ensures { IfOk result (λ text. text.items ≡ response_text (said_of response.now) closes) }
+{
+    let mut port = Port::new(Vec::new(alloc));
+    match write_parts(&mut port, response, closes) {
+        Ok(()) => Ok(port.into_inner()),
+        Err(_) => Err(AllocError),
+    }
+}
+
+/// Writes a response in its parts.
+#[tactic(auto, unfolding(crate::specs::Responses::response_text))]
+fn write_parts<W: Target>(
     target: &mut W,
     response: &Response,
     closes: bool,

@@ -1,19 +1,27 @@
 //! A listener's connections, served one after the other.
 
-ghost use Rattle.std.specs.Prelude.{◌≡◌, ◌<◌, ℕ, true, false};
+ghost use Rattle.std.specs.Prelude.{◌<◌, ◌≤◌, Result};
 ghost use Rattle.ftd_desk.specs.Desks.{held};
-ghost use Rattle.ftd_http.specs.Listening.{HasServed, HasTaken, IsAnnounced, IsServed};
-ghost use Rattle.ftd_http.specs.Listening.{IsToldMore, cause_of, fault_line};
+ghost use Rattle.ftd_ports.specs.declared.writing.WriteFault.{WriteFault};
+ghost use Rattle.ftd_http.specs.Listening.{HasTaken, IsAnnounced, IsServed, IsTold, IsTurn};
+ghost use Rattle.ftd_http.specs.Listening.{asks, outcome_of, serves, stop_line, stop_of};
 
-use crate::connection::Cause;
-use crate::lines::{tell_failed, tell_listening, tell_stop};
+use crate::closing::end;
+use crate::connection::{Cause, End, Served};
+use crate::lines::{tell_listening, tell_outcome, tell_stop};
 use crate::office::serve;
+use crate::outcome::{Outcome, Turn};
 use crate::stop::Stop;
-use crate::timed::Timed;
+use crate::timed::{Timed, Timer};
+use crate::wire::Wire;
+use ftd_days::Day;
 use ftd_desk::Desk;
-use ftd_ports::{Port, Target, WriteFault};
+use ftd_machine::{AccountName, Refusal, Request};
+use ftd_ports::{Port, Target};
 use sqlite::Alter;
+use std::alloc::Global;
 use std::net::{TcpListener, TcpStream};
+use std::thread;
 use std::time::{Clock, Duration};
 
 /// How much a server takes upon itself.
@@ -21,39 +29,78 @@ use std::time::{Clock, Duration};
 pub struct Limits {
     /// How many connections it takes.
     pub connections: u32,
-    /// How many seconds a read or a write waits for the peer. With 0 it waits without end.
+    /// How many seconds a peer may be idle between two messages, and before the first.
+    pub idle: u32,
+    /// How many seconds a read inside a message or a write waits for the peer.
     pub silence: u32,
     /// For how many seconds one connection is read and written.
     pub duration: u32,
 }
 
-/// Serves one connection. A peer that is silent, or takes nothing, or goes on for too long ends it
-/// as a failed read or write.
+/// So many seconds.
+fn seconds(count: u32) -> Duration {
+    Duration::from_secs(u64::from(count))
+}
+
+/// Serves one connection. A peer that is silent inside a message, or takes nothing, or goes on for
+/// too long ends it as a failed read or write; one that is idle between two messages ends it.
 fn serve_one<S: Alter, R: Clock + AllocGlobal>(
     rt: &R,
     stream: &TcpStream,
     limits: Limits,
     desk: &mut Desk<S>,
 ) -> Result<(), Cause>
-    ensures { IsServed (held S.Store desk.old) (held S.Store desk.new) (cause_of result) }
+    ensures { IsServed (held S.Store desk.old) (held S.Store desk.new) (outcome_of result) }
 {
     // Where the system sets no limit on waiting, the connection is served without one.
-    let silence = Duration::from_secs(u64::from(limits.silence));
-    let _ = stream.set_read_timeout(Some(silence));
-    let _ = stream.set_write_timeout(Some(silence));
-    // An answer goes out in pieces: none is to wait until the peer has acknowledged the one before.
+    let _ = stream.set_write_timeout(Some(seconds(limits.silence)));
+    // No answer is to wait until the peer has acknowledged the one before.
     let _ = stream.set_nodelay(true);
-    let duration = Duration::from_secs(u64::from(limits.duration));
-    let mut source = Port::new(Timed::new(rt, stream, duration));
-    let mut target = Port::new(Timed::new(rt, stream, duration));
+    let timer = Timer::new(rt, seconds(limits.duration));
+    let mut source = Wire::new(
+        &timer,
+        stream,
+        seconds(limits.idle),
+        seconds(limits.silence),
+    );
+    let mut target = Port::new(Timed::new(&timer, stream));
     match serve(rt.alloc(), desk, &mut source, &mut target) {
-        Ok(_) => Ok(()),
+        Ok(served) => {
+            if is_ended_here(served) {
+                end(rt, stream);
+            }
+            Ok(())
+        }
         Err(fault) => Err(fault.cause),
     }
 }
 
+/// Whether the server ends a connection after an answer, and the peer may still send.
+fn is_ended_here(served: Served) -> bool {
+    matches!(served.end, End::Asked | End::Limit | End::BadMessage)
+}
+
+/// Tells on `out` at which port of 127.0.0.1 the listener listens. Where it has none, or `out`
+/// fails, why is told on `err`.
+pub fn announce<Out: Target, Err: Target>(
+    listener: &TcpListener,
+    out: &mut Out,
+    err: &mut Err,
+) -> Result<(), Stop>
+    ensures port { IsAnnounced result (Out.taken out.old) (Out.taken out.new) (Out.failed out.new) }
+    ensures stop { (told : Result (Unit {0}) WriteFault)
+        × IsTold told (Err.taken err.old) (Err.taken err.new) (Err.failed err.new)
+        (stop_line (stop_of result)) }
+{
+    let announced = announce_port(listener, out);
+    if let Err(stop) = announced {
+        let _ = tell_stop(stop, err);
+    }
+    announced
+}
+
 /// Tells at which port the listener listens.
-fn announce<Out: Target>(listener: &TcpListener, out: &mut Out) -> Result<(), Stop>
+fn announce_port<Out: Target>(listener: &TcpListener, out: &mut Out) -> Result<(), Stop>
     ensures { IsAnnounced result (Out.taken out.old) (Out.taken out.new) (Out.failed out.new) }
 {
     let Ok(address) = listener.local_addr() else {
@@ -65,84 +112,78 @@ fn announce<Out: Target>(listener: &TcpListener, out: &mut Out) -> Result<(), St
     }
 }
 
-/// How the taking of connections ended: what was told of them, and whether all were taken.
-#[derive(Drop)]
-struct Taking {
-    told: Result<(), WriteFault>,
-    all: bool,
-}
-
-/// Takes so many connections, one after the other, and tells of those that failed.
-fn take_all<S: Alter, R: Clock + AllocGlobal, Err: Target>(
+/// Takes a connection, and serves it. After an error of the listener it waits for a tenth of a
+/// second, so that one that lasts does not keep the processor busy.
+fn take_one<S: Alter, R: Clock + AllocGlobal>(
     rt: &R,
     listener: &TcpListener,
     limits: Limits,
     desk: &mut Desk<S>,
+) -> Outcome
+    ensures { IsServed (held S.Store desk.old) (held S.Store desk.new) result }
+{
+    let Ok((stream, _)) = listener.accept() else {
+        let _ = thread::sleep(rt, Duration::from_millis(100));
+        return Outcome::Missed;
+    };
+    match serve_one(rt, &stream, limits, desk) {
+        Ok(()) => Outcome::Served,
+        Err(cause) => Outcome::Failed(cause),
+    }
+}
+
+/// Whether the desk still answers: it is asked for the schedule of no account, and its store does
+/// not fail.
+fn still_answers<S: Alter>(alloc: Global, desk: &mut Desk<S>) -> bool
+    ensures { asks S.Store desk.old result desk.new }
+{
+    let question = Request::Status {
+        account: AccountName::from_string(String::new(alloc)),
+        day: Day::first_of_month(0),
+    };
+    !matches!(desk.handle(&question), Err(Refusal::Store))
+}
+
+/// Takes a connection, serves it, and sees whether the desk still answers.
+fn take_turn<S: Alter, R: Clock + AllocGlobal>(
+    rt: &R,
+    listener: &TcpListener,
+    limits: Limits,
+    desk: &mut Desk<S>,
+) -> Turn
+    ensures { IsTurn (serves S.Store) (asks S.Store) desk.old result desk.new }
+{
+    let outcome = take_one(rt, listener, limits, desk);
+    let answers = still_answers(rt.alloc(), desk);
+    Turn { outcome, answers }
+}
+
+/// Takes connections, one after the other, which the desk serves, after so many others were taken,
+/// until all are taken, or the desk does not answer any more, since its store failed. Answers how
+/// many were taken in all. One that fails, or that the listener does not give, is told on `err`, and
+/// the next one is taken. Where `err` fails, nothing more is told on it, and serving goes on.
+pub fn serve_on<S: Alter, R: Clock + AllocGlobal, Err: Target>(
+    rt: &R,
+    listener: &TcpListener,
+    limits: Limits,
+    taken: u32,
+    desk: &mut Desk<S>,
     err: &mut Err,
-) -> Taking
-    ensures all { result.all ≡ true
-        → HasTaken (λ before cause after. IsServed (held S.Store before) (held S.Store after) cause)
-        desk.old desk.new result.told
-        (Err.taken err.old) (Err.taken err.new) (Err.failed err.new) limits.connections }
-    ensures fewer { result.all ≡ false → (taken : ℕ) × (taken < limits.connections)
-        × HasTaken (λ before cause after. IsServed (held S.Store before) (held S.Store after) cause)
-        desk.old desk.new result.told
-        (Err.taken err.old) (Err.taken err.new) (Err.failed err.new) taken }
+) -> u32
+    requires { taken ≤ limits.connections }
+    ensures takes { (told : Result (Unit {0}) WriteFault)
+        × HasTaken (serves S.Store) (asks S.Store) desk.old desk.new told
+        (Err.taken err.old) (Err.taken err.new) (Err.failed err.new) taken result }
+    ensures most { result ≤ limits.connections }
+    ensures some { taken < limits.connections → taken < result }
 {
     let mut told = Ok(());
-    for taken in 0..limits.connections {
-        let Ok((stream, _)) = listener.accept() else {
-            return Taking { told, all: false };
-        };
-        let served = serve_one(rt, &stream, limits, desk);
-        told = tell_served(told, taken + 1, served, err);
+    for number in taken..limits.connections {
+        let turn = take_turn(rt, listener, limits, desk);
+        told = tell_outcome(told, number + 1, turn.outcome, err);
+        if !turn.answers {
+            return number + 1;
+        }
     }
-    Taking { told, all: true }
-}
-
-/// Tells of a connection if it failed.
-fn tell_served<W: Target>(
-    told: Result<(), WriteFault>,
-    number: u32,
-    served: Result<(), Cause>,
-    err: &mut W,
-) -> Result<(), WriteFault>
-    ensures { IsToldMore told result (W.taken err.old) (W.taken err.new)
-        (W.failed err.old) (W.failed err.new) (fault_line number (cause_of served)) }
-{
-    match served {
-        Ok(()) => told,
-        Err(cause) => tell_failed(told, number, cause, err),
-    }
-}
-
-/// Tells on `out` at which port of 127.0.0.1 the listener listens, and then takes so many
-/// connections, one after the other, which the desk serves. A connection that fails is told on
-/// `err`, and the next one is taken. The status is 0 once all were taken, whatever became of each,
-/// and 3 after a last line on `err` where the listener fails or `out` does. Where `err` fails,
-/// nothing more is told on it, and serving goes on.
-pub fn serve_on<S: Alter, R: Clock + AllocGlobal, Out: Target, Err: Target>(
-    rt: &R,
-    listener: &TcpListener,
-    limits: Limits,
-    desk: &mut Desk<S>,
-    out: &mut Out,
-    err: &mut Err,
-) -> u8
-    ensures { HasServed
-        (λ before cause after. IsServed (held S.Store before) (held S.Store after) cause)
-        limits.connections desk.old desk.new
-        (Out.taken out.old) (Out.taken out.new) (Out.failed out.new)
-        (Err.taken err.old) (Err.taken err.new) (Err.failed err.new) result }
-{
-    if let Err(stop) = announce(listener, out) {
-        let _ = tell_stop(Ok(()), stop, err);
-        return 3;
-    }
-    let taking = take_all(rt, listener, limits, desk, err);
-    if taking.all {
-        return 0;
-    }
-    let _ = tell_stop(taking.told, Stop::Net, err);
-    3
+    limits.connections
 }

@@ -4,42 +4,62 @@ use std::io::{Error, ErrorKind, Read, Result, Write};
 use std::net::TcpStream;
 use std::time::{Clock, Duration, Instant};
 
-/// A stream that is read and written until a time is over: later reads and writes fail, also those
-/// of a peer that sends or takes a byte now and then. Where the clock fails, they do.
+/// A time that has begun, and is over after so long.
 #[derive(Drop)]
-pub struct Timed<'a, C> {
+pub struct Timer<'a, C> {
     clock: &'a C,
-    stream: &'a TcpStream,
     begun: Option<Instant>,
     limit: Duration,
 }
 
-impl<'a, C: Clock> Timed<'a, C> {
-    /// The stream, whose time begins.
-    pub fn new(clock: &'a C, stream: &'a TcpStream, limit: Duration) -> Timed<'a, C> {
-        Timed {
+impl<'a, C: Clock> Timer<'a, C> {
+    /// A time of so long that begins.
+    pub fn new(clock: &'a C, limit: Duration) -> Timer<'a, C> {
+        Timer {
             clock,
-            stream,
             begun: Instant::now(clock).ok(),
             limit,
         }
     }
 
+    /// How much of the time is left: none where it is over, or the clock fails.
+    pub fn left(&self) -> Duration {
+        let Some(begun) = self.begun else {
+            return Duration::ZERO;
+        };
+        match begun.elapsed(self.clock) {
+            Ok(gone) => self.limit.saturating_sub(gone),
+            Err(_) => Duration::ZERO,
+        }
+    }
+
     /// Fails once the time is over.
     fn check(&self) -> Result<()> {
-        let Some(begun) = self.begun else {
-            return Err(Error::from(ErrorKind::Other));
-        };
-        if begun.elapsed(self.clock)? >= self.limit {
+        if self.left().is_zero() {
             return Err(Error::from(ErrorKind::TimedOut));
         }
         Ok(())
     }
 }
 
+/// A stream that is read and written until a time is over: later reads and writes fail, also those
+/// of a peer that sends or takes a byte now and then. Where the clock fails, they do.
+#[derive(Drop)]
+pub struct Timed<'a, C> {
+    timer: &'a Timer<'a, C>,
+    stream: &'a TcpStream,
+}
+
+impl<'a, C: Clock> Timed<'a, C> {
+    /// The stream, until the time is over.
+    pub fn new(timer: &'a Timer<'a, C>, stream: &'a TcpStream) -> Timed<'a, C> {
+        Timed { timer, stream }
+    }
+}
+
 impl<'a, C: Clock> Read for Timed<'a, C> {
     fn read(&mut self, buf: &mut [u8]) -> Result<usize> {
-        self.check()?;
+        self.timer.check()?;
         let mut stream = self.stream;
         stream.read(buf)
     }
@@ -47,7 +67,7 @@ impl<'a, C: Clock> Read for Timed<'a, C> {
 
 impl<'a, C: Clock> Write for Timed<'a, C> {
     fn write(&mut self, bytes: &[u8]) -> Result<usize> {
-        self.check()?;
+        self.timer.check()?;
         let mut stream = self.stream;
         stream.write(bytes)
     }

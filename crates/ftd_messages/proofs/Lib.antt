@@ -1,4 +1,5 @@
 pub mod FieldFacts
 pub mod LengthFacts
+pub mod ListFacts
 pub mod LookFacts
 pub mod ReadingFacts

@@ -5,7 +5,7 @@ ghost use Rattle.httparse.specs.Spans.{header_bytes, IsHeaderWithin};
 ghost use Rattle.ftd_messages.specs.Heads.{number_in, body_length_of, asks_to_close};
 
 use crate::Status;
-use crate::fields::{are_all, find, has_value};
+use crate::fields::{are_all, find, has_listed};
 use crate::origins::origin_fault;
 use ftd_days::digits::number;
 use httparse::spans::HeaderSpan;
@@ -63,5 +63,5 @@ pub fn asks_to_close(buf: &[u8], version: u8, headers: &[HeaderSpan]) -> bool
     requires { All (IsHeaderWithin (length buf.now)) headers.now }
     ensures { result ≡ asks_to_close version (map (header_bytes buf.now) headers.now) }
 {
-    version == 0 || has_value(buf, headers, b"connection", b"close")
+    version == 0 || has_listed(buf, headers, b"connection", b"close")
 }

@@ -1,12 +1,13 @@
 //! The next message of a source.
 
-ghost use Rattle.std.specs.Prelude.{◌≡◌, ◌≤◌, true, vec_len, IfOk, OnOk, OnErr, IsErrOf};
+ghost use Rattle.std.specs.Prelude.{◌≡◌, ◌≤◌, false, true, vec_len, IfOk, OnOk, OnErr, IsErrOf};
 ghost use Rattle.std.specs.Bool.{MatchBool};
 ghost use Rattle.std.specs.Io.KnownBytes.{IsAtEnd};
 ghost use Rattle.ftd_messages.specs.Reading.{Reads, Takes, IsNext};
 
 use crate::Status;
 use crate::look::{Look, Parts, look_at};
+use crate::peer::Peer;
 use ftd_ports::Source;
 use httparse::spans::EMPTY_HEADER_SPAN;
 
@@ -21,6 +22,8 @@ pub enum Next {
     Closed,
     /// The end, inside a message.
     Truncated,
+    /// None: the peer was idle for too long, between two messages.
+    Idle,
 }
 
 /// Why no message could be read.
@@ -33,10 +36,26 @@ pub enum ReadFault {
 }
 
 /// Reads until the next message stands whole at the front of the buffer, is refused, or can't come.
-/// Bytes read beyond it stay in the buffer. `Read` where the source has failed: the buffer has all
-/// that it gave. `Memory` where there is none for what it gave last, which is lost then.
-pub fn next_message<R: Source>(source: &mut R, buf: &mut Vec<u8>) -> Result<Next, ReadFault>
-    ensures next { IfOk result (λ next. IsNext buf.new.items (R.left source.new) next) }
+/// Bytes read beyond it stay in the buffer. Where nothing of it is there yet, the peer is waited for.
+/// `Read` where the source has failed: the buffer has all that it gave. `Memory` where there is none
+/// for what it gave last, which is lost then.
+pub fn next_message<R: Peer>(source: &mut R, buf: &mut Vec<u8>) -> Result<Next, ReadFault>
+    ensures next { IfOk result
+        (λ next. IsNext buf.new.items (R.left source.new) (R.idle source.new) next) }
+    ensures reads { OnOk result
+        (Reads (R.left source.old) (R.left source.new) buf.old.items buf.new.items) }
+    ensures takes { OnErr result (Takes (R.left source.old) (R.left source.new)) }
+    ensures fault { IsErrOf result ReadFault.Read → R.failed source.new ≡ true }
+{
+    if buf.is_empty() && !source.waits() {
+        return Ok(Next::Idle);
+    }
+    read_message(source, buf)
+}
+
+/// Reads until the next message stands whole at the front of the buffer, is refused, or can't come.
+fn read_message<R: Source>(source: &mut R, buf: &mut Vec<u8>) -> Result<Next, ReadFault>
+    ensures next { IfOk result (λ next. IsNext buf.new.items (R.left source.new) false next) }
     ensures reads { OnOk result
         (Reads (R.left source.old) (R.left source.new) buf.old.items buf.new.items) }
     ensures takes { OnErr result (Takes (R.left source.old) (R.left source.new)) }

@@ -1,5 +1,5 @@
--- The routes, each put into the router after those that stand below it.
-use Rattle.std.specs.Prelude.{ℕ, List, [], codes, Option, option_map, Result, Ok, Err}
+-- The routes, put into the router one after the other.
+use Rattle.std.specs.Prelude.{ℕ, List, [], ◌∷◌, codes, Option, option_map, Result, Ok, Err}
 use Rattle.matchit.specs.Rows.{RowsOf}
 use Rattle.matchit.specs.Router.{RouteOf, route_from}
 use Rattle.matchit.specs.Route.{Scan, parse_route}
@@ -17,22 +17,31 @@ with_parsed (Err e) value rows = rows
 unfoldable pub with_route : List ℕ → Ask → RowsOf (RouteOf Ask) → RowsOf (RouteOf Ask)
 with_route text value rows = with_parsed (parse_route text) value rows
 
+-- the rows with routes more
+unfoldable pub with_routes : List (List ℕ × Ask) → RowsOf (RouteOf Ask) → RowsOf (RouteOf Ask)
+with_routes [] rows = rows
+with_routes (route ∷ routes) rows = with_routes routes (with_route route.0 route.1 rows)
+
+-- the routes and what they ask
+abbrev pub table : List (List ℕ × Ask)
+table =
+    (codes "/accounts", ask.Enrol)
+    ∷ (codes "/calendars", ask.Calendar)
+    ∷ (codes "/holidays", ask.AddHoliday)
+    ∷ (codes "/accounts/{account}/reported", ask.Report)
+    ∷ (codes "/accounts/{account}/reported-years", ask.ReportYear)
+    ∷ (codes "/accounts/{account}/years", ask.OpenYear)
+    ∷ (codes "/accounts/{account}/runs", ask.Post)
+    ∷ (codes "/accounts/{account}/runs/{run}", ask.Void)
+    ∷ (codes "/accounts/{account}/payments", ask.Pay)
+    ∷ (codes "/accounts/{account}/payments/{payment}", ask.VoidPay)
+    ∷ (codes "/accounts/{account}/status/{day}", ask.Status)
+    ∷ (codes "/accounts/{account}/due/{quarter}/{asof}", ask.DueList)
+    ∷ (codes "/accounts/{account}/schedule-b/{quarter}", ask.ScheduleB)
+    ∷ []
+
 unfoldable pub all_routes : RowsOf (RouteOf Ask)
-all_routes =
-    with_route (codes "/accounts/{account}/schedule-b/{quarter}") ask.ScheduleB (
-    with_route (codes "/accounts/{account}/due/{quarter}/{asof}") ask.DueList (
-    with_route (codes "/accounts/{account}/status/{day}") ask.Status (
-    with_route (codes "/accounts/{account}/payments/{payment}") ask.VoidPay (
-    with_route (codes "/accounts/{account}/payments") ask.Pay (
-    with_route (codes "/accounts/{account}/runs/{run}") ask.Void (
-    with_route (codes "/accounts/{account}/runs") ask.Post (
-    with_route (codes "/accounts/{account}/years") ask.OpenYear (
-    with_route (codes "/accounts/{account}/reported-years") ask.ReportYear (
-    with_route (codes "/accounts/{account}/reported") ask.Report (
-    with_route (codes "/holidays") ask.AddHoliday (
-    with_route (codes "/calendars") ask.Calendar (
-    with_route (codes "/accounts") ask.Enrol []
-    ))))))))))))
+all_routes = with_routes table []
 
 -- the route of a target
 abbrev pub route_of : List ℕ → Option Ask

@@ -1,8 +1,8 @@
 //! The routes.
 
-ghost use Rattle.std.specs.Prelude.{◌≡◌, IfOk, OnOk, option_map};
+ghost use Rattle.std.specs.Prelude.{◌≡◌, IfOk, OnOk, map, option_map};
 ghost use Rattle.matchit.specs.Seek.{first};
-ghost use Rattle.ftd_routes.specs.Routes.{all_routes, with_route};
+ghost use Rattle.ftd_routes.specs.Routes.{all_routes, with_route, with_routes};
 
 use matchit::{InsertError, Router};
 use std::alloc::Global;
@@ -46,40 +46,40 @@ fn put(router: &mut Router<Ask>, route: &str, ask: Ask) -> Result<(), InsertErro
     router.insert(route, ask)
 }
 
+/// The routes and what they ask.
+const ROUTES: [(&str, Ask); 13] = [
+    ("/accounts", Ask::Enrol),
+    ("/calendars", Ask::Calendar),
+    ("/holidays", Ask::AddHoliday),
+    ("/accounts/{account}/reported", Ask::Report),
+    ("/accounts/{account}/reported-years", Ask::ReportYear),
+    ("/accounts/{account}/years", Ask::OpenYear),
+    ("/accounts/{account}/runs", Ask::Post),
+    ("/accounts/{account}/runs/{run}", Ask::Void),
+    ("/accounts/{account}/payments", Ask::Pay),
+    ("/accounts/{account}/payments/{payment}", Ask::VoidPay),
+    ("/accounts/{account}/status/{day}", Ask::Status),
+    ("/accounts/{account}/due/{quarter}/{asof}", Ask::DueList),
+    ("/accounts/{account}/schedule-b/{quarter}", Ask::ScheduleB),
+];
+
+/// Puts in these routes more.
+fn put_all(router: &mut Router<Ask>, routes: &[(&str, Ask)]) -> Result<(), InsertError>
+    ensures { OnOk result (router.new
+        ≡ with_routes (map (λ route. (route.0.now, route.1)) routes.now) router.old) }
+{
+    for (route, ask) in routes {
+        put(router, route, *ask)?;
+    }
+    Ok(())
+}
+
 /// The router of all routes. An error says that there was no memory: no two routes are at odds.
 pub fn make_router(alloc: Global) -> Result<Router<Ask>, InsertError>
     ensures { IfOk result (λ router. router ≡ all_routes) }
 {
     let mut router = Router::new(alloc);
-    put(&mut router, "/accounts", Ask::Enrol)?;
-    put(&mut router, "/calendars", Ask::Calendar)?;
-    put(&mut router, "/holidays", Ask::AddHoliday)?;
-    put(&mut router, "/accounts/{account}/reported", Ask::Report)?;
-    put(
-        &mut router,
-        "/accounts/{account}/reported-years",
-        Ask::ReportYear,
-    )?;
-    put(&mut router, "/accounts/{account}/years", Ask::OpenYear)?;
-    put(&mut router, "/accounts/{account}/runs", Ask::Post)?;
-    put(&mut router, "/accounts/{account}/runs/{run}", Ask::Void)?;
-    put(&mut router, "/accounts/{account}/payments", Ask::Pay)?;
-    put(
-        &mut router,
-        "/accounts/{account}/payments/{payment}",
-        Ask::VoidPay,
-    )?;
-    put(&mut router, "/accounts/{account}/status/{day}", Ask::Status)?;
-    put(
-        &mut router,
-        "/accounts/{account}/due/{quarter}/{asof}",
-        Ask::DueList,
-    )?;
-    put(
-        &mut router,
-        "/accounts/{account}/schedule-b/{quarter}",
-        Ask::ScheduleB,
-    )?;
+    put_all(&mut router, &ROUTES)?;
     Ok(router)
 }
 

@@ -74,7 +74,7 @@ value_told (values.BadWord word) r said e h = rw e h
 value_told values.NoForm r said e h = rw e h
 value_told values.NoCommand r said e h = rw e h
 value_told values.Memory (fault.BadArgument word) said e h = cc h
-value_told values.Memory (fault.Usage text) said e h = absurd h
+value_told values.Memory (fault.Usage text) said e h = absurd h.0
 value_told values.Memory (fault.Help text) said e h = absurd h
 value_told values.Memory fault.Memory said e h = tt
 

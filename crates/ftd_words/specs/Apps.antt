@@ -1,5 +1,6 @@
 -- The command line of the table.
-use Rattle.std.specs.Prelude.{List, [], ◌∷◌, Some, None, true, if◌then◌else◌, codes, pos}
+use Rattle.std.specs.Prelude.{List, [], ◌∷◌, Some, None, true, if◌then◌else◌, codes}
+use Rattle.std.specs.Prelude.{ℤ, pos}
 use Rattle.clap.specs.Words.{App, Rule, Text, new_app, new_rule, with_rule, with_subcommand}
 use Rattle.clap.specs.declared.builder.ArgAction.TheVariants.{Append, SetTrue}
 use Rattle.clap.specs.declared.builder.value_parser.ValueParser.TheVariants as parser
@@ -9,10 +10,10 @@ use Rattle.ftd_words.specs.declared.table.Takes.{Takes}
 use Rattle.ftd_words.specs.declared.table.Takes.TheVariants as takes
 use Rattle.ftd_words.specs.Table.{all_names, is_option, name_text, takes_of, word_text, words_of}
 
--- a whole number of seconds, from 1 to 3,600; so many if none is given
-abbrev pub seconds_or : Text → Rule → Rule
-seconds_or default rule =
-    record rule { defaults = default ∷ []; parser = Some (parser.Signed (pos 1) (pos 3600)) }
+-- a whole number of seconds, from so many to 3,600; so many if none is given
+abbrev pub seconds_or : ℤ → Text → Rule → Rule
+seconds_or least default rule =
+    record rule { defaults = default ∷ []; parser = Some (parser.Signed least (pos 3600)) }
 
 -- what a word takes, as `clap` says it
 abbrev pub taking : Takes → Rule → Rule
@@ -22,8 +23,10 @@ taking (takes.Number low high) rule =
 taking takes.Texts rule = record rule { action = Some Append }
 taking takes.Nothing rule = record rule { action = Some SetTrue }
 taking takes.Form rule = record rule { defaults = codes "941" ∷ [] }
-taking takes.Silence rule = seconds_or (codes "10") rule
-taking takes.Duration rule = seconds_or (codes "60") rule
+taking takes.Wait rule = seconds_or (pos 0) (codes "0") rule
+taking takes.Idle rule = seconds_or (pos 1) (codes "1") rule
+taking takes.Silence rule = seconds_or (pos 1) (codes "10") rule
+taking takes.Duration rule = seconds_or (pos 1) (codes "60") rule
 
 -- the word
 abbrev pub rule_for : Word → Rule

@@ -118,13 +118,13 @@ schedule_b_of rows =
     then_with (quarter_in word.Quarter rows) (λ quarter.
     Ok (request.ScheduleB account quarter)))
 
--- ---- what a subcommand asks: the deposits of pay runs from standard input, a server, an import,
--- or a request to the desk in a database
+-- ---- what a subcommand asks: the deposits of pay runs from standard input; or a server, an import,
+-- or a request to the desk in a database, for which so many seconds are waited
 pub data Wanted : Type 0 where
-  plain : Text → ℕ → List ℕ → Wanted
-  serve : Text → ℕ → ℕ → ℕ → ℕ → Wanted
-  import : Text → Text → Wanted
-  ask : Text → Request → Wanted
+  plain : (account : Text) (year : ℕ) (holidays : List ℕ) → Wanted
+  serve : (db : Text) (wait port connections idle silence duration : ℕ) → Wanted
+  import : (db : Text) (wait : ℕ) (file : Text) → Wanted
+  ask : (db : Text) (wait : ℕ) (request : Request) → Wanted
 
 -- `plain` wants an account name, and a year of 2001 to 2098
 abbrev pub account_in : List Row → Result Text WordFault
@@ -148,21 +148,27 @@ plain_of rows =
 unfoldable pub serve_of : List Row → Result Wanted WordFault
 serve_of rows =
     then_with (text_in word.Db rows) (λ db.
+    then_with (whole_in word.Wait rows) (λ wait.
     then_with (port_in word.Port rows) (λ port.
     then_with (whole_in word.Connections rows) (λ connections.
+    then_with (whole_in word.Idle rows) (λ idle.
     then_with (whole_in word.Silence rows) (λ silence.
     then_with (whole_in word.Duration rows) (λ duration.
-    Ok (serve db port connections silence duration))))))
+    Ok (serve db wait port connections idle silence duration))))))))
 
 unfoldable pub import_of : List Row → Result Wanted WordFault
 import_of rows =
     then_with (text_in word.Db rows) (λ db.
+    then_with (whole_in word.Wait rows) (λ wait.
     then_with (text_in word.CsvFile rows) (λ file.
-    Ok (import db file)))
+    Ok (import db wait file))))
 
 -- a request, to the desk in the database
 abbrev pub asked : List Row → Request → Result Wanted WordFault
-asked rows request = then_with (text_in word.Db rows) (λ db. Ok (ask db request))
+asked rows request =
+    then_with (text_in word.Db rows) (λ db.
+    then_with (whole_in word.Wait rows) (λ wait.
+    Ok (ask db wait request)))
 
 -- what the subcommand asks with these values
 unfoldable pub wanted_of : Name → List Row → Result Wanted WordFault

@@ -30,28 +30,35 @@ name_text name.AddHoliday = codes "add-holiday"
 -- its words, in their order
 abbrev pub words_of : Name → List Word
 words_of name.Plain = word.Account ∷ word.Year ∷ word.Holidays ∷ []
-words_of name.Serve = word.Db ∷ word.Port ∷ word.Connections ∷ word.Silence ∷ word.Duration ∷ []
-words_of name.Import = word.Db ∷ word.CsvFile ∷ []
-words_of name.Enrol = word.Db ∷ word.Account ∷ word.Start ∷ word.Carried ∷ word.Form ∷ []
-words_of name.Calendar = word.Db ∷ word.Year ∷ word.Days ∷ []
-words_of name.Report = word.Db ∷ word.Account ∷ word.Quarter ∷ word.Amount ∷ []
-words_of name.ReportYear = word.Db ∷ word.Account ∷ word.Year ∷ word.Amount ∷ []
-words_of name.OpenYear = word.Db ∷ word.Account ∷ word.Year ∷ []
+words_of name.Serve =
+    word.Db ∷ word.Wait ∷ word.Port ∷ word.Connections ∷ word.Idle ∷ word.Silence ∷ word.Duration
+    ∷ []
+words_of name.Import = word.Db ∷ word.Wait ∷ word.CsvFile ∷ []
+words_of name.Enrol =
+    word.Db ∷ word.Wait ∷ word.Account ∷ word.Start ∷ word.Carried ∷ word.Form ∷ []
+words_of name.Calendar = word.Db ∷ word.Wait ∷ word.Year ∷ word.Days ∷ []
+words_of name.Report = word.Db ∷ word.Wait ∷ word.Account ∷ word.Quarter ∷ word.Amount ∷ []
+words_of name.ReportYear = word.Db ∷ word.Wait ∷ word.Account ∷ word.Year ∷ word.Amount ∷ []
+words_of name.OpenYear = word.Db ∷ word.Wait ∷ word.Account ∷ word.Year ∷ []
 words_of name.Post =
-    word.Db ∷ word.Account ∷ word.Run ∷ word.Payday ∷ word.Fit ∷ word.Ss ∷ word.Medicare ∷ []
-words_of name.Void = word.Db ∷ word.Account ∷ word.Run ∷ []
-words_of name.Pay = word.Db ∷ word.Account ∷ word.Payment ∷ word.Paid ∷ word.For ∷ word.Amount ∷ []
-words_of name.VoidPay = word.Db ∷ word.Account ∷ word.Payment ∷ []
-words_of name.Status = word.Db ∷ word.Account ∷ word.Day ∷ []
-words_of name.Due = word.Db ∷ word.Account ∷ word.Quarter ∷ word.AsOf ∷ []
-words_of name.ScheduleB = word.Db ∷ word.Account ∷ word.Quarter ∷ []
-words_of name.AddHoliday = word.Db ∷ word.Day ∷ []
+    word.Db ∷ word.Wait ∷ word.Account ∷ word.Run ∷ word.Payday ∷ word.Fit ∷ word.Ss
+    ∷ word.Medicare ∷ []
+words_of name.Void = word.Db ∷ word.Wait ∷ word.Account ∷ word.Run ∷ []
+words_of name.Pay =
+    word.Db ∷ word.Wait ∷ word.Account ∷ word.Payment ∷ word.Paid ∷ word.For ∷ word.Amount ∷ []
+words_of name.VoidPay = word.Db ∷ word.Wait ∷ word.Account ∷ word.Payment ∷ []
+words_of name.Status = word.Db ∷ word.Wait ∷ word.Account ∷ word.Day ∷ []
+words_of name.Due = word.Db ∷ word.Wait ∷ word.Account ∷ word.Quarter ∷ word.AsOf ∷ []
+words_of name.ScheduleB = word.Db ∷ word.Wait ∷ word.Account ∷ word.Quarter ∷ []
+words_of name.AddHoliday = word.Db ∷ word.Wait ∷ word.Day ∷ []
 
 -- the name of the word
 abbrev pub word_text : Word → Text
 word_text word.Db = codes "db"
+word_text word.Wait = codes "wait"
 word_text word.Port = codes "port"
 word_text word.Connections = codes "connections"
+word_text word.Idle = codes "idle"
 word_text word.Silence = codes "silence"
 word_text word.Duration = codes "duration"
 word_text word.CsvFile = codes "CSVFILE"
@@ -78,8 +85,10 @@ word_text word.AsOf = codes "ASOF"
 -- a word that stands behind two hyphens
 abbrev pub is_option : Word → Bool
 is_option word.Db = true
+is_option word.Wait = true
 is_option word.Port = true
 is_option word.Connections = true
+is_option word.Idle = true
 is_option word.Silence = true
 is_option word.Duration = true
 is_option word.CsvFile = false
@@ -106,8 +115,10 @@ is_option word.AsOf = false
 -- what the word takes
 abbrev pub takes_of : Word → Takes
 takes_of word.Db = takes.Text
-takes_of word.Port = takes.Number (pos 1) (pos 65535)
+takes_of word.Wait = takes.Wait
+takes_of word.Port = takes.Number (pos 0) (pos 65535)
 takes_of word.Connections = takes.Number (pos 1) (pos 1000000)
+takes_of word.Idle = takes.Idle
 takes_of word.Silence = takes.Silence
 takes_of word.Duration = takes.Duration
 takes_of word.CsvFile = takes.Text

@@ -1,5 +1,5 @@
 -- What the words of a command line ask.
-use Rattle.std.specs.Prelude.{◌≡◌, ◌⊎◌, List, [], ◌∷◌, Option, Some, None, Result, Ok, Err, ⊤}
+use Rattle.std.specs.Prelude.{◌≡◌, ◌⊎◌, ℕ, List, [], ◌∷◌, Option, Some, None, Result, Ok, Err, ⊤}
 use Rattle.std.specs.List.{find}
 use Rattle.std.specs.Str.{bytes_eq}
 use Rattle.std.specs.String.{string_bytes}
@@ -8,6 +8,7 @@ use Rattle.clap.specs.declared.error.ErrorKind.{ErrorKind}
 use Rattle.clap.specs.declared.error.ErrorKind.TheVariants as kind
 use Rattle.ftd_words.specs.Apps.{ftd_app}
 use Rattle.ftd_words.specs.Asking.{Wanted, ask, import, plain, serve, wanted_of}
+use Rattle.ftd_words.specs.Escapes.{escaped}
 use Rattle.ftd_words.specs.Table.{all_names, name_text}
 use Rattle.ftd_words.specs.declared.fault.WordFault.{WordFault}
 use Rattle.ftd_words.specs.declared.fault.WordFault.TheVariants as values
@@ -51,15 +52,16 @@ unfoldable pub task_of : List Text → Result Wanted Refused
 task_of given = without_fault (fault_of ftd_app given) (wanted_in (subcommand_of ftd_app given))
 
 -- what a task stands for
-abbrev pub job_view : Text → Job → Wanted
-job_view db (job.Import file) = import db (string_bytes file)
-job_view db (job.Ask request) = ask db request
+abbrev pub job_view : Text → ℕ → Job → Wanted
+job_view db wait (job.Import file) = import db wait (string_bytes file)
+job_view db wait (job.Ask request) = ask db wait request
 
 abbrev pub task_view : Task → Wanted
 task_view (task.Plain asked) = plain asked.account asked.year asked.holidays
 task_view (task.Serve asked) =
-    serve (string_bytes asked.db) asked.port asked.connections asked.silence asked.duration
-task_view (task.Local local) = job_view (string_bytes local.db) local.job
+    serve (string_bytes asked.db) asked.wait asked.port asked.connections asked.idle asked.silence
+    asked.duration
+task_view (task.Local local) = job_view (string_bytes local.db) local.wait local.job
 
 -- help or the version is asked for
 abbrev pub AsksHelp : ErrorKind → Type 0
@@ -80,11 +82,15 @@ IsUsage (Err (value values.NoCommand)) = ⊤
 IsUsage (Err (value (values.BadWord word))) = ⊥
 IsUsage (Err (value values.Memory)) = ⊥
 
+-- no byte of the text can steer a terminal: its control bytes are escaped
+abbrev pub IsEscaped : Text → Type 0
+IsEscaped text = (whole : Text) × (text ≡ escaped whole)
+
 -- what is answered is what the words ask, or why they ask nothing; want of memory may come at any
 -- point
 abbrev pub Fails : CliFault → Result Wanted Refused → Type 0
 Fails (fault.BadArgument word) said = said ≡ Err (value (values.BadWord word))
-Fails (fault.Usage text) said = IsUsage said
+Fails (fault.Usage text) said = IsUsage said × IsEscaped (string_bytes text)
 Fails (fault.Help text) said = IsHelp said
 Fails fault.Memory said = ⊤
 

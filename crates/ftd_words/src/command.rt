@@ -21,13 +21,14 @@ Give the holidays of the year and the next, enrol the account, report its lookba
 open the year, and post or import pay runs. `due` then lists what to deposit, and by when.
 ftd help COMMAND tells the words of a command, with an example.";
 
-/// An argument that takes a whole number of seconds from 1 to 3,600, so many if it is not there.
-fn seconds_or<'a>(arg: Arg<'a>, default: &'a str) -> Arg<'a>
-    ensures rule { rule_of result ≡ seconds_or default.now (rule_of arg.entry) }
+/// An argument that takes a whole number of seconds, at least so many and at most 3,600; so many if
+/// it is not there.
+fn seconds_or<'a>(arg: Arg<'a>, least: i64, default: &'a str) -> Arg<'a>
+    ensures rule { rule_of result ≡ seconds_or least default.now (rule_of arg.entry) }
     ensures local { result.global ≡ arg.entry.global }
 {
     arg.default_value(default)
-        .value_parser(ValueParser::Signed(1, 3600))
+        .value_parser(ValueParser::Signed(least, 3600))
 }
 
 /// A word as an argument.
@@ -51,8 +52,10 @@ fn arg_of<'a>(alloc: Global, word: Word) -> Arg<'a>
         Takes::Texts => arg.action(ArgAction::Append),
         Takes::Nothing => arg.action(ArgAction::SetTrue),
         Takes::Form => arg.default_value("941"),
-        Takes::Silence => seconds_or(arg, "10"),
-        Takes::Duration => seconds_or(arg, "60"),
+        Takes::Wait => seconds_or(arg, 0, "0"),
+        Takes::Idle => seconds_or(arg, 1, "1"),
+        Takes::Silence => seconds_or(arg, 1, "10"),
+        Takes::Duration => seconds_or(arg, 1, "60"),
     }
 }
 

@@ -12,6 +12,7 @@ use crate::asking::{
     account_at, add_holiday, calendar, due, enrol, open_year, pay, post, report, report_year,
     schedule_b, status, void, void_pay,
 };
+use crate::escape::escaped;
 use crate::fault::WordFault;
 use crate::parse::{ParseFault, parsed};
 use crate::reading::{days_at, owned_text, port_at, whole_at};
@@ -81,14 +82,18 @@ fn serve(alloc: Global, inner: &ArgMatches<'_>) -> Result<Task, WordFault>
     ensures { TellsAs task_view result (serve_of (rows_of (found_of inner.now))) }
 {
     let db = owned_text(alloc, inner, Word::Db)?;
+    let wait = whole_at(inner, Word::Wait)?;
     let port = port_at(inner, Word::Port)?;
     let connections = whole_at(inner, Word::Connections)?;
+    let idle = whole_at(inner, Word::Idle)?;
     let silence = whole_at(inner, Word::Silence)?;
     let duration = whole_at(inner, Word::Duration)?;
     Ok(Task::Serve(ServeTask {
         db,
+        wait,
         port,
         connections,
+        idle,
         silence,
         duration,
     }))
@@ -100,9 +105,11 @@ fn import(alloc: Global, inner: &ArgMatches<'_>) -> Result<Task, WordFault>
     ensures { TellsAs task_view result (import_of (rows_of (found_of inner.now))) }
 {
     let db = owned_text(alloc, inner, Word::Db)?;
+    let wait = whole_at(inner, Word::Wait)?;
     let file = owned_text(alloc, inner, Word::CsvFile)?;
     Ok(Task::Local(LocalTask {
         db,
+        wait,
         job: Job::Import(file),
     }))
 }
@@ -112,8 +119,10 @@ fn local(alloc: Global, inner: &ArgMatches<'_>, request: Request) -> Result<Task
     ensures { TellsAs task_view result (asked (rows_of (found_of inner.now)) request) }
 {
     let db = owned_text(alloc, inner, Word::Db)?;
+    let wait = whole_at(inner, Word::Wait)?;
     Ok(Task::Local(LocalTask {
         db,
+        wait,
         job: Job::Ask(request),
     }))
 }
@@ -174,7 +183,7 @@ fn told_error(alloc: Global, error: &Error) -> CliFault
     };
     match error.kind() {
         ErrorKind::DisplayHelp | ErrorKind::DisplayVersion => CliFault::Help(text),
-        _ => CliFault::Usage(text),
+        _ => usage(alloc, &text),
     }
 }
 
@@ -190,11 +199,11 @@ fn told_fault(alloc: Global, fault: WordFault) -> CliFault
     }
 }
 
-/// The text, as what is told of words that are no command line.
+/// The text, as what is told of words that are no command line. A word may stand in it.
 fn usage(alloc: Global, text: &str) -> CliFault
     ensures { (said : Result Wanted Refused) → IsUsage said → Fails result said }
 {
-    match String::from_str(alloc, text) {
+    match escaped(alloc, text) {
         Ok(text) => CliFault::Usage(text),
         Err(_) => CliFault::Memory,
     }

@@ -4,6 +4,7 @@
 mod asking;
 mod command;
 mod deciding;
+mod escape;
 mod fault;
 mod parse;
 mod reading;
@@ -11,5 +12,6 @@ mod table;
 mod tasks;
 
 pub use crate::deciding::decide;
+pub use crate::escape::escaped;
 pub use crate::table::Word;
 pub use crate::tasks::{CliFault, Job, LocalTask, PlainTask, ServeTask, Task};

@@ -5,7 +5,8 @@ ghost use Rattle.ftd_words.specs.Table.{is_option, name_text, takes_of, word_tex
 
 use Word::{
     Account, Amount, AsOf, Carried, Connections, CsvFile, Day, Days, Db, Duration, Fit, For, Form,
-    Holidays, Medicare, Paid, Payday, Payment, Port, Quarter, Run, Silence, Ss, Start, Year,
+    Holidays, Idle, Medicare, Paid, Payday, Payment, Port, Quarter, Run, Silence, Ss, Start, Wait,
+    Year,
 };
 
 /// What a word takes.
@@ -21,10 +22,14 @@ pub enum Takes {
     Nothing,
     /// A text, 941 if it is not there.
     Form,
+    /// A whole number of seconds from 1 to 3,600, 1 if it is not there.
+    Idle,
     /// A whole number of seconds from 1 to 3,600, 10 if it is not there.
     Silence,
     /// A whole number of seconds from 1 to 3,600, 60 if it is not there.
     Duration,
+    /// A whole number of seconds from 0 to 3,600, 0 if it is not there.
+    Wait,
 }
 
 /// A subcommand.
@@ -52,8 +57,10 @@ pub enum Name {
 #[derive(Clone, Copy, Debug, PartialEq, Eq)]
 pub enum Word {
     Db,
+    Wait,
     Port,
     Connections,
+    Idle,
     Silence,
     Duration,
     CsvFile,
@@ -109,21 +116,21 @@ impl Name {
     {
         match self {
             Name::Plain => &[Account, Year, Holidays],
-            Name::Serve => &[Db, Port, Connections, Silence, Duration],
-            Name::Import => &[Db, CsvFile],
-            Name::Enrol => &[Db, Account, Start, Carried, Form],
-            Name::Calendar => &[Db, Year, Days],
-            Name::Report => &[Db, Account, Quarter, Amount],
-            Name::ReportYear => &[Db, Account, Year, Amount],
-            Name::OpenYear => &[Db, Account, Year],
-            Name::Post => &[Db, Account, Run, Payday, Fit, Ss, Medicare],
-            Name::Void => &[Db, Account, Run],
-            Name::Pay => &[Db, Account, Payment, Paid, For, Amount],
-            Name::VoidPay => &[Db, Account, Payment],
-            Name::Status => &[Db, Account, Day],
-            Name::Due => &[Db, Account, Quarter, AsOf],
-            Name::ScheduleB => &[Db, Account, Quarter],
-            Name::AddHoliday => &[Db, Day],
+            Name::Serve => &[Db, Wait, Port, Connections, Idle, Silence, Duration],
+            Name::Import => &[Db, Wait, CsvFile],
+            Name::Enrol => &[Db, Wait, Account, Start, Carried, Form],
+            Name::Calendar => &[Db, Wait, Year, Days],
+            Name::Report => &[Db, Wait, Account, Quarter, Amount],
+            Name::ReportYear => &[Db, Wait, Account, Year, Amount],
+            Name::OpenYear => &[Db, Wait, Account, Year],
+            Name::Post => &[Db, Wait, Account, Run, Payday, Fit, Ss, Medicare],
+            Name::Void => &[Db, Wait, Account, Run],
+            Name::Pay => &[Db, Wait, Account, Payment, Paid, For, Amount],
+            Name::VoidPay => &[Db, Wait, Account, Payment],
+            Name::Status => &[Db, Wait, Account, Day],
+            Name::Due => &[Db, Wait, Account, Quarter, AsOf],
+            Name::ScheduleB => &[Db, Wait, Account, Quarter],
+            Name::AddHoliday => &[Db, Wait, Day],
         }
     }
 
@@ -181,8 +188,10 @@ impl Word {
     {
         match self {
             Word::Db => "db",
+            Word::Wait => "wait",
             Word::Port => "port",
             Word::Connections => "connections",
+            Word::Idle => "idle",
             Word::Silence => "silence",
             Word::Duration => "duration",
             Word::CsvFile => "CSVFILE",
@@ -215,8 +224,10 @@ impl Word {
         matches!(
             self,
             Word::Db
+                | Word::Wait
                 | Word::Port
                 | Word::Connections
+                | Word::Idle
                 | Word::Silence
                 | Word::Duration
                 | Word::Carried
@@ -230,8 +241,10 @@ impl Word {
     {
         match self {
             Word::Db => Takes::Text,
-            Word::Port => Takes::Number(1, 65_535),
+            Word::Wait => Takes::Wait,
+            Word::Port => Takes::Number(0, 65_535),
             Word::Connections => Takes::Number(1, 1_000_000),
+            Word::Idle => Takes::Idle,
             Word::Silence => Takes::Silence,
             Word::Duration => Takes::Duration,
             Word::CsvFile => Takes::Text,
@@ -263,7 +276,7 @@ impl Word {
             Word::Db => "FILE",
             Word::Form => "FORM",
             Word::Port | Word::Connections => "N",
-            Word::Silence | Word::Duration => "SECONDS",
+            Word::Wait | Word::Idle | Word::Silence | Word::Duration => "SECONDS",
             word => word.text(),
         }
     }
@@ -272,8 +285,10 @@ impl Word {
     pub fn help<'a>(self) -> &'a str {
         match self {
             Word::Db => "The desk's database, made where it is not there",
-            Word::Port => "The port to listen at, 1 to 65535",
+            Word::Wait => "How long to wait while another program has the file open, 0 to 3600",
+            Word::Port => "The port to listen at, 1 to 65535, or 0 for a free one",
             Word::Connections => "How many connections are taken before the program ends",
+            Word::Idle => "How long a client may be idle between two requests, 1 to 3600",
             Word::Silence => "How long a read or a write waits for the client, 1 to 3600",
             Word::Duration => "How long one connection is served in all, 1 to 3600",
             Word::CsvFile => {

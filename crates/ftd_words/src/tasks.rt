@@ -30,7 +30,10 @@ pub enum Job {
 /// A job, and the file of the desk's database.
 #[derive(Drop)]
 pub struct LocalTask {
+    /// The database file.
     pub db: String,
+    /// How many seconds it waits while another program has the file open.
+    pub wait: u32,
     pub job: Job,
 }
 
@@ -39,10 +42,14 @@ pub struct LocalTask {
 pub struct ServeTask {
     /// The database file.
     pub db: String,
-    /// The port of 127.0.0.1 to listen at.
+    /// How many seconds it waits while another program has the file open.
+    pub wait: u32,
+    /// The port of 127.0.0.1 to listen at; 0 is a free one.
     pub port: u16,
     /// How many connections are taken.
     pub connections: u32,
+    /// How many seconds a client may be idle between two requests.
+    pub idle: u32,
     /// How many seconds a read or a write waits for the client.
     pub silence: u32,
     /// For how many seconds one connection is served at most.

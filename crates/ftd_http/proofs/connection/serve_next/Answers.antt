@@ -1,7 +1,7 @@
 use Rattle.std.proofs.Common.{◌<◌, Err, ap, arith}
 use Rattle.ftd_http.specs.declared.connection.Cause.TheVariants as why
-use Rattle.ftd_http.proofs.ServeFacts.{reads, goes_on, ends_closed, ends_truncated, ends_refused}
-use Rattle.ftd_http.proofs.ServeFacts.{ends_asked, ends_limit, breaks_in, breaks_reading}
+use Rattle.ftd_http.proofs.ServeFacts.{reads, goes_on, ends_closed, ends_idle, ends_refused}
+use Rattle.ftd_http.proofs.ServeFacts.{ends_asked, ends_limit, ends_truncated, breaks_in, breaks_reading}
 use Rattle.ftd_http.proofs.ServeFacts.{breaks_refusing, fails_so}
 use Rattle.ftd_http.proofs.connection.serve_next.Goals as goal
 
@@ -21,20 +21,27 @@ pub returns-in-Closed : goal.returns-in-Closed
 returns-in-Closed g c =
     let found = rw c.in-Closed.is at c.in-Ok.ensures.next in
     rw c.ended-in-Closed.ensures (λ start first said talk.
-    ends_closed g.M.Machine.goes _ _ _ _ _ _ _ _
+    ends_closed g.M.Machine.goes _ _ _ _ _ _ _ _ _
+    (reads g.M.Machine.goes _ _ _ _ _ _ _ _ _ _ talk c.in-Ok.ensures.reads) found.0 found.1)
+
+pub returns-in-Idle : goal.returns-in-Idle
+returns-in-Idle g c =
+    let found = rw c.in-Idle.is at c.in-Ok.ensures.next in
+    rw c.ended-in-Idle.ensures (λ start first said talk.
+    ends_idle g.M.Machine.goes _ _ _ _ _ _ _ _ _
     (reads g.M.Machine.goes _ _ _ _ _ _ _ _ _ _ talk c.in-Ok.ensures.reads) found.0 found.1)
 
 pub returns-in-Truncated : goal.returns-in-Truncated
 returns-in-Truncated g c =
     let found = rw c.in-Truncated.is at c.in-Ok.ensures.next in
     rw c.ended-in-Truncated.ensures (λ start first said talk.
-    ends_truncated g.M.Machine.goes _ _ _ _ _ _ _ _
+    ends_truncated g.M.Machine.goes _ _ _ _ _ _ _ _ _
     (reads g.M.Machine.goes _ _ _ _ _ _ _ _ _ _ talk c.in-Ok.ensures.reads) found.0 found.1)
 
 pub returns-in-Ok-refuse : goal.returns-in-Ok-refuse
 returns-in-Ok-refuse g c =
     rw c.ended.ensures (λ start first said talk.
-    ends_refused g.M.Machine.goes _ _ _ _ _ _ _ _ _ c.in-Refused.status
+    ends_refused g.M.Machine.goes _ _ _ _ _ _ _ _ _ _ c.in-Refused.status
     (reads g.M.Machine.goes _ _ _ _ _ _ _ _ _ _ talk c.in-Ok.ensures.reads)
     (rw c.in-Refused.is at c.in-Ok.ensures.next) c.in-Ok-refuse.ensures.ok)
 
@@ -62,7 +69,7 @@ returns-then-parts g c =
     let (message, at) = found.0 in
     let done = c.in-Ok-answer.ensures.ok message (rw c.deref.ensures.value at) in
     rw c.ended-then-parts.ensures (λ start first said talk.
-    ends_asked g.M.Machine.goes _ _ _ _ _ _ _ _ _ _ c.in-Whole.parts message done.0
+    ends_asked g.M.Machine.goes _ _ _ _ _ _ _ _ _ _ _ c.in-Whole.parts message done.0
     (reads g.M.Machine.goes _ _ _ _ _ _ _ _ _ _ talk c.in-Ok.ensures.reads) at done.1 done.2
     c.if-parts.true)
 
@@ -72,7 +79,7 @@ returns-then-answered g c =
     let (message, at) = found.0 in
     let done = c.in-Ok-answer.ensures.ok message (rw c.deref.ensures.value at) in
     rw c.ended-then-answered.ensures (λ start first said talk.
-    ends_limit g.M.Machine.goes _ _ _ _ _ _ _ _ _ _ c.in-Whole.parts message done.0
+    ends_limit g.M.Machine.goes _ _ _ _ _ _ _ _ _ _ _ c.in-Whole.parts message done.0
     (reads g.M.Machine.goes _ _ _ _ _ _ _ _ _ _ talk c.in-Ok.ensures.reads) at done.1 done.2
     c.if-parts.false (omega arith))
 

@@ -1,18 +1,31 @@
-use Rattle.ftd_http.proofs.ListeningFacts.{serves_all, serves_fewer, serves_none}
+use Rattle.std.proofs.Common.{arith}
+use Rattle.ftd_http.specs.Listening.{asks, serves}
+use Rattle.ftd_http.proofs.ListeningFacts.{goes_more, takes_all, takes_more, takes_none}
 use Rattle.ftd_http.proofs.serving.serve_on.Goals as goal
 
-pub returns-in-Err : goal.returns-in-Err
-returns-in-Err g c = serves_none _ _ _ _ _ _ _ _ _ _ _ (g.Err.Target.failed c.args.err.now) _
-    c.in-Err.is c.announce.ensures c.tell_stop.ensures
+pub loop-number-init : goal.loop-number-init
+loop-number-init g c = takes_none (serves g.S.Store) (asks g.S.Store) c.args.desk.now
+    (g.Err.Target.taken c.args.err.now) (g.Err.Target.failed c.args.err.now) c.args.taken
 
-pub returns-then-taking : goal.returns-then-taking
-returns-then-taking g c =
-    let announced = rw c.in_default.is at c.announce.ensures in
-    serves_all _ _ _ _ _ _ _ _ _ _ _ announced (c.take_all-taking.ensures.all c.if-taking.true)
+pub returns-then-not-turn-clause-takes : goal.returns-then-not-turn-clause-takes
+returns-then-not-turn-clause-takes g c = (
+  c.tell_outcome-told.result,
+  takes_more (serves g.S.Store) (asks g.S.Store) _ _ _ _ _ _ _ _ _ _ _ _ c.take_turn-turn.result
+      c.loop-number.invariant
+      c.take_turn-turn.ensures c.tell_outcome-told.ensures,
+)
 
-pub returns : goal.returns
-returns g c =
-    let announced = rw c.in_default.is at c.announce.ensures in
-    let taking = c.take_all-taking.ensures.fewer c.if-taking.false in
-    serves_fewer _ _ _ _ _ _ _ _ _ _ _ _ _ _ taking.0 announced taking.1 taking.2
-    c.tell_stop-2.ensures
+pub loop-number-preserved : goal.loop-number-preserved
+loop-number-preserved g c =
+    goes_more (serves g.S.Store) (asks g.S.Store) _ _ _ _ _ _ _ _ _ _ _ _ c.take_turn-turn.result
+    c.loop-number.invariant
+    c.take_turn-turn.ensures c.tell_outcome-told.ensures c.if-not-turn.false
+
+pub returns-clause-takes : goal.returns-clause-takes
+returns-clause-takes g c =
+    let most = c.loop-number.auto.number-end in
+    let least = c.loop-number-test.false in
+    let asked = c.requires in
+    takes_all (serves g.S.Store) (asks g.S.Store) _ _ c.loop-number.told _ _ _ _ c.loop-number.number
+    c.args.limits.connections
+    c.loop-number.invariant (omega arith)

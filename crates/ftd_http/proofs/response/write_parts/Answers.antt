@@ -1,7 +1,7 @@
 use Rattle.std.proofs.Common.{refl}
 use Rattle.ftd_ports.proofs.WritingFacts.{begins, goes_on, prefix_more, last_broken, on_err}
 use Rattle.ftd_http.specs.Responses.{response_text}
-use Rattle.ftd_http.proofs.response.write_response.Goals as goal
+use Rattle.ftd_http.proofs.response.write_parts.Goals as goal
 
 pub returns-in_err-write_head-clause-err : goal.returns-in_err-write_head-clause-err
 unfolding response_text

@@ -1,0 +1,278 @@
+#!/usr/bin/env python3
+"""Tries `ftd serve` with clients that are idle, slow, or send on when the server closes, and kills it at random moments.
+
+    bench/serving.py [PROGRAM [OLD PROGRAM]]
+
+- A hundred clients ask one after the other every 3 seconds and keep their connections: how long each waits for its answer.
+- A client that sends a byte a second inside a message: when its connection ends.
+- 10,000 messages in lists of 400 on one connection: each answer that was written has to arrive.
+- 1,000 messages with a body that their heads refuse (413 and 501): each answer has to be read.
+- 200 kills under posts at random moments: what was acknowledged has to be kept, and the file has to open; the size of the log.
+- Questions and posts a second over connections of 100 messages, in turn with another program if one is given."""
+
+import json
+import os
+import random
+import socket
+import statistics
+import subprocess
+import sys
+import tempfile
+import threading
+import time
+
+HERE = os.path.dirname(os.path.abspath(__file__))
+PROGRAMS = [os.path.abspath(it) for it in sys.argv[1:]] or [os.path.join(HERE, "..", "crates", "ftd", "out", "ftd")]
+FTD = PROGRAMS[0]
+
+
+def message(method, target, body="", close=False):
+    ends = "Connection: close\r\n" if close else ""
+    return f"{method} {target} HTTP/1.1\r\nContent-Length: {len(body)}\r\n{ends}\r\n{body}".encode()
+
+
+def post(number):
+    day = f"2024-{number % 12 + 1:02}-{number % 28 + 1:02}"
+    body = {"run": number, "payday": day, "fit": "1.00", "ss": "0.62", "medicare": "0.14"}
+    return message("POST", "/accounts/ash/runs", json.dumps(body))
+
+
+STATUS = message("GET", "/accounts/ash/status/2024-05-08")
+SET_UP = [
+    message("POST", "/calendars", '{"year":2024,"days":[]}'),
+    message("POST", "/calendars", '{"year":2025,"days":[]}'),
+    message("POST", "/accounts", '{"account":"ash","start":"2024-01-01"}'),
+    message("POST", "/accounts/ash/years", '{"year":2024}', close=True),
+]
+
+
+class Server:
+    """A server over a file, at a free port."""
+
+    def __init__(self, program, db, connections, *words):
+        free = socket.socket()
+        free.bind(("127.0.0.1", 0))
+        port = str(free.getsockname()[1])
+        free.close()
+        words = [program, "serve", "--db", db, "--port", port, "--connections", str(connections), *words]
+        self.told = tempfile.TemporaryFile("w+")
+        self.process = subprocess.Popen(words, stdout=subprocess.PIPE, stderr=self.told, text=True)
+        self.address = ("127.0.0.1", int(self.process.stdout.readline().split(":")[1]))
+
+    def peer(self):
+        it = socket.create_connection(self.address, timeout=90)
+        it.setsockopt(socket.IPPROTO_TCP, socket.TCP_NODELAY, 1)
+        return it
+
+    def ask(self, sent):
+        """What comes back of the bytes, which go as one connection, and whether it ended in order."""
+        with self.peer() as peer:
+            given = threading.Thread(target=send, args=(peer, sent))
+            given.start()
+            said, whole = read_all(peer)
+            given.join()
+            return said, whole
+
+    def lines(self):
+        self.told.seek(0)
+        return self.told.read()
+
+
+def send(peer, sent):
+    try:
+        peer.sendall(sent)
+    except OSError:
+        pass
+
+
+def read_all(peer):
+    said = b""
+    try:
+        while piece := peer.recv(65536):
+            said += piece
+    except OSError:
+        return said, False
+    return said, True
+
+
+def read_one(peer):
+    """The bytes of one answer."""
+    said = b""
+    while b"\r\n\r\n" not in said:
+        piece = peer.recv(65536)
+        if not piece:
+            return said
+        said += piece
+    head, _, body = said.partition(b"\r\n\r\n")
+    length = next(int(line[16:]) for line in head.split(b"\r\n") if line.startswith(b"Content-Length: "))
+    while len(body) < length:
+        body += peer.recv(65536)
+    return head + b"\r\n\r\n" + body
+
+
+def answers(said):
+    """How many whole answers stand in the bytes, and what is left of them."""
+    count = 0
+    while said:
+        head, found, rest = said.partition(b"\r\n\r\n")
+        if not found:
+            break
+        length = next(int(line[16:]) for line in head.split(b"\r\n") if line.startswith(b"Content-Length: "))
+        if len(rest) < length:
+            break
+        count, said = count + 1, rest[length:]
+    return count, said
+
+
+def new_desk(folder, name):
+    db = os.path.join(folder, name)
+    server = Server(FTD, db, 1)
+    assert answers(server.ask(b"".join(SET_UP))[0])[0] == 4
+    server.process.wait()
+    return db
+
+
+def keepers(folder):
+    server = Server(FTD, new_desk(folder, "keepers.db"), 100)
+    waits, kept = [], []
+    begun = time.monotonic()
+    for number in range(100):
+        time.sleep(max(0, begun + 3 * number - time.monotonic()))
+        start = time.monotonic()
+        kept.append(server.peer())
+        kept[-1].sendall(STATUS)
+        assert read_one(kept[-1]).startswith(b"HTTP/1.1 200")
+        waits.append(time.monotonic() - start)
+    server.process.wait(30)
+    print(f"100 clients that keep their connections, one every 3 seconds: the longest wait {max(waits):.2f} s, "
+          f"in the middle {statistics.median(waits):.3f} s; told: {server.lines() or 'nothing'}", flush=True)
+
+
+def crowd(folder):
+    """Ten clients at once, each of which keeps its connection."""
+    server = Server(FTD, new_desk(folder, "crowd.db"), 10)
+    kept = [server.peer() for _ in range(10)]
+    start = time.monotonic()
+    for peer in kept:
+        peer.sendall(STATUS)
+    for peer in kept:
+        assert read_one(peer).startswith(b"HTTP/1.1 200")
+    print(f"10 clients at once that keep their connections: the last answer after {time.monotonic() - start:.2f} s", flush=True)
+    server.process.wait(30)
+
+
+def slow(folder):
+    for words in (["--silence", "2", "--duration", "6"], ["--silence", "1", "--duration", "60"]):
+        server = Server(FTD, new_desk(folder, f"slow{words[1]}.db"), 1, *words)
+        start = time.monotonic()
+        with server.peer() as peer:
+            pause = 1 if words[1] == "2" else 1.5
+            try:
+                for byte in STATUS:
+                    peer.sendall(bytes([byte]))
+                    time.sleep(pause)
+            except OSError:
+                pass
+        server.process.wait(90)
+        print(f"a byte every {pause} s under {' '.join(words)}: ended after {time.monotonic() - start:.1f} s; "
+              f"told: {server.lines().strip()}", flush=True)
+
+
+def pipelines(folder):
+    server = Server(FTD, new_desk(folder, "pipelines.db"), 25)
+    whole = missing = cut = 0
+    for _ in range(25):
+        said, in_order = server.ask(STATUS * 400)
+        count, rest = answers(said)
+        whole += count
+        missing += count != 100
+        cut += rest != b"" or not in_order
+    server.process.wait(30)
+    print(f"10,000 messages in lists of 400: {whole} answers in 25 connections, {missing} connections with another number than 100, "
+          f"{cut} cut or reset", flush=True)
+
+
+def refused(folder):
+    server = Server(FTD, new_desk(folder, "refused.db"), 1000)
+    lost = 0
+    for number in range(1000):
+        if number % 2:
+            sent, status = b"POST /accounts HTTP/1.1\r\nContent-Length: 2000000\r\n\r\n" + b"x" * 60_000, b"HTTP/1.1 413"
+        else:
+            sent, status = b"POST /accounts HTTP/1.1\r\nTransfer-Encoding: chunked\r\n\r\n" + b"x" * 60_000, b"HTTP/1.1 501"
+        said, in_order = server.ask(sent)
+        lost += not (said.startswith(status) and in_order)
+    server.process.wait(30)
+    print(f"1,000 messages with bodies that are refused by their heads: {lost} answers lost", flush=True)
+
+
+def kills(folder):
+    """Kills a server under posts, and sees what the file holds after it."""
+    db = new_desk(folder, "kills.db")
+    random.seed(1)
+    number, acknowledged, lost, logs = 0, 0, 0, []
+    for _ in range(200):
+        server = Server(FTD, db, 1_000_000)
+        end = time.monotonic() + random.uniform(0.02, 0.6)
+        killer = threading.Timer(end - time.monotonic(), server.process.kill)
+        killer.start()
+        done = []
+        try:
+            while True:
+                with server.peer() as peer:
+                    for _ in range(100):
+                        number += 1
+                        peer.sendall(post(number))
+                        if b" 200 OK" not in read_one(peer):
+                            raise OSError
+                        done.append(number)
+        except OSError:
+            pass
+        killer.join()
+        server.process.wait()
+        logs.append(os.path.getsize(f"{db}-wal"))
+        acknowledged += len(done)
+        for run in done[-1:]:
+            # a run that is kept is answered `already`
+            again = Server(FTD, db, 1)
+            said, _ = again.ask(post(run).replace(b"\r\n\r\n", b"\r\nConnection: close\r\n\r\n", 1))
+            again.process.wait()
+            lost += b'"already"' not in said
+    print(f"200 kills: {acknowledged} posts acknowledged, {lost} last ones lost; the log at a kill: "
+          f"{statistics.median(logs):.0f} bytes in the middle, {max(logs)} at most", flush=True)
+    # all that is kept, once more
+    shown = subprocess.run([FTD, "status", "--db", db, "ash", "2024-05-08"], stdout=subprocess.PIPE, text=True).stdout
+    print(f"    the file opens: {shown.strip()}")
+
+
+def speed(folder):
+    for kind in ("questions", "posts"):
+        said = []
+        for turn in range(3):
+            for place, program in enumerate(PROGRAMS):
+                db = os.path.join(folder, f"{kind}{turn}{place}.db")
+                first = Server(program, db, 1)
+                first.ask(b"".join(SET_UP))
+                first.process.wait()
+                server = Server(program, db, 20)
+                start = time.monotonic()
+                for connection in range(20):
+                    with server.peer() as peer:
+                        for at in range(100):
+                            peer.sendall(STATUS if kind == "questions" else post(connection * 100 + at + 1))
+                            read_one(peer)
+                said.append((place, 2000 / (time.monotonic() - start)))
+                server.process.wait()
+        for place, program in enumerate(PROGRAMS):
+            rates = sorted(rate for at, rate in said if at == place)
+            print(f"{kind} a second over kept connections, {program}: {', '.join(f'{it:.0f}' for it in rates)}", flush=True)
+
+
+def main():
+    with tempfile.TemporaryDirectory() as folder:
+        for trial in (crowd, slow, pipelines, refused, speed, kills, keepers):
+            trial(folder)
+
+
+if __name__ == "__main__":
+    main()

@@ -1,0 +1,109 @@
+//! The server: connections over the desk of a database file.
+
+use crate::faults::ProgramFault;
+use crate::files::{closed, desk_of, is_new, opened, tell_made};
+use ftd_desk::Desk;
+use ftd_http::{Limits, announce, serve_on};
+use ftd_ports::Port;
+use ftd_words::ServeTask;
+use sqlite::{Connection, Error, ErrorCode, File, FileStore, Options};
+use std::hash::{BuildHasher, RandomState};
+use std::io;
+use std::net::TcpListener;
+
+/// After how many frames, of 4,120 bytes each, the log of a server is copied into its file.
+const LOG_FRAMES: usize = 254;
+
+/// For how many seconds at least a server tries to open its file again.
+const REOPENING: u32 = 10;
+
+/// Serves so many connections of this machine, one after the other. Where its store fails, the file
+/// is closed, and opened again for the next connection.
+pub fn serve(rt: &HostRuntime, task: &ServeTask) -> Result<u8, ProgramFault> {
+    let Ok(listener) = TcpListener::bind(rt, ("127.0.0.1", task.port)) else {
+        return Err(ProgramFault::Net);
+    };
+    let is_new = is_new(rt, &task.db)?;
+    let mut desk = opened_desk(rt, task, task.wait)?;
+    if is_new {
+        tell_made(rt, &task.db);
+    }
+    if !is_announced(rt, &listener) {
+        closed(desk);
+        return Ok(3);
+    }
+    let mut taken = 0;
+    // Each turn takes one connection at least.
+    for _ in 0..task.connections {
+        taken = serve_until(rt, task, &listener, taken, &mut desk);
+        closed(desk);
+        if taken >= task.connections {
+            break;
+        }
+        desk = opened_desk(rt, task, task.wait.max(REOPENING))?;
+    }
+    Ok(0)
+}
+
+/// Whether it was told at which port the server listens.
+fn is_announced(rt: &HostRuntime, listener: &TcpListener) -> bool {
+    let (mut out, mut err) = (Port::new(io::writer(rt)), Port::new(rt.stderr()));
+    announce(listener, &mut out, &mut err).is_ok()
+}
+
+/// Serves connections after so many others, until all are served or the desk does not answer any
+/// more, and answers how many were taken in all.
+fn serve_until(
+    rt: &HostRuntime,
+    task: &ServeTask,
+    listener: &TcpListener,
+    taken: u32,
+    desk: &mut Desk<FileStore<File>>,
+) -> u32 {
+    let limits = Limits {
+        connections: task.connections,
+        idle: task.idle,
+        silence: task.silence,
+        duration: task.duration,
+    };
+    let taken = taken.min(limits.connections);
+    serve_on(
+        rt,
+        listener,
+        limits,
+        taken,
+        desk,
+        &mut Port::new(rt.stderr()),
+    )
+}
+
+/// The desk of the database file, whose log is copied into it before it is long.
+fn opened_desk(
+    rt: &HostRuntime,
+    task: &ServeTask,
+    wait: u32,
+) -> Result<Desk<FileStore<File>>, ProgramFault> {
+    let conn = opened(rt, &task.db, wait)?;
+    desk_of(rt, with_short_log(rt, conn)?)
+}
+
+/// A database whose log is copied into its file after fewer frames.
+fn with_short_log(
+    rt: &HostRuntime,
+    conn: Connection<FileStore<File>>,
+) -> Result<Connection<FileStore<File>>, Error> {
+    let Ok(random) = RandomState::new(rt) else {
+        return Err(Error::SqliteFailure(ErrorCode::CannotOpen));
+    };
+    let options = Options {
+        checkpoint_frames: LOG_FRAMES,
+        ..Options::new(random.hash_one(&0u8))
+    };
+    match conn.close_files() {
+        Ok(files) => match Connection::open_files_with(rt.alloc(), files, options, true) {
+            Ok(conn) => Ok(conn),
+            Err((error, _)) => Err(error),
+        },
+        Err((error, _)) => Err(error),
+    }
+}

@@ -1,0 +1,23 @@
+//! What becomes of connections.
+
+use crate::connection::Cause;
+
+/// What became of a connection.
+#[derive(Clone, Copy, Debug, PartialEq, Eq)]
+pub enum Outcome {
+    /// The listener gave none.
+    Missed,
+    /// It was served.
+    Served,
+    /// Serving it failed.
+    Failed(Cause),
+}
+
+/// One connection, and the desk after it.
+#[derive(Clone, Copy, Debug, PartialEq, Eq)]
+pub struct Turn {
+    /// What became of the connection.
+    pub outcome: Outcome,
+    /// Whether the desk still answers: it was asked a question, and its store did not fail.
+    pub answers: bool,
+}
