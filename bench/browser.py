@@ -9,6 +9,7 @@
 
 The first two have to be answered 403 each time, and the tables have to stay as they were."""
 
+import contextlib
 import http.server
 import json
 import os
@@ -142,7 +143,7 @@ def wait_for(what, told):
 def tables(db):
     """All rows of the tables, once the log is copied."""
     subprocess.run([FTD, "status", "--db", db, "ash", "2024-05-08"], stdout=subprocess.DEVNULL, check=True)
-    with sqlite3.connect(db) as it:
+    with contextlib.closing(sqlite3.connect(db)) as it:
         return list(it.iterdump())
 
 
@@ -203,6 +204,7 @@ def of_another_port(folder, db):
     wait_for(lambda: reports.reports, "the page of another port")
     browser.kill()
     server.kill()
+    server.wait()
     asked = [it for it in relay.lines if it[0].startswith("post ")]
     passed = [it for it in asked if "403" not in it[1]]
     print(f"a page of another port: {len(asked)} posts, {len(passed)} not answered 403 {passed or ''}")
@@ -223,6 +225,7 @@ def swapped(folder, db, name, wanted):
     browser.kill()
     relay.end()
     server.kill()
+    server.wait()
     print(f"a page of {name}, where the desk then stands: {reports.reports}")
     return [it[1] for it in reports.reports] == wanted
 

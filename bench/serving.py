@@ -10,10 +10,12 @@
 - 200 kills under posts at random moments: what was acknowledged has to be kept, and the file has to open; the size of the log.
 - Questions and posts a second over connections of 100 messages, in turn with another program if one is given."""
 
+import contextlib
 import json
 import os
 import random
 import socket
+import sqlite3
 import statistics
 import subprocess
 import sys
@@ -206,43 +208,45 @@ def refused(folder):
     print(f"1,000 messages with bodies that are refused by their heads: {lost} answers lost", flush=True)
 
 
+def kept_runs(db):
+    """The runs that the file and its log hold, by account, once a command has opened it."""
+    subprocess.run([FTD, "status", "--db", db, "ash", "2024-05-08"], stdout=subprocess.DEVNULL, check=True)
+    with contextlib.closing(sqlite3.connect(db)) as it:
+        return set(it.execute("SELECT account, run FROM run"))
+
+
 def kills(folder):
-    """Kills a server under posts, and sees what the file holds after it."""
+    """Kills a server under posts, each time to a new account, and sees what the file holds after it."""
     db = new_desk(folder, "kills.db")
     random.seed(1)
-    number, acknowledged, lost, logs = 0, 0, 0, []
-    for _ in range(200):
+    acknowledged, lost, logs = set(), 0, []
+    for turn in range(200):
         server = Server(FTD, db, 1_000_000)
-        end = time.monotonic() + random.uniform(0.02, 0.6)
-        killer = threading.Timer(end - time.monotonic(), server.process.kill)
+        name = f"k{turn}"
+        begin = [message("POST", "/accounts", json.dumps({"account": name, "start": "2024-01-01"})),
+                 message("POST", f"/accounts/{name}/years", '{"year":2024}', close=True)]
+        assert answers(server.ask(b"".join(begin))[0])[0] == 2
+        killer = threading.Timer(random.uniform(0.02, 0.5), server.process.kill)
         killer.start()
-        done = []
+        number = 0
         try:
             while True:
                 with server.peer() as peer:
                     for _ in range(100):
                         number += 1
-                        peer.sendall(post(number))
+                        peer.sendall(post(number).replace(b"/ash/", f"/{name}/".encode()))
                         if b" 200 OK" not in read_one(peer):
                             raise OSError
-                        done.append(number)
+                        acknowledged.add((name, number))
         except OSError:
             pass
         killer.join()
         server.process.wait()
         logs.append(os.path.getsize(f"{db}-wal"))
-        acknowledged += len(done)
-        for run in done[-1:]:
-            # a run that is kept is answered `already`
-            again = Server(FTD, db, 1)
-            said, _ = again.ask(post(run).replace(b"\r\n\r\n", b"\r\nConnection: close\r\n\r\n", 1))
-            again.process.wait()
-            lost += b'"already"' not in said
-    print(f"200 kills: {acknowledged} posts acknowledged, {lost} last ones lost; the log at a kill: "
+        if turn % 20 == 19:
+            lost += len(acknowledged - kept_runs(db))
+    print(f"200 kills: {len(acknowledged)} posts acknowledged, {lost} lost; the log at a kill: "
           f"{statistics.median(logs):.0f} bytes in the middle, {max(logs)} at most", flush=True)
-    # all that is kept, once more
-    shown = subprocess.run([FTD, "status", "--db", db, "ash", "2024-05-08"], stdout=subprocess.PIPE, text=True).stdout
-    print(f"    the file opens: {shown.strip()}")
 
 
 def speed(folder):
