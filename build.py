@@ -3,13 +3,14 @@
 
     ./build.py
 
-It needs Rattle's kit. Each crate is proved by an `rt ci` of its own, over a copy of it and of those below, without the edits that
-the prover must refuse; it takes two of the processors, and those with the most to prove behind them go first. What is proved is kept on
-this machine, so that a crate is proved once, and the test command (test.sh) does not prove it again.
+It needs Rattle's kit. Each library is proved in a room of its own, a copy of it and of those below with what was built of them,
+without the edits that the prover must refuse and without tests; those with the most to prove behind them go first, two at a time.
+What was proved and built stands in each crate's out/ at the end, so that the next build, and `rt check` in any of them, begin there.
 """
 
 import concurrent.futures
 import os
+import resource
 import shutil
 import subprocess
 import sys
@@ -18,7 +19,8 @@ import time
 
 TOP = os.path.dirname(os.path.abspath(__file__))
 PROGRAM = "ftd"
-PARTS = ("src", "specs", "proofs", "args", "stdin", "stdout", "status", "data")
+PARTS = ("src", "specs", "proofs")
+PROCESSORS = len(os.sched_getaffinity(0))
 
 
 def crates_below():
@@ -40,16 +42,16 @@ def with_all_below(name, below):
 def lines_of(name):
     """How many lines a crate has to prove."""
     count = 0
-    for folder, _, files in os.walk(f"{TOP}/crates/{name}"):
-        for file in files:
-            if file.endswith((".rt", ".antt")):
+    for part in PARTS:
+        for folder, _, files in os.walk(f"{TOP}/crates/{name}/{part}"):
+            for file in files:
                 with open(f"{folder}/{file}", encoding="utf-8") as lines:
                     count += sum(1 for _ in lines)
     return count
 
 
-def prove(name, below, room):
-    """Proves the crate in a room of its own. The room and whether it is proved."""
+def fill(name, below, room):
+    """Copies the crate and those below it to a room, with what was built of the latter, and takes there what was kept of its own proofs."""
     with open(f"{TOP}/crates.txt", encoding="utf-8") as lines:
         texts = {line.split(":")[0]: line for line in lines}
     os.makedirs(room)
@@ -57,48 +59,63 @@ def prove(name, below, room):
     with open(f"{room}/crates.txt", "w", encoding="utf-8") as list_of_crates:
         for it in with_all_below(name, below):
             list_of_crates.write(texts[it])
-            for part in PARTS:
-                path = f"{TOP}/crates/{it}/{part}"
-                if os.path.isdir(path):
-                    shutil.copytree(path, f"{room}/crates/{it}/{part}")
-                elif os.path.exists(path):
-                    shutil.copy(path, f"{room}/crates/{it}/{part}")
+            for part in PARTS if it == name else (*PARTS, "out/rlib"):
+                if os.path.isdir(f"{TOP}/crates/{it}/{part}"):
+                    shutil.copytree(f"{TOP}/crates/{it}/{part}", f"{room}/crates/{it}/{part}")
+    if os.path.isdir(f"{TOP}/crates/{name}/out"):
+        shutil.move(f"{TOP}/crates/{name}/out", f"{room}/crates/{name}/out")
+
+
+def give_back(name, room):
+    """Takes what was proved and built of the crate out of the room."""
+    if os.path.isdir(f"{room}/crates/{name}/out"):
+        if os.path.isdir(f"{TOP}/crates/{name}/out"):
+            shutil.rmtree(f"{TOP}/crates/{name}/out")
+        shutil.move(f"{room}/crates/{name}/out", f"{TOP}/crates/{name}/out")
+
+
+def prove(name, below, room, jobs):
+    """Proves the crate in a room of its own, with so many jobs. Whether it is proved."""
     began = time.monotonic()
-    # with no name it builds the programs too, of which the room has one at most
-    words = ["rt", "ci"] if name == PROGRAM else ["rt", "ci", name]
-    with open(f"{room}/log", "w", encoding="utf-8") as log:
-        status = subprocess.run(words, cwd=room, stdout=log, stderr=subprocess.STDOUT).returncode
-    print(f"{name}: {'proved' if status == 0 else 'NOT PROVED'}, {time.monotonic() - began:.0f} seconds", flush=True)
+    words = ["run", "--jobs", str(jobs), "--", "--version"] if name == PROGRAM else ["lib", "--jobs", str(jobs)]
+    try:
+        fill(name, below, room)
+        with open(f"{room}/log", "w", encoding="utf-8") as log:
+            status = subprocess.run(["rt", *words], cwd=f"{room}/crates/{name}", stdout=log, stderr=subprocess.STDOUT).returncode
+    finally:
+        give_back(name, room)
+    shutil.rmtree(f"{room}/crates")
+    told = "proved" if status == 0 else "NOT PROVED"
+    print(f"{name}: {told} with {jobs} jobs, {time.monotonic() - began:.0f} seconds", flush=True)
     return status == 0
 
 
 def main():
+    began = time.monotonic()
     below = crates_below()
     wanted = with_all_below(PROGRAM, below)
     behind = {}
     for name in reversed(wanted):
-        above = [behind[it] for it in wanted if name in below[it]]
-        behind[name] = lines_of(name) + max(above, default=0)
-    lanes = max(1, (os.cpu_count() or 1) // 2)
+        behind[name] = lines_of(name) + max((behind[it] for it in wanted if name in below[it]), default=0)
     left, running, proved = sorted(wanted, key=lambda it: -behind[it]), {}, set()
-    with tempfile.TemporaryDirectory() as rooms, concurrent.futures.ThreadPoolExecutor(lanes) as pool:
+    with tempfile.TemporaryDirectory() as rooms, concurrent.futures.ThreadPoolExecutor(2) as pool:
         while left or running:
             ready = [it for it in left if all(other in proved for other in below[it])]
-            for name in ready[: lanes - len(running)]:
+            for name in ready[: 2 - len(running)]:
+                # one that nothing else can be proved beside gets all processors
+                jobs = PROCESSORS if len(ready) + len(running) == 1 else max(1, PROCESSORS // 2)
                 left.remove(name)
-                running[pool.submit(prove, name, below, f"{rooms}/{name}")] = name
-            done = concurrent.futures.wait(running, return_when=concurrent.futures.FIRST_COMPLETED).done
-            for it in done:
+                running[pool.submit(prove, name, below, f"{rooms}/{name}", jobs)] = name
+            for it in concurrent.futures.wait(running, return_when=concurrent.futures.FIRST_COMPLETED).done:
                 name = running.pop(it)
                 if not it.result():
                     with open(f"{rooms}/{name}/log", encoding="utf-8", errors="replace") as log:
                         sys.exit(log.read())
                 proved.add(name)
-                if name == PROGRAM:
-                    os.makedirs(f"{TOP}/crates/{name}/out", exist_ok=True)
-                    shutil.copy(f"{rooms}/{name}/crates/{name}/out/{name}", f"{TOP}/crates/{name}/out/{name}")
-                shutil.rmtree(f"{rooms}/{name}")
+    used = resource.getrusage(resource.RUSAGE_CHILDREN)
+    minutes, processor = (time.monotonic() - began) / 60, (used.ru_utime + used.ru_stime) / 60
     print(f"crates/{PROGRAM}/out/{PROGRAM} is proved and built")
+    print(f"took {minutes:.0f} minutes, {processor:.0f} minutes of processor time, {used.ru_maxrss / 1e6:.1f} GB in the largest check")
 
 
 if __name__ == "__main__":

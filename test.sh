@@ -1,6 +1,6 @@
 #!/bin/bash
 # The test command: proves everything and runs the tests (`rt ci`), then runs every text and page of examples with the program that
-# it built. The last line is `N passed, M failed` of both together. It needs Rattle's kit, Python 3 and curl.
+# it built. The last line is `N passed, M failed` of both together, the one before it how long that took. It needs Rattle's kit, Python 3 and curl.
 set -u
 cd "$(dirname "$0")" || exit 1
 said=$(mktemp) || exit 1
@@ -29,5 +29,9 @@ else
     echo "examples: no program was built"
     failed=$((failed + 1))
 fi
+# the second line of `times` is the processor time of all that ran here, in the program and in the system
+times > "$said"
+read -r program system < <(tail -n 1 "$said")
+echo "took $((SECONDS / 60)) minutes; processor time: user $program, system $system"
 echo "$passed passed, $failed failed"
 [ "$failed" = 0 ]

@@ -62,11 +62,11 @@ def repeated(text):
 
 
 def measured(command, path):
-    """Processor time, peak memory in MB, and what was written."""
+    """Processor time, peak memory in MB, and what was written, without hints, which `ftd` alone has."""
     with open(path, "rb") as file:
         child = subprocess.Popen(command, stdin=file, stdout=subprocess.PIPE, stderr=subprocess.PIPE)
         out = child.stdout.read()
-        err = child.stderr.read()
+        err = b"".join(it for it in child.stderr if not it.startswith(b"hint: "))
         _, status, usage = os.wait4(child.pid, 0)
     return usage.ru_utime + usage.ru_stime, usage.ru_maxrss / 1024, (os.waitstatus_to_exitcode(status), out, err)
 

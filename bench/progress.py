@@ -110,7 +110,8 @@ def main():
             out.write("employer,run\n")
         printed, pieces = on_terminal([FTD, "import", "--db", db, text])
         assert printed == b"posted 0 already 0 refused 0 malformed 0\n", printed
-        assert b"".join(piece for _, piece in pieces) == b"refused header\r\n", pieces
+        told = b"refused header\r\nhint: the header is employer,run,payday,fit,ss,medicare, and not employer,run\r\n"
+        assert b"".join(piece for _, piece in pieces) == told, pieces
         print("10 runs and a bad header: no progress on the terminal")
 
 

@@ -42,14 +42,14 @@ def example(name):
 
 
 def run(folder, words, library=None, number=0):
-    """What the program says and its status, and how many allocations it asked for."""
+    """What the program says and its status, and how many allocations it asked for. Hints may be left out where there is no memory."""
     env = dict(os.environ)
     if library:
         env.update(LD_PRELOAD=library, REFUSE=str(number), REFUSE_COUNT="1")
     done = subprocess.run([program_of(sys.argv[1:2]), *words], capture_output=True, cwd=folder, env=env, stdin=subprocess.DEVNULL)
     told = done.stderr.decode().split("\n")[:-1]
     calls = int(told.pop().split()[0]) if library else 0
-    return (done.returncode, done.stdout.decode(), told), calls
+    return (done.returncode, done.stdout.decode(), [it for it in told if not it.startswith("hint: ")]), calls
 
 
 def rows_of(folder):

@@ -12,15 +12,26 @@ cd "$folder" || exit 1
 failed=0
 count=0
 
-# what a command prints on both outputs, and its exit status, is to be so
+# what a command prints on both outputs, but its hint, and its exit status, is to be so
 says() {
     wanted=$1
     shift
     count=$((count + 1))
     said=$("$@" 2>&1)
-    said="$said $?"
+    status=$?
+    hint=$(grep '^hint: ' <<< "$said")
+    said="$(grep -v '^hint: ' <<< "$said") $status"
     if [ "$said" != "$wanted" ]; then
         echo "differs: $*: $said"
+        failed=1
+    fi
+}
+
+# the hint of the command before is to be so
+hints() {
+    count=$((count + 1))
+    if [ "$hint" != "hint: $1" ]; then
+        echo "differs: $hint"
         failed=1
     fi
 }
@@ -44,9 +55,16 @@ for words in 'calendar 2024' 'calendar 2025' 'enrol ash 2024-01-01' 'open-year a
 done
 mkdir folder
 says 'failed File 3' "$ftd" "${ask[@]}" folder
+hints 'folder: it is a folder'
 says 'failed File 3' "$ftd" "${ask[@]}" not/there.db
+hints 'not/there.db: its folder is not there'
+says 'failed File 3' "$ftd" import missing.csv --db office.db
+hints 'missing.csv: it is not there'
+says 'failed File 3' "$ftd" import folder --db office.db
+hints 'folder: it is a folder'
 seq 3000 > text.db
 says 'failed NotOurs 3' "$ftd" "${ask[@]}" text.db
+hints 'text.db: it is no file that ftd made'
 sqlite3 foreign.db 'CREATE TABLE run (number INTEGER)'
 says 'failed NotOurs 3' "$ftd" "${ask[@]}" foreign.db
 # a file that sqlite3 made of the desk's, which has no sums, is opened too
@@ -54,6 +72,7 @@ sqlite3 office.db .dump | sqlite3 newer.db
 says '2024-01-05 monthly lookback 0' "$ftd" "${ask[@]}" newer.db
 sqlite3 newer.db "UPDATE ftd_meta SET version = 3"
 says 'failed Newer 3 3' "$ftd" "${ask[@]}" newer.db
+hints 'newer.db: a later version of ftd made it'
 corrupt=$'failed File\nCorrupt: the file is damaged or cut short 3'
 cp office.db cut.db
 truncate -s 8192 cut.db
@@ -70,11 +89,13 @@ says 'ash 0' sqlite3 written.db 'SELECT name FROM account'
 says '2024-01-05 monthly lookback 0' "$ftd" "${ask[@]}" written.db
 sqlite3 written.db 'UPDATE account SET start = start + 1'
 says "$corrupt" "$ftd" "${ask[@]}" written.db
+hints 'written.db: move it and its -wal aside, then put a copy back'
 cp office.db locked.db
 chmod 000 locked.db
 as_somebody=()
 [ "$(id -u)" != 0 ] || as_somebody=(setpriv --reuid 65534 --regid 65534 --clear-groups)
 says 'failed File 3' "${as_somebody[@]}" ./ftd "${ask[@]}" locked.db
+hints 'locked.db: this user may not use it'
 cp office.db full.db
 says 'failed 22 Store 3' in_so_many_blocks "$(($(stat -c %s full.db) / 1024))" "$ftd" calendar 2026 --db full.db
 says 'done 0' "$ftd" calendar 2026 --db full.db
@@ -85,7 +106,9 @@ says 'failed Output 3' bash -c "'$ftd' status ash 2024-01-05 --db office.db > /d
 server=$!
 until grep -qs '^listening ' out; do sleep 0.1; done
 says $'failed File\nBusy: another program has the file open 3' "$ftd" "${ask[@]}" office.db
+hints 'office.db: --wait SECONDS waits until it is closed'
 says 'failed Net 3' "$ftd" serve --db other.db --port "$port" --connections 1
+hints 'another program may have the port; --port 0 takes a free one'
 says '{"day":"2024-01-05","kind":"monthly","reason":"lookback"} 0' \
     curl -s "http://127.0.0.1:$port/accounts/ash/status/2024-01-05"
 wait "$server"

@@ -12,9 +12,12 @@ pub enum ProgramFault {
     /// A word of the command line is no UTF-8.
     #[error("error: a word of the command line is no UTF-8")]
     NotText,
-    /// A file can't be opened, made or read.
+    /// The database file can't be opened, made or read.
     #[error("failed File")]
     File,
+    /// The input can't be read, and why.
+    #[error("failed File")]
+    Input(ErrorKind),
     /// Another program has the database file open.
     #[error("failed File\nBusy: another program has the file open")]
     Busy,
@@ -75,7 +78,7 @@ impl From<io::Error> for ProgramFault {
     fn from(error: io::Error) -> ProgramFault {
         match error.kind() {
             ErrorKind::OutOfMemory => ProgramFault::Memory,
-            _ => ProgramFault::File,
+            kind => ProgramFault::Input(kind),
         }
     }
 }

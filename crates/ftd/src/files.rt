@@ -56,8 +56,8 @@ pub fn desk_of<D: Disk + Drop>(
     rt: &HostRuntime,
     conn: Connection<FileStore<D>>,
 ) -> Result<Desk<FileStore<D>>, ProgramFault> {
-    match Store::open(conn) {
-        Ok(store) => Ok(Desk::new(rt.alloc(), store)),
+    match ftd_setup::open(conn) {
+        Ok(conn) => Ok(Desk::new(rt.alloc(), Store::over(conn))),
         Err(refused) => {
             let _ = refused.connection.close();
             Err(refused.fault.into())

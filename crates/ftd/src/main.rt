@@ -3,12 +3,14 @@
 
 mod faults;
 mod files;
+mod hints;
 mod input;
 mod progress;
 mod server;
 
 use crate::faults::ProgramFault;
 use crate::files::{closed, desk_of, is_new, opened, tell_made};
+use crate::hints::tell_fault;
 use crate::input::{import_input, standard_input, words};
 use crate::progress::ProgressLine;
 use crate::server::serve;
@@ -25,11 +27,21 @@ use std::process::ExitCode;
 fn main(rt: HostRuntime) -> ExitCode {
     match run(&rt) {
         Ok(status) => ExitCode::from(status),
-        Err(fault) => {
-            // Where standard error fails as well, the status still tells.
-            let _ = eprint!(rt; "{fault}\n");
-            ExitCode::from(fault.status())
-        }
+        Err(fault) => ExitCode::from(told(&rt, fault, "", "")),
+    }
+}
+
+/// Tells a fault with its hint, and gives the exit status.
+fn told(rt: &HostRuntime, fault: ProgramFault, db: &str, input: &str) -> u8 {
+    tell_fault(rt, fault, db, input);
+    fault.status()
+}
+
+/// The file that a task reads. The empty text where it reads none.
+fn input_of(task: &LocalTask) -> &str {
+    match &task.job {
+        Job::Import(file) => file,
+        Job::Ask(_) => "",
     }
 }
 
@@ -38,8 +50,14 @@ fn run(rt: &HostRuntime) -> Result<u8, ProgramFault> {
     let words = words(rt)?;
     match decide(rt.alloc(), &words) {
         Ok(Task::Plain(task)) => plain(rt, &task),
-        Ok(Task::Local(task)) => local(rt, &task),
-        Ok(Task::Serve(task)) => serve(rt, &task),
+        Ok(Task::Local(task)) => Ok(match local(rt, &task) {
+            Ok(status) => status,
+            Err(fault) => told(rt, fault, &task.db, input_of(&task)),
+        }),
+        Ok(Task::Serve(task)) => Ok(match serve(rt, &task) {
+            Ok(status) => status,
+            Err(fault) => told(rt, fault, &task.db, ""),
+        }),
         Err(fault) => {
             let mut out = Port::new(io::writer(rt));
             let mut err = Port::new(rt.stderr());
@@ -50,7 +68,10 @@ fn run(rt: &HostRuntime) -> Result<u8, ProgramFault> {
 
 /// Prints the deposits of an account in a year, from the pay runs of standard input.
 fn plain(rt: &HostRuntime, task: &PlainTask) -> Result<u8, ProgramFault> {
-    let input = standard_input(rt)?;
+    let input = match standard_input(rt) {
+        Ok(input) => input,
+        Err(fault) => return Ok(told(rt, fault, "", "standard input")),
+    };
     let (out, err) = (Port::new(io::writer(rt)), Port::new(rt.stderr()));
     Ok(print_plain(rt.alloc(), task, &input, out, err).status)
 }

@@ -2,7 +2,7 @@
 use Rattle.std.specs.Prelude.{◌≡◌, ◌<◌, ◌≤◌, ◌+◌, ◌^◌, ◌∷◌, ℕ, List, length, map}
 use Rattle.csv.specs.Records.{fields_of}
 use Rattle.ftd_csv.specs.Answers.{most_bytes}
-use Rattle.ftd_csv.specs.Records.{HasHeader, Said, numbered_from, records_of, said_of}
+use Rattle.ftd_csv.specs.Records.{HasHeader, Said, numbered_from, record_rows, records_of, said_of}
 use Rattle.ftd_csv.specs.Rows.{IsReading, rows_left}
 use Rattle.ftd_csv.specs.declared.reading.Records.{Records}
 
@@ -12,6 +12,13 @@ number_of records = records.number
 
 abbrev pub place_of : Records → ℕ × Said
 place_of records = (number_of records, said_of (fields_of records.row))
+
+-- the fields of that record, and the rows after it
+abbrev pub fields_at : Records → List (List ℕ)
+fields_at records = fields_of records.row
+
+abbrev pub rows_after : Records → List (List (List ℕ))
+rows_after records = rows_left records.reader
 
 -- what the records after that one say
 abbrev pub said_left : Records → List Said
@@ -31,6 +38,7 @@ pub record Advances (old new : Records) : Type 0 where
   pub can : CanAdvance new
   pub number : number_of new ≡ number_of old + 1
   pub left : said_left old ≡ (place_of new).1 ∷ said_left new
+  pub rows : rows_after old ≡ fields_at new ∷ rows_after new
 
 -- these are the records of the text, which is not too long and has the header. Records are numbered
 -- from 1, and the header is record 1.
@@ -39,4 +47,5 @@ pub record Opens (text : List ℕ) (records : Records) : Type 0 where
   pub header : HasHeader text
   pub number : number_of records ≡ 1
   pub left : said_left records ≡ records_of text
+  pub rows : rows_after records ≡ record_rows text
   pub can : CanAdvance records

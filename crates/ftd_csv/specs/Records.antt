@@ -1,5 +1,5 @@
 -- The records of a CSV text of pay runs.
-use Rattle.std.specs.Prelude.{◌≡◌, ℕ, ◌+◌, List, [], ◌∷◌, map, Option, Some, None, codes}
+use Rattle.std.specs.Prelude.{◌≡◌, ℕ, ◌+◌, List, [], ◌∷◌, drop, map, Option, Some, None, codes}
 use Rattle.std.specs.Prelude.{if◌then◌else◌}
 use Rattle.std.specs.List.{slice_get}
 use Rattle.csv.specs.Reading.{default_config, records, strip_bom}
@@ -65,6 +65,10 @@ header_row =
 -- the first row of the text is the header
 abbrev pub HasHeader : List ℕ → Type 0
 HasHeader text = slice_get (rows_of text) 0 ≡ Some header_row
+
+-- the rows of the records, which are those under the first
+abbrev pub record_rows : List ℕ → List (List (List ℕ))
+record_rows text = drop 1 (rows_of text)
 
 -- what the rows under the first say
 abbrev pub under_first : List (List (List ℕ)) → List Said

@@ -1,8 +1,9 @@
 //! The records of a text of pay runs, one at a time.
 
-ghost use Rattle.std.specs.Prelude.{◌≡◌, [], IfOk, MatchBool, MatchResult, length};
+ghost use Rattle.std.specs.Prelude.{◌≡◌, [], IfOk, MatchBool, MatchResult, length, option_map};
 ghost use Rattle.ftd_csv.specs.Answers.{RecordsFail, record_view};
-ghost use Rattle.ftd_csv.specs.Places.{CanAdvance, Advances, Opens, place_of, said_left};
+ghost use Rattle.ftd_csv.specs.Fields.{numbered_field};
+ghost use Rattle.ftd_csv.specs.Places.{CanAdvance, Advances, Opens, fields_at, place_of, said_left};
 
 use crate::record::{Record, RecordFault, is_header, read_row};
 use crate::rows::{next_row, open_rows};
@@ -70,6 +71,23 @@ impl<'a> Records<'a> {
             number: self.number,
             content: read_row(&self.row),
         }
+    }
+
+    /// How many fields the record at which it stands has.
+    pub fn width(&self) -> usize
+        ensures { result ≡ length (fields_at self.now) }
+    {
+        self.row.len()
+    }
+
+    /// The text of a field of the record at which it stands, by the field's number, which counts
+    /// from 1. None where the record has no such field.
+    pub fn field(&self, number: u8) -> Option<&[u8]>
+        ensures { option_map (λ text. text.now) result
+            ≡ numbered_field (fields_at self.now) number }
+    {
+        let place = number.checked_sub(1)?;
+        self.row.get(usize::from(place))
     }
 
     /// How many records come after the one at which it stands.

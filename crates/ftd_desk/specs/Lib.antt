@@ -9,6 +9,7 @@ pub use Rattle.ftd_machine.specs.Laws
 pub use Rattle.ftd_machine.specs.Limits
 pub use Rattle.ftd_machine.specs.State
 pub use Rattle.ftd_posting.specs.Repaired
+pub use Rattle.ftd_questions.specs.Missing
 pub use Rattle.ftd_schema.specs.States
 pub use Rattle.ftd_store.specs.Finds
 pub use Rattle.ftd_store.specs.Frame

@@ -9,6 +9,7 @@ ghost use Rattle.ftd_schema.specs.States.{CrashKeeps};
 ghost use Rattle.ftd_desk.specs.Words.{AreAnswers, Handles, RepairsRows, HandlesAll};
 ghost use Rattle.ftd_desk.specs.Words.{HandlesTogether, listed};
 
+mod mending;
 mod telling;
 
 use crate::bounds::bounded;

@@ -2,7 +2,8 @@
 
 use crate::asking::ask;
 use ftd_desk::Desk;
-use ftd_store::{OpenFault, Store, StoreFault};
+use ftd_setup::OpenFault;
+use ftd_store::{Store, StoreFault};
 use sqlite::{Alter, Connection, MemStore};
 use std::alloc::Global;
 use std::test::Fail;
@@ -47,8 +48,8 @@ pub(crate) fn desk_over<S: Alter + Drop>(
     alloc: Global,
     conn: Connection<S>,
 ) -> Result<Desk<S>, OpenFault> {
-    let store = Store::open(conn).map_err(|refused| refused.fault)?;
-    Ok(Desk::new(alloc, store))
+    let conn = ftd_setup::open(conn).map_err(|refused| refused.fault)?;
+    Ok(Desk::new(alloc, Store::over(conn)))
 }
 
 /// A new desk in memory. A fault where there is no memory.

@@ -51,7 +51,11 @@ fn version_one_becomes_version_two(rt: HostRuntime) -> Result<(), Fail> {
 2024-05-01 2024-05-31 monthly               806.00 2024-06-17 2024-07-31            806.00 met\n\
 TOTAL                                       806.00",
             ),
-            ("report-year elm 2023 1.00", "refused 23 WrongForm"),
+            (
+                "report-year elm 2023 1.00",
+                "refused 23 WrongForm\n\
+                 hint: the account is on Form 941: ftd report takes its totals",
+            ),
         ],
     )
 }

@@ -1,4 +1,4 @@
 pub mod Notes
 mod DueFacts
-mod Putting
+mod Mended
 mod FaultLines

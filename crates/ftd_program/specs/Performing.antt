@@ -25,24 +25,27 @@ use Rattle.ftd_import.specs.declared.summary.Stopped.{Stopped}
 use Rattle.ftd_import.specs.declared.summary.Summary.{Summary}
 use Rattle.ftd_words.specs.declared.tasks.Job.{Job}
 use Rattle.ftd_words.specs.declared.tasks.Job.TheVariants as job
-use Rattle.ftd_program.specs.Refusals.{refusal_status, refusal_text}
-use Rattle.ftd_program.specs.Replies.{reply_text}
-use Rattle.ftd_program.specs.Summaries.{cause_text, stop_status, summary_status, summary_text}
+use Rattle.ftd_hints.specs.Hints.{record_hints}
+use Rattle.ftd_replies.specs.Hints.{told_text}
+use Rattle.ftd_replies.specs.Putting.{IsPut}
+use Rattle.ftd_replies.specs.Refusals.{refusal_status}
+use Rattle.ftd_replies.specs.Replies.{reply_text}
+use Rattle.ftd_replies.specs.declared.hints.Known.{Known}
+use Rattle.ftd_replies.specs.declared.hints.Known.TheVariants.{Nothing}
+use Rattle.ftd_program.specs.Mending.{KnowsAfter}
+use Rattle.ftd_program.specs.Summaries.{stop_status, stop_text, summary_status, summary_text}
 use Rattle.ftd_program.specs.declared.performing.Performed.{Performed}
-
--- the text was written whole, or its target failed after a prefix of it
-abbrev pub IsPut : Option (List ℕ) → Option (List ℕ) → Bool → List ℕ → Type 0
-IsPut before after failed text =
-    Appends before after text ⊎ (WritesPrefix before after text × (failed ≡ true))
 
 module _ {O E : Type 0} (o_taken : O → Option (List ℕ)) (o_failed : O → Bool)
     (e_taken : E → Option (List ℕ)) (e_failed : E → Bool)
     (out : O) (err : E) (p : Performed O E) where
-  -- the line of a refusal on standard error
-  pub record PrintsRefusal (refusal : Refusal) : Type 0 where
+  -- the line of a refusal on standard error, and its hints below it, with what is known for them
+  pub record PrintsRefusal (db : List ℕ) (request : Request) (known : Known) (refusal : Refusal)
+      : Type 0 where
     pub status_is : p.status ≡ refusal_status refusal
     pub out_is : p.out ≡ out
-    pub line : IsPut (e_taken err) (e_taken p.err) (e_failed p.err) (refusal_text refusal)
+    pub line : IsPut (e_taken err) (e_taken p.err) (e_failed p.err)
+        (told_text db request refusal known)
 
   -- a text on standard output, with this status
   pub record PrintsText (status : ℕ) (text : List ℕ) : Type 0 where
@@ -63,42 +66,57 @@ module _ {O E : Type 0} (o_taken : O → Option (List ℕ)) (o_failed : O → Bo
   abbrev pub PrintsReply : List ℕ → Type 0
   PrintsReply text = PrintsOut 0 text
 
-  -- the summary of an import that stopped on standard output, and why it stopped on standard error
-  pub record PrintsBoth (why : StopCause) (text : List ℕ) : Type 0 where
+  -- the summary of an import on standard output, and on standard error as many hints of its
+  -- malformed records as there is memory for
+  pub record PrintsCounts (input : List ℕ) (summary : Summary) : Type 0 where
+    pub status_is : p.status ≡ summary_status summary
+    pub whole : Appends (o_taken out) (o_taken p.out) (summary_text summary)
+    pub hints : WritesPrefix (e_taken err) (e_taken p.err) (record_hints summary.malformed input)
+    pub none : summary.malformed ≡ 0 → p.err ≡ err
+
+  abbrev pub PrintsSummary : List ℕ → Summary → Type 0
+  PrintsSummary input summary = PrintsCounts input summary ⊎ FailsOutput (summary_text summary)
+
+  -- the summary of an import that stopped on standard output, and why it stopped on standard error,
+  -- with its hint
+  pub record PrintsBoth (input : List ℕ) (why : StopCause) (text : List ℕ) : Type 0 where
     pub status_is : p.status ≡ stop_status why
     pub whole : Appends (o_taken out) (o_taken p.out) text
-    pub line : IsPut (e_taken err) (e_taken p.err) (e_failed p.err) (cause_text why)
+    pub line : IsPut (e_taken err) (e_taken p.err) (e_failed p.err) (stop_text input why)
 
-  abbrev pub PrintsStop : Stopped → Type 0
-  PrintsStop stopped =
-      PrintsBoth stopped.cause (summary_text stopped.done) ⊎ FailsOutput (summary_text stopped.done)
+  abbrev pub PrintsStop : List ℕ → Stopped → Type 0
+  PrintsStop input stopped =
+      PrintsBoth input stopped.cause (summary_text stopped.done)
+      ⊎ FailsOutput (summary_text stopped.done)
 
   -- the pay runs of the text were imported, and what became of them printed
   pub record PerformsImport (old new : Held) (text : List ℕ) : Type 0 where
     pub import : Result Summary Stopped
     pub imports : MatchResult import (λ summary. Imports old new text summary)
         (λ stopped. Stops old new text stopped)
-    pub prints : MatchResult import
-        (λ summary. PrintsOut (summary_status summary) (summary_text summary)) PrintsStop
+    pub prints : MatchResult import (PrintsSummary text) (PrintsStop text)
 
-  -- the text of the reply, or the line of the refusal
-  abbrev pub Prints : Request → Answer → Type 0
-  Prints request (Ok reply) = PrintsReply (reply_text request reply)
-  Prints request (Err refusal) = PrintsRefusal refusal
+  -- the text of the reply, or the lines of the refusal
+  abbrev pub Prints : List ℕ → Request → Known → Answer → Type 0
+  Prints db request known (Ok reply) = PrintsReply (reply_text request reply)
+  Prints db request known (Err refusal) = PrintsRefusal db request known refusal
 
   -- the request was asked of the desk, and its answer printed
-  pub record Performs (old new : Held) (request : Request) : Type 0 where
+  pub record Performs (old new : Held) (db : List ℕ) (request : Request) : Type 0 where
     pub answer : Answer
     pub handles : Handles old new request answer
-    pub prints : Prints request answer
+    pub known : Known
+    pub knows : KnowsAfter old new request answer known
+    pub prints : Prints db request known answer
 
   -- a prefix of the due list was printed: there was no memory, or the store failed, in the middle
   -- of it
-  pub record BreaksDue (refusal : Refusal) (rows : List DueRow) (account : List ℕ)
+  pub record BreaksDue (refusal : Refusal) (rows : List DueRow) (db account : List ℕ)
       (quarter as_of : ℕ) : Type 0 where
     pub status_is : p.status ≡ 3
     pub part : WritesPrefix (o_taken out) (o_taken p.out) (due_text account quarter as_of rows)
-    pub line : IsPut (e_taken err) (e_taken p.err) (e_failed p.err) (refusal_text refusal)
+    pub line : IsPut (e_taken err) (e_taken p.err) (e_failed p.err)
+        (told_text db (DueList account quarter as_of) refusal Nothing)
 
   -- a prefix of it was printed: standard output failed, or the amounts came to more than those of
   -- an account can be
@@ -110,30 +128,33 @@ module _ {O E : Type 0} (o_taken : O → Option (List ℕ)) (o_failed : O → Bo
 
   -- what was printed of a due list: all of it; why it was refused; a prefix of it, or nothing,
   -- since there was no memory or the store failed; a prefix of it, since standard output failed
-  pub data PrintsDue (s : State) (account : List ℕ) (quarter as_of : ℕ) : Type 0 where
+  pub data PrintsDue (s : State) (db account : List ℕ) (quarter as_of : ℕ) : Type 0 where
     whole : (rows : List DueRow) → Replies s account quarter as_of rows
-        → PrintsText 0 (due_text account quarter as_of rows) → PrintsDue s account quarter as_of
-    refused : (refusal : Refusal) → Refuses s account quarter as_of refusal → PrintsRefusal refusal
-        → PrintsDue s account quarter as_of
-    unbegun : (refusal : Refusal) → IsFault (Err refusal) → PrintsRefusal refusal
-        → PrintsDue s account quarter as_of
+        → PrintsText 0 (due_text account quarter as_of rows) → PrintsDue s db account quarter as_of
+    refused : (refusal : Refusal) → Refuses s account quarter as_of refusal
+        → PrintsRefusal db (DueList account quarter as_of) Nothing refusal
+        → PrintsDue s db account quarter as_of
+    unbegun : (refusal : Refusal) → IsFault (Err refusal)
+        → PrintsRefusal db (DueList account quarter as_of) Nothing refusal
+        → PrintsDue s db account quarter as_of
     broken : (refusal : Refusal) (rows : List DueRow) → IsFault (Err refusal)
-        → Replies s account quarter as_of rows → BreaksDue refusal rows account quarter as_of
-        → PrintsDue s account quarter as_of
+        → Replies s account quarter as_of rows → BreaksDue refusal rows db account quarter as_of
+        → PrintsDue s db account quarter as_of
     failed : (rows : List DueRow) → Replies s account quarter as_of rows
-        → FailsDue rows account quarter as_of → PrintsDue s account quarter as_of
+        → FailsDue rows account quarter as_of → PrintsDue s db account quarter as_of
 
   -- the due list was asked of the desk, and printed from its rows as they came
-  pub record PerformsDue (old new : Held) (account : List ℕ) (quarter as_of : ℕ) : Type 0 where
+  pub record PerformsDue (old new : Held) (db account : List ℕ) (quarter as_of : ℕ)
+      : Type 0 where
     pub stands : StandsAsBefore old new
     pub prints : HasCleanDisk new.db → IsTrue new.db.is_open → (s : State) → Keeps old s
-        → PrintsDue s account quarter as_of
+        → PrintsDue s db account quarter as_of
 
-  abbrev pub Asks : Held → Held → Request → Type 0
-  Asks old new (DueList account quarter as_of) = PerformsDue old new account quarter as_of
-  Asks old new request = Performs old new request
+  abbrev pub Asks : Held → Held → List ℕ → Request → Type 0
+  Asks old new db (DueList account quarter as_of) = PerformsDue old new db account quarter as_of
+  Asks old new db request = Performs old new db request
 
-  -- the job of a task was done
-  abbrev pub Does : Held → Held → List ℕ → Job → Type 0
-  Does old new input (job.Import file) = PerformsImport old new input
-  Does old new input (job.Ask request) = Asks old new request
+  -- the job of a task was done, with the desk of this file
+  abbrev pub Does : Held → Held → List ℕ → List ℕ → Job → Type 0
+  Does old new input db (job.Import file) = PerformsImport old new input
+  Does old new input db (job.Ask request) = Asks old new db request

@@ -8,7 +8,8 @@ use Rattle.ftd_import.specs.declared.summary.Note.{Note}
 use Rattle.ftd_import.specs.declared.summary.StopCause.{StopCause}
 use Rattle.ftd_import.specs.declared.summary.StopCause.TheVariants as cause
 use Rattle.ftd_import.specs.declared.summary.Summary.{Summary}
-use Rattle.ftd_program.specs.Refusals.{refusal_text}
+use Rattle.ftd_hints.specs.Headers.{header_hint}
+use Rattle.ftd_replies.specs.Refusals.{refusal_text}
 
 -- `posted 2 already 0 refused 0 malformed 1`
 unfoldable pub counts_text : Summary → List ℕ
@@ -40,12 +41,16 @@ summary_text summary = counts_text summary ++ flat_map note_text summary.notes.i
 abbrev pub summary_status : Summary → ℕ
 summary_status summary = if summary.refused == 0 && summary.malformed == 0 then 0 else 1
 
--- why an import stopped, and its status
-abbrev pub cause_text : StopCause → List ℕ
-cause_text cause.BadHeader = codes "refused header\n"
-cause_text cause.TooLong = codes "refused length\n"
-cause_text cause.Memory = codes "failed 21 Memory\n"
-cause_text cause.Store = codes "failed 22 Store\n"
+-- `refused header`, and its hint
+unfoldable pub bad_header_text : List ℕ → List ℕ
+bad_header_text input = codes "refused header\n" ++ header_hint input
+
+-- why an import of this text stopped, with the hint of a bad header, and its status
+abbrev pub stop_text : List ℕ → StopCause → List ℕ
+stop_text input cause.BadHeader = bad_header_text input
+stop_text input cause.TooLong = codes "refused length\n"
+stop_text input cause.Memory = codes "failed 21 Memory\n"
+stop_text input cause.Store = codes "failed 22 Store\n"
 
 abbrev pub stop_status : StopCause → ℕ
 stop_status cause.BadHeader = 1

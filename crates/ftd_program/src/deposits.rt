@@ -1,14 +1,16 @@
 //! The deposits of one account out of pay runs, without a desk.
 
-ghost use Rattle.std.specs.Prelude.{◌≡◌};
-ghost use Rattle.ftd_program.specs.Performing.{IsPut, PrintsOut};
-ghost use Rattle.ftd_program.specs.Plain.{PerformsPlain, PrintsFault, fault_line, fault_status};
-ghost use Rattle.ftd_program.specs.Plain.{record_line, run_line};
+ghost use Rattle.std.specs.Prelude.{◌≡◌, OnErr, OnOk, true};
+ghost use Rattle.std.specs.Io.KnownBytes.{Appends};
+ghost use Rattle.ftd_ports.specs.Writing.{WritesPrefix};
+ghost use Rattle.ftd_program.specs.Performing.{PrintsOut};
+ghost use Rattle.ftd_program.specs.Plain.{IsHinted, PerformsPlain, PrintsFault, fault_hints};
+ghost use Rattle.ftd_program.specs.Plain.{fault_line, fault_status, record_line, run_line};
 
 use crate::performing::{Performed, fail_output};
-use crate::telling::put;
 use ftd_cli::{PlainFault, plain};
-use ftd_ports::{Target, write_all, write_pieces};
+use ftd_hints::{write_header_hint, write_record_hints};
+use ftd_ports::{Target, WriteFault, write_all, write_pieces};
 use ftd_words::PlainTask;
 use itoa::Buffer;
 use std::alloc::Global;
@@ -30,7 +32,7 @@ pub fn print_plain<O: Target, E: Target>(
     let account = task.account.as_str();
     match plain(alloc, input, account, task.year, task.holidays.as_slice()) {
         Ok(text) => print_text(&text, out, err),
-        Err(fault) => print_fault(fault, out, err),
+        Err(fault) => print_fault(alloc, input, fault, out, err),
     }
 }
 
@@ -49,16 +51,48 @@ fn print_text<O: Target, E: Target>(text: &[u8], out: O, err: E) -> Performed<O,
     }
 }
 
-/// Prints why there are no deposits.
-fn print_fault<O, E: Target>(fault: PlainFault, out: O, err: E) -> Performed<O, E>
-    ensures { PrintsFault E.taken E.failed out err result fault }
+/// Prints why there are no deposits, and the hints below it.
+fn print_fault<O, E: Target>(
+    alloc: Global,
+    input: &[u8],
+    fault: PlainFault,
+    out: O,
+    err: E,
+) -> Performed<O, E>
+    ensures { PrintsFault E.taken E.failed out err result input.now fault }
 {
     let mut err = err;
-    put_fault(fault, &mut err);
+    put_fault(alloc, input, fault, &mut err);
     Performed {
         status: status_of(fault),
         out,
         err,
+    }
+}
+
+/// Prints the line of the fault, and the hints below it.
+fn put_fault<E: Target>(alloc: Global, input: &[u8], fault: PlainFault, err: &mut E)
+    ensures { IsHinted (E.taken err.old) (E.taken err.new) (E.failed err.new)
+        (fault_line fault) (fault_hints input.now fault) }
+{
+    // Where standard error fails, the status still tells.
+    if let Ok(()) = write_fault(fault, err) {
+        put_hints(alloc, input, fault, err);
+    }
+}
+
+/// Prints the hints of the fault. Some may be left out where there is no memory.
+fn put_hints<E: Target>(alloc: Global, input: &[u8], fault: PlainFault, err: &mut E)
+    ensures { WritesPrefix (E.taken err.old) (E.taken err.new) (fault_hints input.now fault) }
+{
+    match fault {
+        PlainFault::BadHeader => {
+            let _ = write_header_hint(input, err);
+        }
+        PlainFault::Malformed { .. } => {
+            let _ = write_record_hints(alloc, input, 1, err);
+        }
+        _ => {}
     }
 }
 
@@ -72,38 +106,47 @@ fn status_of(fault: PlainFault) -> u8
     }
 }
 
-/// Prints the line of the fault.
-fn put_fault<E: Target>(fault: PlainFault, err: &mut E)
-    ensures { IsPut (E.taken err.old) (E.taken err.new) (E.failed err.new) (fault_line fault) }
+/// Writes the line of the fault.
+fn write_fault<E: Target>(fault: PlainFault, err: &mut E) -> Result<(), WriteFault>
+    ensures ok { OnOk result (Appends (E.taken err.old) (E.taken err.new) (fault_line fault)) }
+    ensures err { OnErr result
+        (WritesPrefix (E.taken err.old) (E.taken err.new) (fault_line fault)) }
+    ensures fault { OnErr result (E.failed err.new ≡ true) }
 {
     match fault {
-        PlainFault::BadHeader => put(b"refused header\n", err),
-        PlainFault::TooLong => put(b"refused length\n", err),
-        PlainFault::Malformed { number, field } => put_record(number, field, err),
-        PlainFault::RunDiffers(number) => put_run(number, err),
-        PlainFault::TooManyRuns => put(b"refused 19 TooManyRuns\n", err),
-        PlainFault::BadCalendar => put(b"refused 5 BadCalendar\n", err),
-        PlainFault::Memory => put(b"failed 21 Memory\n", err),
+        PlainFault::BadHeader => write_all(err, b"refused header\n"),
+        PlainFault::TooLong => write_all(err, b"refused length\n"),
+        PlainFault::Malformed { number, field } => write_record(number, field, err),
+        PlainFault::RunDiffers(number) => write_run(number, err),
+        PlainFault::TooManyRuns => write_all(err, b"refused 19 TooManyRuns\n"),
+        PlainFault::BadCalendar => write_all(err, b"refused 5 BadCalendar\n"),
+        PlainFault::Memory => write_all(err, b"failed 21 Memory\n"),
     }
 }
 
-/// Prints which record is malformed, and its least bad field.
-fn put_record<E: Target>(number: u32, field: u8, err: &mut E)
-    ensures { IsPut (E.taken err.old) (E.taken err.new) (E.failed err.new)
-        (record_line number field) }
+/// Writes which record is malformed, and its least bad field.
+fn write_record<E: Target>(number: u32, field: u8, err: &mut E) -> Result<(), WriteFault>
+    ensures ok { OnOk result
+        (Appends (E.taken err.old) (E.taken err.new) (record_line number field)) }
+    ensures err { OnErr result
+        (WritesPrefix (E.taken err.old) (E.taken err.new) (record_line number field)) }
+    ensures fault { OnErr result (E.failed err.new ≡ true) }
 {
     let (mut number_digits, mut field_digits) = (Buffer::new(), Buffer::new());
     let number = number_digits.format(number).as_bytes();
     let field = field_digits.format(field).as_bytes();
     let pieces: [&[u8]; 5] = [b"record ", number, b" malformed field ", field, b"\n"];
-    let _ = write_pieces(err, &pieces);
+    write_pieces(err, &pieces)
 }
 
-/// Prints the number of which two runs differ.
-fn put_run<E: Target>(number: u32, err: &mut E)
-    ensures { IsPut (E.taken err.old) (E.taken err.new) (E.failed err.new) (run_line number) }
+/// Writes the number of which two runs differ.
+fn write_run<E: Target>(number: u32, err: &mut E) -> Result<(), WriteFault>
+    ensures ok { OnOk result (Appends (E.taken err.old) (E.taken err.new) (run_line number)) }
+    ensures err { OnErr result
+        (WritesPrefix (E.taken err.old) (E.taken err.new) (run_line number)) }
+    ensures fault { OnErr result (E.failed err.new ≡ true) }
 {
     let mut digits = Buffer::new();
     let number = digits.format(number).as_bytes();
-    let _ = write_pieces(err, &[b"run ", number, b" differs\n"]);
+    write_pieces(err, &[b"run ", number, b" differs\n"])
 }

@@ -2,12 +2,10 @@
 #![tactic(auto)]
 
 mod deposits;
+mod mending;
 mod performing;
-mod refusals;
-mod replies;
 mod summaries;
-mod telling;
 
 pub use crate::deposits::print_plain;
 pub use crate::performing::{Performed, perform};
-pub use crate::telling::tell;
+pub use ftd_replies::tell;

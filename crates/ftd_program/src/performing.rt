@@ -1,24 +1,28 @@
 //! A request is asked of the desk, and what it answers is printed.
 
 ghost use Rattle.std.specs.Prelude.{◌≡◌, codes};
+ghost use Rattle.std.specs.String.{string_bytes};
 ghost use Rattle.ftd_desk.specs.Desks.{held};
-ghost use Rattle.ftd_program.specs.Performing.{Asks, Does, IsPut, Performs, PerformsDue};
-ghost use Rattle.ftd_program.specs.Performing.{PerformsImport, PrintsOut, PrintsRefusal};
-ghost use Rattle.ftd_program.specs.Performing.{PrintsReply, PrintsStop};
+ghost use Rattle.ftd_program.specs.Performing.{Asks, Does, Performs, PerformsDue};
+ghost use Rattle.ftd_program.specs.Performing.{PerformsImport, PrintsRefusal, PrintsReply};
+ghost use Rattle.ftd_program.specs.Performing.{PrintsStop, PrintsSummary};
 ghost use Rattle.ftd_machine.specs.Limits.{IsBounded};
-ghost use Rattle.ftd_program.specs.Replies.{reply_text};
-ghost use Rattle.ftd_program.specs.Summaries.{cause_text, stop_status, summary_status};
-ghost use Rattle.ftd_program.specs.Summaries.{summary_text};
+ghost use Rattle.ftd_machine.specs.declared.requests.Request.TheVariants.{DueList};
+ghost use Rattle.ftd_ports.specs.Writing.{WritesPrefix};
+ghost use Rattle.ftd_hints.specs.Hints.{record_hints};
+ghost use Rattle.ftd_replies.specs.Putting.{IsPut};
+ghost use Rattle.ftd_replies.specs.Replies.{reply_text};
+ghost use Rattle.ftd_program.specs.Summaries.{stop_status, stop_text, summary_status};
 
-use crate::refusals::{status_of, write_refusal};
-use crate::replies::write_reply;
-use crate::summaries::write_summary;
-use crate::telling::put;
+use crate::mending::known_for;
+use crate::summaries::{write_bad_header, write_summary};
 use ftd_days::{Day, Quarter};
 use ftd_desk::{Desk, DueFault};
+use ftd_hints::write_record_hints;
 use ftd_import::{Progress, StopCause, Stopped, Summary, import};
 use ftd_machine::{Refusal, Reply, Request};
 use ftd_ports::Target;
+use ftd_replies::{Known, put, status_of, write_reply, write_told};
 use ftd_reports::{LateDueText, Unwritten};
 use ftd_words::{Job, LocalTask};
 use sqlite::Alter;
@@ -49,49 +53,64 @@ pub fn perform<S: Alter, O: Target, E: Target, P: Progress>(
     progress: &mut P,
 ) -> Performed<O, E>
     ensures { Does O.taken O.failed E.taken E.failed out err result
-        (held S.Store desk.old) (held S.Store desk.new) input.now task.now.job }
+        (held S.Store desk.old) (held S.Store desk.new) input.now (string_bytes task.now.db)
+        task.now.job }
 {
     match &task.job {
         Job::Import(_) => post_runs(alloc, desk, input, out, err, progress),
-        Job::Ask(request) => ask(desk, request, out, err),
+        Job::Ask(request) => ask(desk, &task.db, request, out, err),
     }
 }
 
 /// Asks the request of the desk. A due list is printed row by row, as it comes.
 fn ask<S: Alter, O: Target, E: Target>(
     desk: &mut Desk<S>,
+    db: &str,
     request: &Request,
     out: O,
     err: E,
 ) -> Performed<O, E>
     ensures { Asks O.taken O.failed E.taken E.failed out err result
-        (held S.Store desk.old) (held S.Store desk.new) request.now }
+        (held S.Store desk.old) (held S.Store desk.new) db.now request.now }
 {
     match request {
         Request::DueList {
             account,
             quarter,
             as_of,
-        } => list_due(desk, account.as_str(), *quarter, *as_of, out, err),
-        _ => answer(desk, request, out, err),
+        } => list_due(
+            desk,
+            db,
+            request,
+            account.as_str(),
+            *quarter,
+            *as_of,
+            out,
+            err,
+        ),
+        _ => answer(desk, db, request, out, err),
     }
 }
 
 /// Asks the request of the desk. The text of its reply goes to `out`, and the line of a refusal to
-/// `err`.
+/// `err`, with its hints.
 fn answer<S: Alter, O: Target, E: Target>(
     desk: &mut Desk<S>,
+    db: &str,
     request: &Request,
     out: O,
     err: E,
 ) -> Performed<O, E>
     ensures { Performs O.taken O.failed E.taken E.failed out err result
-        (held S.Store desk.old) (held S.Store desk.new) request.now }
+        (held S.Store desk.old) (held S.Store desk.new) db.now request.now }
 {
     let answer = desk.handle(request);
     match &answer {
         Ok(reply) => print_reply(request, reply, out, err),
-        Err(refusal) => print_refusal(refusal, out, err),
+        Err(refusal) => {
+            let known = known_for(desk, request, *refusal);
+            print_refusal(db, request, refusal, &known, out, err)
+        }
     }
 }
 
@@ -99,14 +118,17 @@ fn answer<S: Alter, O: Target, E: Target>(
 /// the desk refuses it. Where memory or the store fails in the middle, the first lines stand there.
 fn list_due<S: Alter, O: Target, E: Target>(
     desk: &mut Desk<S>,
+    db: &str,
+    request: &Request,
     account: &str,
     quarter: Quarter,
     as_of: Day,
     out: O,
     err: E,
 ) -> Performed<O, E>
+    requires asked { request.now ≡ DueList account.now quarter as_of }
     ensures { PerformsDue O.taken O.failed E.taken E.failed out err result
-        (held S.Store desk.old) (held S.Store desk.new) account.now quarter as_of }
+        (held S.Store desk.old) (held S.Store desk.new) db.now account.now quarter as_of }
 {
     let mut text = LateDueText::new(account, quarter, as_of, out);
     match desk.due_into(account, quarter, as_of, &mut text) {
@@ -118,7 +140,10 @@ fn list_due<S: Alter, O: Target, E: Target>(
             },
             Err(Unwritten { writer }) => fail_output(writer, err),
         },
-        Err(DueFault::Refused(refusal)) => print_refusal(&refusal, text.into_writer(), err),
+        Err(DueFault::Refused(refusal)) => {
+            let out = text.into_writer();
+            print_refusal(db, request, &refusal, &Known::Nothing, out, err)
+        }
         Err(DueFault::Sink) => fail_output(text.into_writer(), err),
     }
 }
@@ -138,8 +163,8 @@ fn post_runs<S: Alter, O: Target, E: Target, P: Progress>(
         (held S.Store desk.old) (held S.Store desk.new) input.now }
 {
     match import(alloc, desk, input, progress) {
-        Ok(summary) => print_summary(&summary, out, err),
-        Err(stopped) => print_stop(&stopped, out, err),
+        Ok(summary) => print_summary(alloc, input, &summary, out, err),
+        Err(stopped) => print_stop(input, &stopped, out, err),
     }
 }
 
@@ -154,42 +179,76 @@ fn status_in(summary: &Summary) -> u8
     }
 }
 
-/// Prints the summary of an import.
-fn print_summary<O: Target, E: Target>(summary: &Summary, out: O, err: E) -> Performed<O, E>
-    ensures { PrintsOut O.taken O.failed E.taken E.failed out err result
-        (summary_status summary.now) (summary_text summary.now) }
+/// Prints the summary of an import, and the hints of its malformed records.
+fn print_summary<O: Target, E: Target>(
+    alloc: Global,
+    input: &[u8],
+    summary: &Summary,
+    out: O,
+    err: E,
+) -> Performed<O, E>
+    ensures { PrintsSummary O.taken O.failed E.taken E.failed out err result
+        input.now summary.now }
 {
     let mut out = out;
     match write_summary(summary, &mut out) {
-        Ok(()) => Performed {
-            status: status_in(summary),
-            out,
-            err,
-        },
+        Ok(()) => {
+            let mut err = err;
+            if summary.malformed > 0 {
+                put_hints(alloc, input, summary.malformed, &mut err);
+            }
+            Performed {
+                status: status_in(summary),
+                out,
+                err,
+            }
+        }
         Err(_) => fail_output(out, err),
     }
 }
 
+/// Prints the hints of the malformed records of a text, so many of them at most. Some may be left
+/// out where there is no memory.
+fn put_hints<E: Target>(alloc: Global, input: &[u8], most: usize, err: &mut E)
+    ensures { WritesPrefix (E.taken err.old) (E.taken err.new) (record_hints most input.now) }
+{
+    let _ = write_record_hints(alloc, input, most, err);
+}
+
 /// Prints the summary of an import that stopped, and why it did.
-fn print_stop<O: Target, E: Target>(stopped: &Stopped, out: O, err: E) -> Performed<O, E>
-    ensures { PrintsStop O.taken O.failed E.taken E.failed out err result stopped.now }
+fn print_stop<O: Target, E: Target>(
+    input: &[u8],
+    stopped: &Stopped,
+    out: O,
+    err: E,
+) -> Performed<O, E>
+    ensures { PrintsStop O.taken O.failed E.taken E.failed out err result input.now stopped.now }
 {
     let mut out = out;
     match write_summary(&stopped.done, &mut out) {
-        Ok(()) => print_cause(stopped.cause, out, err),
+        Ok(()) => print_cause(input, stopped.cause, out, err),
         Err(_) => fail_output(out, err),
     }
 }
 
 /// Prints why an import stopped.
-fn print_cause<O, E: Target>(cause: StopCause, out: O, err: E) -> Performed<O, E>
+fn print_cause<O, E: Target>(input: &[u8], cause: StopCause, out: O, err: E) -> Performed<O, E>
     ensures status { result.status ≡ stop_status cause }
     ensures out { result.out ≡ out }
     ensures line { IsPut (E.taken err) (E.taken result.err) (E.failed result.err)
-        (cause_text cause) }
+        (stop_text input.now cause) }
 {
     match cause {
-        StopCause::BadHeader => print_line(1, b"refused header\n", out, err),
+        StopCause::BadHeader => {
+            let mut err = err;
+            // Where standard error fails, the status still tells.
+            let _ = write_bad_header(input, &mut err);
+            Performed {
+                status: 1,
+                out,
+                err,
+            }
+        }
         StopCause::TooLong => print_line(1, b"refused length\n", out, err),
         StopCause::Memory => print_line(3, b"failed 21 Memory\n", out, err),
         StopCause::Store => print_line(3, b"failed 22 Store\n", out, err),
@@ -239,12 +298,21 @@ pub(crate) fn fail_output<O, E: Target>(out: O, err: E) -> Performed<O, E>
     print_line(3, b"failed Output\n", out, err)
 }
 
-/// Prints the line of a refusal.
-fn print_refusal<O: Target, E: Target>(refusal: &Refusal, out: O, err: E) -> Performed<O, E>
-    ensures { PrintsRefusal O.taken O.failed E.taken E.failed out err result refusal.now }
+/// Prints the line of the refusal of a request, and its hints.
+fn print_refusal<O: Target, E: Target>(
+    db: &str,
+    request: &Request,
+    refusal: &Refusal,
+    known: &Known,
+    out: O,
+    err: E,
+) -> Performed<O, E>
+    ensures { PrintsRefusal O.taken O.failed E.taken E.failed out err result
+        db.now request.now known.now refusal.now }
 {
     let mut err = err;
-    let _ = write_refusal(refusal, &mut err);
+    // Where standard error fails, the status still tells.
+    let _ = write_told(db, request, *refusal, known, &mut err);
     Performed {
         status: status_of(*refusal),
         out,

@@ -3,12 +3,13 @@
 ghost use Rattle.std.specs.Prelude.{◌≡◌, true, OnOk, OnErr};
 ghost use Rattle.std.specs.Io.KnownBytes.{Appends};
 ghost use Rattle.ftd_ports.specs.Writing.{WritesPrefix};
-ghost use Rattle.ftd_program.specs.Summaries.{counts_text, field_text, finding_text, note_text};
-ghost use Rattle.ftd_program.specs.Summaries.{record_text, summary_text};
+ghost use Rattle.ftd_program.specs.Summaries.{bad_header_text, counts_text, field_text};
+ghost use Rattle.ftd_program.specs.Summaries.{finding_text, note_text, record_text, summary_text};
 
-use crate::refusals::write_refusal;
+use ftd_hints::write_header_hint;
 use ftd_import::{Finding, Note, Summary};
-use ftd_ports::{Target, WriteFault, write_pieces};
+use ftd_ports::{Target, WriteFault, write_all, write_pieces};
+use ftd_replies::write_refusal;
 use itoa::Buffer;
 
 /// Writes the summary of an import: its counts, and a line for each note.
@@ -106,4 +107,17 @@ fn write_field<W: Target>(field: u8, target: &mut W) -> Result<(), WriteFault>
     let mut digits = Buffer::new();
     let field = digits.format(field).as_bytes();
     write_pieces(target, &[b"malformed field ", field, b"\n"])
+}
+
+/// Writes that the header is bad, and the hint of it.
+#[tactic(auto, unfolding(crate::specs::Summaries::bad_header_text))]
+pub fn write_bad_header<W: Target>(input: &[u8], target: &mut W) -> Result<(), WriteFault>
+    ensures ok { OnOk result
+        (Appends (W.taken target.old) (W.taken target.new) (bad_header_text input.now)) }
+    ensures err { OnErr result
+        (WritesPrefix (W.taken target.old) (W.taken target.new) (bad_header_text input.now)) }
+    ensures fault { OnErr result (W.failed target.new ≡ true) }
+{
+    write_all(target, b"refused header\n")?;
+    write_header_hint(input, target)
 }

@@ -9,7 +9,9 @@ use Rattle.ftd_schema.proofs.Controls.{crash_then, undone_all}
 use Rattle.ftd_schema.specs.Standing.{Tables, Stands}
 use Rattle.ftd_store.specs.Ends.{Begins, EndsAs}
 use Rattle.ftd_machine.specs.Runs.{IsFault}
+use Rattle.ftd_machine.specs.State.{State}
 use Rattle.ftd_machine.specs.declared.replies.Refusal.{Refusal}
+use Rattle.ftd_entries.specs.Words.{IsKept}
 use Rattle.ftd_questions.specs.Telling.{KnowsAsked}
 use Rattle.ftd_questions.specs.Walks.{Stays, IsSeen}
 use Rattle.ftd_questions.specs.declared.asking.KnownReturn.{KnownReturn}
@@ -41,6 +43,13 @@ module _ (a b m e : database.State) (entered : CrashKeeps a b) (begun : HasClean
       let clean_b = clean_before b m crash (clean_before m e left is.0) in
       subst (λ (db : Database). Stands db t) (sym (begun clean_b).shows.now_is)
       (stood a e dropped_stays is t stands)
+
+-- rows that stood for a state before it stood in it
+pub kept_in_it : (a b m e : database.State) → (HasCleanDisk b → Begins a b) → CrashKeeps b m
+    → CrashKeeps m e → IsSeen e → (s : State) (kept : IsKept a.now s) → Stands b.now kept.tables
+kept_in_it a b m e begun crash left is s kept =
+    let clean_b = clean_before b m crash (clean_before m e left is.0) in
+    subst (λ (db : Database). Stands db kept.tables) (sym (begun clean_b).shows.now_is) kept.stands
 
 -- what was read in it, with no fault
 pub answered : (name : List ℕ) (quarter as_of : ℕ) (t : Tables) (asked : Result KnownReturn Refusal)

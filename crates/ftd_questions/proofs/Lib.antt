@@ -19,3 +19,4 @@ mod FoundRows
 mod DueTold
 mod Dropped
 mod RowsTold
+mod Unreported

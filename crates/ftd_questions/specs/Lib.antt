@@ -3,6 +3,7 @@ pub mod Returns
 pub mod DueRows
 pub mod Walks
 pub mod Faults
+pub mod Missing
 pub mod Telling
 pub use Rattle.ftd_days.specs.Calendar
 pub use Rattle.ftd_entries.specs.Opening

@@ -1,6 +1,6 @@
 //! Requests that ask: the deposit schedule of a day, what must be deposited for a quarter, and its
 //! liability by day. Each is one function on a transaction, whose contract is the machine's step. A
-//! due list is also told row by row, on the store.
+//! due list is also told row by row, on the store, and what a refusal can be mended by is read there.
 #![tactic(auto)]
 
 mod asking;
@@ -8,6 +8,7 @@ mod due;
 mod due_rows;
 mod faults;
 mod liable;
+mod missing;
 mod return_periods;
 mod schedules;
 mod telling;
@@ -16,5 +17,6 @@ mod walking;
 pub use crate::due::due_list;
 pub use crate::faults::{DueFault, refusal_of};
 pub use crate::liable::schedule_b;
+pub use crate::missing::{given_days, missing_quarters};
 pub use crate::schedules::status;
 pub use crate::telling::due_into;

@@ -18,5 +18,4 @@ pub use Rattle.ftd_schema.specs.Making
 pub use Rattle.ftd_schema.specs.Names
 pub use Rattle.ftd_schema.specs.States
 pub use Rattle.ftd_schema.specs.Tests
-pub use Rattle.ftd_setup.specs.Versions
 pub use Rattle.ftd_tables.specs.TextKinds

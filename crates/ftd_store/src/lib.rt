@@ -21,4 +21,3 @@ pub use crate::obligation_rows::{next_obligation, rows_of};
 pub use crate::store::Store;
 pub use crate::tx::Tx;
 pub use ftd_rows::{Account, AccountObligation, StoreFault};
-pub use ftd_setup::{NotOpened, OpenFault};

@@ -9,8 +9,9 @@ use Rattle.clap.specs.declared.error.ErrorKind.{ErrorKind}
 use Rattle.clap.specs.declared.parser.matches.ArgMatches.TheViews.{out-ArgMatches, out-SubCommand}
 use Rattle.ftd_words.specs.Apps.{ftd_app}
 use Rattle.ftd_words.specs.Asking.{TellsAs, Wanted}
-use Rattle.ftd_words.specs.Tasks.{Fails, by_value, command_named, task_of, task_view, value}
-use Rattle.ftd_words.specs.Tasks.{wanted_as, wanted_in, without_fault, words}
+use Rattle.ftd_words.specs.Tasks.{Fails, IsUsage, Refused, ShowsValue, by_value, command_named}
+use Rattle.ftd_words.specs.Tasks.{task_of, task_view, value, wanted_as, wanted_in, without_fault}
+use Rattle.ftd_words.specs.Tasks.{words}
 use Rattle.ftd_words.specs.declared.fault.WordFault.{WordFault}
 use Rattle.ftd_words.specs.declared.fault.WordFault.TheVariants as values
 use Rattle.ftd_words.specs.declared.table.Name.{Name}
@@ -73,7 +74,7 @@ pub value_told : (f : WordFault) (r : CliFault) (said : Result Wanted WordFault)
 value_told (values.BadWord word) r said e h = rw e h
 value_told values.NoForm r said e h = rw e h
 value_told values.NoCommand r said e h = rw e h
-value_told values.Memory (fault.BadArgument word) said e h = cc h
+value_told values.Memory (fault.BadArgument word text) said e h = cc h
 value_told values.Memory (fault.Usage text) said e h = absurd h.0
 value_told values.Memory (fault.Help text) said e h = absurd h
 value_told values.Memory fault.Memory said e h = tt
@@ -90,3 +91,18 @@ pub refused_task : (given : List Text) (k : ErrorKind) (r : CliFault)
 unfolding task_of
 refused_task given k r among h = refused_among (fault_of ftd_app given) k r
     (wanted_in (subcommand_of ftd_app given)) among h
+
+-- ---- what shows no value
+pub usage_shows : (rows : List Row) (r : CliFault)
+    → ((said : Result Wanted Refused) → IsUsage said → Fails r said) → ShowsValue rows r
+usage_shows rows (fault.BadArgument word text) h = cc (h (Err (value values.NoForm)) tt)
+usage_shows rows (fault.Usage text) h = tt
+usage_shows rows (fault.Help text) h = tt
+usage_shows rows fault.Memory h = tt
+
+pub refused_shows : (rows : List Row) (r : CliFault) (kinds : Kinds)
+    → Fails r (Err (words kinds)) → ShowsValue rows r
+refused_shows rows (fault.BadArgument word text) kinds h = cc h
+refused_shows rows (fault.Usage text) kinds h = tt
+refused_shows rows (fault.Help text) kinds h = tt
+refused_shows rows fault.Memory kinds h = tt

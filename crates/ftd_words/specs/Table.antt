@@ -142,6 +142,11 @@ takes_of word.For = takes.Text
 takes_of word.Day = takes.Text
 takes_of word.AsOf = takes.Text
 
+-- what takes any number of values
+abbrev pub takes_many : Takes → Bool
+takes_many takes.Texts = true
+takes_many _ = false
+
 -- the subcommands, in the order in which an employer needs them
 abbrev pub all_names : List Name
 all_names =

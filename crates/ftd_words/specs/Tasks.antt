@@ -10,6 +10,7 @@ use Rattle.ftd_words.specs.Apps.{ftd_app}
 use Rattle.ftd_words.specs.Asking.{Wanted, ask, import, plain, serve, wanted_of}
 use Rattle.ftd_words.specs.Escapes.{escaped}
 use Rattle.ftd_words.specs.Table.{all_names, name_text}
+use Rattle.ftd_words.specs.Values.{bad_value}
 use Rattle.ftd_words.specs.declared.fault.WordFault.{WordFault}
 use Rattle.ftd_words.specs.declared.fault.WordFault.TheVariants as values
 use Rattle.ftd_words.specs.declared.table.Name.{Name}
@@ -89,7 +90,7 @@ IsEscaped text = (whole : Text) × (text ≡ escaped whole)
 -- what is answered is what the words ask, or why they ask nothing; want of memory may come at any
 -- point
 abbrev pub Fails : CliFault → Result Wanted Refused → Type 0
-Fails (fault.BadArgument word) said = said ≡ Err (value (values.BadWord word))
+Fails (fault.BadArgument word text) said = said ≡ Err (value (values.BadWord word))
 Fails (fault.Usage text) said = IsUsage said × IsEscaped (string_bytes text)
 Fails (fault.Help text) said = IsHelp said
 Fails fault.Memory said = ⊤
@@ -97,3 +98,13 @@ Fails fault.Memory said = ⊤
 abbrev pub Gives : Result Task CliFault → Result Wanted Refused → Type 0
 Gives (Ok given) said = said ≡ Ok (task_view given)
 Gives (Err f) said = Fails f said
+
+-- the values that the words of the subcommand were given
+abbrev pub rows_in : Option (Text × List Row) → List Row
+rows_in None = []
+rows_in (Some called) = called.1
+
+-- a word whose value is none of its kind is told with that value, its control bytes escaped
+abbrev pub ShowsValue : List Row → CliFault → Type 0
+ShowsValue rows (fault.BadArgument word text) = string_bytes text ≡ escaped (bad_value word rows)
+ShowsValue rows _ = ⊤

@@ -2,7 +2,8 @@
 use Rattle.std.specs.Prelude.{ℕ, ◌^◌, nat_lt, List, [], Option, Some, None, option_and_then}
 use Rattle.std.specs.Prelude.{option_map, Bool, false, codes, if◌then◌else◌, Result, Ok, Err}
 use Rattle.std.specs.Str.{bytes_eq}
-use Rattle.std.specs.Option.{option_map_or}
+use Rattle.std.specs.List.{find}
+use Rattle.std.specs.Option.{is_none, option_map_or, unwrap_or}
 use Rattle.clap.specs.Words.{Row, Text, all_of, first_of}
 use Rattle.ftd_days.specs.Spelling.{cents_of, day_of, days_of, spelled_quarter, whole_number}
 use Rattle.ftd_days.specs.declared.cents.Cents.{Cents}
@@ -12,7 +13,7 @@ use Rattle.ftd_words.specs.declared.fault.WordFault.{WordFault}
 use Rattle.ftd_words.specs.declared.fault.WordFault.TheVariants as fault
 use Rattle.ftd_words.specs.declared.table.Word.{Word}
 use Rattle.ftd_words.specs.declared.table.Word.TheVariants as word
-use Rattle.ftd_words.specs.Table.{word_text}
+use Rattle.ftd_words.specs.Table.{takes_many, takes_of, word_text}
 
 -- the word is there
 abbrev pub is_given : Word → List Row → Bool
@@ -63,6 +64,19 @@ texts_of (Some texts) = texts
 
 abbrev pub days_in : Word → List Row → Result (List ℕ) WordFault
 days_in word rows = needed word (days_of (texts_of (all_of (word_text word) rows)))
+
+-- the first of the texts that spells no day
+abbrev pub first_no_day : List Text → Option Text
+first_no_day texts = find (λ text. is_none (day_of text)) texts
+
+-- of a word whose value is none of its kind, the first such value: where it takes any number of
+-- values, which are days, the first that spells none; else its one value. The empty text where it
+-- was given none, which `clap` refuses at each word that must have one.
+abbrev pub bad_value : Word → List Row → Text
+bad_value word rows =
+    unwrap_or
+    (if takes_many (takes_of word) then first_no_day (texts_of (all_of (word_text word) rows))
+    else first_of (word_text word) rows) []
 
 -- the form of an account
 abbrev pub form_of : Option Text → Result Form WordFault

@@ -1,12 +1,16 @@
 //! What the words of a command line ask.
 
-ghost use Rattle.std.specs.Prelude.{◌≡◌, Err, Result, map};
+ghost use Rattle.std.specs.Prelude.{◌≡◌, Err, IfErr, Result, map};
 ghost use Rattle.std.specs.String.{string_bytes};
-ghost use Rattle.clap.specs.Words.{IsAmong, Kinds, found_of, kind_of, rows_of, subcommand_rows_of};
+ghost use Rattle.clap.specs.Words.{IsAmong, Kinds, found_of, kind_of, rows_of, subcommand_of};
+ghost use Rattle.clap.specs.Words.{subcommand_rows_of};
+ghost use Rattle.ftd_words.specs.declared.fault.WordFault.TheVariants.{BadWord};
+ghost use Rattle.ftd_words.specs.Apps.{ftd_app};
+ghost use Rattle.ftd_words.specs.Values.{bad_value};
 ghost use Rattle.ftd_words.specs.Asking.{Tells, TellsAs, Wanted, account_in, asked, import_of};
 ghost use Rattle.ftd_words.specs.Asking.{plain_of, serve_of, wanted_of, year_in};
-ghost use Rattle.ftd_words.specs.Tasks.{Fails, Gives, IsUsage, Refused, command_named, task_of};
-ghost use Rattle.ftd_words.specs.Tasks.{task_view, value, wanted_in, words};
+ghost use Rattle.ftd_words.specs.Tasks.{Fails, Gives, IsUsage, Refused, ShowsValue, command_named};
+ghost use Rattle.ftd_words.specs.Tasks.{rows_in, task_of, task_view, value, wanted_in, words};
 
 use crate::asking::{
     account_at, add_holiday, calendar, due, enrol, open_year, pay, post, report, report_year,
@@ -15,7 +19,7 @@ use crate::asking::{
 use crate::escape::escaped;
 use crate::fault::WordFault;
 use crate::parse::{ParseFault, parsed};
-use crate::reading::{days_at, owned_text, port_at, whole_at};
+use crate::reading::{bad_value, days_at, owned_text, port_at, whole_at};
 use crate::table::{NAMES, Name, Word};
 use crate::tasks::{CliFault, Job, LocalTask, PlainTask, ServeTask, Task};
 use clap::error::ErrorKind;
@@ -188,14 +192,36 @@ fn told_error(alloc: Global, error: &Error) -> CliFault
 }
 
 /// What a fault of the values tells.
-fn told_fault(alloc: Global, fault: WordFault) -> CliFault
-    ensures { Fails result (Err (value fault)) }
+fn told_fault(alloc: Global, matches: &ArgMatches<'_>, fault: WordFault) -> CliFault
+    ensures told { Fails result (Err (value fault)) }
+    ensures value { ShowsValue (rows_in (subcommand_rows_of matches.now)) result }
 {
     match fault {
-        WordFault::BadWord(word) => CliFault::BadArgument(word),
+        WordFault::BadWord(word) => bad_argument(alloc, matches, word),
         WordFault::Memory => CliFault::Memory,
         WordFault::NoForm => usage(alloc, NO_FORM),
         WordFault::NoCommand => usage(alloc, NO_COMMAND),
+    }
+}
+
+/// The first value of the word that is none of its kind.
+fn value_in<'a>(matches: &ArgMatches<'a>, word: Word) -> &'a str
+    ensures { result.now ≡ bad_value word (rows_in (subcommand_rows_of matches.now)) }
+{
+    match matches.subcommand() {
+        Some((_, inner)) => bad_value(inner, word),
+        None => "",
+    }
+}
+
+/// The word, and its first value that is none of its kind.
+fn bad_argument(alloc: Global, matches: &ArgMatches<'_>, word: Word) -> CliFault
+    ensures told { Fails result (Err (value (BadWord word))) }
+    ensures value { ShowsValue (rows_in (subcommand_rows_of matches.now)) result }
+{
+    match escaped(alloc, value_in(matches, word)) {
+        Ok(value) => CliFault::BadArgument { word, value },
+        Err(_) => CliFault::Memory,
     }
 }
 
@@ -210,14 +236,17 @@ fn usage(alloc: Global, text: &str) -> CliFault
 }
 
 /// What the words ask, of which the first is the program's name. `BadArgument` names the first word
-/// whose value is none of its kind; `Usage` and `Help` have the text that is printed.
+/// whose value is none of its kind, and has that value; `Usage` and `Help` have the text that is
+/// printed.
 pub fn decide(alloc: Global, words: &[String]) -> Result<Task, CliFault>
-    ensures { Gives result (task_of (map string_bytes words.now)) }
+    ensures asked { Gives result (task_of (map string_bytes words.now)) }
+    ensures value { IfErr result
+        (ShowsValue (rows_in (subcommand_of ftd_app (map string_bytes words.now)))) }
 {
     match parsed(alloc, words) {
         Ok(matches) => match task_in(alloc, &matches) {
             Ok(task) => Ok(task),
-            Err(fault) => Err(told_fault(alloc, fault)),
+            Err(fault) => Err(told_fault(alloc, &matches, fault)),
         },
         Err(ParseFault::Memory) => Err(CliFault::Memory),
         Err(ParseFault::Refused(error)) => Err(told_error(alloc, &error)),

@@ -5,8 +5,9 @@ ghost use Rattle.std.specs.String.{string_bytes};
 ghost use Rattle.clap.specs.Words.{all_of, first_of, found_of, rows_of};
 ghost use Rattle.ftd_days.specs.Spelling.{days_of};
 ghost use Rattle.ftd_words.specs.Table.{word_text};
-ghost use Rattle.ftd_words.specs.Values.{cents_in, day_in, days_in, form_in, is_given, needed};
-ghost use Rattle.ftd_words.specs.Values.{port_in, quarter_in, text_in, whole_in};
+ghost use Rattle.ftd_words.specs.Values.{bad_value, cents_in, day_in, days_in, first_no_day};
+ghost use Rattle.ftd_words.specs.Values.{form_in, is_given, needed, port_in, quarter_in, text_in};
+ghost use Rattle.ftd_words.specs.Values.{whole_in};
 ghost use Rattle.ftd_words.specs.Asking.{Tells, TellsAs};
 
 use crate::fault::WordFault;
@@ -139,4 +140,28 @@ fn read_days(alloc: Global, texts: &[&str], word: Word) -> Result<Vec<Day>, Word
         days.push(day)?;
     }
     Ok(days)
+}
+
+/// The first value that is none of its kind, of a word of which one is. Empty where the word has no
+/// such value.
+pub fn bad_value<'a>(inner: &ArgMatches<'a>, word: Word) -> &'a str
+    ensures { result.now ≡ bad_value word (rows_of (found_of inner.now)) }
+{
+    let bad = if word.takes_many() {
+        first_no_day(texts_at(inner, word).unwrap_or(&[]))
+    } else {
+        text_at(inner, word)
+    };
+    bad.unwrap_or("")
+}
+
+/// The first of the texts that spells no day.
+fn first_no_day<'a>(texts: &[&'a str]) -> Option<&'a str>
+    ensures { option_map (λ text. text.now) result
+        ≡ first_no_day (map (λ text. text.now) texts.now) }
+{
+    texts
+        .iter()
+        .copied()
+        .find(|text| Day::read(text.as_bytes()).is_none())
 }

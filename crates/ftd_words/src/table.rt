@@ -1,7 +1,8 @@
 //! The subcommands and their words, as a table.
 
 ghost use Rattle.std.specs.Prelude.{◌≡◌};
-ghost use Rattle.ftd_words.specs.Table.{is_option, name_text, takes_of, word_text, words_of};
+ghost use Rattle.ftd_words.specs.Table.{is_option, name_text, takes_many, takes_of, word_text};
+ghost use Rattle.ftd_words.specs.Table.{words_of};
 
 use Word::{
     Account, Amount, AsOf, Carried, Connections, CsvFile, Day, Days, Db, Duration, Fit, For, Form,
@@ -268,6 +269,13 @@ impl Word {
             Word::Day => Takes::Text,
             Word::AsOf => Takes::Text,
         }
+    }
+
+    /// Whether it takes any number of values.
+    pub fn takes_many(self) -> bool
+        ensures { result ≡ takes_many (takes_of self) }
+    {
+        matches!(self.takes(), Takes::Texts)
     }
 
     /// What help calls its value.

@@ -67,8 +67,8 @@ pub enum Task {
 /// Why words ask nothing.
 #[derive(Drop)]
 pub enum CliFault {
-    /// The first word whose value is none of its kind.
-    BadArgument(Word),
+    /// The first word whose value is none of its kind, and that value, its control bytes escaped.
+    BadArgument { word: Word, value: String },
     /// They are no command line: this text tells why.
     Usage(String),
     /// They ask for help, or for the version: this text.

@@ -46,9 +46,9 @@ returns-in-Err g c =
 
 pub returns-in-Err-Refused : goal.returns-in-Err-Refused
 returns-in-Err-Refused g c =
-    let printed = c.print_refusal.ensures in
+    let printed = rw c.requires.asked at c.print_refusal.ensures in
     let writer : c.print_refusal.result.out ≡ writer_of c.due_into.new.sink = printed.out_is
-    ∙ c.into_writer.ensures in
+    ∙ c.into_writer-out.ensures in
     record {
       stands = c.due_into.ensures.stands;
       prints = λ clean is_open s keeps.
@@ -91,7 +91,7 @@ returns-in-Err-Refused g c =
 pub returns-in-Err-Sink : goal.returns-in-Err-Sink
 returns-in-Err-Sink g c =
     let writer : c.fail_output-in-Err-Sink.result.out ≡ writer_of c.due_into.new.sink =
-    c.fail_output-in-Err-Sink.ensures.out ∙ c.into_writer-in-Err-Sink.ensures in
+    c.fail_output-in-Err-Sink.ensures.out ∙ c.into_writer.ensures in
     record {
       stands = c.due_into.ensures.stands;
       prints = λ clean is_open s keeps.

@@ -1,4 +1,4 @@
-use Rattle.std.proofs.Common.{◌∙◌, sym, refl, arith, ap, length, Some}
+use Rattle.std.proofs.Common.{◌∙◌, sym, refl, arith, ap, ℕ, List, drop, length, Some}
 use Rattle.std.proofs.lemmas.List.{length-map}
 use Rattle.ftd_csv.specs.Records.{said_of, under_first}
 use Rattle.ftd_csv.specs.Rows.{rows_left}
@@ -18,5 +18,6 @@ returns c =
       header = rw rows (ap Some (c.is_header.ensures.0 c.if-not-is_header.false));
       number = refl;
       left = sym (ap under_first rows);
+      rows = sym (ap (λ (all : List (List (List ℕ))). drop 1 all) rows);
       can = record { reading = found.0; fits = omega arith };
     }

@@ -1,0 +1,60 @@
+//! What the tables keep that a refusal can be mended by.
+
+ghost use Rattle.std.specs.Prelude.{◌≡◌, ◌≤◌, Err, IfOk, IsTrue, option_map};
+ghost use Rattle.sqlite.specs.State.{HasCleanDisk};
+ghost use Rattle.ftd_machine.specs.State.{State, calendar_at, entries_of};
+ghost use Rattle.ftd_questions.specs.Missing.{missing_from};
+ghost use Rattle.ftd_desk.specs.Desks.{IsStopped, held, Keeps};
+ghost use Rattle.ftd_desk.specs.Telling.{StandsAsBefore};
+
+use crate::desk::Desk;
+use ftd_days::{Day, Quarter};
+use ftd_machine::Refusal;
+use sqlite::Alter;
+
+impl<S: Alter> Desk<S> {
+    /// The quarters of the year's lookback period, from this one on, whose totals the account has
+    /// not reported (Pub. 15, section 11, "Lookback period"). `Memory` and `Store` may come in place
+    /// of them. The tables stay as they are. A desk that is stopped answers `Store`, and touches
+    /// nothing.
+    pub fn missing_quarters(
+        &mut self,
+        account: &str,
+        first: Quarter,
+        year: u32,
+    ) -> Result<Vec<Quarter>, Refusal>
+        requires from { 2001 ≤ year }
+        requires to { year ≤ 2098 }
+        ensures knows { HasCleanDisk (held S.Store self.new).db
+            → IsTrue (held S.Store self.new).db.is_open
+            → (s : State) → Keeps (held S.Store self.old) s
+            → IfOk result (λ quarters.
+            quarters.items ≡ missing_from (entries_of s account.now) first year) }
+        ensures stands { StandsAsBefore (held S.Store self.old) (held S.Store self.new) }
+        ensures stopped { IsStopped self.old
+            → (result ≡ Err Refusal.Store) × (self.new ≡ self.old) }
+    {
+        if self.stopped {
+            return Err(Refusal::Store);
+        }
+        ftd_questions::missing_quarters(&mut self.store, self.alloc, account, first, year)
+    }
+
+    /// The days that the year's calendar was given with, without those that were added to it, or
+    /// None where it is not given. `Memory` and `Store` may come in place of them. The tables stay
+    /// as they are. A desk that is stopped answers `Store`, and touches nothing.
+    pub fn given_days(&mut self, year: u32) -> Result<Option<Vec<Day>>, Refusal>
+        ensures knows { HasCleanDisk (held S.Store self.new).db
+            → IsTrue (held S.Store self.new).db.is_open
+            → (s : State) → Keeps (held S.Store self.old) s
+            → IfOk result (λ days. calendar_at s year ≡ option_map (λ it. it.items) days) }
+        ensures stands { StandsAsBefore (held S.Store self.old) (held S.Store self.new) }
+        ensures stopped { IsStopped self.old
+            → (result ≡ Err Refusal.Store) × (self.new ≡ self.old) }
+    {
+        if self.stopped {
+            return Err(Refusal::Store);
+        }
+        ftd_questions::given_days(&mut self.store, self.alloc, year)
+    }
+}

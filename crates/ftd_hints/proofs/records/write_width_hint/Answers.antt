@@ -1,0 +1,20 @@
+use Rattle.ftd_hints.specs.Hints.{width_hint}
+use Rattle.ftd_hints.proofs.records.write_width_hint.Goals as goal
+
+pub returns-clause-ok : goal.returns-clause-ok
+unfolding width_hint
+returns-clause-ok g c = rw (
+  c.as_bytes-number.ensures.value,
+  c.format.ensures.text,
+  c.as_bytes-width.ensures.value,
+  c.format-2.ensures.text,
+) at c.write_pieces.ensures.ok
+
+pub returns-clause-err : goal.returns-clause-err
+unfolding width_hint
+returns-clause-err g c = rw (
+  c.as_bytes-number.ensures.value,
+  c.format.ensures.text,
+  c.as_bytes-width.ensures.value,
+  c.format-2.ensures.text,
+) at c.write_pieces.ensures.err

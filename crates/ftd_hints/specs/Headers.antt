@@ -1,0 +1,24 @@
+-- The hint of a text whose first record is not the header.
+use Rattle.std.specs.Prelude.{ℕ, ◌==◌, ◌||◌, Bool, List, [], ◌∷◌, ◌++◌, codes}
+use Rattle.std.specs.List.{before_first}
+use Rattle.csv.specs.Reading.{strip_bom}
+use Rattle.ftd_hints.specs.Shown.{shown}
+
+-- CR and LF end a line
+abbrev pub is_line_end : ℕ → Bool
+is_line_end byte = (byte == 13) || (byte == 10)
+
+-- the first line of a text, without a byte order mark at its start, and without its end
+abbrev pub first_line : List ℕ → List ℕ
+first_line text = before_first is_line_end (strip_bom text)
+
+-- what is said of it
+abbrev pub line_text : List ℕ → List ℕ
+line_text [] = codes "the text is empty"
+line_text (byte ∷ line) = codes "not " ++ shown (byte ∷ line)
+
+-- `hint: the header is employer,run,payday,fit,ss,medicare, and not emp,run,payday`
+unfoldable pub header_hint : List ℕ → List ℕ
+header_hint text =
+    codes "hint: the header is employer,run,payday,fit,ss,medicare, and "
+    ++ (line_text (first_line text) ++ 10 ∷ [])

@@ -1,0 +1,5 @@
+pub mod Shown
+pub mod Headers
+pub mod Fields
+pub mod Hints
+pub mod Places

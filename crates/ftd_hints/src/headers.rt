@@ -1,0 +1,68 @@
+//! The hint of a text whose first record is not the header.
+
+ghost use Rattle.std.specs.Prelude.{◌≡◌, true, OnOk, OnErr};
+ghost use Rattle.std.specs.List.{position_or_len};
+ghost use Rattle.std.specs.Io.KnownBytes.{Appends};
+ghost use Rattle.csv.specs.Reading.{strip_bom};
+ghost use Rattle.ftd_ports.specs.Writing.{WritesPrefix};
+ghost use Rattle.ftd_hints.specs.Headers.{first_line, header_hint, is_line_end};
+
+use crate::shown::{MOST_SHOWN, show};
+use ftd_ports::{Target, WriteFault, write_all, write_pieces};
+
+/// Writes the hint of a text whose first record is not the header: which header is asked for, and
+/// the first line of the text, or that the text is empty. It takes no memory but what the target
+/// takes. Where the target fails, a prefix of the hint was written, and it fails nowhere else.
+pub fn write_header_hint<W: Target>(text: &[u8], target: &mut W) -> Result<(), WriteFault>
+    ensures ok { OnOk result
+        (Appends (W.taken target.old) (W.taken target.new) (header_hint text.now)) }
+    ensures err { OnErr result
+        (WritesPrefix (W.taken target.old) (W.taken target.new) (header_hint text.now)) }
+    ensures fault { OnErr result (W.failed target.new ≡ true) }
+{
+    let line = first_line(text);
+    if line.is_empty() {
+        return write_all(
+            target,
+            b"hint: the header is employer,run,payday,fit,ss,medicare, and the text is empty\n",
+        );
+    }
+    let mut buffer = [0; MOST_SHOWN];
+    write_pieces(
+        target,
+        &[
+            b"hint: the header is employer,run,payday,fit,ss,medicare, and not ",
+            show(line, &mut buffer),
+            b"\n",
+        ],
+    )
+}
+
+/// The first line of the text, without a byte order mark at its start, and without its end.
+fn first_line(text: &[u8]) -> &[u8]
+    ensures { result.now ≡ first_line text.now }
+{
+    let text = without_mark(text);
+    &text[..line_length(text)]
+}
+
+/// The text without a byte order mark at its start.
+fn without_mark(text: &[u8]) -> &[u8]
+    ensures { result.now ≡ strip_bom text.now }
+{
+    text.strip_prefix(b"\xEF\xBB\xBF").unwrap_or(text)
+}
+
+/// How many bytes of the text stand before its first end of a line.
+fn line_length(text: &[u8]) -> usize
+    ensures { result ≡ position_or_len is_line_end text.now }
+{
+    text.iter().take_while(|byte| !is_line_end(**byte)).count()
+}
+
+/// Whether the byte ends a line: CR or LF.
+fn is_line_end(byte: u8) -> bool
+    ensures { result ≡ is_line_end byte }
+{
+    matches!(byte, b'\r' | b'\n')
+}

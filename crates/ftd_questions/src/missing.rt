@@ -1,0 +1,113 @@
+//! What is kept that a refusal can be mended by: the quarters of a lookback period whose totals are
+//! still to be reported, and the days that a calendar was given with.
+
+ghost use Rattle.std.specs.Prelude.{◌≡◌, ◌≤◌, IfOk, option_map};
+ghost use Rattle.ftd_store.specs.Frame.{Reads};
+ghost use Rattle.ftd_store.specs.Seen.{seen};
+ghost use Rattle.ftd_machine.specs.State.{State, calendar_at, entries_of};
+ghost use Rattle.ftd_entries.specs.Words.{IsKept};
+ghost use Rattle.ftd_questions.specs.Missing.{KnowsMissing, are_missing, missing_from};
+ghost use Rattle.ftd_questions.specs.Walks.{Stays, IsSeen};
+
+use crate::faults::refusal_of;
+use ftd_days::{Cents, Day, Quarter};
+use ftd_machine::Refusal;
+use ftd_store::{Store, StoreFault, Tx};
+use sqlite::Alter;
+use std::alloc::{AllocError, Global};
+
+/// The quarters from this one on for which nothing was found.
+fn are_missing(
+    alloc: Global,
+    found: &[(Quarter, Option<Cents>)],
+    first: Quarter,
+) -> Result<Vec<Quarter>, AllocError>
+    ensures { IfOk result (λ quarters. quarters.items ≡ are_missing first found.now) }
+{
+    let mut quarters = Vec::new(alloc);
+    for (quarter, cents) in found {
+        if first.quarters() <= quarter.quarters() && cents.is_none() {
+            quarters.push(*quarter)?;
+        }
+    }
+    Ok(quarters)
+}
+
+/// The quarters of the year's lookback period, from this one on, whose totals the account has not
+/// reported.
+fn missing_in<S: Alter>(
+    tx: &mut Tx<'_, S>,
+    alloc: Global,
+    name: &str,
+    first: Quarter,
+    year: u32,
+) -> Result<Vec<Quarter>, StoreFault>
+    requires from { 2001 ≤ year }
+    requires to { year ≤ 2098 }
+    ensures call { Reads S.Store tx.old tx.new result (KnowsMissing name.now first year) }
+{
+    let quarters = 4 * (year - 2 - 1900) + 2;
+    let (third, fourth) = (Quarter::at(quarters), Quarter::at(quarters + 1));
+    let (next, last) = (Quarter::at(quarters + 2), Quarter::at(quarters + 3));
+    let found = [
+        (third, tx.reported(name, third)?),
+        (fourth, tx.reported(name, fourth)?),
+        (next, tx.reported(name, next)?),
+        (last, tx.reported(name, last)?),
+    ];
+    match are_missing(alloc, &found, first) {
+        Ok(quarters) => Ok(quarters),
+        Err(_) => tx.give_up(StoreFault::Memory),
+    }
+}
+
+/// The quarters of the lookback period of the year, from this one on, whose totals the account has
+/// not reported, read in a transaction that is dropped. `Memory` and `Store` where there was no
+/// memory or the store failed. The tables stay as they are, whatever comes of it.
+pub fn missing_quarters<S: Alter>(
+    store: &mut Store<S>,
+    alloc: Global,
+    name: &str,
+    first: Quarter,
+    year: u32,
+) -> Result<Vec<Quarter>, Refusal>
+    requires from { 2001 ≤ year }
+    requires to { year ≤ 2098 }
+    ensures knows { IsSeen (seen S.Store store.new) → (s : State)
+        → IsKept (seen S.Store store.old).now s
+        → IfOk result (λ quarters.
+        quarters.items ≡ missing_from (entries_of s name.now) first year) }
+    ensures stays { Stays (seen S.Store store.old) (seen S.Store store.new) }
+{
+    let mut tx = match store.begin() {
+        Ok(tx) => tx,
+        Err(fault) => return Err(refusal_of(fault)),
+    };
+    match missing_in(&mut tx, alloc, name, first, year) {
+        Ok(quarters) => Ok(quarters),
+        Err(fault) => Err(refusal_of(fault)),
+    }
+}
+
+/// The days that the year's calendar was given with, or None where it is not given, read in a
+/// transaction that is dropped. `Memory` and `Store` where there was no memory or the store failed.
+/// The tables stay as they are, whatever comes of it.
+pub fn given_days<S: Alter>(
+    store: &mut Store<S>,
+    alloc: Global,
+    year: u32,
+) -> Result<Option<Vec<Day>>, Refusal>
+    ensures knows { IsSeen (seen S.Store store.new) → (s : State)
+        → IsKept (seen S.Store store.old).now s
+        → IfOk result (λ days. calendar_at s year ≡ option_map (λ it. it.items) days) }
+    ensures stays { Stays (seen S.Store store.old) (seen S.Store store.new) }
+{
+    let mut tx = match store.begin() {
+        Ok(tx) => tx,
+        Err(fault) => return Err(refusal_of(fault)),
+    };
+    match tx.calendar(alloc, year) {
+        Ok(days) => Ok(days),
+        Err(fault) => Err(refusal_of(fault)),
+    }
+}

@@ -1,0 +1,180 @@
+-- What can be done about a refusal: lines below it, each of which begins with `hint: `.
+use Rattle.std.specs.Prelude.{ℕ, ◌==◌, ◌||◌, ◌++◌, not, Bool, List, [], ◌∷◌, Option, Some, None}
+use Rattle.std.specs.Prelude.{codes, find, if◌then◌else◌}
+use Rattle.std.specs.Char.{is_ascii_alphanumeric}
+use Rattle.std.specs.Fmt.{decimal}
+use Rattle.std.specs.List.{concat, flat_map, list_all}
+use Rattle.ftd_days.specs.Business.{is_holiday}
+use Rattle.ftd_days.specs.Text.{day_text, quarter_text}
+use Rattle.ftd_machine.specs.declared.replies.Refusal.{Refusal}
+use Rattle.ftd_machine.specs.declared.replies.Refusal.TheVariants as refusal
+use Rattle.ftd_machine.specs.declared.requests.Request.{Request}
+use Rattle.ftd_machine.specs.declared.requests.Request.TheVariants as request
+use Rattle.ftd_replies.specs.Refusals.{refusal_text}
+use Rattle.ftd_replies.specs.declared.hints.Known.{Known}
+use Rattle.ftd_replies.specs.declared.hints.Known.TheVariants.{Nothing, Missing, Given}
+
+-- ---- commands to be typed
+
+-- the file, where its name needs no quotes: letters, digits, `.`, `_`, `/` and `-` alone
+abbrev pub is_plain : ℕ → Bool
+is_plain byte =
+    is_ascii_alphanumeric byte || (byte == 46) || (byte == 95) || (byte == 47) || (byte == 45)
+
+abbrev pub file_text : List ℕ → List ℕ
+file_text db = if list_all is_plain db then db else codes "FILE"
+
+-- a command on the file, with one word behind it, or with an account and another word
+abbrev pub command_on : List ℕ → List ℕ → List ℕ → List ℕ → List ℕ
+command_on before db word after =
+    concat (before ∷ file_text db ∷ codes " " ∷ word ∷ after ∷ [])
+
+abbrev pub command_of : List ℕ → List ℕ → List ℕ → List ℕ → List ℕ → List ℕ
+command_of before db account word after =
+    concat (before ∷ file_text db ∷ codes " " ∷ account ∷ codes " " ∷ word ∷ after ∷ [])
+
+-- the account that a request names, and the number of its run or payment
+abbrev pub account_in : Request → List ℕ
+account_in (request.Enrol account start carried form) = account
+account_in (request.Calendar year days) = []
+account_in (request.AddHoliday day) = []
+account_in (request.Report account quarter cents) = account
+account_in (request.ReportYear account year cents) = account
+account_in (request.OpenYear account year) = account
+account_in (request.Post account run payday fit ss medicare) = account
+account_in (request.Void account run) = account
+account_in (request.Pay account payment paid for_day cents) = account
+account_in (request.VoidPay account payment) = account
+account_in (request.Status account day) = account
+account_in (request.DueList account quarter as_of) = account
+account_in (request.ScheduleB account quarter) = account
+
+abbrev pub number_in : Request → ℕ
+number_in (request.Post account run payday fit ss medicare) = run
+number_in (request.Pay account payment paid for_day cents) = payment
+number_in _ = 0
+
+-- ---- what is said of a refusal that names nothing, by the request
+
+abbrev pub years_text : Request → List ℕ
+years_text (request.Calendar year days) = codes "hint: the years of calendars are 2001 to 2099\n"
+years_text (request.Report account quarter cents) =
+    codes "hint: the years of reported totals are 1999 to 2098\n"
+years_text (request.ReportYear account year cents) =
+    codes "hint: the years of reported totals are 1999 to 2098\n"
+years_text _ = codes "hint: the years of paydays are 2001 to 2098\n"
+
+abbrev pub days_text : Request → List ℕ
+days_text (request.Enrol account start carried form) =
+    codes "hint: an employer's first day is not after 2098-12-31\n"
+days_text (request.AddHoliday day) = codes "hint: the days of holidays are those of 2001 to 2099\n"
+days_text (request.Pay account payment paid for_day cents) =
+    codes "hint: a payment is made in 2001 to 2099, for a day of 2001 to 2098\n"
+days_text (request.DueList account quarter as_of) =
+    codes "hint: a due list is as of a day of 2001 to 2099\n"
+days_text _ = codes "hint: the days of paydays are those of 2001 to 2098\n"
+
+abbrev pub calendar_text : Request → List ℕ
+calendar_text (request.AddHoliday day) = codes "hint: a year has at most 60 holidays\n"
+calendar_text _ = codes "hint: the days rise, lie in the year and are at most 60\n"
+
+abbrev pub form_text : Request → List ℕ
+form_text (request.Report account quarter cents) =
+    codes "hint: the account is on Form 943: ftd report-year takes its totals\n"
+form_text (request.ReportYear account year cents) =
+    codes "hint: the account is on Form 941: ftd report takes its totals\n"
+form_text _ = codes "hint: the account is on Form 943, which has no Schedule B\n"
+
+-- what is said of a refusal that no command mends; nothing of the others
+unfoldable pub said_text : Request → Refusal → List ℕ
+said_text asked refusal.BadName =
+    codes "hint: names have 1 to 20 lower-case letters, digits and hyphens, a letter first\n"
+said_text asked refusal.BadYear = years_text asked
+said_text asked refusal.BadDay = days_text asked
+said_text asked refusal.BadCents =
+    codes "hint: an amount is at most 999999999.99, and a payment at least 0.01\n"
+said_text asked refusal.BadCalendar = calendar_text asked
+said_text asked refusal.BadNumber = codes "hint: numbers are 1 to 999999999\n"
+said_text asked refusal.AccountDiffers =
+    codes "hint: the account has another first day or form, or is carried otherwise\n"
+said_text asked refusal.CalendarDiffers = codes "hint: ftd add-holiday adds a holiday\n"
+said_text asked refusal.QuarterDiffers =
+    codes "hint: the quarter is reported with another amount\n"
+said_text asked refusal.YearDiffers = codes "hint: the year is reported with another amount\n"
+said_text asked refusal.UnknownRun = codes "hint: the account has no run of this number\n"
+said_text asked refusal.UnknownPayment =
+    codes "hint: the account has no payment of this number\n"
+said_text asked refusal.BeforeStart = codes "hint: the employer's first day is later\n"
+said_text asked refusal.TooManyRuns =
+    codes "hint: an account has at most 20000 runs, void ones too\n"
+said_text asked refusal.TooManyPayments =
+    codes "hint: an account has at most 20000 payments, void ones too\n"
+said_text asked refusal.WrongForm = form_text asked
+said_text asked _ = []
+
+-- ---- the hint of a refusal: a command that mends it, or what is said of it
+
+-- the quarter is to be reported
+abbrev pub quarter_hint : List ℕ → List ℕ → ℕ → List ℕ
+quarter_hint db account quarter =
+    command_of (codes "hint: ftd report --db ") db account (quarter_text quarter)
+    (codes " AMOUNT\n")
+
+unfoldable pub hint_text : List ℕ → Request → Refusal → List ℕ
+hint_text db asked refusal.UnknownAccount =
+    command_on (codes "hint: if name and file are right, ftd enrol --db ") db (account_in asked)
+    (codes " START\n")
+hint_text db asked refusal.RunDiffers =
+    command_of (codes "hint: take a new number; if the run that has it is wrong, ftd void --db ") db
+    (account_in asked) (decimal (number_in asked)) (codes "\n")
+hint_text db asked refusal.PaymentDiffers =
+    command_of (codes "hint: take a new number; if that payment is wrong, ftd void-pay --db ") db
+    (account_in asked) (decimal (number_in asked)) (codes "\n")
+hint_text db asked (refusal.CalendarMissing year) =
+    command_on (codes "hint: ftd calendar --db ") db (decimal year) (codes " DAY ..\n")
+hint_text db asked (refusal.QuarterMissing quarter) = quarter_hint db (account_in asked) quarter
+hint_text db asked (refusal.YearNotOpen year) =
+    command_of (codes "hint: ftd open-year --db ") db (account_in asked) (decimal year)
+    (codes "\n")
+hint_text db asked (refusal.YearMissing year) =
+    command_of (codes "hint: ftd report-year --db ") db (account_in asked) (decimal year)
+    (codes " AMOUNT\n")
+hint_text db asked refused = said_text asked refused
+
+-- ---- with what was asked of the desk
+
+-- the days of a request's calendar
+abbrev pub days_in : Request → List ℕ
+days_in (request.Calendar year days) = days
+days_in _ = []
+
+-- the first of the days that is not among those
+abbrev pub first_beside : List ℕ → List ℕ → Option ℕ
+first_beside days those = find (λ day. not (is_holiday those day)) days
+
+-- a holiday that is new, and one that was given and is left out
+abbrev pub new_text : List ℕ → Option ℕ → List ℕ
+new_text db None = []
+new_text db (Some day) =
+    command_on (codes "hint: one more holiday is ftd add-holiday --db ") db (day_text day)
+    (codes "\n")
+
+abbrev pub left_out_text : Option ℕ → List ℕ
+left_out_text None = []
+left_out_text (Some day) = concat (codes "hint: " ∷ day_text day ∷ codes " was given too\n" ∷ [])
+
+-- what differs between the days of a calendar and those that were given before
+abbrev pub differing_text : List ℕ → List ℕ → List ℕ → List ℕ
+differing_text db days given =
+    new_text db (first_beside days given) ++ left_out_text (first_beside given days)
+
+-- the hints of a refusal, with what is known for them
+unfoldable pub hints_text : List ℕ → Request → Refusal → Known → List ℕ
+hints_text db asked refusal Nothing = hint_text db asked refusal
+hints_text db asked refusal (Missing quarters) =
+    flat_map (quarter_hint db (account_in asked)) quarters.items
+hints_text db asked refusal (Given given) = differing_text db (days_in asked) given.items
+
+-- the line of a refusal, and its hints below it
+unfoldable pub told_text : List ℕ → Request → Refusal → Known → List ℕ
+told_text db asked refusal known = refusal_text refusal ++ hints_text db asked refusal known

@@ -1,0 +1,5 @@
+pub mod Hints
+pub mod Putting
+pub mod Refusals
+pub mod Replies
+pub mod Telling

@@ -1,0 +1,84 @@
+-- What the program prints where words ask nothing.
+use Rattle.std.specs.Prelude.{◌≡◌, ◌⊎◌, ◌++◌, ℕ, Bool, true, List, [], ◌∷◌, Option, codes}
+use Rattle.std.specs.Io.KnownBytes.{Appends}
+use Rattle.std.specs.List.{concat}
+use Rattle.std.specs.String.{string_bytes}
+use Rattle.ftd_ports.specs.Writing.{WritesPrefix}
+use Rattle.ftd_words.specs.Table.{word_text}
+use Rattle.ftd_words.specs.declared.table.Word.{Word}
+use Rattle.ftd_words.specs.declared.table.Word.TheVariants as word
+use Rattle.ftd_words.specs.declared.tasks.CliFault.{CliFault}
+use Rattle.ftd_words.specs.declared.tasks.CliFault.TheVariants as fault
+use Rattle.ftd_replies.specs.Putting.{IsPut}
+
+-- what is asked for as the value of a word
+abbrev pub asked_text : Word → List ℕ
+asked_text word.Start = codes "a day as 2024-05-27"
+asked_text word.Payday = codes "a day as 2024-05-27"
+asked_text word.Paid = codes "a day as 2024-05-27"
+asked_text word.For = codes "a day as 2024-05-27"
+asked_text word.Day = codes "a day as 2024-05-27"
+asked_text word.Days = codes "a day as 2024-05-27"
+asked_text word.AsOf = codes "a day as 2024-05-27"
+asked_text word.Holidays = codes "a day as 2024-05-27"
+asked_text word.Quarter = codes "a quarter as 2024Q2"
+asked_text word.Amount = codes "an amount as 1234.56"
+asked_text word.Fit = codes "an amount as 1234.56"
+asked_text word.Ss = codes "an amount as 1234.56"
+asked_text word.Medicare = codes "an amount as 1234.56"
+asked_text word.Account =
+    codes "an account name: 1 to 20 bytes, a lower-case letter, "
+    ++ codes "then lower-case letters, digits or hyphens"
+asked_text word.Year = codes "a year of 2001 to 2098"
+asked_text word.Run = codes "a number of 1 to 999999999"
+asked_text word.Payment = codes "a number of 1 to 999999999"
+asked_text word.Port = codes "a port of 0 to 65535"
+asked_text word.Wait = codes "a number of seconds of 0 to 3600"
+asked_text _ = codes "a value that is taken here"
+
+-- the value that was given; it is told in words where it is empty
+abbrev pub given_text : List ℕ → List ℕ
+given_text [] = codes "an empty word"
+given_text (byte ∷ bytes) = byte ∷ bytes
+
+-- `bad argument DAY`, and below it `hint: 2024-13-01 is not a day as 2024-05-27`
+abbrev pub bad_text : (name given asked : List ℕ) → List ℕ
+bad_text name given asked =
+    concat
+    (codes "bad argument " ∷ name ∷ codes "\nhint: " ∷ given ∷ codes " is not " ∷ asked
+    ∷ (10 ∷ []) ∷ [])
+
+abbrev pub bad_word : Word → List ℕ → List ℕ
+bad_word word value = bad_text (word_text word) (given_text value) (asked_text word)
+
+module _ {O E : Type 0} (o_taken : O → Option (List ℕ)) (o_failed : O → Bool)
+    (e_taken : E → Option (List ℕ)) (e_failed : E → Bool)
+    (out out' : O) (err err' : E) where
+  -- the text on standard error, and nothing on standard output
+  pub record TellsFault (text : List ℕ) (meant status : ℕ) : Type 0 where
+    pub status_is : status ≡ meant
+    pub out_is : out' ≡ out
+    pub line : IsPut (e_taken err) (e_taken err') (e_failed err') text
+
+  -- the help on standard output
+  pub record HasHelped (text : List ℕ) (status : ℕ) : Type 0 where
+    pub status_is : status ≡ 0
+    pub err_is : err' ≡ err
+    pub whole : Appends (o_taken out) (o_taken out') text
+
+  -- standard output took no more than a prefix of it
+  pub record FailsHelp (text : List ℕ) (status : ℕ) : Type 0 where
+    pub status_is : status ≡ 3
+    pub part : WritesPrefix (o_taken out) (o_taken out') text
+    pub failed : o_failed out' ≡ true
+    pub line : IsPut (e_taken err) (e_taken err') (e_failed err') (codes "failed Output\n")
+
+  abbrev pub TellsHelp : List ℕ → ℕ → Type 0
+  TellsHelp text status = HasHelped text status ⊎ FailsHelp text status
+
+  -- by why the words ask nothing
+  abbrev pub Tells : CliFault → ℕ → Type 0
+  Tells (fault.BadArgument word value) = TellsFault (bad_word word (string_bytes value)) 2
+  Tells (fault.Usage text) = TellsFault (string_bytes text) 2
+  Tells (fault.Help text) = TellsHelp (string_bytes text)
+  Tells fault.Memory = TellsFault (codes "failed 21 Memory\n") 3

@@ -1,0 +1,12 @@
+//! The lines that tell of replies and of refusals, and what can be done about the latter.
+#![tactic(auto)]
+
+mod hints;
+mod refusals;
+mod replies;
+mod telling;
+
+pub use crate::hints::{Known, write_told};
+pub use crate::refusals::{status_of, write_refusal};
+pub use crate::replies::write_reply;
+pub use crate::telling::{put, tell};

@@ -1,0 +1,135 @@
+//! The lines of refusals.
+
+ghost use Rattle.std.specs.Prelude.{◌≡◌, ◌∷◌, [], codes, true, OnOk, OnErr};
+ghost use Rattle.std.specs.Fmt.{decimal};
+ghost use Rattle.std.specs.Io.KnownBytes.{Appends};
+ghost use Rattle.ftd_days.specs.Text.{quarter_text};
+ghost use Rattle.ftd_ports.specs.Writing.{WritesPrefix};
+ghost use Rattle.ftd_replies.specs.Refusals.{line_of, named_text, refusal_status};
+ghost use Rattle.ftd_replies.specs.Refusals.{refusal_text, verb_text};
+
+use ftd_days::Quarter;
+use ftd_machine::Refusal;
+use ftd_ports::{Target, WriteFault, write_pieces};
+use ftd_reports::quarter_bytes;
+use itoa::Buffer;
+
+/// The exit status where the desk refuses: 3 where memory or the store failed, else 1.
+pub fn status_of(refusal: Refusal) -> u8
+    ensures { result ≡ refusal_status refusal }
+{
+    match refusal {
+        Refusal::Memory | Refusal::Store => 3,
+        _ => 1,
+    }
+}
+
+/// Whether the desk refused, or failed.
+fn verb_of(refusal: Refusal) -> &'static [u8]
+    ensures { result.now ≡ verb_text refusal }
+{
+    match refusal {
+        Refusal::Memory | Refusal::Store => b"failed ",
+        _ => b"refused ",
+    }
+}
+
+/// Writes the line of a refusal: its number and name, and what it names.
+#[tactic(auto, unfolding(crate::specs::Refusals::refusal_text))]
+pub fn write_refusal<W: Target>(refusal: &Refusal, target: &mut W) -> Result<(), WriteFault>
+    ensures ok { OnOk result
+        (Appends (W.taken target.old) (W.taken target.new) (refusal_text refusal.now)) }
+    ensures err { OnErr result
+        (WritesPrefix (W.taken target.old) (W.taken target.new) (refusal_text refusal.now)) }
+    ensures fault { OnErr result (W.failed target.new ≡ true) }
+{
+    write_line(
+        *refusal,
+        verb_of(*refusal),
+        refusal.number(),
+        refusal.name().as_bytes(),
+        target,
+    )
+}
+
+/// Writes the line of a refusal with this verb, number and name.
+fn write_line<W: Target>(
+    refusal: Refusal,
+    verb: &[u8],
+    number: u8,
+    name: &[u8],
+    target: &mut W,
+) -> Result<(), WriteFault>
+    ensures ok { OnOk result (Appends (W.taken target.old) (W.taken target.new)
+        (line_of verb.now number name.now (named_text refusal))) }
+    ensures err { OnErr result (WritesPrefix (W.taken target.old) (W.taken target.new)
+        (line_of verb.now number name.now (named_text refusal))) }
+    ensures fault { OnErr result (W.failed target.new ≡ true) }
+{
+    match refusal {
+        Refusal::CalendarMissing(year) => write_year(verb, number, name, year, target),
+        Refusal::YearNotOpen(year) => write_year(verb, number, name, year, target),
+        Refusal::YearMissing(year) => write_year(verb, number, name, year, target),
+        Refusal::QuarterMissing(quarter) => write_quarter(verb, number, name, quarter, target),
+        _ => write_plain(verb, number, name, target),
+    }
+}
+
+/// Writes the line of a refusal that names a year.
+fn write_year<W: Target>(
+    verb: &[u8],
+    number: u8,
+    name: &[u8],
+    year: u32,
+    target: &mut W,
+) -> Result<(), WriteFault>
+    ensures ok { OnOk result (Appends (W.taken target.old) (W.taken target.new)
+        (line_of verb.now number name.now (codes " " ∷ decimal year ∷ []))) }
+    ensures err { OnErr result (WritesPrefix (W.taken target.old) (W.taken target.new)
+        (line_of verb.now number name.now (codes " " ∷ decimal year ∷ []))) }
+    ensures fault { OnErr result (W.failed target.new ≡ true) }
+{
+    let mut digits = Buffer::new();
+    let number = digits.format(number).as_bytes();
+    let mut year_digits = Buffer::new();
+    let year = year_digits.format(year).as_bytes();
+    write_pieces(target, &[verb, number, b" ", name, b" ", year, b"\n"])
+}
+
+/// Writes the line of a refusal that names a quarter.
+fn write_quarter<W: Target>(
+    verb: &[u8],
+    number: u8,
+    name: &[u8],
+    quarter: Quarter,
+    target: &mut W,
+) -> Result<(), WriteFault>
+    ensures ok { OnOk result (Appends (W.taken target.old) (W.taken target.new)
+        (line_of verb.now number name.now (codes " " ∷ quarter_text quarter ∷ []))) }
+    ensures err { OnErr result (WritesPrefix (W.taken target.old) (W.taken target.new)
+        (line_of verb.now number name.now (codes " " ∷ quarter_text quarter ∷ []))) }
+    ensures fault { OnErr result (W.failed target.new ≡ true) }
+{
+    let mut digits = Buffer::new();
+    let number = digits.format(number).as_bytes();
+    let quarter = quarter_bytes(quarter);
+    write_pieces(target, &[verb, number, b" ", name, b" ", &quarter, b"\n"])
+}
+
+/// Writes the line of a refusal that names nothing.
+fn write_plain<W: Target>(
+    verb: &[u8],
+    number: u8,
+    name: &[u8],
+    target: &mut W,
+) -> Result<(), WriteFault>
+    ensures ok { OnOk result (Appends (W.taken target.old) (W.taken target.new)
+        (line_of verb.now number name.now [])) }
+    ensures err { OnErr result (WritesPrefix (W.taken target.old) (W.taken target.new)
+        (line_of verb.now number name.now [])) }
+    ensures fault { OnErr result (W.failed target.new ≡ true) }
+{
+    let mut digits = Buffer::new();
+    let number = digits.format(number).as_bytes();
+    write_pieces(target, &[verb, number, b" ", name, b"\n"])
+}

@@ -1,0 +1,114 @@
+//! Why the words of a command line ask nothing.
+
+ghost use Rattle.std.specs.Prelude.{◌≡◌};
+ghost use Rattle.ftd_replies.specs.Putting.{IsPut};
+ghost use Rattle.ftd_replies.specs.Telling.{Tells, TellsHelp, asked_text, bad_text, bad_word};
+ghost use Rattle.ftd_replies.specs.Telling.{given_text};
+
+use ftd_ports::{Target, write_all, write_pieces};
+use ftd_words::{CliFault, Word};
+
+/// Prints why the words of a command line ask nothing, or the help that they ask for, and answers
+/// the exit status: 0 for help, 2 for a bad command line, 3 where there was no memory, or where
+/// standard output failed under the help.
+pub fn tell<O: Target, E: Target>(fault: &CliFault, out: &mut O, err: &mut E) -> u8
+    ensures { Tells O.taken O.failed E.taken E.failed out.old out.new err.old err.new
+        fault.now result }
+{
+    match fault {
+        CliFault::BadArgument { word, value } => {
+            tell_word(*word, value.as_str(), err);
+            2
+        }
+        CliFault::Usage(text) => {
+            put(text.as_bytes(), err);
+            2
+        }
+        CliFault::Help(text) => tell_help(text.as_bytes(), out, err),
+        CliFault::Memory => {
+            put(b"failed 21 Memory\n", err);
+            3
+        }
+    }
+}
+
+/// Prints the text. Where standard error fails as well, the status still tells.
+pub fn put<E: Target>(text: &[u8], err: &mut E)
+    ensures { IsPut (E.taken err.old) (E.taken err.new) (E.failed err.new) text.now }
+{
+    let _ = write_all(err, text);
+}
+
+/// What is asked for as the value of a word.
+fn asked_bytes(word: Word) -> &'static [u8]
+    ensures { result.now ≡ asked_text word }
+{
+    match word {
+        Word::Start | Word::Payday | Word::Paid | Word::For => b"a day as 2024-05-27",
+        Word::Day | Word::Days | Word::AsOf | Word::Holidays => b"a day as 2024-05-27",
+        Word::Quarter => b"a quarter as 2024Q2",
+        Word::Amount | Word::Fit | Word::Ss | Word::Medicare => b"an amount as 1234.56",
+        Word::Account => {
+            b"an account name: 1 to 20 bytes, a lower-case letter, \
+              then lower-case letters, digits or hyphens"
+        }
+        Word::Year => b"a year of 2001 to 2098",
+        Word::Run | Word::Payment => b"a number of 1 to 999999999",
+        Word::Port => b"a port of 0 to 65535",
+        Word::Wait => b"a number of seconds of 0 to 3600",
+        _ => b"a value that is taken here",
+    }
+}
+
+/// The value of a word; it is told in words where it is empty.
+fn given_bytes(value: &str) -> &[u8]
+    ensures { result.now ≡ given_text value.now }
+{
+    if value.is_empty() {
+        b"an empty word"
+    } else {
+        value.as_bytes()
+    }
+}
+
+/// Prints the name of a word whose value is none of its kind, and what is asked for in its place.
+fn tell_word<E: Target>(word: Word, value: &str, err: &mut E)
+    ensures { IsPut (E.taken err.old) (E.taken err.new) (E.failed err.new)
+        (bad_word word value.now) }
+{
+    let given = given_bytes(value);
+    tell_bad(word.text().as_bytes(), given, asked_bytes(word), err);
+}
+
+/// Prints the name of a word, the value that was given and what is asked for.
+fn tell_bad<E: Target>(name: &[u8], given: &[u8], asked: &[u8], err: &mut E)
+    ensures { IsPut (E.taken err.old) (E.taken err.new) (E.failed err.new)
+        (bad_text name.now given.now asked.now) }
+{
+    let _ = write_pieces(
+        err,
+        &[
+            b"bad argument ",
+            name,
+            b"\nhint: ",
+            given,
+            b" is not ",
+            asked,
+            b"\n",
+        ],
+    );
+}
+
+/// Prints the help.
+fn tell_help<O: Target, E: Target>(text: &[u8], out: &mut O, err: &mut E) -> u8
+    ensures { TellsHelp O.taken O.failed E.taken E.failed out.old out.new err.old err.new
+        text.now result }
+{
+    match write_all(out, text) {
+        Ok(()) => 0,
+        Err(_) => {
+            put(b"failed Output\n", err);
+            3
+        }
+    }
+}
