@@ -388,13 +388,8 @@ fn write_hint<W: Target>(
     let account = account_in(request);
     match refusal {
         Refusal::UnknownAccount => {
-            write_on(
-                b"hint: if name and file are right, ftd enrol --db ",
-                db,
-                account.as_bytes(),
-                b" START\n",
-                target,
-            )
+            let before = b"hint: if name and file are right, ftd enrol --db ";
+            write_on(before, db, account.as_bytes(), b" START\n", target)
         }
         Refusal::RunDiffers => {
             let before =
@@ -408,14 +403,8 @@ fn write_hint<W: Target>(
         Refusal::CalendarMissing(year) => write_year(db, year, target),
         Refusal::QuarterMissing(quarter) => write_quarter(db, account, quarter, target),
         Refusal::YearNotOpen(year) => {
-            write_number(
-                b"hint: ftd open-year --db ",
-                db,
-                account,
-                year,
-                b"\n",
-                target,
-            )
+            let before = b"hint: ftd open-year --db ";
+            write_number(before, db, account, year, b"\n", target)
         }
         Refusal::YearMissing(year) => {
             write_number(
