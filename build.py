@@ -4,7 +4,7 @@
     ./build.py
 
 It needs Rattle's kit. Each library is proved in a room of its own, a copy of it and of those below with what was built of them,
-without the edits that the prover must refuse and without tests; those with the most to prove behind them go first, two at a time.
+without the edits that the prover must refuse and without tests; those with the most to prove behind them go first, three at a time, and get more of the processors.
 What was proved and built stands in each crate's out/ at the end, so that the next build, and `rt check` in any of them, begin there.
 """
 
@@ -21,6 +21,7 @@ TOP = os.path.dirname(os.path.abspath(__file__))
 PROGRAM = "ftd"
 PARTS = ("src", "specs", "proofs")
 PROCESSORS = len(os.sched_getaffinity(0))
+LANES = 3
 
 
 def crates_below():
@@ -90,6 +91,13 @@ def prove(name, below, room, jobs):
     return status == 0
 
 
+def jobs_for(name, beside, behind):
+    """How many jobs a crate is proved with, beside these others: all processors but one for the crate that has the most to prove behind
+    it, and fewer for the others. A check keeps its jobs busy for a part of its time alone."""
+    before = sum(behind[it] > behind[name] for it in beside)
+    return max(1, PROCESSORS - before - (1 if beside else 0))
+
+
 def main():
     began = time.monotonic()
     below = crates_below()
@@ -98,12 +106,12 @@ def main():
     for name in reversed(wanted):
         behind[name] = lines_of(name) + max((behind[it] for it in wanted if name in below[it]), default=0)
     left, running, proved = sorted(wanted, key=lambda it: -behind[it]), {}, set()
-    with tempfile.TemporaryDirectory() as rooms, concurrent.futures.ThreadPoolExecutor(2) as pool:
+    with tempfile.TemporaryDirectory() as rooms, concurrent.futures.ThreadPoolExecutor(LANES) as pool:
         while left or running:
             ready = [it for it in left if all(other in proved for other in below[it])]
-            for name in ready[: 2 - len(running)]:
-                # one that nothing else can be proved beside gets all processors
-                jobs = PROCESSORS if len(ready) + len(running) == 1 else max(1, PROCESSORS // 2)
+            taken = ready[: LANES - len(running)]
+            for name in taken:
+                jobs = jobs_for(name, [it for it in (*taken, *running.values()) if it != name], behind)
                 left.remove(name)
                 running[pool.submit(prove, name, below, f"{rooms}/{name}", jobs)] = name
             for it in concurrent.futures.wait(running, return_when=concurrent.futures.FIRST_COMPLETED).done:

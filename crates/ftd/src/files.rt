@@ -3,7 +3,7 @@
 use crate::faults::ProgramFault;
 use ftd_desk::Desk;
 use ftd_store::Store;
-use ftd_words::escaped;
+use ftd_words::escaped_word;
 use sqlite::{Connection, Error, ErrorCode, File, FileStore};
 use sqlite_disk::Disk;
 use std::time::Duration;
@@ -28,7 +28,7 @@ pub fn is_new(rt: &HostRuntime, db: &str) -> Result<bool, ProgramFault> {
 
 /// Tells that the file was made, unless there is no memory for the line.
 pub fn tell_made(rt: &HostRuntime, db: &str) {
-    let Ok(db) = escaped(rt.alloc(), db) else {
+    let Ok(db) = escaped_word(rt.alloc(), db) else {
         return;
     };
     // Where standard error fails, the file is there all the same.

@@ -1,7 +1,7 @@
 //! What can be done about a fault of the program: a line that begins with `hint: `.
 
 use crate::faults::ProgramFault;
-use ftd_words::escaped;
+use ftd_words::escaped_word;
 use std::fs::{self, File};
 use std::io::ErrorKind;
 
@@ -35,7 +35,7 @@ fn tell_file(rt: &HostRuntime, name: &str, why: &str) {
     if name.is_empty() {
         return;
     }
-    if let Ok(name) = escaped(rt.alloc(), name) {
+    if let Ok(name) = escaped_word(rt.alloc(), name) {
         let _ = eprint!(rt; "hint: {name}: {why}\n");
     }
 }
@@ -50,12 +50,14 @@ fn reason(kind: ErrorKind) -> &'static str {
     }
 }
 
-/// Why a database file, which is made where it is not there, can't be opened.
+/// Why a database file, which is made where it is not there, can't be opened. Only a file is opened
+/// to see why: a pipe could wait.
 fn file_reason(rt: &HostRuntime, db: &str) -> &'static str {
     match fs::metadata(rt, db) {
         Ok(data) if data.is_dir() => "it is a folder",
+        Ok(data) if !data.is_file() => "it is no file",
         Ok(_) => match File::open(rt, db) {
-            Ok(_) => "it can't be written",
+            Ok(_) => "it, its -wal or its folder can't be written",
             Err(error) => reason(error.kind()),
         },
         Err(error) if error.kind() == ErrorKind::NotFound => "its folder is not there",

@@ -49,15 +49,7 @@ fn input_of(task: &LocalTask) -> &str {
 fn run(rt: &HostRuntime) -> Result<u8, ProgramFault> {
     let words = words(rt)?;
     match decide(rt.alloc(), &words) {
-        Ok(Task::Plain(task)) => plain(rt, &task),
-        Ok(Task::Local(task)) => Ok(match local(rt, &task) {
-            Ok(status) => status,
-            Err(fault) => told(rt, fault, &task.db, input_of(&task)),
-        }),
-        Ok(Task::Serve(task)) => Ok(match serve(rt, &task) {
-            Ok(status) => status,
-            Err(fault) => told(rt, fault, &task.db, ""),
-        }),
+        Ok(task) => Ok(done(rt, &task)),
         Err(fault) => {
             let mut out = Port::new(io::writer(rt));
             let mut err = Port::new(rt.stderr());
@@ -66,14 +58,29 @@ fn run(rt: &HostRuntime) -> Result<u8, ProgramFault> {
     }
 }
 
+/// Does the task, and gives the exit status.
+fn done(rt: &HostRuntime, task: &Task) -> u8 {
+    match task {
+        Task::Plain(task) => plain(rt, task),
+        Task::Local(task) => match local(rt, task) {
+            Ok(status) => status,
+            Err(fault) => told(rt, fault, &task.db, input_of(task)),
+        },
+        Task::Serve(task) => match serve(rt, task) {
+            Ok(status) => status,
+            Err(fault) => told(rt, fault, &task.db, ""),
+        },
+    }
+}
+
 /// Prints the deposits of an account in a year, from the pay runs of standard input.
-fn plain(rt: &HostRuntime, task: &PlainTask) -> Result<u8, ProgramFault> {
+fn plain(rt: &HostRuntime, task: &PlainTask) -> u8 {
     let input = match standard_input(rt) {
         Ok(input) => input,
-        Err(fault) => return Ok(told(rt, fault, "", "standard input")),
+        Err(fault) => return told(rt, fault, "", "standard input"),
     };
     let (out, err) = (Port::new(io::writer(rt)), Port::new(rt.stderr()));
-    Ok(print_plain(rt.alloc(), task, &input, out, err).status)
+    print_plain(rt.alloc(), task, &input, out, err).status
 }
 
 /// Does the job of the task with the desk.

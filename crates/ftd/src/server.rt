@@ -24,25 +24,50 @@ pub fn serve(rt: &HostRuntime, task: &ServeTask) -> Result<u8, ProgramFault> {
         return Err(ProgramFault::Net);
     };
     let is_new = is_new(rt, &task.db)?;
+    let Some(mut taken) = serve_first(rt, task, &listener, is_new)? else {
+        return Ok(3);
+    };
+    // Each turn takes one connection at least.
+    for _ in 0..task.connections {
+        if taken >= task.connections {
+            break;
+        }
+        taken = serve_again(rt, task, &listener, taken)?;
+    }
+    Ok(0)
+}
+
+/// Opens the file, tells at which port the server listens, and serves connections; how many were
+/// taken. None where the port could not be told.
+fn serve_first(
+    rt: &HostRuntime,
+    task: &ServeTask,
+    listener: &TcpListener,
+    is_new: bool,
+) -> Result<Option<u32>, ProgramFault> {
     let mut desk = opened_desk(rt, task, task.wait)?;
     if is_new {
         tell_made(rt, &task.db);
     }
-    if !is_announced(rt, &listener) {
-        closed(desk);
-        return Ok(3);
+    let mut taken = None;
+    if is_announced(rt, listener) {
+        taken = Some(serve_until(rt, task, listener, 0, &mut desk));
     }
-    let mut taken = 0;
-    // Each turn takes one connection at least.
-    for _ in 0..task.connections {
-        taken = serve_until(rt, task, &listener, taken, &mut desk);
-        closed(desk);
-        if taken >= task.connections {
-            break;
-        }
-        desk = opened_desk(rt, task, task.wait.max(REOPENING))?;
-    }
-    Ok(0)
+    closed(desk);
+    Ok(taken)
+}
+
+/// Opens the file again, and serves connections after so many others; how many were taken in all.
+fn serve_again(
+    rt: &HostRuntime,
+    task: &ServeTask,
+    listener: &TcpListener,
+    taken: u32,
+) -> Result<u32, ProgramFault> {
+    let mut desk = opened_desk(rt, task, task.wait.max(REOPENING))?;
+    let taken = serve_until(rt, task, listener, taken, &mut desk);
+    closed(desk);
+    Ok(taken)
 }
 
 /// Whether it was told at which port the server listens.
@@ -83,27 +108,34 @@ fn opened_desk(
     task: &ServeTask,
     wait: u32,
 ) -> Result<Desk<FileStore<File>>, ProgramFault> {
+    let options = short_log(rt)?;
     let conn = opened(rt, &task.db, wait)?;
-    desk_of(rt, with_short_log(rt, conn)?)
+    desk_of(rt, reopened(rt, conn, options)?)
 }
 
-/// A database whose log is copied into its file after fewer frames.
-fn with_short_log(
+/// Options by which a log is copied into its file after fewer frames.
+fn short_log(rt: &HostRuntime) -> Result<Options, Error> {
+    match RandomState::new(rt) {
+        Ok(random) => Ok(Options {
+            checkpoint_frames: LOG_FRAMES,
+            ..Options::new(random.hash_one(&0u8))
+        }),
+        Err(_) => Err(Error::SqliteFailure(ErrorCode::CannotOpen)),
+    }
+}
+
+/// The database of the same files with these options.
+fn reopened(
     rt: &HostRuntime,
     conn: Connection<FileStore<File>>,
+    options: Options,
 ) -> Result<Connection<FileStore<File>>, Error> {
-    let Ok(random) = RandomState::new(rt) else {
-        return Err(Error::SqliteFailure(ErrorCode::CannotOpen));
+    let files = match conn.close_files() {
+        Ok(files) => files,
+        Err((error, _)) => return Err(error),
     };
-    let options = Options {
-        checkpoint_frames: LOG_FRAMES,
-        ..Options::new(random.hash_one(&0u8))
-    };
-    match conn.close_files() {
-        Ok(files) => match Connection::open_files_with(rt.alloc(), files, options, true) {
-            Ok(conn) => Ok(conn),
-            Err((error, _)) => Err(error),
-        },
+    match Connection::open_files_with(rt.alloc(), files, options, true) {
+        Ok(conn) => Ok(conn),
         Err((error, _)) => Err(error),
     }
 }

@@ -1,6 +1,6 @@
 -- The hint of a text whose first record is not the header.
-use Rattle.std.specs.Prelude.{ℕ, ◌==◌, ◌||◌, Bool, List, [], ◌∷◌, ◌++◌, codes}
-use Rattle.std.specs.List.{before_first}
+use Rattle.std.specs.Prelude.{ℕ, ◌==◌, ◌||◌, Bool, List, [], ◌∷◌, ◌++◌, codes, drop}
+use Rattle.std.specs.List.{before_first, prefix_len}
 use Rattle.csv.specs.Reading.{strip_bom}
 use Rattle.ftd_hints.specs.Shown.{shown}
 
@@ -8,9 +8,14 @@ use Rattle.ftd_hints.specs.Shown.{shown}
 abbrev pub is_line_end : ℕ → Bool
 is_line_end byte = (byte == 13) || (byte == 10)
 
--- the first line of a text, without a byte order mark at its start, and without its end
+-- what stands behind the line ends that a text begins with
+abbrev pub from_line : List ℕ → List ℕ
+from_line text = drop (prefix_len is_line_end text) text
+
+-- the first line of a text that is not empty, without a byte order mark at the text's start, and
+-- without its end
 abbrev pub first_line : List ℕ → List ℕ
-first_line text = before_first is_line_end (strip_bom text)
+first_line text = before_first is_line_end (from_line (strip_bom text))
 
 -- what is said of it
 abbrev pub line_text : List ℕ → List ℕ

@@ -1,5 +1,5 @@
 -- The hints of the malformed records of a text.
-use Rattle.std.specs.Prelude.{ℕ, Bool, true, false, ◌&&◌, nat_le, if◌then◌else◌, List, [], ◌∷◌}
+use Rattle.std.specs.Prelude.{ℕ, Bool, true, false, ◌&&◌, ◌==◌, nat_le, if◌then◌else◌, List, [], ◌∷◌}
 use Rattle.std.specs.Prelude.{Option, Some, None, codes, length, take, filter, bytes_eq}
 use Rattle.std.specs.Cmp.Lexicographic.{pointwise}
 use Rattle.std.specs.Fmt.{decimal}
@@ -15,17 +15,26 @@ use Rattle.ftd_hints.specs.Shown.{shown}
 abbrev pub Numbered : Type 0
 Numbered = ℕ × List (List ℕ)
 
--- `hint: record 4: payday is 2024-02-30, and not a day as 2024-05-27`
+-- what is told of a field: its text, or that there is none
+abbrev pub field_text : List ℕ → List ℕ
+field_text [] = codes "empty"
+field_text (byte ∷ text) = shown (byte ∷ text)
+
+-- `hint: record 4: payday is 2024-02-30, and not a day of 1900 to 2199 as 2024-05-27`
 unfoldable pub field_hint : ℕ → ℕ → List ℕ → List ℕ
 field_hint number field text =
     concat (codes "hint: record " ∷ decimal number ∷ codes ": " ∷ field_name field ∷ codes " is "
-    ∷ shown text ∷ codes ", and not " ∷ asked_in field ∷ (10 ∷ []) ∷ [])
+    ∷ field_text text ∷ codes ", and not " ∷ asked_in field ∷ (10 ∷ []) ∷ [])
 
 -- `hint: record 5 has 3 fields, and not 6`
+abbrev pub and_not_six : ℕ → List ℕ
+and_not_six width =
+    if width == 1 then codes " field, and not 6\n" else codes " fields, and not 6\n"
+
 unfoldable pub width_hint : ℕ → ℕ → List ℕ
 width_hint number width =
     concat (codes "hint: record " ∷ decimal number ∷ codes " has " ∷ decimal width
-    ∷ codes " fields, and not 6\n" ∷ [])
+    ∷ and_not_six width ∷ [])
 
 -- the hint of a record whose bad field has this number: the text of the field, or, where there is
 -- none since the record has other than six fields, how many it has

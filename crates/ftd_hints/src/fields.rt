@@ -22,9 +22,12 @@ pub fn asked_in(field: u8) -> &'static [u8]
     ensures { result.now ≡ asked_in field }
 {
     match field {
-        1 => b"an account name",
+        1 => {
+            b"an account name: 1 to 20 bytes, a lower-case letter, \
+              then lower-case letters, digits or hyphens"
+        }
         2 => b"a number of 1 to 999999999",
-        3 => b"a day as 2024-05-27",
-        _ => b"an amount as 1234.56",
+        3 => b"a day of 1900 to 2199 as 2024-05-27",
+        _ => b"an amount of at most 999999999.99 as 1234.56",
     }
 }

@@ -1,18 +1,19 @@
 //! The hint of a text whose first record is not the header.
 
 ghost use Rattle.std.specs.Prelude.{◌≡◌, true, OnOk, OnErr};
-ghost use Rattle.std.specs.List.{position_or_len};
+ghost use Rattle.std.specs.List.{position_or_len, prefix_len};
 ghost use Rattle.std.specs.Io.KnownBytes.{Appends};
 ghost use Rattle.csv.specs.Reading.{strip_bom};
 ghost use Rattle.ftd_ports.specs.Writing.{WritesPrefix};
-ghost use Rattle.ftd_hints.specs.Headers.{first_line, header_hint, is_line_end};
+ghost use Rattle.ftd_hints.specs.Headers.{first_line, from_line, header_hint, is_line_end};
 
 use crate::shown::{MOST_SHOWN, show};
 use ftd_ports::{Target, WriteFault, write_all, write_pieces};
 
 /// Writes the hint of a text whose first record is not the header: which header is asked for, and
-/// the first line of the text, or that the text is empty. It takes no memory but what the target
-/// takes. Where the target fails, a prefix of the hint was written, and it fails nowhere else.
+/// the first line of the text that is not empty, or that the text is empty. It takes no memory but
+/// what the target takes. Where the target fails, a prefix of the hint was written, and it fails
+/// nowhere else.
 pub fn write_header_hint<W: Target>(text: &[u8], target: &mut W) -> Result<(), WriteFault>
     ensures ok { OnOk result
         (Appends (W.taken target.old) (W.taken target.new) (header_hint text.now)) }
@@ -38,12 +39,27 @@ pub fn write_header_hint<W: Target>(text: &[u8], target: &mut W) -> Result<(), W
     )
 }
 
-/// The first line of the text, without a byte order mark at its start, and without its end.
+/// The first line of the text that is not empty, without a byte order mark at the text's start, and
+/// without its end.
 fn first_line(text: &[u8]) -> &[u8]
     ensures { result.now ≡ first_line text.now }
 {
-    let text = without_mark(text);
+    let text = from_line(without_mark(text));
     &text[..line_length(text)]
+}
+
+/// What stands behind the line ends that the text begins with.
+fn from_line(text: &[u8]) -> &[u8]
+    ensures { result.now ≡ from_line text.now }
+{
+    &text[line_ends(text)..]
+}
+
+/// How many line ends the text begins with.
+fn line_ends(text: &[u8]) -> usize
+    ensures { result ≡ prefix_len is_line_end text.now }
+{
+    text.iter().take_while(|byte| is_line_end(**byte)).count()
 }
 
 /// The text without a byte order mark at its start.

@@ -5,7 +5,8 @@ ghost use Rattle.std.specs.Io.KnownBytes.{Appends};
 ghost use Rattle.ftd_csv.specs.Fields.{numbered_field};
 ghost use Rattle.ftd_csv.specs.Places.{CanAdvance, fields_at, number_of};
 ghost use Rattle.ftd_ports.specs.Writing.{WritesPrefix};
-ghost use Rattle.ftd_hints.specs.Hints.{field_hint, record_hints, text_hint, width_hint};
+ghost use Rattle.ftd_hints.specs.Hints.{and_not_six, field_hint, field_text, record_hints};
+ghost use Rattle.ftd_hints.specs.Hints.{text_hint, width_hint};
 ghost use Rattle.ftd_hints.specs.Places.{hints_left};
 
 use crate::fields::{asked_in, field_name};
@@ -116,6 +117,17 @@ fn write_hint<W: Target>(records: &Records<'_>, field: u8, target: &mut W) -> Re
     }
 }
 
+/// The end of the hint of a record that has so many fields.
+fn and_not_six(width: usize) -> &'static [u8]
+    ensures { result.now ≡ and_not_six width }
+{
+    if width == 1 {
+        b" field, and not 6\n"
+    } else {
+        b" fields, and not 6\n"
+    }
+}
+
 /// Writes the hint of a record that has other than six fields.
 fn write_width_hint<W: Target>(number: u32, width: usize, target: &mut W) -> Result<(), WriteFault>
     ensures ok { OnOk result
@@ -126,17 +138,28 @@ fn write_width_hint<W: Target>(number: u32, width: usize, target: &mut W) -> Res
 {
     let (mut number_digits, mut width_digits) = (Buffer::new(), Buffer::new());
     let number = number_digits.format(number).as_bytes();
-    let width = width_digits.format(width).as_bytes();
+    let digits = width_digits.format(width).as_bytes();
     write_pieces(
         target,
         &[
             b"hint: record ",
             number,
             b" has ",
-            width,
-            b" fields, and not 6\n",
+            digits,
+            and_not_six(width),
         ],
     )
+}
+
+/// What is told of a field: its text, or that there is none.
+fn field_text<'a>(text: &[u8], buffer: &'a mut [u8; MOST_SHOWN]) -> &'a [u8]
+    ensures { result.now ≡ field_text text.now }
+{
+    if text.is_empty() {
+        b"empty"
+    } else {
+        show(text, buffer)
+    }
 }
 
 /// Writes the hint of a record with a bad field.
@@ -156,7 +179,7 @@ fn write_field_hint<W: Target>(
     let mut digits = Buffer::new();
     let mut buffer = [0; MOST_SHOWN];
     let number = digits.format(number).as_bytes();
-    let shown = show(text, &mut buffer);
+    let told = field_text(text, &mut buffer);
     write_pieces(
         target,
         &[
@@ -165,7 +188,7 @@ fn write_field_hint<W: Target>(
             b": ",
             field_name(field),
             b" is ",
-            shown,
+            told,
             b", and not ",
             asked_in(field),
             b"\n",

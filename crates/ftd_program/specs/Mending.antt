@@ -1,37 +1,74 @@
 -- What is asked of the desk for the hints of a refusal.
-use Rattle.std.specs.Prelude.{◌≡◌, ℕ, IsTrue, List, Some, Ok, Err, ⊤}
+use Rattle.std.specs.Prelude.{◌≡◌, ◌≤◌, ℕ, nat_lt, IsTrue, List, Option, None, Some, Result}
+use Rattle.std.specs.Prelude.{Ok, Err, ⊤, if◌then◌else◌}
 use Rattle.sqlite.specs.State.{HasCleanDisk}
 use Rattle.ftd_machine.specs.State.{State, calendar_at, entries_of}
 use Rattle.ftd_machine.specs.Checks.{Answer}
-use Rattle.ftd_machine.specs.Runs.{Goes}
+use Rattle.ftd_machine.specs.Runs.{Goes, IsFault}
 use Rattle.ftd_machine.specs.declared.replies.Refusal.{Refusal}
 use Rattle.ftd_machine.specs.declared.replies.Refusal.TheVariants.{CalendarDiffers, QuarterMissing}
+use Rattle.ftd_machine.specs.declared.replies.Refusal.TheVariants.{YearNotOpen}
 use Rattle.ftd_machine.specs.declared.requests.Request.{Request}
 use Rattle.ftd_machine.specs.declared.requests.Request.TheVariants.{Calendar, OpenYear}
-use Rattle.ftd_questions.specs.Missing.{missing_from}
+use Rattle.ftd_questions.specs.Missing.{first_year, missing_from}
 use Rattle.ftd_desk.specs.Desks.{Held, Keeps}
+use Rattle.ftd_replies.specs.Hints.{account_in}
 use Rattle.ftd_replies.specs.declared.hints.Known.{Known}
-use Rattle.ftd_replies.specs.declared.hints.Known.TheVariants.{Nothing, Missing, Given}
+use Rattle.ftd_replies.specs.declared.hints.Known.TheVariants.{Nothing, Missing, Given, Begins}
 
--- where a year could not be opened, the quarters of its lookback period that are still to be
--- reported; where a calendar differs, the days that it was given with; else, and for want of memory
--- or after a fault of the store, nothing
+-- these quarters are what is known
+abbrev pub ShowsQuarters : List ℕ → Known → Type 0
+ShowsQuarters sought (Missing quarters) = quarters.items ≡ sought
+ShowsQuarters sought Nothing = ⊥
+ShowsQuarters sought (Given days) = ⊥
+ShowsQuarters sought (Begins year) = ⊥
+
+-- these days are what is known, or nothing is where there are none
+abbrev pub ShowsDays : Option (List ℕ) → Known → Type 0
+ShowsDays (Some sought) (Given days) = days.items ≡ sought
+ShowsDays (Some sought) Nothing = ⊥
+ShowsDays (Some sought) (Missing quarters) = ⊥
+ShowsDays (Some sought) (Begins year) = ⊥
+ShowsDays None known = known ≡ Nothing
+
+-- where a year could not be opened, the quarters of its lookback period from this one on that are
+-- still to be reported
+abbrev pub KnowsQuarters : State → Request → ℕ → Known → Type 0
+KnowsQuarters s (OpenYear account year) first known =
+    2001 ≤ year → year ≤ 2098
+    → ShowsQuarters (missing_from (entries_of s account) first year) known
+KnowsQuarters s _ first known = known ≡ Nothing
+
+-- where a calendar differs, the days that it was given with
+abbrev pub KnowsDays : State → Request → Known → Type 0
+KnowsDays s (Calendar year days) known = ShowsDays (calendar_at s year) known
+KnowsDays s _ known = known ≡ Nothing
+
+-- where a year is not open, the first of the account's years, if that is a later one
+abbrev pub begins_after : ℕ → Option ℕ → Known
+begins_after year None = Nothing
+begins_after year (Some first) = if nat_lt year first then Begins first else Nothing
+
+-- what is known for a refusal of the request in this state
 abbrev pub KnowsFor : State → Request → Refusal → Known → Type 0
-KnowsFor s request refusal Nothing = ⊤
-KnowsFor s request refusal (Missing quarters) =
-    (account : List ℕ) × (year : ℕ) × (first : ℕ) × (request ≡ OpenYear account year)
-    × (refusal ≡ QuarterMissing first)
-    × (quarters.items ≡ missing_from (entries_of s account) first year)
-KnowsFor s request refusal (Given given) =
-    (year : ℕ) × (days : List ℕ) × (request ≡ Calendar year days) × (refusal ≡ CalendarDiffers)
-    × (calendar_at s year ≡ Some given.items)
+KnowsFor s request (QuarterMissing first) known = KnowsQuarters s request first known
+KnowsFor s request CalendarDiffers known = KnowsDays s request known
+KnowsFor s request (YearNotOpen year) known =
+    known ≡ begins_after year (first_year (entries_of s (account_in request)))
+KnowsFor s request _ known = known ≡ Nothing
 
--- what is known is so of the state after the request
-abbrev pub KnowsOf : State → Request → Answer → Known → Type 0
+-- what is known is so of the state after the request; in its place a fault may come
+abbrev pub KnowsOf : State → Request → Answer → Result Known Refusal → Type 0
 KnowsOf s request (Ok reply) known = ⊤
-KnowsOf s request (Err refusal) known = KnowsFor s request refusal known
+KnowsOf s request (Err refusal) (Ok known) = KnowsFor s request refusal known
+KnowsOf s request (Err refusal) (Err fault) = IsFault (Err fault)
 
-abbrev pub KnowsAfter : Held → Held → Request → Answer → Known → Type 0
+abbrev pub KnowsAfter : Held → Held → Request → Answer → Result Known Refusal → Type 0
 KnowsAfter old new request answer known =
     HasCleanDisk new.db → IsTrue new.db.is_open → (s : State) → Keeps old s
     → (next : State) × Goes s request answer next × KnowsOf next request answer known
+
+-- what the hints are made of: nothing where a fault came
+abbrev pub or_nothing : Result Known Refusal → Known
+or_nothing (Ok known) = known
+or_nothing (Err fault) = Nothing

@@ -32,7 +32,7 @@ use Rattle.ftd_replies.specs.Refusals.{refusal_status}
 use Rattle.ftd_replies.specs.Replies.{reply_text}
 use Rattle.ftd_replies.specs.declared.hints.Known.{Known}
 use Rattle.ftd_replies.specs.declared.hints.Known.TheVariants.{Nothing}
-use Rattle.ftd_program.specs.Mending.{KnowsAfter}
+use Rattle.ftd_program.specs.Mending.{KnowsAfter, KnowsOf, or_nothing}
 use Rattle.ftd_program.specs.Summaries.{stop_status, stop_text, summary_status, summary_text}
 use Rattle.ftd_program.specs.declared.performing.Performed.{Performed}
 
@@ -105,9 +105,9 @@ module _ {O E : Type 0} (o_taken : O → Option (List ℕ)) (o_failed : O → Bo
   pub record Performs (old new : Held) (db : List ℕ) (request : Request) : Type 0 where
     pub answer : Answer
     pub handles : Handles old new request answer
-    pub known : Known
+    pub known : Result Known Refusal
     pub knows : KnowsAfter old new request answer known
-    pub prints : Prints db request known answer
+    pub prints : Prints db request (or_nothing known) answer
 
   -- a prefix of the due list was printed: there was no memory, or the store failed, in the middle
   -- of it
@@ -126,13 +126,16 @@ module _ {O E : Type 0} (o_taken : O → Option (List ℕ)) (o_failed : O → Bo
     pub reason : (o_failed p.out ≡ true) ⊎ (amounts_end ≤ sum_by amount_of rows)
     pub line : IsPut (e_taken err) (e_taken p.err) (e_failed p.err) (codes "failed Output\n")
 
-  -- what was printed of a due list: all of it; why it was refused; a prefix of it, or nothing,
-  -- since there was no memory or the store failed; a prefix of it, since standard output failed
+  -- what was printed of a due list: all of it; why it was refused, with what is known for the
+  -- hints; a prefix of it, or nothing, since there was no memory or the store failed; a prefix of
+  -- it, since standard output failed
   pub data PrintsDue (s : State) (db account : List ℕ) (quarter as_of : ℕ) : Type 0 where
     whole : (rows : List DueRow) → Replies s account quarter as_of rows
         → PrintsText 0 (due_text account quarter as_of rows) → PrintsDue s db account quarter as_of
-    refused : (refusal : Refusal) → Refuses s account quarter as_of refusal
-        → PrintsRefusal db (DueList account quarter as_of) Nothing refusal
+    refused : (refusal : Refusal) (known : Result Known Refusal)
+        → Refuses s account quarter as_of refusal
+        → KnowsOf s (DueList account quarter as_of) (Err refusal) known
+        → PrintsRefusal db (DueList account quarter as_of) (or_nothing known) refusal
         → PrintsDue s db account quarter as_of
     unbegun : (refusal : Refusal) → IsFault (Err refusal)
         → PrintsRefusal db (DueList account quarter as_of) Nothing refusal

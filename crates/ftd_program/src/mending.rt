@@ -1,70 +1,103 @@
 //! What is asked of the desk for the hints of a refusal.
 
-ghost use Rattle.std.specs.Prelude.{IsTrue, List, ℕ};
+ghost use Rattle.std.specs.Prelude.{◌≡◌, Err, IfErr, IfOk, IsTrue};
 ghost use Rattle.sqlite.specs.State.{HasCleanDisk};
-ghost use Rattle.ftd_machine.specs.State.{State};
-ghost use Rattle.ftd_machine.specs.declared.replies.Refusal.TheVariants.{CalendarDiffers};
-ghost use Rattle.ftd_machine.specs.declared.replies.Refusal.TheVariants.{QuarterMissing};
-ghost use Rattle.ftd_machine.specs.declared.requests.Request.TheVariants.{Calendar, OpenYear};
+ghost use Rattle.ftd_machine.specs.Runs.{IsFault};
+ghost use Rattle.ftd_machine.specs.State.{State, entries_of};
 ghost use Rattle.ftd_desk.specs.Desks.{Keeps, held};
 ghost use Rattle.ftd_desk.specs.Telling.{StandsAsBefore};
-ghost use Rattle.ftd_program.specs.Mending.{KnowsFor};
+ghost use Rattle.ftd_questions.specs.Missing.{first_year};
+ghost use Rattle.ftd_program.specs.Mending.{KnowsDays, KnowsFor, KnowsQuarters, begins_after};
+ghost use Rattle.ftd_program.specs.Mending.{or_nothing};
 
 use ftd_days::Quarter;
 use ftd_desk::Desk;
 use ftd_machine::{Refusal, Request};
-use ftd_replies::Known;
+use ftd_replies::{Known, account_in};
 use sqlite::Alter;
 
-/// What the desk keeps that the refusal of a request can be mended by. Nothing where memory is
-/// refused or the store fails.
-pub fn known_for<S: Alter>(desk: &mut Desk<S>, request: &Request, refusal: Refusal) -> Known
+/// What the desk keeps that the refusal of a request can be mended by. `Memory` and `Store` may
+/// come in place of it. The tables stay as they are.
+pub fn known_for<S: Alter>(
+    desk: &mut Desk<S>,
+    request: &Request,
+    refusal: Refusal,
+) -> Result<Known, Refusal>
     ensures knows { HasCleanDisk (held S.Store desk.new).db
         → IsTrue (held S.Store desk.new).db.is_open
         → (s : State) → Keeps (held S.Store desk.old) s
-        → KnowsFor s request.now refusal result }
+        → IfOk result (KnowsFor s request.now refusal) }
+    ensures fault { IfErr result (λ fault. IsFault (Err fault)) }
     ensures stands { StandsAsBefore (held S.Store desk.old) (held S.Store desk.new) }
 {
     match refusal {
-        Refusal::QuarterMissing(first) => match request {
-            Request::OpenYear { account, year } => missing(desk, account.as_str(), first, *year),
-            _ => Known::Nothing,
-        },
-        Refusal::CalendarDiffers => match request {
-            Request::Calendar { year, .. } => given(desk, *year),
-            _ => Known::Nothing,
-        },
-        _ => Known::Nothing,
+        Refusal::QuarterMissing(first) => quarters_for(desk, request, first),
+        Refusal::CalendarDiffers => days_for(desk, request),
+        Refusal::YearNotOpen(year) => beginning(desk, account_in(request), year),
+        _ => Ok(Known::Nothing),
     }
 }
 
-/// The quarters that are still to be reported before the year can be opened.
-fn missing<S: Alter>(desk: &mut Desk<S>, account: &str, first: Quarter, year: u32) -> Known
+/// Of a year that could not be opened, the quarters of its lookback period, from this one on, that
+/// are still to be reported.
+fn quarters_for<S: Alter>(
+    desk: &mut Desk<S>,
+    request: &Request,
+    first: Quarter,
+) -> Result<Known, Refusal>
     ensures knows { HasCleanDisk (held S.Store desk.new).db
         → IsTrue (held S.Store desk.new).db.is_open
         → (s : State) → Keeps (held S.Store desk.old) s
-        → KnowsFor s (OpenYear account.now year) (QuarterMissing first) result }
+        → IfOk result (KnowsQuarters s request.now first) }
+    ensures fault { IfErr result (λ fault. IsFault (Err fault)) }
     ensures stands { StandsAsBefore (held S.Store desk.old) (held S.Store desk.new) }
 {
-    if year < 2001 || 2098 < year {
-        return Known::Nothing;
-    }
-    match desk.missing_quarters(account, first, year) {
-        Ok(quarters) => Known::Missing(quarters),
-        Err(_) => Known::Nothing,
+    match request {
+        Request::OpenYear { account, year } if 2001 <= *year && *year <= 2098 => {
+            let quarters = desk.missing_quarters(account.as_str(), first, *year)?;
+            Ok(Known::Missing(quarters))
+        }
+        _ => Ok(Known::Nothing),
     }
 }
 
-/// The days that the year's calendar was given with.
-fn given<S: Alter>(desk: &mut Desk<S>, year: u32) -> Known
+/// Of a calendar that differs, the days that it was given with.
+fn days_for<S: Alter>(desk: &mut Desk<S>, request: &Request) -> Result<Known, Refusal>
     ensures knows { HasCleanDisk (held S.Store desk.new).db
         → IsTrue (held S.Store desk.new).db.is_open
         → (s : State) → Keeps (held S.Store desk.old) s
-        → (days : List ℕ) → KnowsFor s (Calendar year days) CalendarDiffers result }
+        → IfOk result (KnowsDays s request.now) }
+    ensures fault { IfErr result (λ fault. IsFault (Err fault)) }
     ensures stands { StandsAsBefore (held S.Store desk.old) (held S.Store desk.new) }
 {
-    match desk.given_days(year) {
-        Ok(Some(days)) => Known::Given(days),
-        _ => Known::Nothing,
+    let Request::Calendar { year, .. } = request else {
+        return Ok(Known::Nothing);
+    };
+    match desk.given_days(*year)? {
+        Some(days) => Ok(Known::Given(days)),
+        None => Ok(Known::Nothing),
     }
+}
+
+/// Of a year that is not open, the first of the account's years, if that is a later one.
+fn beginning<S: Alter>(desk: &mut Desk<S>, account: &str, year: u32) -> Result<Known, Refusal>
+    ensures knows { HasCleanDisk (held S.Store desk.new).db
+        → IsTrue (held S.Store desk.new).db.is_open
+        → (s : State) → Keeps (held S.Store desk.old) s
+        → IfOk result (λ known.
+        known ≡ begins_after year (first_year (entries_of s account.now))) }
+    ensures fault { IfErr result (λ fault. IsFault (Err fault)) }
+    ensures stands { StandsAsBefore (held S.Store desk.old) (held S.Store desk.new) }
+{
+    match desk.first_year(account)? {
+        Some(first) if year < first => Ok(Known::Begins(first)),
+        _ => Ok(Known::Nothing),
+    }
+}
+
+/// What the hints are made of: nothing where a fault came.
+pub fn or_nothing(known: Result<Known, Refusal>) -> Known
+    ensures { result ≡ or_nothing known }
+{
+    known.unwrap_or(Known::Nothing)
 }

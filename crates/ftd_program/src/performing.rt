@@ -14,7 +14,7 @@ ghost use Rattle.ftd_replies.specs.Putting.{IsPut};
 ghost use Rattle.ftd_replies.specs.Replies.{reply_text};
 ghost use Rattle.ftd_program.specs.Summaries.{stop_status, stop_text, summary_status};
 
-use crate::mending::known_for;
+use crate::mending::{known_for, or_nothing};
 use crate::summaries::{write_bad_header, write_summary};
 use ftd_days::{Day, Quarter};
 use ftd_desk::{Desk, DueFault};
@@ -108,7 +108,7 @@ fn answer<S: Alter, O: Target, E: Target>(
     match &answer {
         Ok(reply) => print_reply(request, reply, out, err),
         Err(refusal) => {
-            let known = known_for(desk, request, *refusal);
+            let known = or_nothing(known_for(desk, request, *refusal));
             print_refusal(db, request, refusal, &known, out, err)
         }
     }
@@ -142,7 +142,8 @@ fn list_due<S: Alter, O: Target, E: Target>(
         },
         Err(DueFault::Refused(refusal)) => {
             let out = text.into_writer();
-            print_refusal(db, request, &refusal, &Known::Nothing, out, err)
+            let known = or_nothing(known_for(desk, request, refusal));
+            print_refusal(db, request, &refusal, &known, out, err)
         }
         Err(DueFault::Sink) => fail_output(text.into_writer(), err),
     }

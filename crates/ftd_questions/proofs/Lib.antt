@@ -15,6 +15,7 @@ mod OwedDays
 mod NextDays
 mod Walked
 mod DueListed
+mod FirstYears
 mod FoundRows
 mod DueTold
 mod Dropped

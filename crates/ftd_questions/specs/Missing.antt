@@ -1,8 +1,12 @@
 -- What is kept that a refusal can be mended by: the quarters whose totals are still to be reported,
--- and the days that a calendar was given with.
-use Rattle.std.specs.Prelude.{◌≡◌, ◌&&◌, ℕ, nat_le, Bool, List, Option, Vec, filter, map}
+-- the days that a calendar was given with, and the first year of an account.
+use Rattle.std.specs.Prelude.{◌≡◌, ◌&&◌, ℕ, nat_le, Bool, List, [], ◌∷◌, Option, None, Some, Vec}
+use Rattle.std.specs.Prelude.{filter, map}
 use Rattle.std.specs.Option.{is_none}
+use Rattle.ftd_days.specs.Calendar.{year_of}
 use Rattle.ftd_days.specs.declared.cents.Cents.{Cents}
+use Rattle.ftd_machine.specs.declared.entries.Account.{Account}
+use Rattle.ftd_machine.specs.History.{year_of_entry}
 use Rattle.ftd_rules.specs.Lookback.{lookback_quarters}
 use Rattle.ftd_schema.specs.Standing.{Tables}
 use Rattle.ftd_machine.specs.State.{State, Entries, entries_of, kept_at}
@@ -30,3 +34,18 @@ abbrev pub KnowsMissing : {A : Type 0} → List ℕ → ℕ → ℕ → Vec ℕ 
 KnowsMissing name first year quarters t =
     (s : State) → StandsFor t s → IsSound s
     → quarters.items ≡ missing_from (entries_of s name) first year
+
+-- the first of an account's years: the first that was opened, and where none is, that of the
+-- employer's first day. No year before it can be opened.
+abbrev pub first_among : Option Account → List ℕ → Option ℕ
+first_among None years = None
+first_among (Some account) [] = Some (year_of account.start)
+first_among (Some account) (year ∷ years) = Some year
+
+abbrev pub first_year : Entries → Option ℕ
+first_year own = first_among own.account (map year_of_entry own.open_years)
+
+-- it is that of each state for which the tables stand
+abbrev pub KnowsFirstYear : List ℕ → Option ℕ → Tables → Type 0
+KnowsFirstYear name year t =
+    (s : State) → StandsFor t s → IsSound s → year ≡ first_year (entries_of s name)

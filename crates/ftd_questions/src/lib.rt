@@ -17,6 +17,6 @@ mod walking;
 pub use crate::due::due_list;
 pub use crate::faults::{DueFault, refusal_of};
 pub use crate::liable::schedule_b;
-pub use crate::missing::{given_days, missing_quarters};
+pub use crate::missing::{first_year, given_days, missing_quarters};
 pub use crate::schedules::status;
 pub use crate::telling::due_into;

@@ -1,17 +1,22 @@
 //! What is kept that a refusal can be mended by: the quarters of a lookback period whose totals are
-//! still to be reported, and the days that a calendar was given with.
+//! still to be reported, the days that a calendar was given with, and the first year of an account.
 
-ghost use Rattle.std.specs.Prelude.{◌≡◌, ◌≤◌, IfOk, option_map};
+ghost use Rattle.std.specs.Prelude.{◌≡◌, ◌≤◌, Err, IfErr, IfOk, map, option_map};
 ghost use Rattle.ftd_store.specs.Frame.{Reads};
 ghost use Rattle.ftd_store.specs.Seen.{seen};
+ghost use Rattle.ftd_machine.specs.History.{year_of_line};
+ghost use Rattle.ftd_machine.specs.Runs.{IsFault};
 ghost use Rattle.ftd_machine.specs.State.{State, calendar_at, entries_of};
 ghost use Rattle.ftd_entries.specs.Words.{IsKept};
-ghost use Rattle.ftd_questions.specs.Missing.{KnowsMissing, are_missing, missing_from};
+ghost use Rattle.ftd_questions.specs.Missing.{KnowsFirstYear, KnowsMissing, are_missing};
+ghost use Rattle.ftd_questions.specs.Missing.{first_among, first_year, missing_from};
 ghost use Rattle.ftd_questions.specs.Walks.{Stays, IsSeen};
 
 use crate::faults::refusal_of;
 use ftd_days::{Cents, Day, Quarter};
-use ftd_machine::Refusal;
+use ftd_entries::known;
+use ftd_machine::{Account, Refusal};
+use ftd_rules::YearLine;
 use ftd_store::{Store, StoreFault, Tx};
 use sqlite::Alter;
 use std::alloc::{AllocError, Global};
@@ -77,6 +82,7 @@ pub fn missing_quarters<S: Alter>(
         → IsKept (seen S.Store store.old).now s
         → IfOk result (λ quarters.
         quarters.items ≡ missing_from (entries_of s name.now) first year) }
+    ensures fault { IfErr result (λ refusal. IsFault (Err refusal)) }
     ensures stays { Stays (seen S.Store store.old) (seen S.Store store.new) }
 {
     let mut tx = match store.begin() {
@@ -100,6 +106,7 @@ pub fn given_days<S: Alter>(
     ensures knows { IsSeen (seen S.Store store.new) → (s : State)
         → IsKept (seen S.Store store.old).now s
         → IfOk result (λ days. calendar_at s year ≡ option_map (λ it. it.items) days) }
+    ensures fault { IfErr result (λ refusal. IsFault (Err refusal)) }
     ensures stays { Stays (seen S.Store store.old) (seen S.Store store.new) }
 {
     let mut tx = match store.begin() {
@@ -108,6 +115,56 @@ pub fn given_days<S: Alter>(
     };
     match tx.calendar(alloc, year) {
         Ok(days) => Ok(days),
+        Err(fault) => Err(refusal_of(fault)),
+    }
+}
+
+/// The first of an account's years, by the lines of those that are open, by year. Where there are
+/// none, it is that of the employer's first day.
+fn first_among(account: Option<Account>, lines: &[YearLine]) -> Option<u32>
+    ensures { result ≡ first_among account (map year_of_line lines.now) }
+{
+    let account = account?;
+    match lines.first() {
+        Some(line) => Some(line.year),
+        None => Some(account.start.year()),
+    }
+}
+
+/// The first of the account's years. None where it is not enrolled.
+fn first_year_in<S: Alter>(
+    tx: &mut Tx<'_, S>,
+    alloc: Global,
+    name: &str,
+) -> Result<Option<u32>, StoreFault>
+    ensures call { Reads S.Store tx.old tx.new result (KnowsFirstYear name.now) }
+{
+    let account = known(tx, name)?;
+    let lines = tx.years(alloc, name)?;
+    Ok(first_among(account, &lines))
+}
+
+/// The first year of the account that is open, and where none is, the year of the employer's first
+/// day: no year before it can be opened. None where the account is not enrolled. It is read in a
+/// transaction that is dropped. `Memory` and `Store` where there was no memory or the store failed.
+/// The tables stay as they are, whatever comes of it.
+pub fn first_year<S: Alter>(
+    store: &mut Store<S>,
+    alloc: Global,
+    name: &str,
+) -> Result<Option<u32>, Refusal>
+    ensures knows { IsSeen (seen S.Store store.new) → (s : State)
+        → IsKept (seen S.Store store.old).now s
+        → IfOk result (λ year. year ≡ first_year (entries_of s name.now)) }
+    ensures fault { IfErr result (λ refusal. IsFault (Err refusal)) }
+    ensures stays { Stays (seen S.Store store.old) (seen S.Store store.new) }
+{
+    let mut tx = match store.begin() {
+        Ok(tx) => tx,
+        Err(fault) => return Err(refusal_of(fault)),
+    };
+    match first_year_in(&mut tx, alloc, name) {
+        Ok(year) => Ok(year),
         Err(fault) => Err(refusal_of(fault)),
     }
 }

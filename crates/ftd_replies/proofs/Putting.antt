@@ -1,18 +1,7 @@
--- A text that was put: whole, or a prefix of it where its target failed.
-use Rattle.std.proofs.Common.{◌≡◌, inl, inr, ℕ, ◌+◌, ◌<◌, Bool, true, List, ◌++◌, Option, Result, Ok}
-use Rattle.std.proofs.Common.{Err, ◌∷◌, ◌∙◌, sym, suc, ap, add-one, drop, drop-cons, get_or, length}
+-- The texts of a list, one after the other.
+use Rattle.std.proofs.Common.{◌≡◌, ℕ, ◌+◌, ◌<◌, List, ◌++◌, ◌∷◌, ◌∙◌, sym, suc, ap, add-one, drop}
+use Rattle.std.proofs.Common.{drop-cons, get_or, length}
 use Rattle.std.specs.List.{flat_map}
-use Rattle.std.specs.Prelude.{OnOk, OnErr}
-use Rattle.std.specs.Io.KnownBytes.{Appends}
-use Rattle.ftd_ports.specs.Writing.{WritesPrefix}
-use Rattle.ftd_replies.specs.Putting.{IsPut}
-
-pub is_put : {T E : Type 0} (r : Result T E) (before after : Option (List ℕ)) (failed : Bool)
-    (text : List ℕ)
-    → OnOk r (Appends before after text) → OnErr r (WritesPrefix before after text)
-    → OnErr r (failed ≡ true) → IsPut before after failed text
-is_put (Ok x) before after failed text whole part fails = inl whole
-is_put (Err e) before after failed text whole part fails = inr (part, fails)
 
 -- the texts of a list from a place on, of which this one comes first
 pub texts_on : {X : Type 0} (text : X → List ℕ) (xs : List X) (i : ℕ) (x : X) → i < length xs

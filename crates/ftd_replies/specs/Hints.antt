@@ -12,7 +12,7 @@ use Rattle.ftd_machine.specs.declared.requests.Request.{Request}
 use Rattle.ftd_machine.specs.declared.requests.Request.TheVariants as request
 use Rattle.ftd_replies.specs.Refusals.{refusal_text}
 use Rattle.ftd_replies.specs.declared.hints.Known.{Known}
-use Rattle.ftd_replies.specs.declared.hints.Known.TheVariants.{Nothing, Missing, Given}
+use Rattle.ftd_replies.specs.declared.hints.Known.TheVariants.{Nothing, Missing, Given, Begins}
 
 -- ---- commands to be typed
 
@@ -120,10 +120,16 @@ quarter_hint db account quarter =
     command_of (codes "hint: ftd report --db ") db account (quarter_text quarter)
     (codes " AMOUNT\n")
 
+-- what stands behind the account in the command that enrols it: the form, where a year's total is
+-- reported, which is one of Form 943
+abbrev pub enrolled_as : Request → List ℕ
+enrolled_as (request.ReportYear account year cents) = codes " START --form 943\n"
+enrolled_as _ = codes " START\n"
+
 unfoldable pub hint_text : List ℕ → Request → Refusal → List ℕ
 hint_text db asked refusal.UnknownAccount =
     command_on (codes "hint: if name and file are right, ftd enrol --db ") db (account_in asked)
-    (codes " START\n")
+    (enrolled_as asked)
 hint_text db asked refusal.RunDiffers =
     command_of (codes "hint: take a new number; if the run that has it is wrong, ftd void --db ") db
     (account_in asked) (decimal (number_in asked)) (codes "\n")
@@ -168,12 +174,20 @@ abbrev pub differing_text : List ℕ → List ℕ → List ℕ → List ℕ
 differing_text db days given =
     new_text db (first_beside days given) ++ left_out_text (first_beside given days)
 
+-- the first of the account's years
+abbrev pub first_text : ℕ → List ℕ
+first_text first =
+    concat
+    (codes "hint: the account's first year is " ∷ decimal first
+    ∷ codes ": none before it can be opened\n" ∷ [])
+
 -- the hints of a refusal, with what is known for them
 unfoldable pub hints_text : List ℕ → Request → Refusal → Known → List ℕ
 hints_text db asked refusal Nothing = hint_text db asked refusal
 hints_text db asked refusal (Missing quarters) =
     flat_map (quarter_hint db (account_in asked)) quarters.items
 hints_text db asked refusal (Given given) = differing_text db (days_in asked) given.items
+hints_text db asked refusal (Begins first) = first_text first
 
 -- the line of a refusal, and its hints below it
 unfoldable pub told_text : List ℕ → Request → Refusal → Known → List ℕ

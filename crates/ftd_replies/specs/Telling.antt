@@ -1,5 +1,6 @@
 -- What the program prints where words ask nothing.
-use Rattle.std.specs.Prelude.{◌≡◌, ◌⊎◌, ◌++◌, ℕ, Bool, true, List, [], ◌∷◌, Option, codes}
+use Rattle.std.specs.Prelude.{◌≡◌, ◌⊎◌, ◌++◌, ℕ, Bool, true, List, [], ◌∷◌, Option, None}
+use Rattle.std.specs.Prelude.{Some, codes, option_map}
 use Rattle.std.specs.Io.KnownBytes.{Appends}
 use Rattle.std.specs.List.{concat}
 use Rattle.std.specs.String.{string_bytes}
@@ -12,43 +13,53 @@ use Rattle.ftd_words.specs.declared.tasks.CliFault.TheVariants as fault
 use Rattle.ftd_replies.specs.Putting.{IsPut}
 
 -- what is asked for as the value of a word
+abbrev pub day_form : List ℕ
+day_form = codes "a day of 1900 to 2199 as 2024-05-27"
+
+abbrev pub amount_form : List ℕ
+amount_form = codes "an amount of at most 999999999.99 as 1234.56"
+
+abbrev pub number_form : List ℕ
+number_form = codes "a number of 1 to 999999999"
+
 abbrev pub asked_text : Word → List ℕ
-asked_text word.Start = codes "a day as 2024-05-27"
-asked_text word.Payday = codes "a day as 2024-05-27"
-asked_text word.Paid = codes "a day as 2024-05-27"
-asked_text word.For = codes "a day as 2024-05-27"
-asked_text word.Day = codes "a day as 2024-05-27"
-asked_text word.Days = codes "a day as 2024-05-27"
-asked_text word.AsOf = codes "a day as 2024-05-27"
-asked_text word.Holidays = codes "a day as 2024-05-27"
-asked_text word.Quarter = codes "a quarter as 2024Q2"
-asked_text word.Amount = codes "an amount as 1234.56"
-asked_text word.Fit = codes "an amount as 1234.56"
-asked_text word.Ss = codes "an amount as 1234.56"
-asked_text word.Medicare = codes "an amount as 1234.56"
+asked_text word.Start = day_form
+asked_text word.Payday = day_form
+asked_text word.Paid = day_form
+asked_text word.For = day_form
+asked_text word.Day = day_form
+asked_text word.Days = day_form
+asked_text word.AsOf = day_form
+asked_text word.Holidays = day_form
+asked_text word.Quarter = codes "a quarter of 1900Q1 to 2199Q4 as 2024Q2"
+asked_text word.Amount = amount_form
+asked_text word.Fit = amount_form
+asked_text word.Ss = amount_form
+asked_text word.Medicare = amount_form
 asked_text word.Account =
     codes "an account name: 1 to 20 bytes, a lower-case letter, "
     ++ codes "then lower-case letters, digits or hyphens"
 asked_text word.Year = codes "a year of 2001 to 2098"
-asked_text word.Run = codes "a number of 1 to 999999999"
-asked_text word.Payment = codes "a number of 1 to 999999999"
+asked_text word.Run = number_form
+asked_text word.Payment = number_form
 asked_text word.Port = codes "a port of 0 to 65535"
 asked_text word.Wait = codes "a number of seconds of 0 to 3600"
 asked_text _ = codes "a value that is taken here"
 
--- the value that was given; it is told in words where it is empty
-abbrev pub given_text : List ℕ → List ℕ
-given_text [] = codes "an empty word"
-given_text (byte ∷ bytes) = byte ∷ bytes
+-- the value that was given; it is told in words where it is empty, and where it is not known
+abbrev pub given_text : Option (List ℕ) → List ℕ
+given_text None = codes "what was given"
+given_text (Some []) = codes "an empty word"
+given_text (Some (byte ∷ bytes)) = byte ∷ bytes
 
--- `bad argument DAY`, and below it `hint: 2024-13-01 is not a day as 2024-05-27`
+-- `bad argument DAY`, and below it `hint: 2024-13-01 is not a day of 1900 to 2199 as 2024-05-27`
 abbrev pub bad_text : (name given asked : List ℕ) → List ℕ
 bad_text name given asked =
     concat
     (codes "bad argument " ∷ name ∷ codes "\nhint: " ∷ given ∷ codes " is not " ∷ asked
     ∷ (10 ∷ []) ∷ [])
 
-abbrev pub bad_word : Word → List ℕ → List ℕ
+abbrev pub bad_word : Word → Option (List ℕ) → List ℕ
 bad_word word value = bad_text (word_text word) (given_text value) (asked_text word)
 
 module _ {O E : Type 0} (o_taken : O → Option (List ℕ)) (o_failed : O → Bool)
@@ -78,7 +89,8 @@ module _ {O E : Type 0} (o_taken : O → Option (List ℕ)) (o_failed : O → Bo
 
   -- by why the words ask nothing
   abbrev pub Tells : CliFault → ℕ → Type 0
-  Tells (fault.BadArgument word value) = TellsFault (bad_word word (string_bytes value)) 2
+  Tells (fault.BadArgument word value) =
+      TellsFault (bad_word word (option_map string_bytes value)) 2
   Tells (fault.Usage text) = TellsFault (string_bytes text) 2
   Tells (fault.Help text) = TellsHelp (string_bytes text)
   Tells fault.Memory = TellsFault (codes "failed 21 Memory\n") 3

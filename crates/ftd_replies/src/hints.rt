@@ -6,8 +6,9 @@ ghost use Rattle.std.specs.List.{flat_map, list_all};
 ghost use Rattle.std.specs.Io.KnownBytes.{Appends};
 ghost use Rattle.ftd_ports.specs.Writing.{WritesPrefix};
 ghost use Rattle.ftd_replies.specs.Hints.{account_in, calendar_text, command_of, command_on};
-ghost use Rattle.ftd_replies.specs.Hints.{days_in, days_text, differing_text, file_text};
-ghost use Rattle.ftd_replies.specs.Hints.{first_beside, form_text, hint_text, hints_text};
+ghost use Rattle.ftd_replies.specs.Hints.{days_in, days_text, differing_text, enrolled_as};
+ghost use Rattle.ftd_replies.specs.Hints.{file_text, first_beside, first_text, form_text};
+ghost use Rattle.ftd_replies.specs.Hints.{hint_text, hints_text};
 ghost use Rattle.ftd_replies.specs.Hints.{is_plain, left_out_text, new_text, number_in};
 ghost use Rattle.ftd_replies.specs.Hints.{quarter_hint, said_text, told_text, years_text};
 
@@ -27,6 +28,8 @@ pub enum Known {
     Missing(Vec<Quarter>),
     /// The days that the calendar was given with.
     Given(Vec<Day>),
+    /// The first of the account's years. The year that is not open lies before it.
+    Begins(u32),
 }
 
 /// Writes the line of the refusal of a request to the desk of this file, and its hints below it.
@@ -68,6 +71,7 @@ fn write_hints<W: Target>(
         Known::Nothing => write_hint(db, request, refusal, target),
         Known::Missing(quarters) => write_missing(db, account_in(request), quarters, target),
         Known::Given(given) => write_differing(db, days_in(request), given, target),
+        Known::Begins(first) => write_first(*first, target),
     }
 }
 
@@ -97,7 +101,7 @@ fn file_bytes(db: &str) -> &[u8]
 }
 
 /// The account that the request names. The empty text where it names none.
-fn account_in(request: &Request) -> &str
+pub fn account_in(request: &Request) -> &str
     ensures { result.now ≡ account_in request.now }
 {
     match request {
@@ -371,6 +375,36 @@ fn write_differing<W: Target>(
     write_left_out(first_beside(given, days), target)
 }
 
+/// Writes which of the account's years is the first.
+fn write_first<W: Target>(first: u32, target: &mut W) -> Result<(), WriteFault>
+    ensures ok { OnOk result (Appends (W.taken target.old) (W.taken target.new)
+        (first_text first)) }
+    ensures err { OnErr result (WritesPrefix (W.taken target.old) (W.taken target.new)
+        (first_text first)) }
+    ensures fault { OnErr result (W.failed target.new ≡ true) }
+{
+    let mut digits = Buffer::new();
+    let text = digits.format(first).as_bytes();
+    write_pieces(
+        target,
+        &[
+            b"hint: the account's first year is ",
+            text,
+            b": none before it can be opened\n",
+        ],
+    )
+}
+
+/// What stands behind the account in the command that enrols it, for a request.
+fn enrolled_as(request: &Request) -> &'static [u8]
+    ensures { result.now ≡ enrolled_as request.now }
+{
+    match request {
+        Request::ReportYear { .. } => b" START --form 943\n",
+        _ => b" START\n",
+    }
+}
+
 /// Writes the hint of a refusal.
 #[tactic(auto, unfolding(crate::specs::Hints::hint_text, crate::specs::Hints::said_text))]
 fn write_hint<W: Target>(
@@ -389,7 +423,7 @@ fn write_hint<W: Target>(
     match refusal {
         Refusal::UnknownAccount => {
             let before = b"hint: if name and file are right, ftd enrol --db ";
-            write_on(before, db, account.as_bytes(), b" START\n", target)
+            write_on(before, db, account.as_bytes(), enrolled_as(request), target)
         }
         Refusal::RunDiffers => {
             let before =

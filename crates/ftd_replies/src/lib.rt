@@ -6,7 +6,7 @@ mod refusals;
 mod replies;
 mod telling;
 
-pub use crate::hints::{Known, write_told};
+pub use crate::hints::{Known, account_in, write_told};
 pub use crate::refusals::{status_of, write_refusal};
 pub use crate::replies::write_reply;
 pub use crate::telling::{put, tell};

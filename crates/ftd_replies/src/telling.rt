@@ -1,6 +1,6 @@
 //! Why the words of a command line ask nothing.
 
-ghost use Rattle.std.specs.Prelude.{◌≡◌};
+ghost use Rattle.std.specs.Prelude.{◌≡◌, option_map};
 ghost use Rattle.ftd_replies.specs.Putting.{IsPut};
 ghost use Rattle.ftd_replies.specs.Telling.{Tells, TellsHelp, asked_text, bad_text, bad_word};
 ghost use Rattle.ftd_replies.specs.Telling.{given_text};
@@ -17,7 +17,7 @@ pub fn tell<O: Target, E: Target>(fault: &CliFault, out: &mut O, err: &mut E) ->
 {
     match fault {
         CliFault::BadArgument { word, value } => {
-            tell_word(*word, value.as_str(), err);
+            tell_word(*word, value.as_deref(), err);
             2
         }
         CliFault::Usage(text) => {
@@ -39,15 +39,20 @@ pub fn put<E: Target>(text: &[u8], err: &mut E)
     let _ = write_all(err, text);
 }
 
+/// What is asked for as a day.
+const DAY_FORM: &[u8] = b"a day of 1900 to 2199 as 2024-05-27";
+
 /// What is asked for as the value of a word.
 fn asked_bytes(word: Word) -> &'static [u8]
     ensures { result.now ≡ asked_text word }
 {
     match word {
-        Word::Start | Word::Payday | Word::Paid | Word::For => b"a day as 2024-05-27",
-        Word::Day | Word::Days | Word::AsOf | Word::Holidays => b"a day as 2024-05-27",
-        Word::Quarter => b"a quarter as 2024Q2",
-        Word::Amount | Word::Fit | Word::Ss | Word::Medicare => b"an amount as 1234.56",
+        Word::Start | Word::Payday | Word::Paid | Word::For => DAY_FORM,
+        Word::Day | Word::Days | Word::AsOf | Word::Holidays => DAY_FORM,
+        Word::Quarter => b"a quarter of 1900Q1 to 2199Q4 as 2024Q2",
+        Word::Amount | Word::Fit | Word::Ss | Word::Medicare => {
+            b"an amount of at most 999999999.99 as 1234.56"
+        }
         Word::Account => {
             b"an account name: 1 to 20 bytes, a lower-case letter, \
               then lower-case letters, digits or hyphens"
@@ -60,21 +65,21 @@ fn asked_bytes(word: Word) -> &'static [u8]
     }
 }
 
-/// The value of a word; it is told in words where it is empty.
-fn given_bytes(value: &str) -> &[u8]
-    ensures { result.now ≡ given_text value.now }
+/// The value of a word; it is told in words where it is empty, and where it is not known.
+fn given_bytes(value: Option<&str>) -> &[u8]
+    ensures { result.now ≡ given_text (option_map (λ text. text.now) value.entry) }
 {
-    if value.is_empty() {
-        b"an empty word"
-    } else {
-        value.as_bytes()
+    match value {
+        None => b"what was given",
+        Some("") => b"an empty word",
+        Some(text) => text.as_bytes(),
     }
 }
 
 /// Prints the name of a word whose value is none of its kind, and what is asked for in its place.
-fn tell_word<E: Target>(word: Word, value: &str, err: &mut E)
+fn tell_word<E: Target>(word: Word, value: Option<&str>, err: &mut E)
     ensures { IsPut (E.taken err.old) (E.taken err.new) (E.failed err.new)
-        (bad_word word value.now) }
+        (bad_word word (option_map (λ text. text.now) value.entry)) }
 {
     let given = given_bytes(value);
     tell_bad(word.text().as_bytes(), given, asked_bytes(word), err);

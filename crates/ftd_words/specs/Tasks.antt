@@ -1,5 +1,6 @@
 -- What the words of a command line ask.
 use Rattle.std.specs.Prelude.{◌≡◌, ◌⊎◌, ℕ, List, [], ◌∷◌, Option, Some, None, Result, Ok, Err, ⊤}
+use Rattle.std.specs.Prelude.{IfSome}
 use Rattle.std.specs.List.{find}
 use Rattle.std.specs.Str.{bytes_eq}
 use Rattle.std.specs.String.{string_bytes}
@@ -8,7 +9,7 @@ use Rattle.clap.specs.declared.error.ErrorKind.{ErrorKind}
 use Rattle.clap.specs.declared.error.ErrorKind.TheVariants as kind
 use Rattle.ftd_words.specs.Apps.{ftd_app}
 use Rattle.ftd_words.specs.Asking.{Wanted, ask, import, plain, serve, wanted_of}
-use Rattle.ftd_words.specs.Escapes.{escaped}
+use Rattle.ftd_words.specs.Escapes.{escaped, escaped_word}
 use Rattle.ftd_words.specs.Table.{all_names, name_text}
 use Rattle.ftd_words.specs.Values.{bad_value}
 use Rattle.ftd_words.specs.declared.fault.WordFault.{WordFault}
@@ -104,7 +105,9 @@ abbrev pub rows_in : Option (Text × List Row) → List Row
 rows_in None = []
 rows_in (Some called) = called.1
 
--- a word whose value is none of its kind is told with that value, its control bytes escaped
+-- a word whose value is none of its kind is told with that value, its control bytes escaped, where
+-- there is memory for it
 abbrev pub ShowsValue : List Row → CliFault → Type 0
-ShowsValue rows (fault.BadArgument word text) = string_bytes text ≡ escaped (bad_value word rows)
+ShowsValue rows (fault.BadArgument word shown) =
+    IfSome shown (λ text. string_bytes text ≡ escaped_word (bad_value word rows))
 ShowsValue rows _ = ⊤

@@ -16,7 +16,7 @@ use crate::asking::{
     account_at, add_holiday, calendar, due, enrol, open_year, pay, post, report, report_year,
     schedule_b, status, void, void_pay,
 };
-use crate::escape::escaped;
+use crate::escape::{escaped, escaped_word};
 use crate::fault::WordFault;
 use crate::parse::{ParseFault, parsed};
 use crate::reading::{bad_value, days_at, owned_text, port_at, whole_at};
@@ -219,9 +219,9 @@ fn bad_argument(alloc: Global, matches: &ArgMatches<'_>, word: Word) -> CliFault
     ensures told { Fails result (Err (value (BadWord word))) }
     ensures value { ShowsValue (rows_in (subcommand_rows_of matches.now)) result }
 {
-    match escaped(alloc, value_in(matches, word)) {
-        Ok(value) => CliFault::BadArgument { word, value },
-        Err(_) => CliFault::Memory,
+    CliFault::BadArgument {
+        word,
+        value: escaped_word(alloc, value_in(matches, word)).ok(),
     }
 }
 
@@ -236,8 +236,8 @@ fn usage(alloc: Global, text: &str) -> CliFault
 }
 
 /// What the words ask, of which the first is the program's name. `BadArgument` names the first word
-/// whose value is none of its kind, and has that value; `Usage` and `Help` have the text that is
-/// printed.
+/// whose value is none of its kind, and has that value where there is memory for it; `Usage` and
+/// `Help` have the text that is printed.
 pub fn decide(alloc: Global, words: &[String]) -> Result<Task, CliFault>
     ensures asked { Gives result (task_of (map string_bytes words.now)) }
     ensures value { IfErr result

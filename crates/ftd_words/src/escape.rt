@@ -2,15 +2,16 @@
 
 ghost use Rattle.std.specs.Prelude.{◌≡◌, ◌<◌, ◌++◌, IfOk, OnOk};
 ghost use Rattle.std.specs.String.{string_bytes};
-ghost use Rattle.ftd_words.specs.Escapes.{escaped, escaped_byte, hex_digit, is_control};
+ghost use Rattle.ftd_words.specs.Escapes.{escaped, escaped_as, escaped_byte, escaped_word};
+ghost use Rattle.ftd_words.specs.Escapes.{hex_digit, is_control};
 
 use std::alloc::{AllocError, Global};
 
-/// Whether a byte is a control byte other than a line end.
-fn is_control(byte: u8) -> bool
-    ensures { result ≡ is_control byte }
+/// Whether a byte is a control byte. In a text of several lines a line end is none.
+fn is_control(lines: bool, byte: u8) -> bool
+    ensures { result ≡ is_control lines byte }
 {
-    byte != b'\n' && (byte < 32 || byte == 127)
+    !(lines && byte == b'\n') && (byte < 32 || byte == 127)
 }
 
 /// The digit of a number below 16.
@@ -26,10 +27,10 @@ fn hex_digit(number: u8) -> u8
 }
 
 /// Adds a byte, a control byte as `\x1b`.
-fn add_byte(text: &mut Vec<u8>, byte: u8) -> Result<(), AllocError>
-    ensures { OnOk result (text.new.items ≡ text.old.items ++ escaped_byte byte) }
+fn add_byte(text: &mut Vec<u8>, lines: bool, byte: u8) -> Result<(), AllocError>
+    ensures { OnOk result (text.new.items ≡ text.old.items ++ escaped_byte lines byte) }
 {
-    if is_control(byte) {
+    if is_control(lines, byte) {
         let digits = [b'\\', b'x', hex_digit(byte / 16), hex_digit(byte % 16)];
         text.extend_from_slice(&digits)
     } else {
@@ -37,22 +38,36 @@ fn add_byte(text: &mut Vec<u8>, byte: u8) -> Result<(), AllocError>
     }
 }
 
-/// The bytes of a text, each control byte but a line end as `\x1b`.
-fn escaped_bytes(alloc: Global, text: &[u8]) -> Result<Vec<u8>, AllocError>
-    ensures { IfOk result (λ bytes. bytes.items ≡ escaped text.now) }
+/// The bytes of a text, each control byte as `\x1b`.
+fn escaped_bytes(alloc: Global, lines: bool, text: &[u8]) -> Result<Vec<u8>, AllocError>
+    ensures { IfOk result (λ bytes. bytes.items ≡ escaped_as lines text.now) }
 {
     let mut bytes = Vec::new(alloc);
     for byte in text {
-        add_byte(&mut bytes, *byte)?;
+        add_byte(&mut bytes, lines, *byte)?;
     }
     Ok(bytes)
+}
+
+/// A text, each control byte as `\x1b`.
+fn escaped_as(alloc: Global, lines: bool, text: &str) -> Result<String, AllocError>
+    ensures { IfOk result (λ said. string_bytes said ≡ escaped_as lines text.now) }
+{
+    let bytes = escaped_bytes(alloc, lines, text.as_bytes())?;
+    // What stands between the bytes of a character is not changed: this is text again.
+    String::from_utf8(bytes).map_err(|_| AllocError)
 }
 
 /// A text, each control byte but a line end as `\x1b`.
 pub fn escaped(alloc: Global, text: &str) -> Result<String, AllocError>
     ensures { IfOk result (λ said. string_bytes said ≡ escaped text.now) }
 {
-    let bytes = escaped_bytes(alloc, text.as_bytes())?;
-    // What stands between the bytes of a character is not changed: this is text again.
-    String::from_utf8(bytes).map_err(|_| AllocError)
+    escaped_as(alloc, true, text)
+}
+
+/// A word, each control byte as `\x1b`, also a line end: what is printed stands in one line.
+pub fn escaped_word(alloc: Global, word: &str) -> Result<String, AllocError>
+    ensures { IfOk result (λ said. string_bytes said ≡ escaped_word word.now) }
+{
+    escaped_as(alloc, false, word)
 }

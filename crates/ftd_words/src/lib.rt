@@ -12,6 +12,6 @@ mod table;
 mod tasks;
 
 pub use crate::deciding::decide;
-pub use crate::escape::escaped;
+pub use crate::escape::{escaped, escaped_word};
 pub use crate::table::Word;
 pub use crate::tasks::{CliFault, Job, LocalTask, PlainTask, ServeTask, Task};

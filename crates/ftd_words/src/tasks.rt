@@ -68,7 +68,8 @@ pub enum Task {
 #[derive(Drop)]
 pub enum CliFault {
     /// The first word whose value is none of its kind, and that value, its control bytes escaped.
-    BadArgument { word: Word, value: String },
+    /// None where there was no memory for it.
+    BadArgument { word: Word, value: Option<String> },
     /// They are no command line: this text tells why.
     Usage(String),
     /// They ask for help, or for the version: this text.

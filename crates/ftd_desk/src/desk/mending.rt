@@ -1,9 +1,10 @@
 //! What the tables keep that a refusal can be mended by.
 
-ghost use Rattle.std.specs.Prelude.{◌≡◌, ◌≤◌, Err, IfOk, IsTrue, option_map};
+ghost use Rattle.std.specs.Prelude.{◌≡◌, ◌≤◌, Err, IfErr, IfOk, IsTrue, option_map};
 ghost use Rattle.sqlite.specs.State.{HasCleanDisk};
+ghost use Rattle.ftd_machine.specs.Runs.{IsFault};
 ghost use Rattle.ftd_machine.specs.State.{State, calendar_at, entries_of};
-ghost use Rattle.ftd_questions.specs.Missing.{missing_from};
+ghost use Rattle.ftd_questions.specs.Missing.{first_year, missing_from};
 ghost use Rattle.ftd_desk.specs.Desks.{IsStopped, held, Keeps};
 ghost use Rattle.ftd_desk.specs.Telling.{StandsAsBefore};
 
@@ -30,6 +31,7 @@ impl<S: Alter> Desk<S> {
             → (s : State) → Keeps (held S.Store self.old) s
             → IfOk result (λ quarters.
             quarters.items ≡ missing_from (entries_of s account.now) first year) }
+        ensures fault { IfErr result (λ refusal. IsFault (Err refusal)) }
         ensures stands { StandsAsBefore (held S.Store self.old) (held S.Store self.new) }
         ensures stopped { IsStopped self.old
             → (result ≡ Err Refusal.Store) × (self.new ≡ self.old) }
@@ -48,6 +50,7 @@ impl<S: Alter> Desk<S> {
             → IsTrue (held S.Store self.new).db.is_open
             → (s : State) → Keeps (held S.Store self.old) s
             → IfOk result (λ days. calendar_at s year ≡ option_map (λ it. it.items) days) }
+        ensures fault { IfErr result (λ refusal. IsFault (Err refusal)) }
         ensures stands { StandsAsBefore (held S.Store self.old) (held S.Store self.new) }
         ensures stopped { IsStopped self.old
             → (result ≡ Err Refusal.Store) × (self.new ≡ self.old) }
@@ -56,5 +59,25 @@ impl<S: Alter> Desk<S> {
             return Err(Refusal::Store);
         }
         ftd_questions::given_days(&mut self.store, self.alloc, year)
+    }
+
+    /// The first year of the account that is open, and where none is, the year of the employer's
+    /// first day: no year before it can be opened. None where the account is not enrolled. `Memory`
+    /// and `Store` may come in place of it. The tables stay as they are. A desk that is stopped
+    /// answers `Store`, and touches nothing.
+    pub fn first_year(&mut self, account: &str) -> Result<Option<u32>, Refusal>
+        ensures knows { HasCleanDisk (held S.Store self.new).db
+            → IsTrue (held S.Store self.new).db.is_open
+            → (s : State) → Keeps (held S.Store self.old) s
+            → IfOk result (λ year. year ≡ first_year (entries_of s account.now)) }
+        ensures fault { IfErr result (λ refusal. IsFault (Err refusal)) }
+        ensures stands { StandsAsBefore (held S.Store self.old) (held S.Store self.new) }
+        ensures stopped { IsStopped self.old
+            → (result ≡ Err Refusal.Store) × (self.new ≡ self.old) }
+    {
+        if self.stopped {
+            return Err(Refusal::Store);
+        }
+        ftd_questions::first_year(&mut self.store, self.alloc, account)
     }
 }

@@ -7,7 +7,7 @@ returns-clause-ok g c = rw (
   c.as_bytes-number.ensures.value,
   c.format.ensures.text,
   c.field_name.ensures,
-  c.show-shown.ensures,
+  c.field_text-told.ensures,
   c.asked_in.ensures,
 ) at c.write_pieces.ensures.ok
 
@@ -17,6 +17,6 @@ returns-clause-err g c = rw (
   c.as_bytes-number.ensures.value,
   c.format.ensures.text,
   c.field_name.ensures,
-  c.show-shown.ensures,
+  c.field_text-told.ensures,
   c.asked_in.ensures,
 ) at c.write_pieces.ensures.err

@@ -6,8 +6,9 @@ unfolding width_hint
 returns-clause-ok g c = rw (
   c.as_bytes-number.ensures.value,
   c.format.ensures.text,
-  c.as_bytes-width.ensures.value,
+  c.as_bytes-digits.ensures.value,
   c.format-2.ensures.text,
+  c.and_not_six.ensures,
 ) at c.write_pieces.ensures.ok
 
 pub returns-clause-err : goal.returns-clause-err
@@ -15,6 +16,7 @@ unfolding width_hint
 returns-clause-err g c = rw (
   c.as_bytes-number.ensures.value,
   c.format.ensures.text,
-  c.as_bytes-width.ensures.value,
+  c.as_bytes-digits.ensures.value,
   c.format-2.ensures.text,
+  c.and_not_six.ensures,
 ) at c.write_pieces.ensures.err

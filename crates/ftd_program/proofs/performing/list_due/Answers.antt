@@ -1,4 +1,11 @@
-use Rattle.std.proofs.Common.{◌≡◌, inl, inr, ◌++◌, ◌∷◌, refl, sym, ap, ◌∙◌, subst}
+use Rattle.std.proofs.Common.{◌≡◌, inl, inr, ◌++◌, ◌∷◌, refl, sym, ap, ◌∙◌, subst, IsTrue}
+use Rattle.std.specs.Prelude.{IfOk}
+use Rattle.sqlite.specs.State.{HasCleanDisk}
+use Rattle.ftd_machine.specs.State.{State}
+use Rattle.ftd_machine.specs.declared.requests.Request.TheVariants.{DueList}
+use Rattle.ftd_desk.specs.Desks.{Keeps, held}
+use Rattle.ftd_program.specs.Mending.{KnowsFor}
+use Rattle.ftd_program.proofs.Mended.{known_of, nothing_of, stands_on}
 use Rattle.ftd_reports.specs.LateTexts.{BreaksAt, TakesRow, writer_of}
 use Rattle.ftd_ports.specs.Writing.{WritesPrefix}
 use Rattle.ftd_reports.specs.DueLists.{due_text}
@@ -46,45 +53,63 @@ returns-in-Err g c =
 
 pub returns-in-Err-Refused : goal.returns-in-Err-Refused
 returns-in-Err-Refused g c =
-    let printed = rw c.requires.asked at c.print_refusal.ensures in
+    let refusal = c.in-Err-Refused.refusal in
+    let mended = c.known_for.ensures in
+    let printed = rw (c.requires.asked, c.or_nothing-known.ensures) at c.print_refusal.ensures in
+    let knows : HasCleanDisk (held g.S.Store c.known_for.new.desk).db
+    → IsTrue (held g.S.Store c.known_for.new.desk).db.is_open → (s : State)
+    → Keeps (held g.S.Store c.due_into.new.self) s
+    → IfOk c.known_for.result
+    (KnowsFor s (DueList c.args.account.now c.args.quarter c.args.as_of) refusal) =
+    rw c.requires.asked at mended.knows in
     let writer : c.print_refusal.result.out ≡ writer_of c.due_into.new.sink = printed.out_is
     ∙ c.into_writer-out.ensures in
     record {
-      stands = c.due_into.ensures.stands;
+      stands = stands_on _ _ _ c.due_into.ensures.stands mended.stands;
       prints = λ clean is_open s keeps.
+          let then = mended.stands.honest clean in
+          let opened = mended.stands.opens clean is_open in
+          let known = knows clean is_open s
+          (c.due_into.ensures.stands.stands then opened s keeps) in
           (elim (as_refused (TakesRow g.O.Target.taken)
           (BreaksAt g.O.Target.taken g.O.Target.failed) s c.args.account.now c.args.quarter
           c.args.as_of c.new-text.result c.due_into.new.sink c.due_into.result
-          c.in-Err-Refused.field-0 c.in-Err-Refused.is c.in-Err-Refused.refusal
-          c.in-Err-Refused.field-0-is (c.due_into.ensures.tells clean is_open s keeps)) [
-            | inl refuses ↦ refused c.in-Err-Refused.refusal refuses.0
+          c.in-Err-Refused.field-0 c.in-Err-Refused.is refusal
+          c.in-Err-Refused.field-0-is (c.due_into.ensures.tells then opened s keeps)) [
+            | inl refuses ↦ refused refusal c.known_for.result refuses.0
+                (known_of s (DueList c.args.account.now c.args.quarter c.args.as_of) refusal
+                c.known_for.result known mended.fault)
                 (record {
                   status_is = printed.status_is;
                   out_is = writer
                       ∙ (ap writer_of refuses.1 ∙ c.new-text.ensures.writer);
                   line = printed.line;
                 })
-            | inr faulted ↦ (elim faulted.1 [
-              | inl same ↦ unbegun c.in-Err-Refused.refusal faulted.0
-                  (record {
-                    status_is = printed.status_is;
-                    out_is = writer
-                        ∙ (ap writer_of same ∙ c.new-text.ensures.writer);
-                    line = printed.line;
-                  })
-              | inr first ↦ broken c.in-Err-Refused.refusal (first.0 ++ first.1) faulted.0 first.2
-                  (record {
-                    status_is = printed.status_is ∙ fault_status c.in-Err-Refused.refusal faulted.0;
-                    part = subst (λ o. WritesPrefix (g.O.Target.taken c.args.out)
-                        (g.O.Target.taken o)
-                        (due_text c.args.account.now c.args.quarter c.args.as_of
-                        (first.0 ++ first.1))) (sym writer)
-                        (has_first g.O.Target.taken (g.O.Target.taken c.args.out) c.args.account.now
-                        c.args.quarter c.args.as_of first.0 first.1 c.new-text.result
-                        c.due_into.new.sink c.new-text.ensures.rows first.3);
-                    line = printed.line;
-                  })
-            ])
+            | inr faulted ↦
+                let none = nothing_of s
+                (DueList c.args.account.now c.args.quarter c.args.as_of) refusal
+                c.known_for.result faulted.0 known in
+                let bare = rw none at printed in (elim faulted.1 [
+                  | inl same ↦ unbegun refusal faulted.0
+                      (record {
+                        status_is = bare.status_is;
+                        out_is = writer
+                            ∙ (ap writer_of same ∙ c.new-text.ensures.writer);
+                        line = bare.line;
+                      })
+                  | inr first ↦ broken refusal (first.0 ++ first.1) faulted.0 first.2
+                      (record {
+                        status_is = bare.status_is ∙ fault_status refusal faulted.0;
+                        part = subst (λ o. WritesPrefix (g.O.Target.taken c.args.out)
+                            (g.O.Target.taken o)
+                            (due_text c.args.account.now c.args.quarter c.args.as_of
+                            (first.0 ++ first.1))) (sym writer)
+                            (has_first g.O.Target.taken (g.O.Target.taken c.args.out)
+                            c.args.account.now c.args.quarter c.args.as_of first.0 first.1
+                            c.new-text.result c.due_into.new.sink c.new-text.ensures.rows first.3);
+                        line = bare.line;
+                      })
+                ])
           ]);
     }
 

@@ -4,12 +4,14 @@ use Rattle.ftd_replies.proofs.hints.write_hint.Goals as goal
 pub returns-in-UnknownAccount-clause-ok : goal.returns-in-UnknownAccount-clause-ok
 unfolding hint_text
 returns-in-UnknownAccount-clause-ok g c = rw c.in-UnknownAccount.is
-    (rw (c.as_bytes.ensures.value, c.account_in-account.ensures) at c.write_on.ensures.ok)
+    (rw (c.as_bytes.ensures.value, c.account_in-account.ensures, c.enrolled_as.ensures) at
+    c.write_on.ensures.ok)
 
 pub returns-in-UnknownAccount-clause-err : goal.returns-in-UnknownAccount-clause-err
 unfolding hint_text
 returns-in-UnknownAccount-clause-err g c = rw c.in-UnknownAccount.is
-    (rw (c.as_bytes.ensures.value, c.account_in-account.ensures) at c.write_on.ensures.err)
+    (rw (c.as_bytes.ensures.value, c.account_in-account.ensures, c.enrolled_as.ensures) at
+    c.write_on.ensures.err)
 
 pub returns-in-RunDiffers-clause-ok : goal.returns-in-RunDiffers-clause-ok
 unfolding hint_text

@@ -7,7 +7,7 @@ returns-in-BadArgument g c =
     (record {
       status_is = refl;
       out_is = refl;
-      line = rw c.as_str.ensures.value at c.tell_word.ensures;
+      line = rw c.as_deref.ensures.value at c.tell_word.ensures;
     })
 
 pub returns-in-Usage : goal.returns-in-Usage
