@@ -1,7 +1,8 @@
 -- A list of requests from its first call to its last.
 use Rattle.std.proofs.Common.{◌≡◌, ◌⊎◌, inl, inr, refl, sym, subst, IsTrue, false, Ok, Err, List}
-use Rattle.std.proofs.Common.{[]}
+use Rattle.std.proofs.Common.{[], IfOk, Result}
 use Rattle.std.proofs.lemmas.Bool.{true≢false}
+use Rattle.std.proofs.lemmas.List.Elements.{All-nil}
 use Rattle.sqlite.specs.Effect.{Database}
 use Rattle.sqlite.specs.State as database
 use Rattle.sqlite.specs.State.{HasCleanDisk, KeepsCommit, Survives, Shows}
@@ -12,6 +13,7 @@ use Rattle.ftd_schema.proofs.Controls.{crash_then}
 use Rattle.ftd_store.specs.Ends.{Begins, LeavesRows, EndsAs, CrashLeaves}
 use Rattle.ftd_machine.specs.State.{State}
 use Rattle.ftd_machine.specs.Checks.{Answer}
+use Rattle.ftd_machine.specs.Runs.{IsFault}
 use Rattle.ftd_machine.specs.declared.replies.Refusal.{Refusal}
 use Rattle.ftd_machine.specs.declared.replies.Refusal.TheVariants as refusal
 use Rattle.ftd_machine.specs.declared.requests.Request.{Request}
@@ -24,7 +26,7 @@ use Rattle.ftd_desk.specs.Desks.{Held, Keeps}
 use Rattle.ftd_desk.specs.Words.{AreSteps, MayLeaveAll, HandlesTogether}
 use Rattle.ftd_desk.specs.declared.known.Known.{Known}
 use Rattle.ftd_desk.proofs.Handling.{rests_again, clean_at, kept_at, undone_rests, before, was_open}
-use Rattle.ftd_desk.proofs.Handling.{committed_rests}
+use Rattle.ftd_desk.proofs.Handling.{committed_rests, crash_still}
 
 -- a fault: there was no memory, or the store failed
 abbrev pub IsRefusedBy : Refusal → Type 0
@@ -34,32 +36,37 @@ pub refused : (fault : StoreFault) → IsRefusedBy (refusal_of fault)
 refused fault.Memory = inl refl
 refused fault.Failed = inr refl
 
+as_answer : (fault : Refusal) → IsRefusedBy fault → IsFault (Err fault)
+as_answer fault (inl memory) = inl (rw memory refl)
+as_answer fault (inr store) = inr (rw store refl)
+
 -- what a crash may leave of a list of requests
-abbrev pub MayLeaveAllOf : Held → List Request → Trees → Type 0
-MayLeaveAllOf old requests left = IsTrue old.db.is_open × ((s : State) → Keeps old s
-    → MayLeaveAll s requests left)
+abbrev pub MayLeaveAllOf : Held → List Request → Result (List Answer) Refusal → Trees → Type 0
+MayLeaveAllOf old requests result left = IsTrue old.db.is_open × ((s : State) → Keeps old s
+    → MayLeaveAll s requests result left)
 
 -- nothing was touched, and there was no request
-pub together_none : (old : Held) → CrashKeeps old.db old.db → HandlesTogether old old [] (Ok [])
-together_none old crash = record {
+pub together_none : (old : Held) → HandlesTogether old old [] (Ok [])
+together_none old = record {
   honest = λ clean. clean;
   opens = λ clean is_open. is_open;
-  answered = λ clean is_open s keeps. (s, refl, keeps);
-  crash = survives_weaker old.db old.db (λ _. ⊥) (MayLeaveAllOf old [])
-      (λ clean db none. absurd none) crash;
+  answered = λ clean s keeps. (s, refl, λ is_open. keeps);
+  shut = λ clean closed. All-nil IsFault;
+  crash = survives_weaker old.db old.db (λ _. ⊥) (MayLeaveAllOf old [] (Ok []))
+      (λ clean db none. absurd none) (crash_still old.db);
   lasts = λ clean change. absurd (true≢false (sym change));
 }
 
 module _ (requests : List Request) (fault : Refusal) (is_fault : IsRefusedBy fault) where
   -- nothing was touched
-  pub together_still : (old : Held) → CrashKeeps old.db old.db → HandlesTogether old old requests
-      (Err fault)
-  together_still old crash = record {
+  pub together_still : (old : Held) → HandlesTogether old old requests (Err fault)
+  together_still old = record {
     honest = λ clean. clean;
     opens = λ clean is_open. is_open;
-    answered = λ clean is_open s keeps. (s, (is_fault, refl), keeps);
-    crash = survives_weaker old.db old.db (λ _. ⊥) (MayLeaveAllOf old requests)
-        (λ clean db none. absurd none) crash;
+    answered = λ clean s keeps. (s, (is_fault, refl), λ is_open. keeps);
+    shut = λ clean closed. as_answer fault is_fault;
+    crash = survives_weaker old.db old.db (λ _. ⊥) (MayLeaveAllOf old requests (Err fault))
+        (λ clean db none. absurd none) (crash_still old.db);
     lasts = λ clean change. absurd (true≢false (sym change));
   }
 
@@ -70,16 +77,17 @@ module _ (requests : List Request) (fault : Refusal) (is_fault : IsRefusedBy fau
   together_unbegun old new crash left forgotten = record {
     honest = clean_at old.db new.db (λ _. ⊥) crash;
     opens = λ clean is_open. (left clean).was_open is_open;
-    answered = λ clean is_open s keeps. (
+    shut = λ clean closed. as_answer fault is_fault;
+    answered = λ clean s keeps. (
       s,
       (is_fault, refl),
-      record {
+      λ is_open. record {
         rests = rests_again old.db new.db s keeps.rests ((left clean).now_is is_open)
             ((left clean).committed_is is_open);
         known = forgotten s;
       },
     );
-    crash = survives_weaker old.db new.db (λ _. ⊥) (MayLeaveAllOf old requests)
+    crash = survives_weaker old.db new.db (λ _. ⊥) (MayLeaveAllOf old requests (Err fault))
         (λ clean db none. absurd none) crash;
     lasts = λ clean change. absurd (true≢false (sym change));
   }
@@ -97,17 +105,18 @@ module _ (old new : Held) (b m : database.State) (requests : List Request)
         (clean_at m new.db (λ _. ⊥) left clean);
     opens = λ clean is_open. was_open old.db b m new.db entered begun crash kept
         (clean_at m new.db (λ _. ⊥) left clean);
-    answered = λ clean is_open s keeps.
+    shut = λ clean closed. as_answer fault is_fault;
+    answered = λ clean s keeps.
         let clean_m = clean_at m new.db (λ _. ⊥) left clean in (
           s,
           (is_fault, refl),
-          record {
+          λ is_open. record {
             rests = undone_rests old.db b m new.db entered begun crash kept clean_m
                 (opens clean is_open) (undone clean is_open) s keeps.rests;
             known = forgotten s;
           },
         );
-    crash = survives_weaker old.db new.db (λ _. ⊥) (MayLeaveAllOf old requests)
+    crash = survives_weaker old.db new.db (λ _. ⊥) (MayLeaveAllOf old requests (Err fault))
         (λ clean db none. absurd none)
         (crash_then old.db b new.db entered (crash_then b m new.db crash left));
     lasts = λ clean change. absurd (true≢false (sym change));
@@ -127,16 +136,18 @@ module _ (old new : Held) (b m : database.State) (requests : List Request)
         keeps.known
 
     -- what a crash may leave of the commit
-    commit_leaves : Survives old.db new.db (MayLeaveAllOf old requests)
-    commit_leaves =
+    commit_leaves : (result : Result (List Answer) Refusal) → IfOk result (λ given. given ≡ answers)
+        → Survives old.db new.db (MayLeaveAllOf old requests result)
+    commit_leaves result told =
         survives_then old.db m new.db (λ _. ⊥) (λ left. left ≡ m.now.trees)
-        (MayLeaveAllOf old requests) (λ clean db none. absurd none)
+        (MayLeaveAllOf old requests result) (λ clean db none. absurd none)
         (λ clean db is. (
           was_open old.db b m new.db entered begun crash kept (clean_m clean),
           λ s keeps.
               (let done = done_at (clean_m clean) s keeps in
               record {
                 answers = answers;
+                told = told;
                 end = done.0;
                 steps = done.1;
                 db = m.now;
@@ -153,16 +164,17 @@ module _ (old new : Held) (b m : database.State) (requests : List Request)
     together_uncommitted undone forgotten = record {
       honest = λ clean. before old.db b m new.db entered begun crash kept (clean_m clean);
       opens = λ clean is_open. was_open old.db b m new.db entered begun crash kept (clean_m clean);
-      answered = λ clean is_open s keeps. (
+      shut = λ clean closed. inr refl;
+      answered = λ clean s keeps. (
         s,
         (inr refl, refl),
-        record {
+        λ is_open. record {
           rests = undone_rests old.db b m new.db entered begun crash kept (clean_m clean)
               (done_at (clean_m clean) s keeps).3 (undone clean is_open) s keeps.rests;
           known = forgotten s;
         },
       );
-      crash = commit_leaves;
+      crash = commit_leaves (Err refusal.Store) tt;
       lasts = λ clean change. absurd (true≢false (sym change));
     }
 
@@ -173,16 +185,20 @@ module _ (old new : Held) (b m : database.State) (requests : List Request)
     together_committed shown last known = record {
       honest = λ clean. before old.db b m new.db entered begun crash kept (clean_m clean);
       opens = λ clean is_open. was_open old.db b m new.db entered begun crash kept (clean_m clean);
-      answered = λ clean is_open s keeps.
+      shut = λ clean closed. absurd (closed (was_open old.db b m new.db entered begun crash kept
+          (clean_m clean)));
+      answered = λ clean s keeps.
           let done = done_at (clean_m clean) s keeps in (
             done.0,
             done.1,
-            record {
+            λ is_open. record {
               rests = committed_rests m new.db done.0 (shown clean) done.2;
               known = subst (λ c. IsKnown c done.0) (sym known) done.4;
             },
           );
-      crash = commit_leaves;
-      lasts = λ clean changed. subst (λ (db : Database). CrashLeaves new.db db)
-          (sym (shown clean).now_is) (last clean);
+      crash = commit_leaves (Ok answers) refl;
+      lasts = λ clean changed. (
+        (shown clean).is_open,
+        subst (λ (db : Database). CrashLeaves new.db db) (sym (shown clean).now_is) (last clean),
+      );
     }

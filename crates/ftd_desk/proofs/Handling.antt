@@ -82,21 +82,33 @@ not_fault : (answer : Answer) → IsFault answer → is_change answer ≡ true �
 not_fault answer (inl memory) change = true≢false (sym (rw memory at change))
 not_fault answer (inr store) change = true≢false (sym (rw store at change))
 
-no_change : (answer : Answer) → IsFault answer → is_change answer ≡ false
+pub no_change : (answer : Answer) → IsFault answer → is_change answer ≡ false
 no_change answer (inl memory) = rw memory refl
 no_change answer (inr store) = rw store refl
 
+-- a crash finds what it would have found
+pub crash_still : (old : database.State) → CrashKeeps old old
+crash_still old = record {
+  clean = omega arith;
+  shield = λ h. h;
+  counts = omega arith;
+  limit = refl;
+  closes = λ clean h. inl h;
+  crash = λ clean db h. inl h;
+}
+
 -- nothing was touched
-pub handles_still : (old : Held) (request : Request) (answer : Answer) → CrashKeeps old.db old.db
-    → IsFault answer → Handles old old request answer
-handles_still old request answer crash fault = record {
+pub handles_still : (old : Held) (request : Request) (answer : Answer) → IsFault answer
+    → Handles old old request answer
+handles_still old request answer fault = record {
   honest = λ clean. clean;
   opens = λ clean is_open. is_open;
-  answered = λ clean is_open s keeps. (s, inr (fault, refl), keeps);
+  answered = λ clean s keeps. (s, inr (fault, refl), λ is_open. keeps);
+  shut = λ clean closed. fault;
   crash = survives_weaker old.db old.db (λ _. ⊥) (MayLeaveOf old request)
-      (λ clean db none. absurd none) crash;
+      (λ clean db none. absurd none) (crash_still old.db);
   lasts = λ clean change. absurd (not_fault answer fault change);
-  keeps = λ same other. crash;
+  keeps = λ same other. crash_still old.db;
 }
 
 -- no transaction began, and what was known is forgotten
@@ -107,10 +119,11 @@ pub handles_unbegun : (old new : Held) (request : Request) (answer : Answer)
 handles_unbegun old new request answer crash left forgotten fault = record {
   honest = clean_at old.db new.db (λ _. ⊥) crash;
   opens = λ clean is_open. (left clean).was_open is_open;
-  answered = λ clean is_open s keeps. (
+  shut = λ clean closed. fault;
+  answered = λ clean s keeps. (
     s,
     inr (fault, refl),
-    record {
+    λ is_open. record {
       rests = rests_again old.db new.db s keeps.rests ((left clean).now_is is_open)
           ((left clean).committed_is is_open);
       known = forgotten s;
@@ -176,22 +189,25 @@ module _ (old new : Held) (b m : database.State) (later : Known) (request : Requ
         (clean_at m new.db (λ _. ⊥) left clean);
     opens = λ clean is_open. was_open old.db b m new.db entered begun serves.crash serves.kept
         (clean_at m new.db (λ _. ⊥) left clean);
-    answered = λ clean is_open s keeps.
+    shut = λ clean closed. absurd (closed (was_open old.db b m new.db entered begun serves.crash
+        serves.kept (clean_at m new.db (λ _. ⊥) left clean)));
+    answered = λ clean s keeps.
         let clean_m = clean_at m new.db (λ _. ⊥) left clean in
-        let again = undone_rests old.db b m new.db entered begun serves.crash serves.kept clean_m
+        let again : IsTrue new.db.is_open → Rests new.db s = λ is_open.
+        undone_rests old.db b m new.db entered begun serves.crash serves.kept clean_m
         (opens clean is_open) (undone clean is_open) s keeps.rests in
         elim (done_at clean_m s keeps) [
           | inl fault ↦ (
             s,
             inr (fault.0, refl),
-            record { rests = again; known = counted s fault.1 },
+            λ is_open. record { rests = again is_open; known = counted s fault.1 },
           )
           | inr x ↦ (
             x.0,
             inl x.1,
-            record {
+            λ is_open. record {
               rests = subst (λ n. Rests new.db n)
-                  (sym (leaves s request answer x.0 x.1 stays)) again;
+                  (sym (leaves s request answer x.0 x.1 stays)) (again is_open);
               known = counted x.0 x.4;
             },
           )
@@ -239,14 +255,16 @@ module _ (old new : Held) (b m : database.State) (later : Known) (request : Requ
         (clean_at m new.db (λ left. left ≡ m.now.trees) commit clean);
     opens = λ clean is_open. was_open old.db b m new.db entered begun serves.crash serves.kept
         (clean_at m new.db (λ left. left ≡ m.now.trees) commit clean);
-    answered = λ clean is_open s keeps.
+    shut = λ clean closed. absurd (closed (was_open old.db b m new.db entered begun serves.crash
+        serves.kept (clean_at m new.db (λ left. left ≡ m.now.trees) commit clean)));
+    answered = λ clean s keeps.
         let clean_m = clean_at m new.db (λ left. left ≡ m.now.trees) commit clean in
         elim (done_at clean_m s keeps) [
           | inl fault ↦ absurd (not_fault answer fault.0 change)
           | inr x ↦ (
             s,
             inr (inr refl, refl),
-            record {
+            λ is_open. record {
               rests = undone_rests old.db b m new.db entered begun serves.crash serves.kept
                   clean_m x.3 (undone clean is_open) s keeps.rests;
               known = forgotten s;
@@ -268,22 +286,26 @@ module _ (old new : Held) (b m : database.State) (later : Known) (request : Requ
         (clean_at m new.db (λ left. left ≡ m.now.trees) commit clean);
     opens = λ clean is_open. was_open old.db b m new.db entered begun serves.crash serves.kept
         (clean_at m new.db (λ left. left ≡ m.now.trees) commit clean);
-    answered = λ clean is_open s keeps.
+    shut = λ clean closed. absurd (closed (was_open old.db b m new.db entered begun serves.crash
+        serves.kept (clean_at m new.db (λ left. left ≡ m.now.trees) commit clean)));
+    answered = λ clean s keeps.
         let clean_m = clean_at m new.db (λ left. left ≡ m.now.trees) commit clean in
         elim (done_at clean_m s keeps) [
           | inl fault ↦ absurd (not_fault answer fault.0 change)
           | inr x ↦ (
             x.0,
             inl x.1,
-            record {
+            λ is_open. record {
               rests = committed_rests m new.db x.0 (done clean) x.2;
               known = subst (λ c. IsKnown c x.0) (sym known) x.4;
             },
           )
         ];
     crash = commit_leaves commit change;
-    lasts = λ clean changed. subst (λ (db : Database). CrashLeaves new.db db)
-        (sym (done clean).now_is) (last clean);
+    lasts = λ clean changed. (
+      (done clean).is_open,
+      subst (λ (db : Database). CrashLeaves new.db db) (sym (done clean).now_is) (last clean),
+    );
     keeps = λ same other. absurd (true≢false (sym change ∙ same));
   }
 

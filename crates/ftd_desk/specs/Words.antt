@@ -1,6 +1,6 @@
 -- What a request does to the database.
 use Rattle.std.specs.Prelude.{◌≡◌, ◌⊎◌, Bool, true, false, IsTrue, List, [], ◌∷◌, ◌++◌, length}
-use Rattle.std.specs.Prelude.{Result, Ok, Err, Vec}
+use Rattle.std.specs.Prelude.{Result, Ok, Err, Vec, All, IfOk, MatchResult}
 use Rattle.std.specs.List.{list_any}
 use Rattle.sqlite.specs.Effect.{Database}
 use Rattle.sqlite.specs.State as database
@@ -9,7 +9,7 @@ use Rattle.sqlite.specs.Tree.{Trees}
 use Rattle.ftd_machine.specs.State.{State}
 use Rattle.ftd_machine.specs.Checks.{Answer}
 use Rattle.ftd_machine.specs.Step.{Step}
-use Rattle.ftd_machine.specs.Runs.{Goes, IsRun}
+use Rattle.ftd_machine.specs.Runs.{Goes, IsRun, IsFault}
 use Rattle.ftd_machine.specs.Laws.{is_change}
 use Rattle.ftd_machine.specs.declared.replies.Refusal.TheVariants.{Memory, Store}
 use Rattle.ftd_machine.specs.declared.requests.Request.{Request}
@@ -36,18 +36,22 @@ pub record MayLeave (s : State) (request : Request) (left : Trees) : Type 0 wher
   pub trees : left ≡ db.trees
   pub kept : IsKept db next
 
--- the request is answered as the machine answers it, and the desk stands for its next state; or
--- there is a fault, and it stands for the state as it was
+-- the request is answered as the machine answers it, and the desk stands for its next state while
+-- the connection is open; or there is a fault, and it stands for the state as it was
 pub record Handles (old new : Held) (request : Request) (answer : Answer) : Type 0 where
   pub honest : HasCleanDisk new.db → HasCleanDisk old.db
   pub opens : HasCleanDisk new.db → IsTrue new.db.is_open → IsTrue old.db.is_open
-  pub answered : HasCleanDisk new.db → IsTrue new.db.is_open → (s : State) → Keeps old s
-      → (next : State) × Goes s request answer next × Keeps new next
+  pub answered : HasCleanDisk new.db → (s : State) → Keeps old s
+      → (next : State) × Goes s request answer next × (IsTrue new.db.is_open → Keeps new next)
+  -- a connection that was not open answers a fault
+  pub shut : HasCleanDisk new.db → (IsTrue old.db.is_open → ⊥) → IsFault answer
   -- a crash finds what it would have found before, or the machine's next state
   pub crash : Survives old.db new.db (λ left. IsTrue old.db.is_open
       × ((s : State) → Keeps old s → MayLeave s request left))
-  -- once the request is done, or its run posted or voided, a crash finds what is seen now
-  pub lasts : HasCleanDisk new.db → is_change answer ≡ true → CrashLeaves new.db new.db.now
+  -- once the request is done, or its run posted or voided, the connection is open, and a crash
+  -- finds what is seen now
+  pub lasts : HasCleanDisk new.db → is_change answer ≡ true
+      → IsTrue new.db.is_open × CrashLeaves new.db new.db.now
   -- a refusal, and the answer to a question, leave what a crash finds
   pub keeps : is_change answer ≡ false → (answer ≡ Err Store → ⊥) → CrashKeeps old.db new.db
 
@@ -58,30 +62,62 @@ RepairsRows old new request answer =
     HasCleanDisk new → IsTrue new.is_open → is_change answer ≡ true
     → (t : Tables) → Stands old.now t → Repairs request answer old.now new.now t
 
--- what a crash may leave of requests one after the other beside the tables from before them: those
--- of the state that a run of the first of them, up to some place, ends in
-pub record MayLeaveRun (s : State) (requests : List Request) (left : Trees) : Type 0 where
+-- the first of these requests was answered with Store, and its commit may have been kept all the
+-- same: this is the machine's next state
+pub record FailsFirst (s : State) (requests : List Request) (answers : List Answer) (next : State)
+    : Type 0 where
+  pub request : Request
+  pub others : List Request
+  pub first : requests ≡ request ∷ others
+  pub later : List Answer
+  pub told : answers ≡ Err Store ∷ later
+  pub answer : Answer
+  pub step : Step s request answer next
+
+-- what a crash may leave of requests that were answered so, one after the other, beside the tables
+-- from before them: those of the state after the first of them, behind which no answer tells of a
+-- change; or, only where the first premise holds, those of the machine's next state, as a commit
+-- failed there
+pub record MayLeaveRun (failed : Type 0) (s : State) (requests : List Request)
+    (answers : List Answer) (left : Trees) : Type 0 where
   pub asked : List Request
   pub others : List Request
   pub first : requests ≡ asked ++ others
-  pub answers : List Answer
+  pub given : List Answer
+  pub later : List Answer
+  pub told : answers ≡ given ++ later
+  pub quiet : list_any is_change later ≡ false
+  pub between : State
+  pub run : IsRun s asked given between
   pub end : State
-  pub run : IsRun s asked answers end
+  pub ends : (end ≡ between) ⊎ (failed × FailsFirst between others later end)
   pub db : Database
   pub trees : left ≡ db.trees
   pub kept : IsKept db end
 
 -- the requests are answered one after the other as the machine answers them, or with faults that
--- change nothing, and the desk stands for the state at the end
-pub record HandlesAll (old new : Held) (requests : List Request)
-    (answers : List Answer) : Type 0 where
+-- change nothing, and the desk stands for the state at the end while the connection is open; a
+-- crash finds what it would have found before, or what is left so of a state from before
+pub record HandlesLeaving (Leaves : State → Trees → Type 0) (old new : Held)
+    (requests : List Request) (answers : List Answer) : Type 0 where
+  pub count : length answers ≡ length requests
   pub honest : HasCleanDisk new.db → HasCleanDisk old.db
   pub opens : HasCleanDisk new.db → IsTrue new.db.is_open → IsTrue old.db.is_open
-  pub answered : HasCleanDisk new.db → IsTrue new.db.is_open → (s : State) → Keeps old s
-      → (end : State) × IsRun s requests answers end × Keeps new end
-  -- a crash finds what it would have found before, or a state of a run of the first of the requests
+  pub answered : HasCleanDisk new.db → (s : State) → Keeps old s
+      → (end : State) × IsRun s requests answers end × (IsTrue new.db.is_open → Keeps new end)
+  -- a connection that was not open answers faults
+  pub shut : HasCleanDisk new.db → (IsTrue old.db.is_open → ⊥) → All IsFault answers
   pub crash : Survives old.db new.db (λ left. IsTrue old.db.is_open
-      × ((s : State) → Keeps old s → MayLeaveRun s requests left))
+      × ((s : State) → Keeps old s → Leaves s left))
+  -- once something is changed, a crash no longer finds what it would have found before
+  pub lasts : HasCleanDisk new.db → list_any is_change answers ≡ true → (s : State) → Keeps old s
+      → (left : Trees) → new.db.may_leave left → Leaves s left
+
+-- a crash finds what it would have found before, or a state of this run from the last change on;
+-- only where the first premise holds, also what a commit that failed was to keep
+abbrev pub HandlesAll : Type 0 → Held → Held → List Request → List Answer → Type 0
+HandlesAll failed old new requests answers =
+    HandlesLeaving (λ s left. MayLeaveRun failed s requests answers left) old new requests answers
 
 -- each request is answered as the machine answers it, one after the other
 abbrev pub AreSteps : State → List Request → List Answer → State → Type 0
@@ -113,9 +149,11 @@ ServesAll known requests served before after t =
     × IsKnown served.known end
 
 -- what a crash may leave of a list of requests beside the tables from before it: those of the
--- machine's state at the end
-pub record MayLeaveAll (s : State) (requests : List Request) (left : Trees) : Type 0 where
+-- machine's state at the end, with the answers that were given, if any were
+pub record MayLeaveAll (s : State) (requests : List Request)
+    (result : Result (List Answer) Refusal) (left : Trees) : Type 0 where
   pub answers : List Answer
+  pub told : IfOk result (λ given. given ≡ answers)
   pub end : State
   pub steps : AreSteps s requests answers end
   pub db : Database
@@ -138,15 +176,19 @@ some_change (Ok answers) = list_any is_change answers
 some_change (Err refusal) = false
 
 -- all requests are answered as the machine answers them, and the desk stands for the state at the
--- end; or there is a fault, and it stands for the state as it was
+-- end while the connection is open; or there is a fault, and it stands for the state as it was
 pub record HandlesTogether (old new : Held) (requests : List Request)
     (result : Result (List Answer) Refusal) : Type 0 where
   pub honest : HasCleanDisk new.db → HasCleanDisk old.db
   pub opens : HasCleanDisk new.db → IsTrue new.db.is_open → IsTrue old.db.is_open
-  pub answered : HasCleanDisk new.db → IsTrue new.db.is_open → (s : State) → Keeps old s
-      → (end : State) × GoesTogether s requests result end × Keeps new end
+  pub answered : HasCleanDisk new.db → (s : State) → Keeps old s
+      → (end : State) × GoesTogether s requests result end × (IsTrue new.db.is_open → Keeps new end)
+  -- a connection that was not open answers faults
+  pub shut : HasCleanDisk new.db → (IsTrue old.db.is_open → ⊥)
+      → MatchResult result (All IsFault) (λ refusal. IsFault (Err refusal))
   -- a crash finds what it would have found before, or the machine's state at the end
   pub crash : Survives old.db new.db (λ left. IsTrue old.db.is_open
-      × ((s : State) → Keeps old s → MayLeaveAll s requests left))
-  -- once something is kept that was not before, a crash finds what is seen now
-  pub lasts : HasCleanDisk new.db → some_change result ≡ true → CrashLeaves new.db new.db.now
+      × ((s : State) → Keeps old s → MayLeaveAll s requests result left))
+  -- once something is changed, the connection is open, and a crash finds what is seen now
+  pub lasts : HasCleanDisk new.db → some_change result ≡ true
+      → IsTrue new.db.is_open × CrashLeaves new.db new.db.now

@@ -1,21 +1,21 @@
 //! The desk: requests one after the other, each in a transaction of its own.
 
-ghost use Rattle.std.specs.Prelude.{◌≡◌, ◌⊎◌, Err, IfOk, OnErr};
+ghost use Rattle.std.specs.Prelude.{◌≡◌, ◌⊎◌, All, Err, IfOk, OnErr};
 ghost use Rattle.ftd_store.specs.Seen.{seen};
 ghost use Rattle.ftd_machine.specs.Limits.{IsBounded};
 ghost use Rattle.ftd_machine.specs.State.{State};
 ghost use Rattle.ftd_desk.specs.Desks.{store_of, IsStopped, held, Rests, Keeps};
 ghost use Rattle.ftd_schema.specs.States.{CrashKeeps};
-ghost use Rattle.ftd_desk.specs.Words.{AreAnswers, Handles, RepairsRows, HandlesAll};
-ghost use Rattle.ftd_desk.specs.Words.{HandlesTogether, listed};
+ghost use Rattle.ftd_desk.specs.Words.{Handles, RepairsRows, HandlesAll};
 
+mod listing;
 mod mending;
 mod telling;
 
 use crate::bounds::bounded;
 use crate::counts::is_change;
 use crate::known::Known;
-use crate::listed::{Answered, serve_all, serve_alone};
+use crate::listed::{Answered, serve_alone};
 use ftd_machine::{Answer, Refusal, Request};
 use ftd_questions::refusal_of;
 use ftd_store::Store;
@@ -57,15 +57,18 @@ impl<S: Alter> Desk<S> {
     }
 
     /// Answers the request. `Memory` and `Store` change nothing. After a commit that failed the
-    /// desk is stopped: it answers `Store` to everything, and does not touch the tables. A list of
-    /// which the amounts are together 6,000,000,000,000,000 cents or more is none of an account's,
-    /// and answered with `Store`.
+    /// desk is stopped: it answers `Store` to everything, and does not touch the tables; only then
+    /// may a crash find what a request changes that was answered `Store`. A list of which the
+    /// amounts are together 6,000,000,000,000,000 cents or more is none of an account's, and
+    /// answered with `Store`.
     pub fn handle(&mut self, request: &Request) -> Answer
         ensures handles { Handles (held S.Store self.old) (held S.Store self.new)
             request.now result }
         ensures repairs { RepairsRows (held S.Store self.old).db (held S.Store self.new).db
             request.now result }
         ensures bounded { IfOk result IsBounded }
+        ensures stops { OnErr result (IsStopped self.new
+            ⊎ CrashKeeps (held S.Store self.old).db (held S.Store self.new).db) }
         ensures stopped { IsStopped self.old
             → (result ≡ Err Refusal.Store) × (self.new ≡ self.old) }
     {
@@ -94,11 +97,14 @@ impl<S: Alter> Desk<S> {
     }
 
     /// Answers the requests one after the other. `Err` says that there was no memory for the list
-    /// of answers; nothing was asked then.
+    /// of answers; nothing was asked then. Only where the desk is stopped at the end may a crash
+    /// find what a request changes that was answered `Store`.
     pub fn run(&mut self, requests: &[Request]) -> Result<Vec<Answer>, AllocError>
-        ensures runs { IfOk result (λ answers. HandlesAll (held S.Store self.old)
-            (held S.Store self.new) requests.now answers.items) }
+        ensures runs { IfOk result (λ answers. HandlesAll (IsStopped self.new)
+            (held S.Store self.old) (held S.Store self.new) requests.now answers.items) }
         ensures err { OnErr result (self.new ≡ self.old) }
+        ensures stopped { IsStopped self.old → IfOk result (λ answers.
+            All (λ answer. answer ≡ Err Refusal.Store) answers.items) × (self.new ≡ self.old) }
     {
         let mut answers = Vec::with_capacity(self.alloc, requests.len())?;
         for request in requests {
@@ -106,40 +112,5 @@ impl<S: Alter> Desk<S> {
             answers.push_reserved(answer);
         }
         Ok(answers)
-    }
-
-    /// Answers the requests one after the other in one transaction: what they change is kept
-    /// together, or, where there is a fault, not at all. `Memory` and `Store` change nothing. After
-    /// a commit that failed the desk is stopped; only then may a crash find what they change.
-    pub fn together(&mut self, requests: &[Request]) -> Result<Vec<Answer>, Refusal>
-        ensures together { HandlesTogether (held S.Store self.old)
-            (held S.Store self.new) requests.now (listed result) }
-        ensures answers { IfOk result (λ answers. AreAnswers requests.now answers.items) }
-        ensures keeps { OnErr result (IsStopped self.new
-            ⊎ CrashKeeps (held S.Store self.old).db (held S.Store self.new).db) }
-        ensures stopped { IsStopped self.old
-            → (listed result ≡ Err Refusal.Store) × (self.new ≡ self.old) }
-    {
-        if self.stopped {
-            return Err(Refusal::Store);
-        }
-        let Some((first, later)) = requests.split_first() else {
-            return Ok(Vec::new(self.alloc));
-        };
-        let known = mem::replace(&mut self.known, Known::none(self.alloc));
-        let mut tx = match self.store.begin() {
-            Ok(tx) => tx,
-            Err(fault) => return Err(refusal_of(fault)),
-        };
-        let served = match serve_all(&mut tx, self.alloc, known, first, later) {
-            Ok(served) => served,
-            Err(fault) => return Err(refusal_of(fault)),
-        };
-        if tx.commit().is_err() {
-            self.stopped = true;
-            return Err(Refusal::Store);
-        }
-        self.known = served.known;
-        Ok(served.answers)
     }
 }

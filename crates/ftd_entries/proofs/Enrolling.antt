@@ -3,6 +3,7 @@ use Rattle.std.proofs.Common.{◌≡◌, ℕ, Bool, true, false, List, [], ◌�
 use Rattle.std.proofs.Common.{Some, Ok, refl, sym, ap, subst, ◌∙◌, inl}
 use Rattle.std.proofs.lemmas.Bool.{true≢false}
 use Rattle.std.proofs.lemmas.List.{map-append}
+use Rattle.std.proofs.lemmas.List.Sorted.{IsPermutation-append_left}
 use Rattle.std.specs.Prelude.{filter, bytes_eq, is_some, IsPermutation}
 use Rattle.ftd_rules.specs.declared.Form.{Form}
 use Rattle.ftd_rules.specs.declared.YearLine.{YearLine}
@@ -11,7 +12,7 @@ use Rattle.ftd_rules.specs.declared.Obligation.{Obligation}
 use Rattle.ftd_rules.specs.Lists.{Has}
 use Rattle.ftd_rules.specs.Years.{AreLines}
 use Rattle.ftd_rules.specs.Obligations.{AreObligations}
-use Rattle.ftd_schema.specs.declared.TableName.TheVariants.{Years}
+use Rattle.ftd_schema.specs.declared.TableName.TheVariants.{Forms, Years}
 use Rattle.ftd_schema.specs.Standing.{Tables}
 use Rattle.ftd_schema.specs.Tests.{is_year_of}
 use Rattle.ftd_rows.specs.Rows.{year_row}
@@ -26,7 +27,7 @@ use Rattle.ftd_machine.specs.Requests.{enrol_checks}
 use Rattle.ftd_machine.specs.Step.{Step, with_account}
 use Rattle.ftd_machine.specs.Sound.{IsSound}
 use Rattle.ftd_machine.proofs.Adding.{same_name, own_name}
-use Rattle.ftd_machine.proofs.Soundness.{has_filtered}
+use Rattle.ftd_machine.proofs.Members.{has_filtered}
 use Rattle.ftd_machine.proofs.Others.{others}
 use Rattle.ftd_machine.proofs.Heads.{Gives, gives_new, skip_needs}
 use Rattle.ftd_entries.specs.Standing.{StandsFor, IsSettled, enrolled_row, enrolled_form}
@@ -136,10 +137,13 @@ module _ (name : List ℕ) (account : Account) where
         Next s,
         step,
         record {
+          meta = stands.meta;
           accounts = ap (λ rows. rows ++ enrolled_row new_one ∷ []) stands.accounts
               ∙ sym (map-append enrolled_row s.accounts (new_one ∷ []));
-          forms = ap (λ rows. rows ++ enrolled_form new_one ∷ []) stands.forms
-              ∙ sym (map-append enrolled_form s.accounts (new_one ∷ []));
+          forms = subst (IsPermutation (t Forms ++ enrolled_form new_one ∷ []))
+              (sym (map-append enrolled_form s.accounts (new_one ∷ [])))
+              (IsPermutation-append_left (enrolled_form new_one ∷ []) (t Forms)
+              (map enrolled_form s.accounts) stands.forms);
           reported = stands.reported;
           reported_years = stands.reported_years;
           calendars = stands.calendars;

@@ -8,7 +8,7 @@ use Rattle.ftd_rules.specs.Lists.{Has}
 use Rattle.ftd_machine.specs.State.{Entry, has_key, content_of, kept_at}
 use Rattle.ftd_machine.specs.History.{figure_of, figures}
 use Rattle.ftd_machine.proofs.Keeping.{same_key}
-use Rattle.ftd_machine.proofs.Soundness.{has_mapped, found_none}
+use Rattle.ftd_machine.proofs.Members.{has_mapped, found_none}
 
 -- what is kept under a key is a figure of it
 pub kept_has : (key : ℕ) (xs : List (Entry Cents)) (cents : Cents) → kept_at key xs ≡ Some cents

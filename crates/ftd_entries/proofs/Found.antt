@@ -5,6 +5,7 @@ use Rattle.std.proofs.Math.IntN.{◌+ℤ◌, -ℤ-+ℤ_cancel}
 use Rattle.std.specs.Prelude.{filter, find, bytes_eq, option_map, unwrap_or, if◌then◌else◌}
 use Rattle.ftd_rules.specs.declared.Form.{Form}
 use Rattle.ftd_rules.specs.declared.Form.TheVariants.{F941, F943}
+use Rattle.ftd_schema.specs.declared.TableName.TheVariants.{Forms}
 use Rattle.ftd_schema.specs.Rows.{AccountRow, FormRow}
 use Rattle.ftd_schema.specs.Standing.{Tables}
 use Rattle.ftd_schema.specs.Tests.{is_account, is_form_of}
@@ -16,6 +17,7 @@ use Rattle.ftd_store.specs.Finds.{FindsAccount, FindsForm}
 use Rattle.ftd_machine.specs.declared.entries.Account.{Account}
 use Rattle.ftd_machine.specs.State.{Enrolled, is_named, account_of}
 use Rattle.ftd_entries.specs.Standing.{enrolled_row, enrolled_form}
+use Rattle.ftd_entries.proofs.Permuted.{one_filtered, at_most_one}
 use Rattle.ftd_entries.specs.Known.{KnowsAccount, HasForm, joined}
 
 pub day_is : (a b : ℕ) → day_number a ≡ day_number b → a ≡ b
@@ -77,7 +79,8 @@ pub knows_account : (name : List ℕ) (found : Option StoredAccount) (form : Opt
     → FindsAccount name found t → FindsForm name form t → KnowsAccount name (joined found form) t
 knows_account name found form t account kind s stands =
     account_is name found form s.accounts (ap (filter (is_account name)) (sym stands.accounts)
-    ∙ account) (ap (filter (is_form_of name)) (sym stands.forms) ∙ kind)
+    ∙ account) (one_filtered (is_form_of name) (t Forms) (map enrolled_form s.accounts)
+    (rows_of (form_row name) form) stands.forms (at_most_one (form_row name) form) kind)
 
 -- and its form is that of its row
 pub has_form : (name : List ℕ) (found : Option StoredAccount) (form : Option Form) (t : Tables)

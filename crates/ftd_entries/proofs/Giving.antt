@@ -32,13 +32,8 @@ use Rattle.ftd_machine.specs.Requests.{calendar_checks}
 use Rattle.ftd_machine.specs.Step.{Step}
 use Rattle.ftd_machine.specs.Sound.{IsSound}
 use Rattle.ftd_machine.proofs.Heads.{Gives, gives_needs, gives_new, skip_needs}
-use Rattle.ftd_machine.proofs.Soundness.{has_mapped, has_filtered}
+use Rattle.ftd_machine.proofs.Members.{has_mapped, has_filtered, mapped_has}
 use Rattle.ftd_entries.specs.Standing.{StandsFor, IsSettled, calendar_entry, holiday_entries}
-
-pub mapped_has : {X Y : Type 0} (f : X → Y) (xs : List X) (x : X) → Has xs x → Has (map f xs) (f x)
-mapped_has f [] x has = absurd has
-mapped_has f (z ∷ xs) x (inl is) = inl (ap f is)
-mapped_has f (z ∷ xs) x (inr has) = inr (mapped_has f xs x has)
 
 -- each line is of an open year of the account
 pub line_opened : (s : State) (name : List ℕ) (lines : List YearLine) → IsSound s
@@ -182,6 +177,7 @@ module _ (year : ℕ) (days : List ℕ) where
         Next s,
         step,
         record {
+          meta = stands.meta;
           accounts = stands.accounts;
           forms = stands.forms;
           reported = stands.reported;

@@ -1,3 +1,4 @@
+pub mod Permuted
 pub mod Found
 pub mod Kept
 pub mod Opened
@@ -19,3 +20,4 @@ pub mod Paying
 pub mod DayCells
 pub mod YearHolidays
 pub mod OwedRows
+pub mod Ends

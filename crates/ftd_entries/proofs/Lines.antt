@@ -21,7 +21,7 @@ use Rattle.ftd_rows.specs.Years.{FirstCarriedAs}
 use Rattle.ftd_store.specs.Finds.{IsYear, ListsYears}
 use Rattle.ftd_machine.specs.State.{State, Enrolled, is_named, account_of, entries_of}
 use Rattle.ftd_machine.specs.History.{is_carried, AreCarried}
-use Rattle.ftd_machine.proofs.Soundness.{has_mapped}
+use Rattle.ftd_machine.proofs.Members.{has_mapped}
 use Rattle.ftd_entries.specs.Standing.{StandsFor, IsSettled, enrolled_row}
 use Rattle.ftd_entries.proofs.Found.{day_is, flag_is}
 use Rattle.ftd_entries.proofs.CalendarRows.{whole, whole_rises}

@@ -57,11 +57,12 @@ use Rattle.ftd_machine.proofs.Heads.{Gives, gives_needs, gives_done, skip_needs,
 use Rattle.ftd_machine.proofs.Others.{others}
 use Rattle.ftd_machine.specs.Sound.{IsSound, FollowFrom, Follow}
 use Rattle.ftd_machine.proofs.Adding.{entry_own, same_name, own_name, filter_more}
-use Rattle.ftd_machine.proofs.Soundness.{has_last, has_mapped, has_filtered, found_none, step_sound}
+use Rattle.ftd_machine.proofs.Members.{has_last, has_mapped, has_filtered, found_none}
+use Rattle.ftd_machine.proofs.Members.{mapped_has}
+use Rattle.ftd_machine.proofs.Soundness.{step_sound}
 use Rattle.ftd_entries.specs.Standing.{StandsFor, IsSettled}
 use Rattle.ftd_entries.specs.Opening.{HasOpening, IsNextLine, KeepsYear}
 use Rattle.ftd_entries.proofs.CalendarRows.{year_cell}
-use Rattle.ftd_entries.proofs.Giving.{mapped_has}
 
 -- ---- lists with one more
 
@@ -552,6 +553,7 @@ module _ (name : List ℕ) (year : ℕ) where
                 Next s,
                 step,
                 record {
+                  meta = stands.meta;
                   accounts = stands.accounts;
                   forms = stands.forms;
                   reported = stands.reported;

@@ -37,6 +37,7 @@ paid_stands : (t : Tables) (s : State) (rows : List PaymentRow)
     (payments : List (Entry (Voidable Payment))) → rows ≡ map payment_entry payments → StandsFor t s
     → StandsFor (with_rows Payments rows t) (record s { payments = payments })
 paid_stands t s rows payments are stands = record {
+  meta = stands.meta;
   accounts = stands.accounts;
   forms = stands.forms;
   reported = stands.reported;

@@ -48,6 +48,7 @@ module _ (name : List ℕ) (quarter : ℕ) (cents : Cents) where
   reported_stands t s stands =
       let more : Entry Cents = record { name = name; key = quarter; content = cents } in
       record {
+        meta = stands.meta;
         accounts = stands.accounts;
         forms = stands.forms;
         reported = ap (λ rows. rows ++ quarter_entry more ∷ []) stands.reported
@@ -116,6 +117,7 @@ module _ (name : List ℕ) (year : ℕ) (cents : Cents) where
   reported_year_stands t s stands =
       let more : Entry Cents = record { name = name; key = year; content = cents } in
       record {
+        meta = stands.meta;
         accounts = stands.accounts;
         forms = stands.forms;
         reported = stands.reported;

@@ -5,6 +5,7 @@ pub mod Payments
 pub mod Standing
 pub mod Words
 pub use Rattle.ftd_days.specs.Calendar
+pub use Rattle.ftd_schema.specs.Beginnings
 pub use Rattle.ftd_store.specs.Finds
 pub use Rattle.ftd_store.specs.Frame
 pub use Rattle.ftd_store.specs.Seen

@@ -1,9 +1,11 @@
 //! Requests that enter something into the desk's tables: accounts, calendars, reported totals, open
 //! years, payments. Each is one function on a transaction, whose contract is the machine's step.
+//! `laws` says what new and migrated tables stand for.
 #![tactic(auto)]
 
 mod accounts;
 mod calendars;
+pub mod laws;
 mod lookbacks;
 mod open_years;
 mod payments;

@@ -17,11 +17,11 @@ use Rattle.ftd_rules.proofs.DueDates.{due_one}
 use Rattle.ftd_rules.proofs.Near.{due_near}
 use Rattle.ftd_rules.proofs.Resting.{due_from, due_same, from_later}
 use Rattle.ftd_rules.proofs.Stated.{due_by}
-use Rattle.ftd_schema.specs.declared.TableName.TheVariants.{Accounts, ReportedQuarters}
+use Rattle.ftd_schema.specs.declared.TableName.TheVariants.{Metas, Accounts, ReportedQuarters}
 use Rattle.ftd_schema.specs.declared.TableName.TheVariants.{CalendarYears, Holidays, Years, Runs}
 use Rattle.ftd_schema.specs.declared.TableName.TheVariants.{Payments, Obligations, Forms}
 use Rattle.ftd_schema.specs.declared.TableName.TheVariants.{ReportedYears, AddedHolidays}
-use Rattle.ftd_schema.specs.Rows.{YearRow}
+use Rattle.ftd_schema.specs.Rows.{YearRow, FormRow}
 use Rattle.ftd_schema.specs.Standing.{Tables}
 use Rattle.ftd_schema.specs.Tests.{is_year_of}
 use Rattle.ftd_rows.specs.Rows.{year_row, holiday_row}
@@ -39,7 +39,7 @@ use Rattle.ftd_machine.specs.Requests.{add_holiday_checks}
 use Rattle.ftd_machine.specs.Step.{Step}
 use Rattle.ftd_machine.specs.Sound.{IsSound}
 use Rattle.ftd_machine.proofs.Soundness.{step_sound}
-use Rattle.ftd_entries.specs.Standing.{StandsFor, IsSettled, added_entry}
+use Rattle.ftd_entries.specs.Standing.{StandsFor, IsSettled, added_entry, enrolled_form}
 use Rattle.ftd_entries.proofs.CalendarRows.{days_found, calendar_known}
 use Rattle.ftd_entries.proofs.YearHolidays.{added_known, added_counted}
 use Rattle.ftd_holidays.specs.Moved.{AddsHoliday}
@@ -200,8 +200,10 @@ module _ {A B : Type 0} (day year : ℕ) (its : year ≡ year_of day) (found : O
         next,
         step,
         record {
+          meta = only Metas ∙ stands.meta;
           accounts = only Accounts ∙ stands.accounts;
-          forms = only Forms ∙ stands.forms;
+          forms = subst (λ (rows : List FormRow). IsPermutation rows (map enrolled_form s.accounts))
+              (sym (only Forms)) stands.forms;
           reported = only ReportedQuarters ∙ stands.reported;
           reported_years = only ReportedYears ∙ stands.reported_years;
           calendars = only CalendarYears ∙ stands.calendars;

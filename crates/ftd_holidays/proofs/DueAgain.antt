@@ -22,8 +22,7 @@ use Rattle.ftd_rules.proofs.Moving.{due_moves}
 use Rattle.ftd_rules.proofs.Resting.{from_later}
 use Rattle.ftd_rules.proofs.Schedules.{year_facts}
 use Rattle.ftd_rules.proofs.Stated.{piece_owed, due_by, due_stated}
-use Rattle.ftd_machine.proofs.Soundness.{has_mapped}
-use Rattle.ftd_entries.proofs.Giving.{mapped_has}
+use Rattle.ftd_machine.proofs.Members.{has_mapped, mapped_has}
 
 -- ---- one obligation
 

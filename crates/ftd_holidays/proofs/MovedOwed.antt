@@ -30,7 +30,7 @@ use Rattle.ftd_rows.proofs.Found.{both}
 use Rattle.ftd_store.specs.Finds.{IsAccountObligation}
 use Rattle.ftd_store.proofs.Sifted.{filter_in, filter_out, keeps_has, both_are}
 use Rattle.ftd_machine.proofs.Adding.{same_name, own_name}
-use Rattle.ftd_machine.proofs.Soundness.{has_mapped, has_filtered}
+use Rattle.ftd_machine.proofs.Members.{has_mapped, has_filtered}
 use Rattle.ftd_entries.specs.Standing.{is_obligation_of}
 use Rattle.ftd_entries.proofs.CalendarRows.{whole}
 use Rattle.ftd_entries.proofs.DayCells.{day_le, day_lt, same_day}

@@ -1,5 +1,7 @@
 -- What is said of a desk before and after each request, said of the states that it stands for.
 use Rattle.std.proofs.Common.{◌≡◌, ◌++◌, ℕ, Bool, List, [], length, Option, Result, Ok, Err, refl}
+use Rattle.std.proofs.Common.{◌∙◌, sym, inl, inr}
+use Rattle.std.proofs.lemmas.Bool.{true≢false, cases_Bool}
 use Rattle.std.specs.Prelude.{IfOk, IfErr}
 use Rattle.sqlite.specs.Store as store
 use Rattle.ftd_machine.specs.State.{State}
@@ -31,7 +33,8 @@ same_desk old new so same holds = rw same (stays old)
     stays h = record {
       honest = λ clean. clean;
       opens = λ clean opened. opened;
-      follows = λ clean opened s keeps. (s, holds s, keeps);
+      follows = λ clean s keeps. (s, holds s, λ is_open. keeps);
+      shut = λ clean closed s. holds s;
     }
 
 -- one after the other
@@ -42,10 +45,19 @@ both old mid new first second so a b join =
     record {
       honest = λ clean. a.honest (b.honest clean);
       opens = λ clean opened. a.opens (b.honest clean) (b.opens clean opened);
-      follows = λ clean opened s keeps.
-          let (m, one, kept) = a.follows (b.honest clean) (b.opens clean opened) s keeps in
-          let (end, other, later) = b.follows clean opened m kept in
-          (end, join s m end one other, later);
+      follows = λ clean s keeps.
+          let (m, one, kept) = a.follows (b.honest clean) s keeps in
+          elim (cases_Bool mid.db.is_open) [
+            | inl is_open ↦ (let (end, other, later) = b.follows clean m (kept is_open) in
+                (end, join s m end one other, later))
+            | inr closed ↦ (
+              m,
+              join s m m one (b.shut clean (λ is_open. true≢false (sym is_open ∙ closed)) m),
+              λ is_open. absurd (true≢false (sym (b.opens clean is_open) ∙ closed)),
+            )
+          ];
+      shut = λ clean closed s. join s s s (a.shut (b.honest clean) closed s)
+          (b.shut clean (λ is_open. closed (a.opens (b.honest clean) is_open)) s);
     }
 
 weaker : (old new : Held) (first so : State → State → Type 0) → Follows old new first
@@ -54,8 +66,9 @@ weaker old new first so a less =
     record {
       honest = a.honest;
       opens = a.opens;
-      follows = λ clean opened s keeps. let (end, one, kept) = a.follows clean opened s keeps in
+      follows = λ clean s keeps. let (end, one, kept) = a.follows clean s keeps in
           (end, less s end one, kept);
+      shut = λ clean closed s. less s s (a.shut clean closed s);
     }
 
 module _ {S : Type 0} (g : store.Ghosts S) where
@@ -77,9 +90,10 @@ module _ {S : Type 0} (g : store.Ghosts S) where
       record {
         honest = handles.honest;
         opens = handles.opens;
-        follows = λ clean opened s keeps.
-            let (end, step, kept) = handles.answered clean opened s keeps in
+        follows = λ clean s keeps.
+            let (end, step, kept) = handles.answered clean s keeps in
             (end, (answer, step, is), kept);
+        shut = λ clean closed s. (answer, inr (handles.shut clean closed, refl), is);
       }
 
   one_answer : (before : ℕ) (now later : Desk S) (message : Message) (text : List ℕ)

@@ -8,12 +8,14 @@ use Rattle.ftd_messages.specs.Messages.{Message}
 use Rattle.ftd_http.specs.Serving.{Answered, Broken}
 use Rattle.ftd_http.specs.declared.connection.Cause.{Cause}
 
--- a desk that stood for a state stands for one that follows from it so
+-- a desk that stood for a state stands for one that follows from it so while the connection is open
 pub record Follows (old new : Held) (so : State → State → Type 0) : Type 0 where
   pub honest : HasCleanDisk new.db → HasCleanDisk old.db
   pub opens : HasCleanDisk new.db → IsTrue new.db.is_open → IsTrue old.db.is_open
-  pub follows : HasCleanDisk new.db → IsTrue new.db.is_open → (s : State) → Keeps old s
-      → (end : State) × so s end × Keeps new end
+  pub follows : HasCleanDisk new.db → (s : State) → Keeps old s
+      → (end : State) × so s end × (IsTrue new.db.is_open → Keeps new end)
+  -- over a connection that was not open each state follows from itself so
+  pub shut : HasCleanDisk new.db → (IsTrue old.db.is_open → ⊥) → (s : State) → so s s
 
 -- the desk answers these messages as the machine does
 abbrev pub AnsweredBy : Held → Held → List Message → List ℕ → Type 0

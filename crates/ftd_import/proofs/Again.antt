@@ -3,7 +3,7 @@ use Rattle.std.proofs.Common.{◌≡◌, ◌⊎◌, refl, sym, ap, subst, ◌∙
 use Rattle.std.proofs.Common.{rules, Bool, true, false, ℕ, List, [], ◌∷◌, ◌++◌, length, map, Option}
 use Rattle.std.proofs.Common.{Some, None, Result, Ok, Err, length-append}
 use Rattle.std.specs.List.{cons_option, filter_map, list_any}
-use Rattle.std.specs.Prelude.{MatchResult, ◌||◌}
+use Rattle.std.specs.Prelude.{MatchResult, ◌||◌, ⊤}
 use Rattle.std.proofs.lemmas.List.{append_assoc, append-nil}
 use Rattle.std.proofs.lemmas.List.Elements.{filter_map-append}
 use Rattle.sqlite.specs.State.{Survives}
@@ -15,7 +15,7 @@ use Rattle.ftd_machine.specs.declared.replies.Refusal.{Refusal}
 use Rattle.ftd_machine.specs.declared.replies.Refusal.TheVariants as refusal
 use Rattle.ftd_machine.specs.declared.requests.Request.{Request}
 use Rattle.ftd_desk.specs.Desks.{Held}
-use Rattle.ftd_desk.specs.Words.{AreSteps, HandlesAll, HandlesTogether, is_fault}
+use Rattle.ftd_desk.specs.Words.{AreAnswers, AreSteps, HandlesAll, HandlesTogether, is_fault}
 use Rattle.ftd_import.specs.Outcomes.{Counts, CountsAnswers, IsNothing, IsSame, IsSummary, Outcome}
 use Rattle.ftd_import.specs.Outcomes.{answer_in, fault_in, fault_of, post_in, post_of, posted}
 use Rattle.ftd_import.specs.Outcomes.{posts_of, record_in, request_in, skipped}
@@ -84,21 +84,22 @@ steps_of_run (skipped number field ∷ xs) none s end run = steps_of_run xs none
 -- its posts were answered together
 pub posts_together : (a b : Held) (rs : List (ℕ × Said)) (requests : List Request)
     (answers : List Answer) (p q r : Summary) → requests ≡ posts_of rs
-    → HandlesTogether a b requests (Ok answers) → list_any is_fault answers ≡ false → IsSame p q
+    → HandlesTogether a b requests (Ok answers) → AreAnswers requests answers → IsSame p q
     → CountsAnswers q rs answers r → Posts a b rs p r
-posts_together a b rs requests answers p q r is handles sure same counts = record {
+posts_together a b rs requests answers p q r is handles told same counts = record {
   outcomes = counts.outcomes;
   are = record {
     all = counts.all;
     no_fault = none_faulty counts.outcomes
-        (subst (λ (said : List Answer). list_any is_fault said ≡ false) (sym counts.answered) sure);
+        (subst (λ (said : List Answer). list_any is_fault said ≡ false) (sym counts.answered)
+        told.no_fault);
   };
   counts = counts_then p q r [] counts.outcomes same counts.counts;
   asks =
-      subst (λ (xs : List Request). HandlesAll a b xs (filter_map answer_in counts.outcomes))
+      subst (λ (xs : List Request). HandlesAll ⊤ a b xs (filter_map answer_in counts.outcomes))
       (is ∙ sym (requests_of_records rs counts.outcomes counts.all))
-      (subst (λ (said : List Answer). HandlesAll a b requests said) (sym counts.answered)
-      (all_together a b requests answers handles));
+      (subst (λ (said : List Answer). HandlesAll ⊤ a b requests said) (sym counts.answered)
+      (all_together a b requests answers told.count handles));
 }
 
 -- none was posted, and then all, one after the other
@@ -112,11 +113,13 @@ posts_again failed a b c rs p q r none same posts = record {
     | inl asks ↦ asks_then a b c [] posts.outcomes asks posts.asks
     | inr met ↦
         let requests = requests_of_records rs posts.outcomes posts.are.all in
-        subst (λ (xs : List Request). HandlesAll a c xs (filter_map answer_in posts.outcomes))
-        (sym requests)
-        (all_again a b c (posts_of rs) met.1.0 (filter_map answer_in posts.outcomes) met.1.1
-        (subst (λ (xs : List Request). HandlesAll b c xs (filter_map answer_in posts.outcomes))
-        requests posts.asks))
+        let answers = filter_map answer_in posts.outcomes in
+        let sure = subst (λ (xs : List Request). (s end : State) → IsRun s xs answers end
+        → AreSteps s xs answers end) requests
+        (λ s end run. steps_of_run posts.outcomes posts.are.no_fault s end run) in
+        subst (λ (xs : List Request). HandlesAll ⊤ a c xs answers) (sym requests)
+        (all_again a b c (posts_of rs) met.1.0 answers sure met.1.1
+        (subst (λ (xs : List Request). HandlesAll ⊤ b c xs answers) requests posts.asks))
   ];
 }
 

@@ -1,6 +1,5 @@
 pub mod Again
 pub mod Counting
-pub mod Joining
 pub mod Places
 pub mod Texts
 pub mod Together

@@ -1,7 +1,8 @@
 -- Outcomes of records, one after the other.
 use Rattle.std.proofs.Common.{◌≡◌, refl, sym, ap, subst, ◌∙◌, ◌+◌, inl, inr, arith}
 use Rattle.std.proofs.Common.{Bool, ℕ, List, [], ◌∷◌, ◌++◌, length, map}
-use Rattle.std.proofs.Common.{Some, None, length-append}
+use Rattle.std.proofs.Common.{Some, None, Ok, Err, Result, OnErr, length-append}
+use Rattle.std.specs.Prelude.{⊤}
 use Rattle.std.specs.List.{filter, filter_map}
 use Rattle.std.proofs.lemmas.List.{append_assoc, append-nil, map-append}
 use Rattle.std.proofs.lemmas.List.Elements.{filter-append, filter_map-append}
@@ -9,7 +10,7 @@ use Rattle.ftd_csv.specs.Records.{Run, Said, pay_run, malformed}
 use Rattle.ftd_machine.specs.Checks.{Answer}
 use Rattle.ftd_desk.specs.Desks.{Held}
 use Rattle.ftd_desk.specs.Words.{Handles, HandlesAll}
-use Rattle.ftd_desk.proofs.Running.{all_none}
+use Rattle.ftd_desk.proofs.Running.{all_none, all_one, all_then}
 use Rattle.ftd_import.specs.Outcomes.{Counts, IsNothing, IsSame, IsSummary, Outcome, answer_in}
 use Rattle.ftd_import.specs.Outcomes.{fault_in, fault_of, note_in, post_of, posted, record_in}
 use Rattle.ftd_import.specs.Outcomes.{request_in, skipped, was_already, was_malformed, was_posted}
@@ -18,7 +19,6 @@ use Rattle.ftd_import.specs.Imports.{AreOutcomes, Asks, Posts, StopsAt, StopsIn}
 use Rattle.ftd_import.specs.declared.summary.StopCause.{StopCause}
 use Rattle.ftd_import.specs.declared.summary.StopCause.TheVariants as cause
 use Rattle.ftd_import.specs.declared.summary.Summary.{Summary}
-use Rattle.ftd_import.proofs.Joining.{all_one, all_then}
 
 number_then : (test : Outcome → Bool) (xs ys : List Outcome) (p q r : ℕ)
     → q ≡ p + length (filter test xs) → r ≡ q + length (filter test ys)
@@ -94,12 +94,22 @@ are_then rs ss xs ys first second = record {
 pub asks_then : (a b c : Held) (xs ys : List Outcome) → Asks a b xs → Asks b c ys
     → Asks a c (xs ++ ys)
 asks_then a b c xs ys first second =
-    subst (λ rs. HandlesAll a c rs (filter_map answer_in (xs ++ ys)))
+    subst (λ rs. HandlesAll ⊤ a c rs (filter_map answer_in (xs ++ ys)))
     (sym (filter_map-append request_in xs ys))
-    (subst (λ qs. HandlesAll a c (filter_map request_in xs ++ filter_map request_in ys) qs)
+    (subst (λ qs. HandlesAll ⊤ a c (filter_map request_in xs ++ filter_map request_in ys) qs)
     (sym (filter_map-append answer_in xs ys))
-    (all_then a b c (filter_map request_in xs) (filter_map answer_in xs) (filter_map request_in ys)
-    (filter_map answer_in ys) first second))
+    (all_then ⊤ ⊤ a b c (filter_map request_in xs) (filter_map answer_in xs)
+    (filter_map request_in ys) (filter_map answer_in ys) (λ met. met) first second))
+
+pub on_err : {A E P : Type 0} (result : Result A E) → P → OnErr result P
+on_err (Ok x) p = tt
+on_err (Err e) p = p
+
+-- one request, whatever became of its commit
+asks_one : (a b : Held) (run : Run) (answer : Answer) → Handles a b (post_of run) answer
+    → HandlesAll ⊤ a b (post_of run ∷ []) (answer ∷ [])
+asks_one a b run answer handles = all_one ⊤ a b (post_of run) answer handles
+    (on_err answer (inl tt))
 
 -- ---- posts
 pub posts_none : (a : Held) (p : Summary) → Posts a a [] p p
@@ -107,7 +117,7 @@ posts_none a p = record {
   outcomes = [];
   are = record { all = refl; no_fault = refl };
   counts = same p;
-  asks = all_none a;
+  asks = all_none ⊤ a;
 }
 
 pub posts_then : (a b c : Held) (rs ss : List (ℕ × Said)) (p q r : Summary) → Posts a b rs p q
@@ -137,7 +147,7 @@ posts_one a b number run answer p q handles none counts = record {
   outcomes = posted number run answer ∷ [];
   are = record { all = refl; no_fault = rw none refl };
   counts = counts;
-  asks = all_one a b (post_of run) answer handles;
+  asks = asks_one a b run answer handles;
 }
 
 -- a malformed record
@@ -147,12 +157,12 @@ skips_one a number field p q counts = record {
   outcomes = skipped number field ∷ [];
   are = record { all = refl; no_fault = refl };
   counts = counts;
-  asks = all_none a;
+  asks = all_none ⊤ a;
 }
 
 -- ---- stops
 pub no_room : (a : Held) (at : ℕ × Said) → StopsAt a a at cause.Memory
-no_room a at = record { last = []; stop = inl (refl, refl); asks = all_none a }
+no_room a at = record { last = []; stop = inl (refl, refl); asks = all_none ⊤ a }
 
 pub faulted : (a b : Held) (number : ℕ) (run : Run) (answer : Answer) (why : StopCause)
     → Handles a b (post_of run) answer → fault_of answer ≡ Some why
@@ -160,7 +170,7 @@ pub faulted : (a b : Held) (number : ℕ) (run : Run) (answer : Answer) (why : S
 faulted a b number run answer why handles fault = record {
   last = posted number run answer ∷ [];
   stop = inr (posted number run answer, refl, refl, fault);
-  asks = all_one a b (post_of run) answer handles;
+  asks = asks_one a b run answer handles;
 }
 
 pub posts_stop : (a b c : Held) (rs : List (ℕ × Said)) (at : ℕ × Said) (others : List (ℕ × Said))

@@ -1,6 +1,7 @@
 -- The records of a text, in lists.
 use Rattle.std.proofs.Common.{◌≡◌, ◌⊎◌, sym, subst, refl, inl, inr, rules, true, ℕ, List, Some, Ok}
 use Rattle.std.proofs.Common.{Err}
+use Rattle.std.specs.Prelude.{⊤}
 use Rattle.std.proofs.lemmas.Bool.{false≢true}
 use Rattle.ftd_csv.specs.Answers.{RecordsFail}
 use Rattle.ftd_csv.specs.Places.{Opens, records_left}
@@ -27,10 +28,10 @@ pub text_fails : (failed : Type 0) (a : Held) (text : List ℕ) (done : Summary)
     (why : StopCause) → why ≡ text_cause fault → IsNothing done → RecordsFail text fault
     → StopsFor failed a a text done why
 text_fails failed a text done text_fault.TooLong why is none fails =
-    rw is (fails, (none, all_none a))
+    rw is (fails, (none, all_none ⊤ a))
 text_fails failed a text done text_fault.BadHeader why is none fails =
-    rw is (fails.0, fails.1, (none, all_none a))
-text_fails failed a text done text_fault.Memory why is none fails = rw is (inl (none, all_none a))
+    rw is (fails.0, fails.1, (none, all_none ⊤ a))
+text_fails failed a text done text_fault.Memory why is none fails = rw is (inl (none, all_none ⊤ a))
 
 -- an import stops at a record for want of memory, or since the store failed
 fault_cause : (answer : Answer) (why : StopCause) → fault_of answer ≡ Some why

@@ -1,17 +1,18 @@
 -- What an import does to the desk.
 use Rattle.std.specs.Prelude.{◌≡◌, ◌⊎◌, ◌<◌, ◌≤◌, ◌+◌, ◌++◌, ◌∷◌, [], ⊤, ℕ, Bool, true, false}
-use Rattle.std.specs.Prelude.{IsTrue, List, Some, Err, length, map}
+use Rattle.std.specs.Prelude.{List, Some, Err, length, map}
 use Rattle.std.specs.List.{filter_map}
-use Rattle.sqlite.specs.State.{HasCleanDisk, Survives}
+use Rattle.sqlite.specs.Tree.{Trees}
 use Rattle.ftd_csv.specs.Answers.{most_bytes}
 use Rattle.ftd_csv.specs.Records.{HasHeader, Said, numbered_from, records_of}
 use Rattle.ftd_machine.specs.State.{State}
 use Rattle.ftd_machine.specs.Checks.{Answer}
-use Rattle.ftd_machine.specs.Runs.{IsRun}
 use Rattle.ftd_machine.specs.declared.replies.Refusal.{Refusal}
+use Rattle.ftd_machine.specs.declared.replies.Refusal.TheVariants as refusal
 use Rattle.ftd_machine.specs.declared.requests.Request.{Request}
-use Rattle.ftd_desk.specs.Desks.{Held, Keeps}
-use Rattle.ftd_desk.specs.Words.{HandlesAll, HandlesTogether, MayLeaveAll, MayLeaveRun}
+use Rattle.ftd_desk.specs.Desks.{Held}
+use Rattle.ftd_desk.specs.Words.{HandlesAll, HandlesLeaving, HandlesTogether, MayLeaveAll}
+use Rattle.ftd_desk.specs.Words.{MayLeaveRun}
 use Rattle.ftd_import.specs.Outcomes.{Counts, IsNothing, IsSummary, Outcome, answer_in, fault_in}
 use Rattle.ftd_import.specs.Outcomes.{posts_of, record_in, request_in}
 use Rattle.ftd_import.specs.declared.summary.StopCause.{StopCause}
@@ -22,7 +23,7 @@ use Rattle.ftd_import.specs.declared.summary.Summary.{Summary}
 -- the desk was asked for the posts of these records, one after the other, and answered so
 abbrev pub Asks : Held → Held → List Outcome → Type 0
 Asks old new outcomes =
-    HandlesAll old new (filter_map request_in outcomes) (filter_map answer_in outcomes)
+    HandlesAll ⊤ old new (filter_map request_in outcomes) (filter_map answer_in outcomes)
 
 -- these are outcomes of the records, none of which is a fault
 pub record AreOutcomes (records : List (ℕ × Said)) (outcomes : List Outcome) : Type 0 where
@@ -75,18 +76,18 @@ abbrev pub PostsNone : Type 0 → Held → Held → List Request → Type 0
 PostsNone failed old new posts =
     Asks old new [] ⊎ (failed × ((why : Refusal) × HandlesTogether old new posts (Err why)))
 
+-- what a crash may leave of requests that were answered so, one after the other, or of a whole list
+-- whose commit failed
+abbrev pub MayLeaveEither : List Request → List Answer → List Request → State → Trees → Type 0
+MayLeaveEither requests answers list s left =
+    MayLeaveRun ⊤ s requests answers left ⊎ MayLeaveAll s list (Err refusal.Store) left
+
 -- the requests are answered one after the other, and the desk stands for the state at the end; a
--- crash finds what it would have found before, or a state of a run of the first of the requests, or
+-- crash finds what it would have found before, or a state of this run from the last change on, or
 -- the state after all of a list
-pub record HandlesOrLeaves (old new : Held) (requests : List Request) (answers : List Answer)
-    (list : List Request) : Type 0 where
-  pub honest : HasCleanDisk new.db → HasCleanDisk old.db
-  pub opens : HasCleanDisk new.db → IsTrue new.db.is_open → IsTrue old.db.is_open
-  pub answered : HasCleanDisk new.db → IsTrue new.db.is_open → (s : State) → Keeps old s
-      → (end : State) × IsRun s requests answers end × Keeps new end
-  pub crash : Survives old.db new.db
-      (λ left. IsTrue old.db.is_open
-      × ((s : State) → Keeps old s → MayLeaveRun s requests left ⊎ MayLeaveAll s list left))
+abbrev pub HandlesOrLeaves : Held → Held → List Request → List Answer → List Request → Type 0
+HandlesOrLeaves old new requests answers list =
+    HandlesLeaving (MayLeaveEither requests answers list) old new requests answers
 
 -- The commit of a list of posts failed, and the list was asked for again, one post after the other,
 -- up to some record of it. So the desk answered the posts up to there one after the other, and a

@@ -23,7 +23,7 @@ use Rattle.ftd_machine.proofs.Leaving.{asked_leaves}
 use Rattle.ftd_machine.proofs.Repeats.{checks_of, does}
 
 -- what is voided is counted still
-voided_count : {X : Type 0} (xs : List (Entry (Voidable X))) (name : List ℕ) (key : ℕ)
+pub voided_count : {X : Type 0} (xs : List (Entry (Voidable X))) (name : List ℕ) (key : ℕ)
     (account : List ℕ)
     → length (filter (is_of account) (with_voided xs name key)) ≡ length (filter (is_of account) xs)
 voided_count [] name key account = refl

@@ -10,7 +10,16 @@ pub mod Repeats
 pub mod Single
 pub mod Answered
 pub mod Few
+pub mod Counted
+pub mod Members
+pub mod Totals
+pub mod Bounded
 pub mod Soundness
+pub mod Lined
+pub mod PostedSome
+pub mod ToldSome
+pub mod DueSome
+pub mod AnswerSome
+pub mod Small
 pub mod Alike
 pub mod Examples
-pub mod Counted

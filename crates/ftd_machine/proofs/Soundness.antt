@@ -1,9 +1,10 @@
 -- Each step leaves the state sound.
-use Rattle.std.proofs.Common.{◌≡◌, ◌∙◌, ◌⊎◌, inl, inr, refl, sym, ap, subst, ℕ, ◌+◌, ◌-◌, ◌≤◌, ◌==◌}
+use Rattle.std.proofs.Common.{◌≡◌, ◌∙◌, ◌⊎◌, inl, inr, refl, sym, ap, subst, ℕ, ◌+◌, ◌-◌, ◌≤◌, ◌<◌}
+use Rattle.std.proofs.Common.{◌==◌}
 use Rattle.std.proofs.Common.{◌||◌, ◌&&◌, Bool, true, false, cond, List, [], ◌∷◌, ◌++◌, map, filter}
 use Rattle.std.proofs.Common.{length, Option, None, Some, Ok, arith, bytes_eq}
 use Rattle.std.specs.Prelude.{find, option_map, is_some, nat_le, nat_lt}
-use Rattle.std.proofs.lemmas.Bool.{true≢false, eqb-true, leb-true}
+use Rattle.std.proofs.lemmas.Bool.{eqb-true, leb-true, ltb-true}
 use Rattle.ftd_days.specs.Calendar.{year_of}
 use Rattle.ftd_days.specs.Holidays.{YearDays}
 use Rattle.ftd_days.specs.declared.cents.Cents.{Cents}
@@ -13,11 +14,12 @@ use Rattle.ftd_machine.specs.declared.entries.Account.{Account}
 use Rattle.ftd_rules.specs.declared.run.PayRun.{PayRun}
 use Rattle.ftd_rules.specs.declared.payment.Payment.{Payment}
 use Rattle.ftd_rules.specs.declared.run.Voidable.{Voidable}
-use Rattle.ftd_machine.specs.Limits.{is_between, is_calendar}
+use Rattle.ftd_machine.specs.Limits.{is_between, is_calendar, is_amount, are_amounts}
+use Rattle.ftd_machine.specs.Limits.{most_entries}
 use Rattle.ftd_machine.specs.State.{State, nothing, Entry, entries_of, is_named, account_of, is_of}
 use Rattle.ftd_machine.specs.State.{has_key, content_of, kept_at, is_open, is_given, calendar_at}
 use Rattle.ftd_machine.specs.State.{days_of, added_in}
-use Rattle.ftd_machine.specs.History.{figure_of, figures, year_of_entry}
+use Rattle.ftd_machine.specs.History.{figure_of, figures, year_of_entry, HasLookback}
 use Rattle.ftd_machine.specs.Requests.{days_of_year}
 use Rattle.ftd_machine.specs.Checks.{Answer, first_of, Decides}
 use Rattle.ftd_machine.specs.Step.{Step, OpensNext, may_open, taken, with_account, with_entry}
@@ -32,64 +34,19 @@ use Rattle.ftd_machine.specs.declared.requests.Request.TheVariants.{Report, Repo
 use Rattle.ftd_machine.specs.declared.requests.Request.TheVariants.{Post, Void, Pay, VoidPay}
 use Rattle.ftd_machine.specs.declared.requests.Request.TheVariants.{Status, DueList, ScheduleB}
 use Rattle.ftd_machine.proofs.Deciding.{either}
+use Rattle.ftd_machine.proofs.Members.{has_last, has_mapped, has_filtered, found_none, has_kept}
 use Rattle.ftd_machine.proofs.Leaving.{asked_leaves}
 use Rattle.ftd_machine.proofs.Heads.{Gives, gives_finds, gives_needs, gives_done, gives_new}
 use Rattle.ftd_machine.proofs.Heads.{skip_needs, skip_finds, skip_new, skip_done}
 use Rattle.ftd_machine.proofs.Adding.{own_name, same_name, filter_more}
 use Rattle.ftd_machine.proofs.Keeping.{found_append, same_key, keeps_entry}
+use Rattle.ftd_machine.proofs.Totals.{totals_still, totals_account, totals_reported}
+use Rattle.ftd_machine.proofs.Totals.{totals_reported_year, totals_open}
+use Rattle.ftd_machine.proofs.Bounded.{counts_more}
+use Rattle.ftd_machine.proofs.Counted.{voided_count}
 use Rattle.ftd_machine.proofs.Repeats.{checks_of, is_year, calendar_still, some_still}
 use Rattle.ftd_machine.proofs.Single.{IsOnce}
-use Rattle.ftd_machine.proofs.Few.{few_given, few_added}
-
--- ---- members
-
-pub has_split : {X : Type 0} (xs ys : List X) (x : X) → Has (xs ++ ys) x → Has xs x ⊎ Has ys x
-has_split [] ys x has = inr has
-has_split (z ∷ xs) ys x (inl is) = inl (inl is)
-has_split (z ∷ xs) ys x (inr has) = elim (has_split xs ys x has) [
-  | inl here ↦ inl (inr here)
-  | inr there ↦ inr there
-]
-
-pub has_last : {X : Type 0} (xs : List X) (y x : X) → Has (xs ++ y ∷ []) x → Has xs x ⊎ (x ≡ y)
-has_last xs y x has =
-    elim (has_split xs (y ∷ []) x has) [
-      | inl here ↦ inl here
-      | inr last ↦ elim last [ inl is ↦ inr is | inr none ↦ absurd none ]
-    ]
-
-pub has_mapped : {X Y : Type 0} (f : X → Y) (xs : List X) (y : Y) → Has (map f xs) y
-    → (x : X) × Has xs x × (y ≡ f x)
-has_mapped f [] y has = absurd has
-has_mapped f (z ∷ xs) y (inl is) = (z, inl refl, is)
-has_mapped f (z ∷ xs) y (inr has) = let rest = has_mapped f xs y has in (rest.0, inr rest.1, rest.2)
-
-filtered : {X : Type 0} (test : X → Bool) (z : X) (xs : List X) (x : X) (b : Bool) → test z ≡ b
-    → Has (cond b (z ∷ filter test xs) (filter test xs)) x
-    → (Has (filter test xs) x → Has xs x × (test x ≡ true)) → Has (z ∷ xs) x × (test x ≡ true)
-filtered test z xs x true e (inl is) later = (inl is, ap test is ∙ e)
-filtered test z xs x true e (inr has) later = (inr (later has).0, (later has).1)
-filtered test z xs x false e has later = (inr (later has).0, (later has).1)
-
-pub has_filtered : {X : Type 0} (test : X → Bool) (xs : List X) (x : X) → Has (filter test xs) x
-    → Has xs x × (test x ≡ true)
-has_filtered test [] x has = absurd has
-has_filtered test (z ∷ xs) x has = filtered test z xs x (test z) refl has (has_filtered test xs x)
-
--- where nothing is found, none meets the test
-unfound : {X Y : Type 0} (f : X → Y) (test : X → Bool) (z : X) (xs : List X) (x : X) (b : Bool)
-    → test z ≡ b
-    → option_map f (cond b (Some z) (find test xs)) ≡ None → Has (z ∷ xs) x → test x ≡ true
-    → (option_map f (find test xs) ≡ None → Has xs x → ⊥) → ⊥
-unfound f test z xs x true e none has is later = absurd cc
-unfound f test z xs x false e none (inl same) is later = true≢false (sym is ∙ ap test same ∙ e)
-unfound f test z xs x false e none (inr has) is later = later none has
-
-pub found_none : {X Y : Type 0} (f : X → Y) (test : X → Bool) (xs : List X)
-    → option_map f (find test xs) ≡ None → (x : X) → Has xs x → test x ≡ true → ⊥
-found_none f test [] none x has is = has
-found_none f test (z ∷ xs) none x has is = unfound f test z xs x (test z) refl none has is
-    (λ e h. found_none f test xs e x h is)
+use Rattle.ftd_machine.proofs.Few.{few_given, few_added, and_second}
 
 -- ---- keys that differ
 
@@ -135,21 +92,6 @@ fresh_entry xs name key content none apart =
     let keyed : has_key key e ≡ true = ap (λ k. k == key) key_is ∙ same_key key in
     found_none content_of (has_key key) (filter (is_of name) xs) none e
     (has_kept (is_of name) xs e has own) keyed))
-  where
-    kept_head : {X : Type 0} (test : X → Bool) (z : X) (xs : List X) (x : X) (b : Bool) → test z ≡ b
-        → Has (z ∷ xs) x → test x ≡ true
-        → (Has xs x → Has (filter test xs) x) → Has (cond b (z ∷ filter test xs) (filter test xs)) x
-    kept_head test z xs x true e (inl is) own later = inl is
-    kept_head test z xs x true e (inr has) own later = inr (later has)
-    kept_head test z xs x false e (inl is) own later =
-        absurd (true≢false (sym own ∙ ap test is ∙ e))
-    kept_head test z xs x false e (inr has) own later = later has
-
-    has_kept : {X : Type 0} (test : X → Bool) (xs : List X) (x : X) → Has xs x → test x ≡ true
-        → Has (filter test xs) x
-    has_kept test [] x has own = has
-    has_kept test (z ∷ xs) x has own = kept_head test z xs x (test z) refl has own
-        (λ h. has_kept test xs x h own)
 
 fresh_voided : {X : Type 0} (xs : List (Entry (Voidable X))) (name : List ℕ) (key : ℕ)
     → AreDistinct place_of xs → AreDistinct place_of (with_voided xs name key)
@@ -197,9 +139,15 @@ sound_account s name account none sound = record {
   opened = sound.opened;
   enrolled = λ e has. some_still _ _ (λ x. found_append account_of (is_named e.name) s.accounts _ x)
       (sound.enrolled e has);
+  totals = totals_account s name account sound.enrolled sound.totals;
   in_turn = sound.in_turn;
   paydays = sound.paydays;
   paid_days = sound.paid_days;
+  counts = sound.counts;
+  reported_amounts = sound.reported_amounts;
+  year_amounts = sound.year_amounts;
+  run_amounts = sound.run_amounts;
+  paid_amounts = sound.paid_amounts;
   added_days = sound.added_days;
   few = sound.few;
 }
@@ -232,9 +180,17 @@ sound_calendar s year days none between fits sound = record {
   opened = λ e has. (let was = sound.opened e has in
       (was.0, given_still s year days e.key was.1, given_still s year days (e.key + 1) was.2));
   enrolled = sound.enrolled;
+  totals = totals_still s
+      (record s { calendars = s.calendars ++ record { year = year; days = days } ∷ [] })
+      refl refl refl refl sound.totals;
   in_turn = sound.in_turn;
   paydays = sound.paydays;
   paid_days = sound.paid_days;
+  counts = sound.counts;
+  reported_amounts = sound.reported_amounts;
+  year_amounts = sound.year_amounts;
+  run_amounts = sound.run_amounts;
+  paid_amounts = sound.paid_amounts;
   added_days = λ d has. given_still s year days (year_of d) (sound.added_days d has);
   few = few_given s sound.few year days fits (λ c has. (sound.are_calendars c has).1)
       (λ c has same. found_none days_of (is_year year) s.calendars none c has
@@ -243,9 +199,9 @@ sound_calendar s year days none between fits sound = record {
 }
 
 sound_reported : (s : State) (name : List ℕ) (key : ℕ) (cents : Cents)
-    → kept_at key (entries_of s name).reported ≡ None → IsSound s
+    → kept_at key (entries_of s name).reported ≡ None → is_amount cents ≡ true → IsSound s
     → IsSound (record s { reported = with_entry s.reported name key cents })
-sound_reported s name key cents none sound = record {
+sound_reported s name key cents none fits sound = record {
   accounts = sound.accounts;
   calendars = sound.calendars;
   reported = fresh_entry s.reported name key cents none sound.reported;
@@ -256,17 +212,26 @@ sound_reported s name key cents none sound = record {
   are_calendars = sound.are_calendars;
   opened = sound.opened;
   enrolled = sound.enrolled;
+  totals = totals_reported s name key cents sound.enrolled sound.totals;
   in_turn = sound.in_turn;
   paydays = sound.paydays;
   paid_days = sound.paid_days;
+  counts = sound.counts;
+  reported_amounts = λ e has. elim (has_last s.reported _ e has) [
+    | inl here ↦ sound.reported_amounts e here
+    | inr is ↦ subst (λ (x : Entry Cents). is_amount x.content ≡ true) (sym is) fits
+  ];
+  year_amounts = sound.year_amounts;
+  run_amounts = sound.run_amounts;
+  paid_amounts = sound.paid_amounts;
   added_days = sound.added_days;
   few = sound.few;
 }
 
 sound_reported_year : (s : State) (name : List ℕ) (key : ℕ) (cents : Cents)
-    → kept_at key (entries_of s name).reported_years ≡ None → IsSound s
+    → kept_at key (entries_of s name).reported_years ≡ None → is_amount cents ≡ true → IsSound s
     → IsSound (record s { reported_years = with_entry s.reported_years name key cents })
-sound_reported_year s name key cents none sound = record {
+sound_reported_year s name key cents none fits sound = record {
   accounts = sound.accounts;
   calendars = sound.calendars;
   reported = sound.reported;
@@ -277,9 +242,18 @@ sound_reported_year s name key cents none sound = record {
   are_calendars = sound.are_calendars;
   opened = sound.opened;
   enrolled = sound.enrolled;
+  totals = totals_reported_year s name key cents sound.enrolled sound.totals;
   in_turn = sound.in_turn;
   paydays = sound.paydays;
   paid_days = sound.paid_days;
+  counts = sound.counts;
+  reported_amounts = sound.reported_amounts;
+  year_amounts = λ e has. elim (has_last s.reported_years _ e has) [
+    | inl here ↦ sound.year_amounts e here
+    | inr is ↦ subst (λ (x : Entry Cents). is_amount x.content ≡ true) (sym is) fits
+  ];
+  run_amounts = sound.run_amounts;
+  paid_amounts = sound.paid_amounts;
   added_days = sound.added_days;
   few = sound.few;
 }
@@ -299,9 +273,17 @@ sound_added s day given room sound = record {
   are_calendars = sound.are_calendars;
   opened = sound.opened;
   enrolled = sound.enrolled;
+  totals = totals_still s
+      (record s { added_days = s.added_days ++ day ∷ [] })
+      refl refl refl refl sound.totals;
   in_turn = sound.in_turn;
   paydays = sound.paydays;
   paid_days = sound.paid_days;
+  counts = sound.counts;
+  reported_amounts = sound.reported_amounts;
+  year_amounts = sound.year_amounts;
+  run_amounts = sound.run_amounts;
+  paid_amounts = sound.paid_amounts;
   added_days = λ d has. elim (has_last s.added_days day d has) [
     | inl here ↦ sound.added_days d here
     | inr is ↦ subst (λ x. is_given s (year_of x) ≡ true) (sym is) given
@@ -407,9 +389,10 @@ open_still s name year other day e =
 sound_open : (s : State) (name : List ℕ) (year : ℕ) → is_some (entries_of s name).account ≡ true
     → is_between 2001 2098 year ≡ true → is_given s year ≡ true → is_given s (year + 1) ≡ true
     → (length (entries_of s name).open_years == 0) || is_open (entries_of s name) (year - 1) ≡ true
-    → is_open (entries_of s name) year ≡ false → IsSound s
+    → is_open (entries_of s name) year ≡ false
+    → (total : Cents) × HasLookback (entries_of s name) year total → IsSound s
     → IsSound (record s { open_years = with_entry s.open_years name year tt })
-sound_open s name year there between given next first fresh sound = record {
+sound_open s name year there between given next first fresh total sound = record {
   accounts = sound.accounts;
   calendars = sound.calendars;
   reported = sound.reported;
@@ -433,6 +416,7 @@ sound_open s name year there between given next first fresh sound = record {
     | inr is ↦ subst (λ (x : Entry (Unit {0})). is_some (entries_of s x.name).account ≡ true)
         (sym is) there
   ];
+  totals = totals_open s name year total.0 total.1 sound.totals;
   in_turn = λ other.
       subst (λ xs. Follow (map year_of_entry xs))
       (sym (filter_more (is_of other) s.open_years
@@ -441,6 +425,11 @@ sound_open s name year there between given next first fresh sound = record {
       fresh sound);
   paydays = λ e has. open_still s name year e.name _ (sound.paydays e has);
   paid_days = λ e has. open_still s name year e.name _ (sound.paid_days e has);
+  counts = sound.counts;
+  reported_amounts = sound.reported_amounts;
+  year_amounts = sound.year_amounts;
+  run_amounts = sound.run_amounts;
+  paid_amounts = sound.paid_amounts;
   added_days = sound.added_days;
   few = sound.few;
 }
@@ -457,9 +446,10 @@ still_value name key e = value_as (is_under name key e) e.content
 
 sound_run : (s : State) (name : List ℕ) (number : ℕ) (value : PayRun)
     → kept_at number (entries_of s name).runs ≡ None
-    → is_open (entries_of s name) (year_of value.payday) ≡ true → IsSound s
+    → is_open (entries_of s name) (year_of value.payday) ≡ true → are_amounts value ≡ true
+    → length (entries_of s name).runs < most_entries → IsSound s
     → IsSound (record s { runs = with_entry s.runs name number (taken value) })
-sound_run s name number value none there sound = record {
+sound_run s name number value none there fits room sound = record {
   accounts = sound.accounts;
   calendars = sound.calendars;
   reported = sound.reported;
@@ -470,6 +460,9 @@ sound_run s name number value none there sound = record {
   are_calendars = sound.are_calendars;
   opened = sound.opened;
   enrolled = sound.enrolled;
+  totals = totals_still s
+      (record s { runs = with_entry s.runs name number (taken value) })
+      refl refl refl refl sound.totals;
   in_turn = sound.in_turn;
   paydays = λ e has. elim (has_last s.runs _ e has) [
     | inl here ↦ sound.paydays e here
@@ -477,6 +470,18 @@ sound_run s name number value none there sound = record {
         (year_of x.content.value.payday) ≡ true) (sym is) there
   ];
   paid_days = sound.paid_days;
+  counts = λ other. (
+    counts_more s.runs _ (λ n. (sound.counts n).0) room other,
+    (sound.counts other).1,
+  );
+  reported_amounts = sound.reported_amounts;
+  year_amounts = sound.year_amounts;
+  run_amounts = λ e has. elim (has_last s.runs _ e has) [
+    | inl here ↦ sound.run_amounts e here
+    | inr is ↦ subst (λ (x : Entry (Voidable PayRun)). are_amounts x.content.value ≡ true) (sym is)
+        fits
+  ];
+  paid_amounts = sound.paid_amounts;
   added_days = sound.added_days;
   few = sound.few;
 }
@@ -494,6 +499,9 @@ sound_void_run s name number sound = record {
   are_calendars = sound.are_calendars;
   opened = sound.opened;
   enrolled = sound.enrolled;
+  totals = totals_still s
+      (record s { runs = with_voided s.runs name number })
+      refl refl refl refl sound.totals;
   in_turn = sound.in_turn;
   paydays = λ e has.
       let from = has_mapped (voided_if name number) s.runs e has in
@@ -506,15 +514,28 @@ sound_void_run s name number sound = record {
       subst (λ (x : Entry (Voidable PayRun)). is_open (entries_of s x.name)
       (year_of x.content.value.payday) ≡ true) (sym from.2) was;
   paid_days = sound.paid_days;
+  counts = λ other. (
+    subst (λ n. n ≤ most_entries) (sym (voided_count s.runs name number other))
+        (sound.counts other).0,
+    (sound.counts other).1,
+  );
+  reported_amounts = sound.reported_amounts;
+  year_amounts = sound.year_amounts;
+  run_amounts = λ e has.
+      let from = has_mapped (voided_if name number) s.runs e has in
+      subst (λ (x : Entry (Voidable PayRun)). are_amounts x.content.value ≡ true) (sym from.2)
+      (ap are_amounts (still_value name number from.0) ∙ sound.run_amounts from.0 from.1);
+  paid_amounts = sound.paid_amounts;
   added_days = sound.added_days;
   few = sound.few;
 }
 
 sound_payment : (s : State) (name : List ℕ) (number : ℕ) (value : Payment)
     → kept_at number (entries_of s name).payments ≡ None
-    → is_open (entries_of s name) (year_of value.for_day) ≡ true → IsSound s
+    → is_open (entries_of s name) (year_of value.for_day) ≡ true → is_amount value.cents ≡ true
+    → length (entries_of s name).payments < most_entries → IsSound s
     → IsSound (record s { payments = with_entry s.payments name number (taken value) })
-sound_payment s name number value none there sound = record {
+sound_payment s name number value none there fits room sound = record {
   accounts = sound.accounts;
   calendars = sound.calendars;
   reported = sound.reported;
@@ -525,12 +546,27 @@ sound_payment s name number value none there sound = record {
   are_calendars = sound.are_calendars;
   opened = sound.opened;
   enrolled = sound.enrolled;
+  totals = totals_still s
+      (record s { payments = with_entry s.payments name number (taken value) })
+      refl refl refl refl sound.totals;
   in_turn = sound.in_turn;
   paydays = sound.paydays;
   paid_days = λ e has. elim (has_last s.payments _ e has) [
     | inl here ↦ sound.paid_days e here
     | inr is ↦ subst (λ (x : Entry (Voidable Payment)). is_open (entries_of s x.name)
         (year_of x.content.value.for_day) ≡ true) (sym is) there
+  ];
+  counts = λ other. (
+    (sound.counts other).0,
+    counts_more s.payments _ (λ n. (sound.counts n).1) room other,
+  );
+  reported_amounts = sound.reported_amounts;
+  year_amounts = sound.year_amounts;
+  run_amounts = sound.run_amounts;
+  paid_amounts = λ e has. elim (has_last s.payments _ e has) [
+    | inl here ↦ sound.paid_amounts e here
+    | inr is ↦ subst (λ (x : Entry (Voidable Payment)). is_amount x.content.value.cents ≡ true)
+        (sym is) fits
   ];
   added_days = sound.added_days;
   few = sound.few;
@@ -549,6 +585,9 @@ sound_void_payment s name number sound = record {
   are_calendars = sound.are_calendars;
   opened = sound.opened;
   enrolled = sound.enrolled;
+  totals = totals_still s
+      (record s { payments = with_voided s.payments name number })
+      refl refl refl refl sound.totals;
   in_turn = sound.in_turn;
   paydays = sound.paydays;
   paid_days = λ e has.
@@ -561,6 +600,19 @@ sound_void_payment s name number sound = record {
       ap (is_open (entries_of s from.0.name)) day ∙ sound.paid_days from.0 from.1 in
       subst (λ (x : Entry (Voidable Payment)). is_open (entries_of s x.name)
       (year_of x.content.value.for_day) ≡ true) (sym from.2) was;
+  counts = λ other. (
+    (sound.counts other).0,
+    subst (λ n. n ≤ most_entries) (sym (voided_count s.payments name number other))
+        (sound.counts other).1,
+  );
+  reported_amounts = sound.reported_amounts;
+  year_amounts = sound.year_amounts;
+  run_amounts = sound.run_amounts;
+  paid_amounts = λ e has.
+      let from = has_mapped (voided_if name number) s.payments e has in
+      subst (λ (x : Entry (Voidable Payment)). is_amount x.content.value.cents ≡ true) (sym from.2)
+      (ap (λ (x : Payment). is_amount x.cents) (still_value name number from.0)
+      ∙ sound.paid_amounts from.0 from.1);
   added_days = sound.added_days;
   few = sound.few;
 }
@@ -598,19 +650,22 @@ module _ (s : State) (answer : Answer) (new : State) (sound : IsSound s) where
 
   next_sound : (name : List ℕ) (year : ℕ) → OpensNext s answer new name year
       → ((length (entries_of s name).open_years == 0) || is_open (entries_of s name) (year - 1)
-      ≡ true → IsSound (record s { open_years = with_entry s.open_years name year tt }))
+      ≡ true → (total : Cents) × HasLookback (entries_of s name) year total
+      → IsSound (record s { open_years = with_entry s.open_years name year tt }))
       → IsSound new
   next_sound name year (inl missing) then = subst IsSound (sym missing.2.1) sound
   next_sound name year (inr found) then =
       let first : Gives (may_open (entries_of s name) year)
       ((length (entries_of s name).open_years == 0) || is_open (entries_of s name) (year - 1)
       ≡ true) = gives_needs _ _ [] in
-      done_sound (may_open (entries_of s name) year) _ found.2 (λ e. then (first.fact e))
+      done_sound (may_open (entries_of s name) year) _ found.2
+      (λ e. then (first.fact e) (found.0, found.1))
 
   open_sound : (P : List (Option Answer)) (name : List ℕ) (year : ℕ)
       → Decides (first_of P) s answer new (OpensNext s answer new name year)
       → (first_of P ≡ None → (length (entries_of s name).open_years == 0) || is_open
       (entries_of s name) (year - 1) ≡ true
+      → (total : Cents) × HasLookback (entries_of s name) year total
       → IsSound (record s { open_years = with_entry s.open_years name year tt }))
       → IsSound new
   open_sound P name year step then =
@@ -652,16 +707,20 @@ step_sound s (Report name quarter cents) answer next step sound =
     skip_needs _ _ _ _
     (skip_needs _ _ _ _
     (skip_needs _ _ _ _ (skip_finds _ _ _ _ (skip_needs _ _ _ _ (gives_new _ _ _ _))))) in
+    let fits : Gives (checks_of s (Report name quarter cents)) (is_amount cents ≡ true) =
+    skip_needs _ _ _ _ (skip_needs _ _ _ _ (gives_needs _ _ _)) in
     done_sound s answer next sound (checks_of s (Report name quarter cents)) _ step
-    (λ e. sound_reported s name quarter cents (none.fact e) sound)
+    (λ e. sound_reported s name quarter cents (none.fact e) (fits.fact e) sound)
 step_sound s (ReportYear name year cents) answer next step sound =
     let none : Gives (checks_of s (ReportYear name year cents))
     (kept_at year (entries_of s name).reported_years ≡ None) =
     skip_needs _ _ _ _
     (skip_needs _ _ _ _
     (skip_needs _ _ _ _ (skip_finds _ _ _ _ (skip_needs _ _ _ _ (gives_new _ _ _ _))))) in
+    let fits : Gives (checks_of s (ReportYear name year cents)) (is_amount cents ≡ true) =
+    skip_needs _ _ _ _ (skip_needs _ _ _ _ (gives_needs _ _ _)) in
     done_sound s answer next sound (checks_of s (ReportYear name year cents)) _ step
-    (λ e. sound_reported_year s name year cents (none.fact e) sound)
+    (λ e. sound_reported_year s name year cents (none.fact e) (fits.fact e) sound)
 step_sound s (OpenYear name year) answer next step sound =
     let P = checks_of s (OpenYear name year) in
     let between : Gives P (is_between 2001 2098 year ≡ true) =
@@ -680,8 +739,8 @@ step_sound s (OpenYear name year) answer next step sound =
     (skip_finds _ _ _ _
     (skip_done _ _ _ (skip_needs _ _ _ _ (skip_needs _ _ _ _ (gives_needs _ _ _)))))) in
     open_sound s answer next sound P name year step
-    (λ e first. sound_open s name year (there.fact e) (between.fact e) (given.fact e)
-    (next_given.fact e) first (fresh.fact e) sound)
+    (λ e first total. sound_open s name year (there.fact e) (between.fact e) (given.fact e)
+    (next_given.fact e) first (fresh.fact e) total sound)
 step_sound s (Post name number payday fit ss medicare) answer next step sound =
     let run : PayRun = record { payday = payday; fit = fit; ss = ss; medicare = medicare } in
     let P = checks_of s (Post name number payday fit ss medicare) in
@@ -695,8 +754,17 @@ step_sound s (Post name number payday fit ss medicare) answer next step sound =
     (skip_needs _ _ _ _
     (skip_needs _ _ _ _
     (skip_finds _ _ _ _ (skip_new _ _ _ _ _ (skip_needs _ _ _ _ (gives_needs _ _ _))))))) in
+    let fits : Gives P (are_amounts run ≡ true) =
+    skip_needs _ _ _ _ (skip_needs _ _ _ _ (gives_needs _ _ _)) in
+    let room : Gives P (nat_lt (length (entries_of s name).runs) most_entries ≡ true) =
+    skip_needs _ _ _ _
+    (skip_needs _ _ _ _
+    (skip_needs _ _ _ _
+    (skip_needs _ _ _ _
+    (skip_finds _ _ _ _
+    (skip_new _ _ _ _ _ (skip_needs _ _ _ _ (skip_needs _ _ _ _ (gives_needs _ _ [])))))))) in
     post_sound s answer next sound P _ _ step (λ e. sound_run s name number run (none.fact e)
-    (there.fact e) sound)
+    (there.fact e) (fits.fact e) (ltb-true _ _ (room.fact e)) sound)
 step_sound s (Void name number) answer next step sound =
     void_sound s answer next sound (checks_of s (Void name number)) _ _ _ step
     (sound_void_run s name number sound)
@@ -713,8 +781,17 @@ step_sound s (Pay name number paid for_day cents) answer next step sound =
     (skip_needs _ _ _ _
     (skip_needs _ _ _ _
     (skip_finds _ _ _ _ (skip_new _ _ _ _ _ (skip_needs _ _ _ _ (gives_needs _ _ _))))))) in
+    let fits : Gives P (nat_le 1 cents.0 && is_amount cents ≡ true) =
+    skip_needs _ _ _ _ (skip_needs _ _ _ _ (gives_needs _ _ _)) in
+    let room : Gives P (nat_lt (length (entries_of s name).payments) most_entries ≡ true) =
+    skip_needs _ _ _ _
+    (skip_needs _ _ _ _
+    (skip_needs _ _ _ _
+    (skip_needs _ _ _ _
+    (skip_finds _ _ _ _
+    (skip_new _ _ _ _ _ (skip_needs _ _ _ _ (skip_needs _ _ _ _ (gives_needs _ _ [])))))))) in
     done_sound s answer next sound P _ step (λ e. sound_payment s name number payment (none.fact e)
-    (there.fact e) sound)
+    (there.fact e) (and_second _ _ (fits.fact e)) (ltb-true _ _ (room.fact e)) sound)
 step_sound s (VoidPay name number) answer next step sound =
     done_sound s answer next sound (checks_of s (VoidPay name number)) _ step
     (λ e. sound_void_payment s name number sound)
@@ -727,7 +804,7 @@ step_sound s (ScheduleB name quarter) answer next step sound =
 
 -- ---- a run
 
-nothing_sound : IsSound nothing
+pub nothing_sound : IsSound nothing
 nothing_sound = record {
   accounts = tt;
   calendars = tt;
@@ -739,9 +816,15 @@ nothing_sound = record {
   are_calendars = λ c has. absurd has;
   opened = λ e has. absurd has;
   enrolled = λ e has. absurd has;
+  totals = λ e has. absurd has;
   in_turn = λ name. tt;
   paydays = λ e has. absurd has;
   paid_days = λ e has. absurd has;
+  counts = λ name. (omega arith, omega arith);
+  reported_amounts = λ e has. absurd has;
+  year_amounts = λ e has. absurd has;
+  run_amounts = λ e has. absurd has;
+  paid_amounts = λ e has. absurd has;
   added_days = λ d has. absurd has;
   few = λ year. omega arith;
 }

@@ -5,6 +5,7 @@ use Rattle.ftd_days.specs.Calendar.{year_of}
 use Rattle.ftd_days.specs.declared.cents.Cents.{Cents}
 use Rattle.ftd_rules.specs.Liability.{cents_of}
 use Rattle.ftd_rules.specs.Verdicts.{amount_of}
+use Rattle.ftd_rules.specs.declared.run.PayRun.{PayRun}
 use Rattle.ftd_machine.specs.declared.replies.Reply.{Reply}
 use Rattle.ftd_machine.specs.declared.replies.Reply.TheVariants.{Due, Days}
 
@@ -15,6 +16,10 @@ is_between from to year = nat_le from year && nat_le year to
 -- an amount that a request may name: at most 999,999,999.99
 abbrev pub is_amount : Cents → Bool
 is_amount cents = nat_le cents.0 99_999_999_999
+
+-- the three amounts of a run
+abbrev pub are_amounts : PayRun → Bool
+are_amounts run = is_amount run.fit && (is_amount run.ss && is_amount run.medicare)
 
 -- the number of a run or of a payment
 abbrev pub is_number : ℕ → Bool

@@ -12,8 +12,8 @@ use Rattle.ftd_rules.specs.declared.run.PayRun.{PayRun}
 use Rattle.ftd_rules.specs.declared.payment.Payment.{Payment}
 use Rattle.ftd_rules.specs.declared.run.Voidable.{Voidable}
 use Rattle.ftd_rules.specs.Accounts.{is_account_name}
-use Rattle.ftd_machine.specs.Limits.{is_between, is_amount, is_number, is_calendar, most_holidays}
-use Rattle.ftd_machine.specs.Limits.{most_entries}
+use Rattle.ftd_machine.specs.Limits.{is_between, is_amount, are_amounts, is_number, is_calendar}
+use Rattle.ftd_machine.specs.Limits.{most_holidays, most_entries}
 use Rattle.ftd_machine.specs.Checks.{Answer, needs, done_if, finds, meets, is_new}
 use Rattle.ftd_machine.specs.declared.replies.Refusal.TheVariants.{BadName, BadYear, BadDay}
 use Rattle.ftd_machine.specs.declared.replies.Refusal.TheVariants.{BadCents, BadCalendar, BadNumber}
@@ -166,7 +166,7 @@ abbrev pub post_checks
 post_checks name number run account known there count =
     needs (is_account_name name) BadName
     ∷ needs (is_between 2001 2098 (year_of run.payday)) BadDay
-    ∷ needs (is_amount run.fit && (is_amount run.ss && is_amount run.medicare)) BadCents
+    ∷ needs (are_amounts run) BadCents
     ∷ needs (is_number number) BadNumber
     ∷ finds account UnknownAccount
     ∷ is_new known (same_run run) RunDiffers

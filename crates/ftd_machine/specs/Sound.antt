@@ -1,15 +1,17 @@
 -- What is so of every state that requests lead to.
-use Rattle.std.specs.Prelude.{is_some, ◌≡◌, ℕ, ◌+◌, true, List, [], ◌∷◌, map, filter}
+use Rattle.std.specs.Prelude.{is_some, ◌≡◌, ◌≤◌, ℕ, ◌+◌, true, List, [], ◌∷◌, map, filter, length}
 use Rattle.ftd_days.specs.Calendar.{year_of}
 use Rattle.ftd_days.specs.Holidays.{YearDays, AreFew}
+use Rattle.ftd_days.specs.declared.cents.Cents.{Cents}
 use Rattle.ftd_rules.specs.Lists.{Has}
 use Rattle.ftd_rules.specs.declared.run.PayRun.{PayRun}
 use Rattle.ftd_rules.specs.declared.payment.Payment.{Payment}
 use Rattle.ftd_rules.specs.declared.run.Voidable.{Voidable}
-use Rattle.ftd_machine.specs.Limits.{is_between, is_calendar}
+use Rattle.ftd_machine.specs.Limits.{is_between, is_calendar, is_amount, are_amounts}
+use Rattle.ftd_machine.specs.Limits.{most_entries}
 use Rattle.ftd_machine.specs.State.{State, Enrolled, holidays, Entry, entries_of, is_of, is_open}
 use Rattle.ftd_machine.specs.State.{is_given}
-use Rattle.ftd_machine.specs.History.{year_of_entry}
+use Rattle.ftd_machine.specs.History.{year_of_entry, HasLookback}
 
 -- no two have the same key
 abbrev pub AreDistinct : {X K : Type 0} → (X → K) → List X → Type 0
@@ -34,8 +36,15 @@ abbrev pub Follow : List ℕ → Type 0
 Follow [] = Unit {0}
 Follow (year ∷ years) = FollowFrom year years
 
--- a name, the year of a calendar, and what is kept of an account under a key stand once
+-- each open year has its lookback total: each figure of its lookback period is reported, or lies
+-- before the account's first day
+abbrev pub HasTotals : State → Type 0
+HasTotals s = (e : Entry (Unit {0})) → Has s.open_years e
+    → (total : Cents) × HasLookback (entries_of s e.name) e.key total
+
+-- what is so of every state that requests lead to
 pub record IsSound (s : State) : Type 0 where
+  -- a name, the year of a calendar, and what is kept of an account under a key stand once
   pub accounts : AreDistinct name_of s.accounts
   pub calendars : AreDistinct year_of_calendar s.calendars
   pub reported : AreDistinct place_of s.reported
@@ -53,6 +62,8 @@ pub record IsSound (s : State) : Type 0 where
   -- each open year is one of an account that is enrolled
   pub enrolled : (e : Entry (Unit {0})) → Has s.open_years e
       → is_some (entries_of s e.name).account ≡ true
+  -- each open year has its lookback total
+  pub totals : HasTotals s
   -- the open years of an account follow one another
   pub in_turn : (name : List ℕ) → Follow (map year_of_entry (filter (is_of name) s.open_years))
   -- each payday, and each day that a payment is for, lies in an open year of its account
@@ -60,6 +71,16 @@ pub record IsSound (s : State) : Type 0 where
       → is_open (entries_of s e.name) (year_of e.content.value.payday) ≡ true
   pub paid_days : (e : Entry (Voidable Payment)) → Has s.payments e
       → is_open (entries_of s e.name) (year_of e.content.value.for_day) ≡ true
+  -- an account has at most 20,000 runs, and as many payments, voided ones too
+  pub counts : (name : List ℕ) → (length (entries_of s name).runs ≤ most_entries)
+      × (length (entries_of s name).payments ≤ most_entries)
+  -- each amount is at most 999,999,999.99
+  pub reported_amounts : (e : Entry Cents) → Has s.reported e → is_amount e.content ≡ true
+  pub year_amounts : (e : Entry Cents) → Has s.reported_years e → is_amount e.content ≡ true
+  pub run_amounts : (e : Entry (Voidable PayRun)) → Has s.runs e
+      → are_amounts e.content.value ≡ true
+  pub paid_amounts : (e : Entry (Voidable Payment)) → Has s.payments e
+      → is_amount e.content.value.cents ≡ true
   -- each added holiday is of a year whose calendar is given, and no year has more than 60 holidays
   pub added_days : (day : ℕ) → Has s.added_days day → is_given s (year_of day) ≡ true
   pub few : AreFew (holidays s)

@@ -1,7 +1,12 @@
 //! What follows from the definitions alone: each function's contract is a law, its body is empty.
 
-ghost use Rattle.std.specs.Prelude.{◌≡◌, ℕ, ◌∷◌, ◌++◌, length, List, true, false};
+ghost use Rattle.std.specs.Prelude.{◌≡◌, ◌<◌, ℕ, ◌∷◌, ◌++◌, length, List, true, false};
 ghost use Rattle.ftd_machine.specs.State.{State, entries_of};
+ghost use Rattle.ftd_days.specs.declared.cents.Cents.{Cents};
+ghost use Rattle.ftd_rules.specs.Liability.{liability};
+ghost use Rattle.ftd_rules.specs.Payments.{paid_by};
+ghost use Rattle.ftd_machine.specs.Limits.{amounts_end};
+ghost use Rattle.ftd_machine.specs.History.{live_sums, live_payments, HasLookback};
 ghost use Rattle.ftd_machine.specs.Checks.{Answer};
 ghost use Rattle.ftd_machine.specs.Step.{Step};
 ghost use Rattle.ftd_machine.specs.Runs.{IsRun, IsReached};
@@ -39,6 +44,24 @@ pub fn a_request_has_one_answer()
     ensures { (s : State) (request : Request) (answer other : Answer) (next after : State)
         → IsSound s → Step s request answer next → Step s request other after
         → (answer ≡ other) × (next ≡ after) }
+{}
+
+/// In a sound state, each request has an answer and a next state.
+#[tactic(auto, using(crate::proofs::AnswerSome::each_request_is_answered))]
+pub fn each_request_has_an_answer()
+    ensures { (s : State) (request : Request) → IsSound s
+        → (answer : Answer) × (next : State) × Step s request answer next }
+{}
+
+/// Each sum of an account of a sound state is below 6,000,000,000,000,000 cents: what it owes for a
+/// run of days, what was paid for one, and the total of a lookback period.
+pub fn sums_are_small()
+    ensures liability { (s : State) (name : List ℕ) (first last : ℕ) → IsSound s
+        → liability (live_sums (entries_of s name)) first last < amounts_end }
+    ensures paid { (s : State) (name : List ℕ) (first last as_of day : ℕ) → IsSound s
+        → paid_by (live_payments (entries_of s name)) first last as_of day < amounts_end }
+    ensures lookback { (s : State) (name : List ℕ) (year : ℕ) (total : Cents) → IsSound s
+        → HasLookback (entries_of s name) year total → total.0 < amounts_end }
 {}
 
 /// What a request that names an account is answered, and what is kept of the account then, rests on

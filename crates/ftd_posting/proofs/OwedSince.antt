@@ -25,7 +25,8 @@ use Rattle.ftd_machine.specs.History.{form_of, live_sums}
 use Rattle.ftd_machine.specs.State.{State, entries_of, holidays}
 use Rattle.ftd_machine.specs.Sound.{IsSound}
 use Rattle.ftd_machine.proofs.Single.{owed_one}
-use Rattle.ftd_machine.proofs.Soundness.{has_filtered, sound_once}
+use Rattle.ftd_machine.proofs.Members.{has_filtered}
+use Rattle.ftd_machine.proofs.Soundness.{sound_once}
 use Rattle.ftd_store.proofs.Sifted.{filter_in, keeps_has, both_tests}
 use Rattle.ftd_entries.specs.Standing.{StandsFor}
 use Rattle.ftd_repairs.specs.Replaced.{AreBetween, HasObligations, begins_before, begins_on}

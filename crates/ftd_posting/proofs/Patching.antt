@@ -8,7 +8,7 @@ use Rattle.ftd_rules.specs.Lists.{Has}
 use Rattle.ftd_rules.specs.Obligations.{ByFirstDay}
 use Rattle.ftd_rules.proofs.Cuts.{lt_or_le}
 use Rattle.ftd_rules.proofs.Owed.{has_append, has_left, has_right}
-use Rattle.ftd_machine.proofs.Soundness.{has_filtered}
+use Rattle.ftd_machine.proofs.Members.{has_filtered}
 use Rattle.ftd_store.proofs.Sifted.{filter_in, filter_out, keeps_has}
 use Rattle.ftd_repairs.specs.Replaced.{begins_before, begins_after, patched}
 

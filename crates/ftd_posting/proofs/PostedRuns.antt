@@ -34,7 +34,7 @@ use Rattle.ftd_machine.specs.Laws.{is_change}
 use Rattle.ftd_machine.proofs.Again.{post_turns, void_turns}
 use Rattle.ftd_machine.proofs.Heads.{IsNoChange, Gives, gives_finds, skip_needs, skip_finds}
 use Rattle.ftd_machine.proofs.Heads.{skip_done}
-use Rattle.ftd_machine.proofs.Soundness.{has_filtered}
+use Rattle.ftd_machine.proofs.Members.{has_filtered}
 use Rattle.ftd_rows.proofs.Found.{both}
 use Rattle.ftd_entries.specs.Standing.{StandsFor, run_entry}
 use Rattle.ftd_entries.specs.Known.{KnowsAccount}

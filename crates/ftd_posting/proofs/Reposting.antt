@@ -22,11 +22,11 @@ use Rattle.ftd_rules.proofs.Covering.{line_is}
 use Rattle.ftd_rules.proofs.Earlier.{counterpart}
 use Rattle.ftd_rules.proofs.Opened.{lines_some}
 use Rattle.ftd_rules.proofs.Schedules.{year_facts}
-use Rattle.ftd_schema.specs.declared.TableName.TheVariants.{Accounts, ReportedQuarters}
+use Rattle.ftd_schema.specs.declared.TableName.TheVariants.{Metas, Accounts, ReportedQuarters}
 use Rattle.ftd_schema.specs.declared.TableName.TheVariants.{CalendarYears, Holidays, Years, Runs}
 use Rattle.ftd_schema.specs.declared.TableName.TheVariants.{Payments, Obligations, Forms}
 use Rattle.ftd_schema.specs.declared.TableName.TheVariants.{ReportedYears, AddedHolidays}
-use Rattle.ftd_schema.specs.Rows.{RunRow, ObligationRow, YearRow}
+use Rattle.ftd_schema.specs.Rows.{RunRow, ObligationRow, YearRow, FormRow}
 use Rattle.ftd_schema.specs.Standing.{Tables, with_rows}
 use Rattle.ftd_schema.specs.Tests.{is_year_of, is_live_run_between}
 use Rattle.ftd_schema.specs.Orders.{RunsRise}
@@ -46,6 +46,7 @@ use Rattle.ftd_machine.specs.declared.replies.Reply.TheVariants.{Posted}
 use Rattle.ftd_machine.proofs.Adding.{same_name, own_name}
 use Rattle.ftd_store.proofs.Sifted.{sifted}
 use Rattle.ftd_entries.specs.Standing.{StandsFor, IsSettled, run_entry, is_obligation_of}
+use Rattle.ftd_entries.specs.Standing.{enrolled_form}
 use Rattle.ftd_entries.proofs.Lines.{lines_known}
 use Rattle.ftd_entries.proofs.YearHolidays.{holiday_read}
 use Rattle.ftd_repairs.specs.declared.Difference.{Difference}
@@ -272,9 +273,12 @@ module _ (old new : Tables) (s : State) (name : List ℕ) (day : ℕ) (rows : Li
     -- the tables stand for the state after the change
     pub placed_stands : StandsFor new Next
     placed_stands = record {
+      meta = repatches.put.puts.only Metas ∙ (repatches.put.rows.only Metas ∙ stands.meta);
       accounts = repatches.put.puts.only Accounts
           ∙ (repatches.put.rows.only Accounts ∙ stands.accounts);
-      forms = repatches.put.puts.only Forms ∙ (repatches.put.rows.only Forms ∙ stands.forms);
+      forms = subst (λ (rows : List FormRow). IsPermutation rows
+          (map enrolled_form s.accounts))
+          (sym (repatches.put.puts.only Forms ∙ repatches.put.rows.only Forms)) stands.forms;
       reported = repatches.put.puts.only ReportedQuarters
           ∙ (repatches.put.rows.only ReportedQuarters ∙ stands.reported);
       reported_years = repatches.put.puts.only ReportedYears

@@ -23,9 +23,8 @@ use Rattle.ftd_rows.specs.Rows.{obligation_row}
 use Rattle.ftd_rows.proofs.Found.{both}
 use Rattle.ftd_store.proofs.Sifted.{filter_in, filter_out, keeps_has, both_tests, both_are, sifted}
 use Rattle.ftd_machine.proofs.Adding.{same_name, own_name, other_name}
-use Rattle.ftd_machine.proofs.Soundness.{has_mapped, has_filtered}
+use Rattle.ftd_machine.proofs.Members.{has_mapped, has_filtered, mapped_has}
 use Rattle.ftd_entries.specs.Standing.{is_obligation_of}
-use Rattle.ftd_entries.proofs.Giving.{mapped_has}
 use Rattle.ftd_entries.proofs.OwedRows.{obligation_is}
 use Rattle.ftd_entries.proofs.DayCells.{day_le}
 use Rattle.ftd_repairs.specs.Replaced.{begins_before, begins_on, begins_after, patched}

@@ -56,9 +56,14 @@ module _ (a b c : Held) (request : Request) (refusal : Refusal)
   still_handles = record {
     honest = λ clean. handles.honest (stands.honest clean);
     opens = λ clean is_open. handles.opens (stands.honest clean) (stands.opens clean is_open);
-    answered = λ clean is_open s keeps.
-        let first = handles.answered (stands.honest clean) (stands.opens clean is_open) s keeps in
-        (first.0, first.1, stands.stands clean is_open first.0 first.2);
+    answered = λ clean s keeps.
+        let first = handles.answered (stands.honest clean) s keeps in (
+          first.0,
+          first.1,
+          λ is_open. stands.stands clean is_open first.0
+              (first.2 (stands.opens clean is_open)),
+        );
+    shut = λ clean. handles.shut (stands.honest clean);
     crash = survives_then a.db b.db c.db MayBeLeft (λ _. ⊥) MayBeLeft (λ clean left may. may)
         (λ clean left none. absurd none) handles.crash stands.crash;
     lasts = λ clean is. absurd cc;
@@ -72,15 +77,15 @@ module _ (a b c : Held) (request : Request) (refusal : Refusal)
       → IfErr known (λ fault. IsFault (Err fault))
       → KnowsAfter a c request (Err refusal) known
   knows_after known knows faults = λ clean is_open s keeps.
-      let first = handles.answered (stands.honest clean) (stands.opens clean is_open) s keeps in (
+      let first = handles.answered (stands.honest clean) s keeps in (
         first.0,
         first.1,
         known_of first.0 request refusal known
-            (knows clean is_open first.0 first.2) faults,
+            (knows clean is_open first.0 (first.2 (stands.opens clean is_open))) faults,
       )
 
 -- after a reply nothing more is asked
 pub answered_after : (a b : Held) (request : Request) (reply : Reply)
     → Handles a b request (Ok reply) → KnowsAfter a b request (Ok reply) (Ok Nothing)
 answered_after a b request reply handles = λ clean is_open s keeps.
-    let first = handles.answered clean is_open s keeps in (first.0, first.1, tt)
+    let first = handles.answered clean s keeps in (first.0, first.1, tt)

@@ -35,7 +35,7 @@ use Rattle.ftd_machine.specs.Asking.{return_period, return_total, paid_for_retur
 use Rattle.ftd_machine.specs.Asking.{has_next_day, preceding, first_of_row, IsSmall, IsReturnPaid}
 use Rattle.ftd_machine.specs.Asking.{IsDueRow, IsDueList}
 use Rattle.ftd_machine.specs.declared.replies.Reply.TheVariants.{Due}
-use Rattle.ftd_machine.proofs.Soundness.{has_filtered}
+use Rattle.ftd_machine.proofs.Members.{has_filtered}
 use Rattle.ftd_entries.specs.Standing.{StandsFor, IsSettled}
 use Rattle.ftd_entries.proofs.YearHolidays.{holiday_read}
 use Rattle.ftd_questions.specs.Returns.{KnowsPeriod}

@@ -12,7 +12,7 @@ use Rattle.ftd_rules.specs.Lists.{Has}
 use Rattle.ftd_rules.specs.Periods.{return_period_of}
 use Rattle.ftd_rows.proofs.Found.{both}
 use Rattle.ftd_machine.specs.Asking.{return_period, has_next_day}
-use Rattle.ftd_machine.proofs.Soundness.{has_filtered}
+use Rattle.ftd_machine.proofs.Members.{has_filtered}
 use Rattle.ftd_questions.specs.DueRows.{begins_in, is_next_day_row}
 use Rattle.ftd_questions.proofs.OwedDays.{quarter_begins}
 use Rattle.ftd_store.proofs.Sifted.{keeps_has}

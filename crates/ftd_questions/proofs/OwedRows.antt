@@ -23,7 +23,7 @@ use Rattle.ftd_schema.specs.declared.TableName.TheVariants.{Obligations}
 use Rattle.ftd_schema.specs.Standing.{Tables}
 use Rattle.ftd_store.specs.Finds.{IsObligation, ListsObligations}
 use Rattle.ftd_machine.proofs.Adding.{own_name}
-use Rattle.ftd_machine.proofs.Soundness.{has_mapped, has_filtered}
+use Rattle.ftd_machine.proofs.Members.{has_mapped, has_filtered}
 use Rattle.ftd_entries.specs.Standing.{is_obligation_of}
 use Rattle.ftd_entries.proofs.CalendarRows.{whole, key_rises}
 use Rattle.ftd_entries.proofs.Found.{day_is}

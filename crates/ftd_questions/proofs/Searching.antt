@@ -5,7 +5,7 @@ use Rattle.std.specs.Prelude.{find, option_map, if◌then◌else◌}
 use Rattle.std.specs.List.{list_any}
 use Rattle.std.proofs.lemmas.Bool.{true≢false}
 use Rattle.ftd_rules.specs.Lists.{Has}
-use Rattle.ftd_machine.proofs.Soundness.{found_none}
+use Rattle.ftd_machine.proofs.Members.{found_none}
 
 -- what is found is in the list, and passes
 pub found : {X : Type 0} (test : X → Bool) (xs : List X) (x : X) → find test xs ≡ Some x

@@ -19,7 +19,7 @@ use Rattle.ftd_rows.specs.Rows.{obligation_row}
 use Rattle.ftd_rows.proofs.Found.{both}
 use Rattle.ftd_store.proofs.Same.{same_int}
 use Rattle.ftd_machine.proofs.Adding.{own_name}
-use Rattle.ftd_machine.proofs.Soundness.{has_filtered}
+use Rattle.ftd_machine.proofs.Members.{has_filtered}
 use Rattle.ftd_schema.specs.Standing.{Tables}
 use Rattle.ftd_schema.specs.declared.TableName.TheVariants.{Obligations}
 use Rattle.ftd_buckets.specs.declared.Patch.{Patch}

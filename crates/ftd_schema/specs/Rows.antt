@@ -9,7 +9,7 @@ use Rattle.ftd_schema.specs.declared.TableName.TheVariants.{CalendarYears, Holid
 use Rattle.ftd_schema.specs.declared.TableName.TheVariants.{Payments, Obligations, Forms}
 use Rattle.ftd_schema.specs.declared.TableName.TheVariants.{ReportedYears, AddedHolidays}
 
--- the mark of the desk's database, and its version
+-- the mark of the desk's database: its tag, and the version of its tables
 pub record MetaRow : Type 0 where
   pub tag : List ℕ
   pub version : ℤ

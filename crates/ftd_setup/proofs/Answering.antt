@@ -14,7 +14,8 @@ use Rattle.std.specs.Prelude.{map}
 use Rattle.ftd_schema.proofs.Meanings.{shows_metas}
 use Rattle.ftd_setup.specs.declared.opening.OpenFault.{OpenFault}
 use Rattle.ftd_setup.specs.declared.opening.OpenFault.TheVariants.{NotOurs, Newer, Store}
-use Rattle.ftd_setup.specs.Versions.{ReadsVersion, HasVersion, IsStoreFault, Opens, OpensByReading}
+use Rattle.ftd_schema.specs.Beginnings.{HasVersion}
+use Rattle.ftd_setup.specs.Versions.{ReadsVersion, IsStoreFault, Opens, OpensByReading}
 use Rattle.ftd_setup.proofs.Readings.{has_version, reads_version}
 
 opens_as : (old new : State) (metas : List MetaRow) (rows : List Row) (taken : Bool)

@@ -34,7 +34,8 @@ use Rattle.ftd_schema.specs.Tests.{is_tag, with_version}
 use Rattle.ftd_schema.proofs.Controls.{keeps_tables_then}
 use Rattle.ftd_schema.proofs.Making.{AreMade, all_made, later_made}
 use Rattle.ftd_schema.proofs.Writing.{adds}
-use Rattle.ftd_setup.specs.Versions.{IsNew, IsMade, KeepsRows, tag_row, on_form_941, IsMigrated}
+use Rattle.ftd_schema.specs.Beginnings.{IsMade, tag_row, on_form_941, IsMigrated}
+use Rattle.ftd_setup.specs.Versions.{IsNew, KeepsRows}
 use Rattle.ftd_setup.proofs.Foreign.{all_foreign}
 
 -- ---- a new database

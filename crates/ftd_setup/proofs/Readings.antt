@@ -21,7 +21,8 @@ use Rattle.ftd_schema.specs.Names.{name_of}
 use Rattle.ftd_schema.specs.Rows.{MetaRow, cells_of}
 use Rattle.ftd_schema.specs.Layout.{table_of}
 use Rattle.ftd_schema.specs.Answers.{meta_shown}
-use Rattle.ftd_setup.specs.Versions.{is_tagged, ReadsVersion, HasVersion}
+use Rattle.ftd_schema.specs.Beginnings.{HasVersion}
+use Rattle.ftd_setup.specs.Versions.{is_tagged, ReadsVersion}
 
 -- ---- the cells of the tag
 

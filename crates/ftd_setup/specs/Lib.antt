@@ -2,6 +2,7 @@ pub mod Steps
 pub mod Versions
 pub mod Ended
 pub use Rattle.ftd_schema.specs.Answers
+pub use Rattle.ftd_schema.specs.Beginnings
 pub use Rattle.ftd_schema.specs.Making
 pub use Rattle.ftd_schema.specs.Names
 pub use Rattle.ftd_schema.specs.Rows

@@ -1,26 +1,22 @@
 -- How a database is told to be the desk's, and what it becomes when it is opened.
 use Rattle.std.specs.Prelude.{◌≡◌, ◌<◌, ◌≤◌, ◌&&◌, ℕ, pos, Bool, true, false, List, [], ◌∷◌, codes}
-use Rattle.std.specs.Prelude.{map, Option, Some, None, Result, Ok, Err, IsErrAnd, IfErr, OnOk}
+use Rattle.std.specs.Prelude.{Option, Some, None, Result, Ok, Err, IsErrAnd, IfErr, OnOk}
 use Rattle.std.specs.Prelude.{OnErr, IsTrue, ⊤, ◌⊎◌, is_some, option_and_then, slice_get}
-use Rattle.std.specs.List.Sorted.{IsPermutation}
 use Rattle.sqlite.specs.Effect.{Database}
 use Rattle.sqlite.specs.Order.{Row}
 use Rattle.sqlite.specs.Schema.{Schema}
 use Rattle.sqlite.specs.State.{State, Shown, IsUnchanged, HasCleanDisk, Survives}
 use Rattle.sqlite.specs.Table.{Table}
 use Rattle.sqlite.specs.Tree.{Trees}
-use Rattle.sqlite.specs.Does.{lacks_sequence}
 use Rattle.sqlite.specs.declared.types.Value.TheVariants.{Int, Text}
 use Rattle.sqlite_schema.specs.Names.{table_named, column_named}
 use Rattle.ftd_tables.specs.Places.{KeepsTables, Holds}
-use Rattle.ftd_schema.specs.declared.TableName.{TableName}
-use Rattle.ftd_schema.specs.declared.TableName.TheVariants.{Metas, Accounts, Forms, ReportedYears}
-use Rattle.ftd_schema.specs.declared.TableName.TheVariants.{AddedHolidays}
+use Rattle.ftd_schema.specs.declared.TableName.TheVariants.{Metas}
 use Rattle.ftd_schema.specs.Names.{name_of, all_names, later_names, has_any}
 use Rattle.ftd_schema.specs.Layout.{table_of}
-use Rattle.ftd_schema.specs.Rows.{cells_of, MetaRow, AccountRow, FormRow}
-use Rattle.ftd_schema.specs.Standing.{Tables, no_rows, with_rows, Stands, KeepsForeign, IsFirst}
-use Rattle.ftd_schema.specs.Standing.{StandsAsFirst}
+use Rattle.ftd_schema.specs.Rows.{cells_of, MetaRow}
+use Rattle.ftd_schema.specs.Standing.{Tables, Stands}
+use Rattle.ftd_schema.specs.Beginnings.{HasVersion, IsMade, IsMigrated}
 use Rattle.ftd_schema.specs.Making.{IsFree}
 use Rattle.ftd_schema.specs.States.{ShowsAgain}
 use Rattle.ftd_schema.specs.declared.texts.TheConstants.{LIST_METAS}
@@ -44,46 +40,15 @@ has_columns None = false
 abbrev pub is_tagged : Schema → Bool
 is_tagged s = has_columns (option_and_then (slice_get s.tables) (table_named s (codes "ftd_meta")))
 
--- the row of ftd_meta in a database of the desk
-abbrev pub tag_row : ℕ → MetaRow
-tag_row version = record { tag = codes "ftd"; version = pos version }
-
--- the rows of ftd_meta are that of this version alone, as they are read and as they are stored
+-- the rows of ftd_meta, as they are read, are that of this version alone
 abbrev pub ReadsVersion : List Row → ℕ → Type 0
 ReadsVersion rows version = rows ≡ (Text (codes "ftd") ∷ Int (pos version) ∷ []) ∷ []
-
-abbrev pub HasVersion : List MetaRow → ℕ → Type 0
-HasVersion metas version = metas ≡ tag_row version ∷ []
 
 -- ---- what it becomes
 
 -- the desk's tables have the rows that they had, and every other table is as it was
 abbrev pub KeepsRows : Database → Database → Type 0
 KeepsRows old new = (t : Tables) → Stands old t → Stands new t × KeepsTables old new
-
--- the twelve tables were made: they are empty but for the tag of version 2, and every other table
--- is as it was
-abbrev pub IsMade : Database → Database → Type 0
-IsMade old new = Stands new (with_rows Metas (tag_row 2 ∷ []) no_rows) × KeepsTables old new
-
--- an account on Form 941, as every account of version 1 is
-abbrev pub on_form_941 : AccountRow → FormRow
-on_form_941 a = record { account = a.name; form = pos 0 }
-
--- the rows of version 2 that stand for those of version 1
-pub record IsMigration (first second : Tables) : Type 0 where
-  pub version : HasVersion (second Metas) 2
-  pub forms : IsPermutation (map on_form_941 (first Accounts)) (second Forms)
-  pub years : second ReportedYears ≡ []
-  pub holidays : second AddedHolidays ≡ []
-  pub others : (n : TableName) → IsFirst n → (n ≡ Metas → ⊥) → second n ≡ first n
-
--- the tables of version 1 became those of version 2, and every table of another name is as it was
-abbrev pub IsMigrated : Database → Database → Type 0
-IsMigrated old new =
-    (first : Tables) → StandsAsFirst old first → HasVersion (first Metas) 1
-    → lacks_sequence old.schema ≡ false
-    → ((second : Tables) × Stands new second × IsMigration first second) × KeepsForeign old new
 
 -- what is done in one transaction
 abbrev pub Becomes : Change → Database → Database → Type 0

@@ -4,7 +4,8 @@ ghost use Rattle.std.specs.Prelude.{◌≡◌};
 ghost use Rattle.ftd_schema.specs.Making.{create_of, AreFree, IsFree};
 ghost use Rattle.ftd_schema.proofs.Making.{AreMade};
 ghost use Rattle.ftd_setup.specs.Steps.{Steps};
-ghost use Rattle.ftd_setup.specs.Versions.{IsNew, IsMade, KeepsRows};
+ghost use Rattle.ftd_schema.specs.Beginnings.{IsMade};
+ghost use Rattle.ftd_setup.specs.Versions.{IsNew, KeepsRows};
 
 use crate::steps::run;
 use ftd_rows::StoreFault;

@@ -9,7 +9,7 @@ ghost use Rattle.ftd_schema.specs.Standing.{Tables, with_rows, Stands, Becomes};
 ghost use Rattle.ftd_schema.specs.Answers.{name_shown};
 ghost use Rattle.ftd_schema.specs.Tests.{is_tag, with_version};
 ghost use Rattle.ftd_setup.specs.Steps.{Steps};
-ghost use Rattle.ftd_setup.specs.Versions.{on_form_941, IsMigrated};
+ghost use Rattle.ftd_schema.specs.Beginnings.{on_form_941, IsMigrated};
 
 use crate::making::{Indexes, VERSION, make_indexes, make_tables};
 use crate::steps::{read, run};

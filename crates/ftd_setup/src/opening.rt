@@ -9,7 +9,8 @@ ghost use Rattle.ftd_schema.specs.States.{CrashKeeps, ShowsAgain};
 ghost use Rattle.ftd_schema.specs.declared.texts.TheConstants.{LIST_METAS};
 ghost use Rattle.ftd_setup.specs.Ended.{held, Ended};
 ghost use Rattle.ftd_setup.specs.Steps.{Steps};
-ghost use Rattle.ftd_setup.specs.Versions.{IsNew, IsMade, is_tagged, Becomes, MayBecome};
+ghost use Rattle.ftd_schema.specs.Beginnings.{IsMade};
+ghost use Rattle.ftd_setup.specs.Versions.{IsNew, is_tagged, Becomes, MayBecome};
 ghost use Rattle.ftd_setup.specs.Versions.{MayBeOpened, IsStoreFault, OpensByReading, Opening};
 
 use crate::making::{Indexes, make};

@@ -1,7 +1,19 @@
+use Rattle.std.proofs.Common.{inr}
 use Rattle.std.specs.Prelude.{⊤}
 use Rattle.ftd_desk.specs.Desks.{IsStopped, held}
-use Rattle.ftd_import.proofs.Texts.{text_one_by_one, text_stops}
+use Rattle.ftd_import.proofs.Texts.{text_fails, text_one_by_one, text_stops}
 use Rattle.ftd_import.proofs.importing.import.Goals as goal
+
+pub returns-in-Err-clause-imports : goal.returns-in-Err-clause-imports
+returns-in-Err-clause-imports g c =
+    text_fails ⊤ (held g.S.Store c.args.desk.now) c.args.text.now c.none-done.result c.in-Err.fault
+    c.cause_of-cause.result c.cause_of-cause.ensures c.none-done.ensures c.in-Err.ensures
+
+pub returns-in-Err-clause-one_by_one : goal.returns-in-Err-clause-one_by_one
+returns-in-Err-clause-one_by_one g c =
+    inr (text_fails ⊥ (held g.S.Store c.args.desk.now) c.args.text.now c.none-done.result
+    c.in-Err.fault c.cause_of-cause.result c.cause_of-cause.ensures c.none-done.ensures
+    c.in-Err.ensures)
 
 pub returns-clause-imports : goal.returns-clause-imports
 returns-clause-imports g c =

@@ -1,6 +1,5 @@
-use Rattle.std.proofs.Common.{◌≡◌, ◌∙◌, refl, sym, subst, ap, length, List, Result, Ok, Err}
+use Rattle.std.proofs.Common.{◌≡◌, ◌∙◌, refl, sym, subst, ap, length, List}
 use Rattle.std.specs.List.{filter}
-use Rattle.std.specs.Prelude.{OnErr}
 use Rattle.ftd_machine.specs.Checks.{Answer}
 use Rattle.ftd_desk.specs.Desks.{IsStopped, held}
 use Rattle.ftd_import.specs.Lists.{has_post}
@@ -8,13 +7,9 @@ use Rattle.ftd_import.specs.Outcomes.{CountsAnswers, posts_of}
 use Rattle.ftd_import.specs.declared.reading.Place.{Place}
 use Rattle.ftd_import.specs.declared.summary.Summary.{Summary}
 use Rattle.ftd_import.proofs.Again.{none_posted, posts_together}
-use Rattle.ftd_import.proofs.Outcomes.{with_room}
+use Rattle.ftd_import.proofs.Outcomes.{on_err, with_room}
 use Rattle.ftd_import.proofs.Places.{posts_count}
 use Rattle.ftd_import.proofs.lists.post_together.Goals as goal
-
-on_err : {A E P : Type 0} (result : Result A E) → P → OnErr result P
-on_err (Ok x) p = tt
-on_err (Err e) p = p
 
 pub returns-in_err-answers-clause-none : goal.returns-in_err-answers-clause-none
 returns-in_err-answers-clause-none g c =
@@ -40,7 +35,7 @@ returns-clause-posts g c =
     let posts : c.deref.result.now ≡ posts_of records = c.deref.ensures.value ∙ is.posts in
     posts_together (held g.S.Store c.args.desk.now) (held g.S.Store c.together.new.self) records
     c.deref.result.now answers c.args.done.now q c.count_all.new.done posts
-    c.in_ok-answers.ensures.together c.in_ok-answers.ensures.answers.no_fault room
+    c.in_ok-answers.ensures.together c.in_ok-answers.ensures.answers room
     (subst (λ (said : List Answer). CountsAnswers q records said c.count_all.new.done)
     c.deref-3.ensures.value (c.count_all.ensures.counts records
     (c.deref-2.ensures.value ∙ is.places)))

@@ -1,5 +1,6 @@
 use Rattle.ftd_schema.specs.States.{within}
-use Rattle.ftd_setup.specs.Versions.{IsNew, IsMade}
+use Rattle.ftd_schema.specs.Beginnings.{IsMade}
+use Rattle.ftd_setup.specs.Versions.{IsNew}
 use Rattle.ftd_schema.specs.Making.{IsFree}
 use Rattle.ftd_setup.proofs.Made.{IsUntagged, untagged, made}
 use Rattle.ftd_setup.proofs.Stepping.{steps_both}

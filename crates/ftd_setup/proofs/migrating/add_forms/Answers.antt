@@ -7,7 +7,7 @@ use Rattle.ftd_schema.specs.Rows.{AccountRow}
 use Rattle.ftd_schema.specs.Standing.{Tables, with_rows, Stands, Becomes}
 use Rattle.ftd_schema.specs.Answers.{name_shown}
 use Rattle.ftd_schema.specs.States.{within}
-use Rattle.ftd_setup.specs.Versions.{on_form_941}
+use Rattle.ftd_schema.specs.Beginnings.{on_form_941}
 use Rattle.ftd_setup.proofs.Made.{no_form_added, more_forms}
 use Rattle.ftd_setup.proofs.Stepping.{steps_none, steps_both, steps_so}
 use Rattle.ftd_setup.proofs.migrating.add_forms.Goals as goal

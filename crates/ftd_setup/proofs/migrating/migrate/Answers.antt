@@ -1,5 +1,5 @@
 use Rattle.ftd_schema.specs.States.{within}
-use Rattle.ftd_setup.specs.Versions.{IsMigrated}
+use Rattle.ftd_schema.specs.Beginnings.{IsMigrated}
 use Rattle.ftd_setup.proofs.Made.{IsExtended, HasForms, extended, formed, migrated}
 use Rattle.ftd_setup.proofs.Stepping.{steps_then, steps_both}
 use Rattle.ftd_setup.proofs.migrating.migrate.Goals as goal

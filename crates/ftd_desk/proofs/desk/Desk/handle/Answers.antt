@@ -1,17 +1,64 @@
 use Rattle.std.proofs.Common.{◌≡◌, true, false, inl, inr, Err, rules, refl, sym, subst}
 use Rattle.std.specs.Prelude.{is_err}
+use Rattle.ftd_schema.specs.States.{CrashKeeps}
+use Rattle.ftd_schema.proofs.Controls.{crash_then, on_err}
 use Rattle.ftd_store.specs.Seen.{seen, shown}
 use Rattle.ftd_store.specs.declared.store.Store.{Store as StoreOf}
 use Rattle.ftd_desk.specs.Desks.{Held, held}
 use Rattle.ftd_machine.specs.Checks.{Answer}
 use Rattle.ftd_machine.specs.Laws.{is_change}
+use Rattle.ftd_machine.specs.Runs.{IsFault}
 use Rattle.ftd_machine.specs.declared.replies.Refusal.TheVariants.{Store}
 use Rattle.ftd_questions.specs.Faults.{refusal_of}
 use Rattle.ftd_desk.specs.Words.{Handles}
 use Rattle.ftd_desk.proofs.Handling.{ServesBy, none_known, served_ok, served_err, served_less}
 use Rattle.ftd_desk.proofs.Handling.{handles_dropped, handles_uncommitted, handles_committed}
-use Rattle.ftd_desk.proofs.Handling.{at_err, at_ok}
+use Rattle.ftd_desk.proofs.Handling.{at_err, at_ok, handles_still, handles_unbegun, is_fault}
 use Rattle.ftd_desk.proofs.desk.Desk.handle.Goals as goal
+
+pub returns-then-self-clause-handles : goal.returns-then-self-clause-handles
+returns-then-self-clause-handles g c =
+    handles_still (held g.S.Store c.args.self.now) c.args.request.now (Err Store) (inr refl)
+
+pub returns-in-Err-clause-handles : goal.returns-in-Err-clause-handles
+returns-in-Err-clause-handles g c =
+    let old = held g.S.Store c.args.self.now in
+    let none = c.replace-known.new.dest in
+    let new : Held = record {
+      db = seen g.S.Store c.begin.follows.lender-at-none;
+      known = none;
+    } in
+    let fault : IsFault (Err c.refusal_of.result) =
+    subst (λ refusal. IsFault (Err refusal)) (sym c.refusal_of.ensures) (is_fault c.in-Err.fault) in
+    handles_unbegun old new c.args.request.now (Err c.refusal_of.result)
+    (search rules) (search rules)
+    (none_known none (search rules) (search rules) (search rules)) fault
+
+pub returns-then-not-is_change-clause-stops : goal.returns-then-not-is_change-clause-stops
+returns-then-not-is_change-clause-stops g c =
+    let old = seen g.S.Store c.args.self.now.store in
+    let b = shown g.S.Store c.in-Ok.tx in
+    let m = shown g.S.Store c.serve_alone.new.tx in
+    let end = c.drop-tx-then-not-is_change.new.self.0 in
+    let call = c.in-Ok-serve_alone.ensures.call in
+    let same : end ≡ c.self-then-not-is_change-1.given.0 = search rules in
+    on_err c.bounded.result
+    (inr (subst (λ (store : StoreOf g.row.S.Denot). CrashKeeps old (seen g.S.Store store)) same
+    (crash_then old b (seen g.S.Store end) c.in-Ok.ensures.crash
+    (crash_then b m (seen g.S.Store end) call.frame.crash
+    c.drop-tx-then-not-is_change.ensures.crash))))
+
+pub returns-in-Err-serve_alone-clause-stops : goal.returns-in-Err-serve_alone-clause-stops
+returns-in-Err-serve_alone-clause-stops g c =
+    let old = seen g.S.Store c.args.self.now.store in
+    let b = shown g.S.Store c.in-Ok.tx in
+    let m = shown g.S.Store c.serve_alone.new.tx in
+    let end = c.drop-tx.new.self.0 in
+    let call = c.in-Err-serve_alone.ensures.call in
+    let same : end ≡ c.self-in-Err-serve_alone-1.given.0 = search rules in
+    inr (subst (λ (store : StoreOf g.row.S.Denot). CrashKeeps old (seen g.S.Store store)) same
+    (crash_then old b (seen g.S.Store end) c.in-Ok.ensures.crash
+    (crash_then b m (seen g.S.Store end) call.frame.crash c.drop-tx.ensures.crash)))
 
 pub returns-then-not-is_change-clause-handles : goal.returns-then-not-is_change-clause-handles
 returns-then-not-is_change-clause-handles g c =

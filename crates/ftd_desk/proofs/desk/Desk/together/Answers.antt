@@ -1,5 +1,6 @@
-use Rattle.std.proofs.Common.{◌≡◌, ◌∷◌, true, false, inr, rules, refl, sym, subst, Ok, Err}
+use Rattle.std.proofs.Common.{◌≡◌, [], ◌∷◌, true, false, inr, rules, refl, sym, subst, Ok, Err}
 use Rattle.std.specs.Prelude.{is_err}
+use Rattle.std.proofs.lemmas.List.{nil_from_length}
 use Rattle.ftd_machine.specs.declared.replies.Refusal.TheVariants as refusal
 use Rattle.ftd_questions.specs.Faults.{refusal_of}
 use Rattle.ftd_schema.specs.States.{CrashKeeps}
@@ -10,9 +11,19 @@ use Rattle.ftd_desk.specs.Desks.{Held, held}
 use Rattle.ftd_desk.specs.Words.{HandlesTogether}
 use Rattle.ftd_desk.proofs.Handling.{none_known, at_err, at_ok}
 use Rattle.ftd_desk.proofs.Handled.{refused, together_dropped, together_uncommitted}
-use Rattle.ftd_desk.proofs.Handled.{together_committed}
+use Rattle.ftd_desk.proofs.Handled.{together_committed, together_none, together_still}
 use Rattle.ftd_desk.proofs.Together.{served_all}
 use Rattle.ftd_desk.proofs.desk.Desk.together.Goals as goal
+
+pub returns-then-self-clause-together : goal.returns-then-self-clause-together
+returns-then-self-clause-together g c =
+    together_still c.args.requests.now refusal.Store (inr refl) (held g.S.Store c.args.self.now)
+
+pub returns-in_default-clause-together : goal.returns-in_default-clause-together
+returns-in_default-clause-together g c =
+    let none : c.args.requests.now ≡ [] =
+    nil_from_length c.args.requests.now c.in_default.ensures.cases in
+    rw (none, c.new.ensures.items) (together_none (held g.S.Store c.args.self.now))
 
 pub returns-then-is_err-clause-together : goal.returns-then-is_err-clause-together
 returns-then-is_err-clause-together g c =

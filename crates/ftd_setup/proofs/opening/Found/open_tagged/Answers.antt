@@ -4,7 +4,8 @@ use Rattle.sqlite.specs.State.{HasCleanDisk}
 use Rattle.sqlite.specs.Held.{state}
 use Rattle.ftd_schema.specs.Names.{later_names, has_any}
 use Rattle.ftd_setup.specs.declared.opening.Change.TheVariants.{Migrate}
-use Rattle.ftd_setup.specs.Versions.{IsMigrated, ReadsVersion}
+use Rattle.ftd_schema.specs.Beginnings.{IsMigrated}
+use Rattle.ftd_setup.specs.Versions.{ReadsVersion}
 use Rattle.ftd_setup.proofs.Surviving.{reading_survives}
 use Rattle.ftd_setup.proofs.opening.Found.open_tagged.Goals as goal
 
