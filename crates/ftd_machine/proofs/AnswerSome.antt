@@ -1,5 +1,5 @@
 -- Each request has an answer, where each account has lines.
-use Rattle.std.proofs.Common.{◌≡◌, inl, inr, refl, ℕ, ◌-◌, Bool, true}
+use Rattle.std.proofs.Common.{◌≡◌, inl, inr, refl, ℕ, Bool, true}
 use Rattle.std.proofs.Common.{List, [], Option, None, Some, Ok, Err}
 use Rattle.std.specs.Prelude.{is_some}
 use Rattle.ftd_days.specs.Calendar.{year_of}

@@ -21,5 +21,9 @@ pub mod ToldSome
 pub mod DueSome
 pub mod AnswerSome
 pub mod Small
+pub mod Stretches
+pub mod ListsSmall
+pub mod Brief
+pub mod Listed
 pub mod Alike
 pub mod Examples

@@ -5,13 +5,14 @@ ghost use Rattle.ftd_machine.specs.State.{State, entries_of};
 ghost use Rattle.ftd_days.specs.declared.cents.Cents.{Cents};
 ghost use Rattle.ftd_rules.specs.Liability.{liability};
 ghost use Rattle.ftd_rules.specs.Payments.{paid_by};
-ghost use Rattle.ftd_machine.specs.Limits.{amounts_end};
+ghost use Rattle.ftd_machine.specs.Limits.{amounts_end, IsBounded};
 ghost use Rattle.ftd_machine.specs.History.{live_sums, live_payments, HasLookback};
 ghost use Rattle.ftd_machine.specs.Checks.{Answer};
 ghost use Rattle.ftd_machine.specs.Step.{Step};
 ghost use Rattle.ftd_machine.specs.Runs.{IsRun, IsReached};
 ghost use Rattle.ftd_machine.specs.Sound.{IsSound};
 ghost use Rattle.ftd_machine.specs.Laws.{is_change, Names, AgreeOn, IsRepeat};
+ghost use Rattle.ftd_machine.specs.declared.replies.Reply.{Reply};
 ghost use Rattle.ftd_machine.specs.declared.requests.Request.{Request};
 
 /// A refusal, the answer that a request was done before, and the answer to a question leave
@@ -62,6 +63,14 @@ pub fn sums_are_small()
         → paid_by (live_payments (entries_of s name)) first last as_of day < amounts_end }
     ensures lookback { (s : State) (name : List ℕ) (year : ℕ) (total : Cents) → IsSound s
         → HasLookback (entries_of s name) year total → total.0 < amounts_end }
+{}
+
+/// In a sound state, the amounts of a list that a request is answered with, a due list or the days
+/// of Schedule B, are together below 6,000,000,000,000,000 cents.
+#[tactic(auto, using(crate::proofs::Listed::lists_bounded))]
+pub fn lists_are_bounded()
+    ensures { (s : State) (request : Request) (reply : Reply) (next : State)
+        → IsSound s → Step s request (Ok reply) next → IsBounded reply }
 {}
 
 /// What a request that names an account is answered, and what is kept of the account then, rests on

@@ -1,0 +1,92 @@
+-- What a sound state is asked for is answered by a list whose amounts are together below the end,
+-- or by no list.
+use Rattle.std.proofs.Common.{sym, subst, [], Ok}
+use Rattle.ftd_machine.specs.Limits.{IsBounded}
+use Rattle.ftd_machine.specs.State.{State}
+use Rattle.ftd_machine.specs.Checks.{Answer}
+use Rattle.ftd_machine.specs.Step.{Step}
+use Rattle.ftd_machine.specs.Sound.{IsSound}
+use Rattle.ftd_machine.specs.declared.replies.Reply.{Reply}
+use Rattle.ftd_machine.specs.declared.requests.Request.{Request}
+use Rattle.ftd_machine.specs.declared.requests.Request.TheVariants.{Enrol, Calendar, AddHoliday}
+use Rattle.ftd_machine.specs.declared.requests.Request.TheVariants.{Report, ReportYear, OpenYear}
+use Rattle.ftd_machine.specs.declared.requests.Request.TheVariants.{Post, Void, Pay, VoidPay}
+use Rattle.ftd_machine.specs.declared.requests.Request.TheVariants.{Status, DueList, ScheduleB}
+use Rattle.ftd_machine.proofs.Repeats.{checks_of}
+use Rattle.ftd_machine.proofs.ListsSmall.{due_list_small, days_small}
+use Rattle.ftd_machine.proofs.Brief.{AnswersBounded, brief_none, brief_needs, brief_done}
+use Rattle.ftd_machine.proofs.Brief.{brief_finds, brief_new, decided, is_done, opens_next}
+use Rattle.ftd_machine.proofs.Brief.{is_posted}
+
+pub answers_bounded : (s : State) (request : Request) (answer : Answer) (next : State) → IsSound s
+    → Step s request answer next → AnswersBounded answer
+answers_bounded s (Enrol name start carried form) answer next sound step =
+    decided s answer next (checks_of s (Enrol name start carried form)) _
+    (brief_needs _ _ _ (brief_needs _ _ _ (brief_new _ _ _ [] brief_none)))
+    (is_done answer next _) step
+answers_bounded s (Calendar year days) answer next sound step =
+    decided s answer next (checks_of s (Calendar year days)) _
+    (brief_needs _ _ _ (brief_needs _ _ _ (brief_new _ _ _ [] brief_none)))
+    (is_done answer next _) step
+answers_bounded s (AddHoliday day) answer next sound step =
+    decided s answer next (checks_of s (AddHoliday day)) _
+    (brief_needs _ _ _ (brief_done _ _ (brief_finds _ _ _ (brief_needs _ _ [] brief_none))))
+    (is_done answer next _) step
+answers_bounded s (Report name quarter cents) answer next sound step =
+    decided s answer next (checks_of s (Report name quarter cents)) _
+    (brief_needs _ _ _ (brief_needs _ _ _ (brief_needs _ _ _ (brief_finds _ _ _
+    (brief_needs _ _ _ (brief_new _ _ _ _ (brief_needs _ _ [] brief_none)))))))
+    (is_done answer next _) step
+answers_bounded s (ReportYear name year cents) answer next sound step =
+    decided s answer next (checks_of s (ReportYear name year cents)) _
+    (brief_needs _ _ _ (brief_needs _ _ _ (brief_needs _ _ _ (brief_finds _ _ _
+    (brief_needs _ _ _ (brief_new _ _ _ _ (brief_needs _ _ [] brief_none)))))))
+    (is_done answer next _) step
+answers_bounded s (OpenYear name year) answer next sound step =
+    decided s answer next (checks_of s (OpenYear name year)) _
+    (brief_needs _ _ _ (brief_needs _ _ _ (brief_finds _ _ _ (brief_done _ _
+    (brief_needs _ _ _ (brief_needs _ _ _ (brief_needs _ _ [] brief_none)))))))
+    (opens_next s answer next name year) step
+answers_bounded s (Post name number payday fit ss medicare) answer next sound step =
+    decided s answer next (checks_of s (Post name number payday fit ss medicare)) _
+    (brief_needs _ _ _ (brief_needs _ _ _ (brief_needs _ _ _ (brief_needs _ _ _
+    (brief_finds _ _ _ (brief_new _ _ _ _ (brief_needs _ _ _ (brief_needs _ _ _
+    (brief_needs _ _ [] brief_none)))))))))
+    (λ posted. is_posted _ _ _ _ answer posted.1) step
+answers_bounded s (Void name number) answer next sound step =
+    decided s answer next (checks_of s (Void name number)) _
+    (brief_needs _ _ _ (brief_needs _ _ _ (brief_finds _ _ _ (brief_done _ _
+    (brief_finds _ _ [] brief_none)))))
+    (λ posted. is_posted _ _ _ _ answer posted.3) step
+answers_bounded s (Pay name number paid for_day cents) answer next sound step =
+    decided s answer next (checks_of s (Pay name number paid for_day cents)) _
+    (brief_needs _ _ _ (brief_needs _ _ _ (brief_needs _ _ _ (brief_needs _ _ _
+    (brief_finds _ _ _ (brief_new _ _ _ _ (brief_needs _ _ _ (brief_needs _ _ _
+    (brief_needs _ _ [] brief_none)))))))))
+    (is_done answer next _) step
+answers_bounded s (VoidPay name number) answer next sound step =
+    decided s answer next (checks_of s (VoidPay name number)) _
+    (brief_needs _ _ _ (brief_needs _ _ _ (brief_finds _ _ _ (brief_done _ _
+    (brief_finds _ _ [] brief_none)))))
+    (is_done answer next _) step
+answers_bounded s (Status name day) answer next sound step =
+    decided s answer next (checks_of s (Status name day)) _
+    (brief_needs _ _ _ (brief_needs _ _ _ (brief_finds _ _ _ (brief_needs _ _ [] brief_none))))
+    (λ told. subst AnswersBounded (sym told.1.told) tt) step
+answers_bounded s (DueList name quarter as_of) answer next sound step =
+    decided s answer next (checks_of s (DueList name quarter as_of)) _
+    (brief_needs _ _ _ (brief_needs _ _ _ (brief_needs _ _ _ (brief_finds _ _ _
+    (brief_needs _ _ [] brief_none)))))
+    (λ told. subst AnswersBounded (sym told.1.told)
+    (due_list_small s name sound quarter as_of answer told.1)) step
+answers_bounded s (ScheduleB name quarter) answer next sound step =
+    decided s answer next (checks_of s (ScheduleB name quarter)) _
+    (brief_needs _ _ _ (brief_needs _ _ _ (brief_finds _ _ _ (brief_needs _ _ _
+    (brief_needs _ _ [] brief_none)))))
+    (λ told. subst AnswersBounded (sym told.1.told) (days_small s name sound quarter answer told.1))
+    step
+
+pub lists_bounded : (s : State) (request : Request) (reply : Reply) (next : State)
+    → IsSound s → Step s request (Ok reply) next → IsBounded reply
+lists_bounded s request reply next sound step =
+    answers_bounded s request (Ok reply) next sound step
