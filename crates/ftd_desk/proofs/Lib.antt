@@ -6,3 +6,4 @@ pub mod Running
 mod Booking
 mod Together
 mod Handled
+mod Opened

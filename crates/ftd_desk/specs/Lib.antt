@@ -1,6 +1,7 @@
 pub mod Kept
 pub mod Counted
 pub mod Desks
+pub mod Opened
 pub mod Words
 pub mod Telling
 pub mod Books
