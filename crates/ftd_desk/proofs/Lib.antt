@@ -7,3 +7,4 @@ mod Booking
 mod Together
 mod Handled
 mod Opened
+pub mod Refiled

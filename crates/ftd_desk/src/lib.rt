@@ -7,6 +7,7 @@ mod counts;
 mod desk;
 mod kept;
 mod known;
+pub mod laws;
 mod listed;
 mod requests;
 
