@@ -2,7 +2,6 @@
 
 use crate::faults::ProgramFault;
 use ftd_desk::Desk;
-use ftd_store::Store;
 use ftd_words::escaped_word;
 use sqlite::{Connection, Error, ErrorCode, File, FileStore};
 use sqlite_disk::Disk;
@@ -56,8 +55,8 @@ pub fn desk_of<D: Disk + Drop>(
     rt: &HostRuntime,
     conn: Connection<FileStore<D>>,
 ) -> Result<Desk<FileStore<D>>, ProgramFault> {
-    match ftd_setup::open(conn) {
-        Ok(conn) => Ok(Desk::new(rt.alloc(), Store::over(conn))),
+    match Desk::open(rt.alloc(), conn) {
+        Ok(desk) => Ok(desk),
         Err(refused) => {
             let _ = refused.connection.close();
             Err(refused.fault.into())
@@ -68,5 +67,5 @@ pub fn desk_of<D: Disk + Drop>(
 /// Closes the files of a desk.
 pub fn closed<D: Disk + Drop>(desk: Desk<FileStore<D>>) {
     // What was committed stands in the log where it can't be copied into the file.
-    let _ = desk.into_store().close().close();
+    let _ = desk.close().close();
 }

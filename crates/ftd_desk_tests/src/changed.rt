@@ -1,4 +1,5 @@
-//! Rows that were changed under the desk: a repair reads and writes the rows of its windows alone.
+//! Rows that were changed under the desk: a repair reads and writes the rows of its windows alone. A
+//! desk that is opened again over rows as they were.
 
 use crate::asking::{answers, ask};
 use crate::desks::{ASH, desk, desk_over};
@@ -13,7 +14,7 @@ pub(crate) fn changed(
     desk: Desk<MemStore>,
     statement: &str,
 ) -> Result<Desk<MemStore>, Fail> {
-    let mut conn: Connection<MemStore> = desk.into_store().close();
+    let mut conn: Connection<MemStore> = desk.close();
     conn.execute(statement, &[])?;
     Ok(desk_over(alloc, conn)?)
 }
@@ -62,6 +63,26 @@ fn a_repair_goes_by_the_lines_of_the_years(rt: HostRuntime) -> Result<(), Fail> 
                 "DUE LIST ash 2024Q2 AS OF 2024-06-01\n\
 2024-05-08 2024-05-10 semiweekly              1.00 2024-05-15 2024-06-20              0.00 with-return\n\
 TOTAL                                         1.00",
+            ),
+        ],
+    )
+}
+
+#[test]
+fn a_desk_that_is_opened_again_stands_for_the_same(rt: HostRuntime) -> Result<(), Fail> {
+    let alloc = rt.alloc();
+    let mut desk = desk(alloc, &ASH)?;
+    let _posted = ask(alloc, &mut desk, "post ash 1 2024-05-08 1000.00 0 0")?;
+    let mut desk = desk.reopen().map_err(|refused| refused.fault)?;
+    answers(
+        &rt,
+        alloc,
+        &mut desk,
+        &[
+            ("post ash 1 2024-05-08 1000.00 0 0", "already"),
+            (
+                "void ash 1",
+                "posted 2024-05-01 2024-05-31 removed 1 added 0",
             ),
         ],
     )

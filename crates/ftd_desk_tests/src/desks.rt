@@ -3,7 +3,7 @@
 use crate::asking::ask;
 use ftd_desk::Desk;
 use ftd_setup::OpenFault;
-use ftd_store::{Store, StoreFault};
+use ftd_store::StoreFault;
 use sqlite::{Alter, Connection, MemStore};
 use std::alloc::Global;
 use std::test::Fail;
@@ -48,8 +48,7 @@ pub(crate) fn desk_over<S: Alter + Drop>(
     alloc: Global,
     conn: Connection<S>,
 ) -> Result<Desk<S>, OpenFault> {
-    let conn = ftd_setup::open(conn).map_err(|refused| refused.fault)?;
-    Ok(Desk::new(alloc, Store::over(conn)))
+    Desk::open(alloc, conn).map_err(|refused| refused.fault)
 }
 
 /// A new desk in memory. A fault where there is no memory.
