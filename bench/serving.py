@@ -1,16 +1,18 @@
 #!/usr/bin/env python3
 """Tries `ftd serve` with clients that are idle, slow, or send on when the server closes, and kills it at random moments.
 
-    bench/serving.py [PROGRAM [OLD PROGRAM]]
+    bench/serving.py [PROGRAM ..]
 
 - A hundred clients ask one after the other every 3 seconds and keep their connections: how long each waits for its answer.
 - A client that sends a byte a second inside a message: when its connection ends.
 - 10,000 messages in lists of 400 on one connection: each answer that was written has to arrive.
 - 1,000 messages with a body that their heads refuse (413 and 501): each answer has to be read.
 - 200 kills under posts at random moments: what was acknowledged has to be kept, and the file has to open; the size of the log.
-- Questions and posts a second over connections of 100 messages, in turn with another program if one is given."""
+- Questions and posts a second over connections of 100 messages, in a file on the disk and in one in memory: of one program three lists
+  of 2,000; of several, as a new one and an old one, 30 lists in turn and nothing else."""
 
 import contextlib
+import itertools
 import json
 import os
 import random
@@ -26,6 +28,7 @@ import time
 HERE = os.path.dirname(os.path.abspath(__file__))
 PROGRAMS = [os.path.abspath(it) for it in sys.argv[1:]] or [os.path.join(HERE, "..", "crates", "ftd", "out", "ftd")]
 FTD = PROGRAMS[0]
+LISTS = 3 if len(PROGRAMS) == 1 else 30
 
 
 def message(method, target, body="", close=False):
@@ -249,32 +252,43 @@ def kills(folder):
           f"{statistics.median(logs):.0f} bytes in the middle, {max(logs)} at most", flush=True)
 
 
+def rate(program, kind, db):
+    """How many questions or posts a second the program answers, of a list of 2,000 over 20 connections, in a new file."""
+    first = Server(program, db, 1)
+    first.ask(b"".join(SET_UP))
+    first.process.wait()
+    server = Server(program, db, 20)
+    start = time.monotonic()
+    for connection in range(20):
+        with server.peer() as peer:
+            for at in range(100):
+                peer.sendall(STATUS if kind == "questions" else post(connection * 100 + at + 1))
+                read_one(peer)
+    took = time.monotonic() - start
+    server.process.wait()
+    for it in (db, f"{db}-wal"):
+        if os.path.exists(it):
+            os.remove(it)
+    return 2000 / took
+
+
 def speed(folder):
-    for kind in ("questions", "posts"):
-        said = []
-        for turn in range(3):
-            for place, program in enumerate(PROGRAMS):
-                db = os.path.join(folder, f"{kind}{turn}{place}.db")
-                first = Server(program, db, 1)
-                first.ask(b"".join(SET_UP))
-                first.process.wait()
-                server = Server(program, db, 20)
-                start = time.monotonic()
-                for connection in range(20):
-                    with server.peer() as peer:
-                        for at in range(100):
-                            peer.sendall(STATUS if kind == "questions" else post(connection * 100 + at + 1))
-                            read_one(peer)
-                said.append((place, 2000 / (time.monotonic() - start)))
-                server.process.wait()
-        for place, program in enumerate(PROGRAMS):
-            rates = sorted(rate for at, rate in said if at == place)
-            print(f"{kind} a second over kept connections, {program}: {', '.join(f'{it:.0f}' for it in rates)}", flush=True)
+    with tempfile.TemporaryDirectory(dir="/dev/shm") as memory:
+        for place, kind in itertools.product((folder, memory), ("questions", "posts")):
+            rates = {program: [] for program in PROGRAMS}
+            for _ in range(LISTS):
+                for program, found in rates.items():
+                    found.append(rate(program, kind, os.path.join(place, "speed.db")))
+            for program, found in rates.items():
+                low, middle, high = statistics.quantiles(found, n=4, method="inclusive")
+                where = "in memory" if place == memory else "on the disk"
+                print(f"{kind} a second over kept connections, a file {where}, {program}: {middle:.0f} in the middle of "
+                      f"{LISTS} lists, half of them {low:.0f} to {high:.0f}", flush=True)
 
 
 def main():
     with tempfile.TemporaryDirectory() as folder:
-        for trial in (crowd, slow, pipelines, refused, speed, kills, keepers):
+        for trial in (crowd, slow, pipelines, refused, speed, kills, keepers) if len(PROGRAMS) == 1 else (speed,):
             trial(folder)
 
 
