@@ -8,8 +8,9 @@
 - 10,000 messages in lists of 400 on one connection: each answer that was written has to arrive.
 - 1,000 messages with a body that their heads refuse (413 and 501): each answer has to be read.
 - 200 kills under posts at random moments: what was acknowledged has to be kept, and the file has to open; the size of the log.
-- Questions and posts a second over connections of 100 messages, in a file on the disk and in one in memory: of one program three lists
-  of 2,000; of several, as a new one and an old one, 30 lists in turn and nothing else."""
+- How long a question and a post take over connections of 100 messages, in a file on the disk and in one in memory: lists of 2,000. Of
+  several programs, as an old one and a new one, this alone is tried: each message goes to each in turn. The share of the first one's
+  time has the bounds between which 95 of 100 random choices of the hundreds lie."""
 
 import contextlib
 import itertools
@@ -28,7 +29,7 @@ import time
 HERE = os.path.dirname(os.path.abspath(__file__))
 PROGRAMS = [os.path.abspath(it) for it in sys.argv[1:]] or [os.path.join(HERE, "..", "crates", "ftd", "out", "ftd")]
 FTD = PROGRAMS[0]
-LISTS = 3 if len(PROGRAMS) == 1 else 30
+LISTS = 2 if len(PROGRAMS) == 1 else 6
 
 
 def message(method, target, body="", close=False):
@@ -252,38 +253,55 @@ def kills(folder):
           f"{statistics.median(logs):.0f} bytes in the middle, {max(logs)} at most", flush=True)
 
 
-def rate(program, kind, db):
-    """How many questions or posts a second the program answers, of a list of 2,000 over 20 connections, in a new file."""
-    first = Server(program, db, 1)
-    first.ask(b"".join(SET_UP))
-    first.process.wait()
-    server = Server(program, db, 20)
-    start = time.monotonic()
+def asked(server, peer, sent):
+    """How long an answer takes, and the connection, which is a new one where the server had closed it, as one that is idle."""
+    while True:
+        start = time.perf_counter()
+        with contextlib.suppress(OSError):
+            peer.sendall(sent)
+            if read_one(peer):
+                return time.perf_counter() - start, peer
+        peer.close()
+        peer = server.peer()
+
+
+def hundreds(folder, kind):
+    """How long each program takes for each hundred of 2,000 questions or posts. Each goes to each program in turn, so that what else the
+    machine does meets all alike."""
+    servers, took = [], [[] for _ in PROGRAMS]
+    for place, program in enumerate(PROGRAMS):
+        db = os.path.join(folder, f"{kind}{place}.db")
+        first = Server(program, db, 1)
+        first.ask(b"".join(SET_UP))
+        first.process.wait()
+        servers.append(Server(program, db, 1_000_000))
     for connection in range(20):
-        with server.peer() as peer:
-            for at in range(100):
-                peer.sendall(STATUS if kind == "questions" else post(connection * 100 + at + 1))
-                read_one(peer)
-    took = time.monotonic() - start
-    server.process.wait()
-    for it in (db, f"{db}-wal"):
-        if os.path.exists(it):
-            os.remove(it)
-    return 2000 / took
+        peers, sums = [server.peer() for server in servers], [0] * len(servers)
+        for at in range(100):
+            sent = STATUS if kind == "questions" else post(connection * 100 + at + 1)
+            for place in random.sample(range(len(peers)), len(peers)):
+                seconds, peers[place] = asked(servers[place], peers[place], sent)
+                sums[place] += seconds
+        for place, peer in enumerate(peers):
+            peer.close()
+            took[place].append(sums[place])
+    for server in servers:
+        server.process.kill()
+        server.process.wait()
+    return took
 
 
-def speed(folder):
-    with tempfile.TemporaryDirectory(dir="/dev/shm") as memory:
-        for place, kind in itertools.product((folder, memory), ("questions", "posts")):
-            rates = {program: [] for program in PROGRAMS}
-            for _ in range(LISTS):
-                for program, found in rates.items():
-                    found.append(rate(program, kind, os.path.join(place, "speed.db")))
-            for program, found in rates.items():
-                low, middle, high = statistics.quantiles(found, n=4, method="inclusive")
-                where = "in memory" if place == memory else "on the disk"
-                print(f"{kind} a second over kept connections, a file {where}, {program}: {middle:.0f} in the middle of "
-                      f"{LISTS} lists, half of them {low:.0f} to {high:.0f}", flush=True)
+def speed(_):
+    for kind, where in itertools.product(("questions", "posts"), (None, "/dev/shm")):
+        took = [[] for _ in PROGRAMS]
+        for _ in range(LISTS):
+            with tempfile.TemporaryDirectory(dir=where) as folder:
+                took = [[*before, *more] for before, more in zip(took, hundreds(folder, kind))]
+        for program, found in zip(PROGRAMS, took):
+            draws = [random.choices(range(len(found)), k=len(found)) for _ in range(1000)]
+            shares = sorted(sum(found[it] for it in draw) / sum(took[0][it] for it in draw) for draw in draws)
+            print(f"{kind}, a file {'in memory' if where else 'on the disk'}, {program}: {10 * statistics.fmean(found):.3f} ms each, "
+                  f"{sum(found) / sum(took[0]):.2f} of the first program's ({shares[25]:.2f} to {shares[974]:.2f})", flush=True)
 
 
 def main():
