@@ -4,7 +4,7 @@
     ./build.py
 
 It needs Rattle's kit. It runs `rt ci` over a copy of these crates, without the edits that the prover must refuse and without the crates of
-tests: that proves each of them, as many side by side as there are processors and memory, builds the program by two compilers, and runs it once.
+tests: that proves each of them, as many side by side as there are processors and memory, builds the program by two compilers, and runs both.
 What is proved is kept beside the kit, by the text that it was proved of: the next build, and the test command, begin there.
 """
 
