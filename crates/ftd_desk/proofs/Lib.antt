@@ -6,5 +6,6 @@ pub mod Running
 mod Booking
 mod Together
 mod Handled
+pub mod Showing
 mod Opened
 pub mod Refiled

@@ -1,6 +1,6 @@
 -- What a request on a run makes of the rows, from its first call to its last.
-use Rattle.std.proofs.Common.{◌≡◌, false, sym, ap, subst, arith, ℕ, List, Option, Result, Ok, Err}
-use Rattle.std.proofs.Common.{inl, inr}
+use Rattle.std.proofs.Common.{◌≡◌, ◌⊎◌, Bool, false, sym, ap, subst, arith, ℕ, List, Option, Result}
+use Rattle.std.proofs.Common.{Ok, Err, inl, inr}
 use Rattle.std.proofs.lemmas.Bool.{true≢false}
 use Rattle.sqlite.specs.Effect.{Database}
 use Rattle.sqlite.specs.Store as store
@@ -16,17 +16,54 @@ use Rattle.ftd_store.specs.Ends.{Begins}
 use Rattle.ftd_store.specs.Frame.{Calls, Reads}
 use Rattle.ftd_store.proofs.Going.{goes_on, then_call}
 use Rattle.ftd_machine.specs.Checks.{Answer}
-use Rattle.ftd_machine.specs.Laws.{is_change, is_on_run}
+use Rattle.ftd_rules.specs.declared.Form.{Form}
+use Rattle.ftd_machine.specs.Laws.{adds_entry, is_change, is_on_run}
+use Rattle.ftd_machine.specs.declared.requests.Question.{Question as Questions}
 use Rattle.ftd_machine.specs.declared.requests.Request.{Request}
 use Rattle.ftd_machine.specs.declared.requests.Request.TheVariants.{Enrol, Calendar, AddHoliday}
 use Rattle.ftd_machine.specs.declared.requests.Request.TheVariants.{Report, ReportYear, OpenYear}
 use Rattle.ftd_machine.specs.declared.requests.Request.TheVariants.{Post, Void, Pay, VoidPay}
-use Rattle.ftd_machine.specs.declared.requests.Request.TheVariants.{Status, DueList, ScheduleB}
+use Rattle.ftd_machine.specs.declared.requests.Request.TheVariants.{Question}
 use Rattle.ftd_posting.specs.Repaired.{PostsRun, VoidsRun, Becoming, Repairs}
 use Rattle.ftd_desk.specs.Counted.{Knows}
 use Rattle.ftd_desk.specs.Words.{RepairsRows}
 use Rattle.ftd_desk.specs.declared.listed.Answered.{Answered}
 use Rattle.ftd_desk.specs.declared.requests.Served.{Served}
+
+-- the request is on no run, and adds no payment
+abbrev pub Others : Request → Type 0
+Others request =
+    ((name : List ℕ) × (start : ℕ) × (carried : Bool) × (form : Form)
+    × (request ≡ Enrol name start carried form))
+    ⊎ (((year : ℕ) × (days : List ℕ) × (request ≡ Calendar year days))
+    ⊎ (((day : ℕ) × (request ≡ AddHoliday day))
+    ⊎ (((name : List ℕ) × (quarter : ℕ) × (cents : Cents) × (request ≡ Report name quarter cents))
+    ⊎ (((name : List ℕ) × (year : ℕ) × (cents : Cents) × (request ≡ ReportYear name year cents))
+    ⊎ (((name : List ℕ) × (year : ℕ) × (request ≡ OpenYear name year))
+    ⊎ (((name : List ℕ) × (number : ℕ) × (request ≡ VoidPay name number))
+    ⊎ ((question : Questions) × (request ≡ Question question))))))))
+
+pub others_add_none : (request : Request) → Others request → adds_entry request ≡ false
+unfolding adds_entry
+others_add_none request (inl is) = ap adds_entry is.4
+others_add_none request (inr (inl is)) = ap adds_entry is.2
+others_add_none request (inr (inr (inl is))) = ap adds_entry is.1
+others_add_none request (inr (inr (inr (inl is)))) = ap adds_entry is.3
+others_add_none request (inr (inr (inr (inr (inl is))))) = ap adds_entry is.3
+others_add_none request (inr (inr (inr (inr (inr (inl is)))))) = ap adds_entry is.2
+others_add_none request (inr (inr (inr (inr (inr (inr (inl is))))))) = ap adds_entry is.2
+others_add_none request (inr (inr (inr (inr (inr (inr (inr is))))))) = ap adds_entry is.1
+
+pub others_on_none : (request : Request) → Others request → is_on_run request ≡ false
+unfolding is_on_run
+others_on_none request (inl is) = ap is_on_run is.4
+others_on_none request (inr (inl is)) = ap is_on_run is.2
+others_on_none request (inr (inr (inl is))) = ap is_on_run is.1
+others_on_none request (inr (inr (inr (inl is)))) = ap is_on_run is.3
+others_on_none request (inr (inr (inr (inr (inl is))))) = ap is_on_run is.3
+others_on_none request (inr (inr (inr (inr (inr (inl is)))))) = ap is_on_run is.2
+others_on_none request (inr (inr (inr (inr (inr (inr (inl is))))))) = ap is_on_run is.2
+others_on_none request (inr (inr (inr (inr (inr (inr (inr is))))))) = ap is_on_run is.1
 
 -- nothing is said of a request that is on no run
 pub repairs_none : (request : Request) (answer : Answer) (before after : Database) (t : Tables)
@@ -43,9 +80,7 @@ repairs_none (Post name number payday fit ss medicare) answer before after t oth
 repairs_none (Void name number) answer before after t other = absurd (true≢false other)
 repairs_none (Pay name number paid for_day cents) answer before after t other = tt
 repairs_none (VoidPay name number) answer before after t other = tt
-repairs_none (Status name day) answer before after t other = tt
-repairs_none (DueList name quarter as_of) answer before after t other = tt
-repairs_none (ScheduleB name quarter) answer before after t other = tt
+repairs_none (Question question) answer before after t other = tt
 
 pub pays_no_run : (request : Request) (name : List ℕ) (number paid for_day : ℕ) (cents : Cents)
     → request ≡ Pay name number paid for_day cents → is_on_run request ≡ false

@@ -4,6 +4,7 @@ pub mod Desks
 pub mod Opened
 pub mod Words
 pub mod Telling
+pub mod Shown
 pub mod Books
 pub use Rattle.ftd_days.specs.Calendar
 pub use Rattle.ftd_machine.specs.Laws

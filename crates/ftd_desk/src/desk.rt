@@ -6,6 +6,7 @@ ghost use Rattle.ftd_machine.specs.Limits.{IsBounded};
 ghost use Rattle.ftd_machine.specs.State.{State};
 ghost use Rattle.ftd_desk.specs.Desks.{store_of, IsStopped, held, Rests, Keeps};
 ghost use Rattle.ftd_schema.specs.States.{CrashKeeps};
+ghost use Rattle.ftd_desk.specs.Shown.{ShowsAsked};
 ghost use Rattle.ftd_desk.specs.Words.{Handles, RepairsRows, HandlesAll};
 
 mod listing;
@@ -61,11 +62,14 @@ impl<S: Alter> Desk<S> {
     /// desk is stopped: it answers `Store` to everything, and does not touch the tables; only then
     /// may a crash find what a request changes that was answered `Store`. A list of which the
     /// amounts are together 6,000,000,000,000,000 cents or more is none of an account's, and
-    /// answered with `Store`.
+    /// answered with `Store`. A due list has the rows of the tables as they stand, whatever else
+    /// these hold.
     pub fn handle(&mut self, request: &Request) -> Answer
         ensures handles { Handles (held S.Store self.old) (held S.Store self.new)
             request.now result }
         ensures repairs { RepairsRows (held S.Store self.old).db (held S.Store self.new).db
+            request.now result }
+        ensures shows { ShowsAsked (held S.Store self.old).db (held S.Store self.new).db
             request.now result }
         ensures bounded { IfOk result IsBounded }
         ensures stops { OnErr result (IsStopped self.new

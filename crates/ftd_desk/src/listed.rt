@@ -7,6 +7,7 @@ ghost use Rattle.ftd_store.specs.Frame.{Calls};
 ghost use Rattle.ftd_machine.specs.Laws.{is_change};
 ghost use Rattle.ftd_machine.specs.declared.requests.Request.TheVariants.{Post};
 ghost use Rattle.ftd_posting.specs.Repaired.{Repairs};
+ghost use Rattle.ftd_desk.specs.Shown.{ShowsFor};
 ghost use Rattle.ftd_desk.specs.Books.{IsReady, ServesKnown};
 ghost use Rattle.ftd_desk.specs.Kept.{TakesFound, kept_of};
 ghost use Rattle.ftd_desk.specs.Words.{AreAnswers, ServesAll, is_fault};
@@ -113,6 +114,8 @@ pub(crate) fn serve_alone<S: Alter>(
     ensures call { Calls S.Store tx.old tx.new result (ServesKnown known request.now) }
     ensures repairs { Calls S.Store tx.old tx.new result (λ served before after.
         Repairs request.now served.answer before.now after.now) }
+    ensures shows { Calls S.Store tx.old tx.new result (λ served before after t.
+        ShowsFor request.now served.answer t) }
 {
     let served = serve(tx, alloc, known.counts, request)?;
     Ok(past(served, known.books))

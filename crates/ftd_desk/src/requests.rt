@@ -1,6 +1,6 @@
 //! Each request goes to its function.
 
-ghost use Rattle.std.specs.Prelude.{◌≡◌, false, IfSome, OnOk};
+ghost use Rattle.std.specs.Prelude.{◌≡◌, false, IfSome};
 ghost use Rattle.ftd_store.specs.Finds.{CountsRuns, CountsPayments};
 ghost use Rattle.ftd_store.specs.Frame.{Calls};
 ghost use Rattle.ftd_machine.specs.Laws.{adds_entry, is_on_run};
@@ -9,6 +9,7 @@ ghost use Rattle.ftd_entries.specs.Words.{Serves};
 ghost use Rattle.ftd_posting.specs.Repaired.{Becoming, PostsRun, VoidsRun, Repairs};
 ghost use Rattle.ftd_desk.specs.Counted.{Knows, ServesCounted};
 ghost use Rattle.ftd_desk.specs.Kept.{kept_of};
+ghost use Rattle.ftd_desk.specs.Shown.{ShowsFor};
 
 use crate::counts::Counts;
 use crate::kept::Kept;
@@ -16,7 +17,7 @@ use ftd_entries::{enrol, open_year, pay, report, report_year, take_calendar, voi
 use ftd_holidays::add_holiday;
 use ftd_machine::{Account, Answer, Request};
 use ftd_posting::{post, void};
-use ftd_questions::{due_list, schedule_b, status};
+use ftd_questions::ask;
 use ftd_rules::{PayRun, Payment};
 use ftd_store::{StoreFault, Tx};
 use sqlite::Alter;
@@ -76,18 +77,26 @@ pub(crate) fn serve<S: Alter>(
     ensures call { Calls S.Store tx.old tx.new result (ServesCounted counts request.now) }
     ensures repairs { Calls S.Store tx.old tx.new result (λ served before after.
         Repairs request.now served.answer before.now after.now) }
+    ensures shows { Calls S.Store tx.old tx.new result (λ served before after t.
+        ShowsFor request.now served.answer t) }
 {
-    if let Some(posting) = posting_of(request) {
-        return serve_post(
-            tx,
-            alloc,
-            counts,
-            posting.account,
-            posting.number,
-            posting.run,
-        );
-    }
     match request {
+        Request::Post {
+            account,
+            run: number,
+            payday,
+            fit,
+            ss,
+            medicare,
+        } => {
+            let run = PayRun {
+                payday: *payday,
+                fit: *fit,
+                ss: *ss,
+                medicare: *medicare,
+            };
+            serve_post(tx, alloc, counts, account.as_str(), *number, run)
+        }
         Request::Pay {
             account,
             payment,
@@ -106,7 +115,14 @@ pub(crate) fn serve<S: Alter>(
             let answer = void(tx, alloc, account.as_str(), *run)?;
             Ok(Served { answer, counts })
         }
-        _ => {
+        Request::Enrol { .. }
+        | Request::Calendar { .. }
+        | Request::AddHoliday { .. }
+        | Request::Report { .. }
+        | Request::ReportYear { .. }
+        | Request::OpenYear { .. }
+        | Request::VoidPay { .. }
+        | Request::Question(_) => {
             let answer = serve_entry(tx, alloc, request)?;
             Ok(Served { answer, counts })
         }
@@ -182,15 +198,17 @@ fn count_payments<S: Alter>(
 }
 
 /// Answers a request that is on no run, and adds no payment.
-#[tactic(auto, using(crate::proofs::Counting::on_ok), unfolding(ftd_machine::specs::Laws::adds_entry, ftd_machine::specs::Laws::is_on_run))]
+#[tactic(auto, unfolding(ftd_machine::specs::Laws::adds_entry, ftd_machine::specs::Laws::is_on_run))]
 fn serve_entry<S: Alter>(
     tx: &mut Tx<'_, S>,
     alloc: Global,
     request: &Request,
 ) -> Result<Answer, StoreFault>
+    requires adds_none { adds_entry request.now ≡ false }
+    requires on_none { is_on_run request.now ≡ false }
     ensures call { Calls S.Store tx.old tx.new result (Serves request.now) }
-    ensures adds_none { OnOk result (adds_entry request.now ≡ false) }
-    ensures on_none { OnOk result (is_on_run request.now ≡ false) }
+    ensures shows { Calls S.Store tx.old tx.new result (λ answer before after t.
+        ShowsFor request.now answer t) }
 {
     match request {
         Request::Enrol {
@@ -219,33 +237,8 @@ fn serve_entry<S: Alter>(
             cents,
         } => report_year(tx, account.as_str(), *year, *cents),
         Request::OpenYear { account, year } => open_year(tx, alloc, account.as_str(), *year),
-        _ => serve_question(tx, alloc, request),
-    }
-}
-
-/// The same, of a payment's void and of questions.
-#[tactic(auto, using(crate::proofs::Counting::on_ok), unfolding(ftd_machine::specs::Laws::adds_entry, ftd_machine::specs::Laws::is_on_run))]
-fn serve_question<S: Alter>(
-    tx: &mut Tx<'_, S>,
-    alloc: Global,
-    request: &Request,
-) -> Result<Answer, StoreFault>
-    ensures call { Calls S.Store tx.old tx.new result (Serves request.now) }
-    ensures adds_none { OnOk result (adds_entry request.now ≡ false) }
-    ensures on_none { OnOk result (is_on_run request.now ≡ false) }
-{
-    match request {
         Request::VoidPay { account, payment } => void_payment(tx, account.as_str(), *payment),
-        Request::Status { account, day } => status(tx, alloc, account.as_str(), *day),
-        Request::DueList {
-            account,
-            quarter,
-            as_of,
-        } => due_list(tx, alloc, account.as_str(), *quarter, *as_of),
-        Request::ScheduleB { account, quarter } => {
-            schedule_b(tx, alloc, account.as_str(), *quarter)
-        }
-        // no request is left
-        _ => tx.give_up(StoreFault::Failed),
+        Request::Question(question) => ask(tx, alloc, question),
+        Request::Post { .. } | Request::Void { .. } | Request::Pay { .. } => unreachable!(),
     }
 }

@@ -21,8 +21,11 @@ failed : (b : Bool) → (b ≡ true → ⊥) → b ≡ false
 failed true off = absurd (off refl)
 failed false off = refl
 
-le_from : (x y : ℤ) → int_le x y ≡ true → x ≤ℤ y
+pub le_from : (x y : ℤ) → int_le x y ≡ true → x ≤ℤ y
 le_from x y e = le_z_yes (subst T (sym e) tt)
+
+pub le_into : (x y : ℤ) → x ≤ℤ y → int_le x y ≡ true
+le_into x y h = passed (int_le x y) h.le
 
 lt_from : (x y : ℤ) → int_lt x y ≡ true → x <ℤ y
 lt_from x y e = lt_z_yes (subst T (sym e) tt)

@@ -10,7 +10,8 @@ use Rattle.ftd_ports.specs.Writing.{WritesPrefix}
 use Rattle.ftd_machine.specs.Checks.{Answer}
 use Rattle.ftd_machine.specs.declared.replies.Refusal.TheVariants.{Store}
 use Rattle.ftd_machine.specs.declared.requests.Request.{Request}
-use Rattle.ftd_machine.specs.declared.requests.Request.TheVariants.{Status}
+use Rattle.ftd_machine.specs.declared.requests.Question.TheVariants.{Status}
+use Rattle.ftd_machine.specs.declared.requests.Request.TheVariants.{Question}
 use Rattle.ftd_messages.specs.Messages.{Message}
 use Rattle.ftd_desk.specs.Desks.{Held, held}
 use Rattle.ftd_desk.specs.Words.{Handles}
@@ -45,7 +46,7 @@ serves g before fate after = IsServed (held g before) (held g after) fate
 
 -- the question by which a server sees whether its desk still answers: the schedule of no account
 abbrev pub question : Request
-question = Status [] (month_start 0)
+question = Question (Status [] (month_start 0))
 
 -- its store failed
 abbrev pub is_lost : Answer → Bool

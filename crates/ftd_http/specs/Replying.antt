@@ -1,11 +1,13 @@
 -- The response to what is asked.
-use Rattle.std.specs.Prelude.{◌≡◌, ℕ, ◌++◌, List, [], ◌∷◌, codes, Ok, Err}
+use Rattle.std.specs.Prelude.{◌≡◌, ℕ, ◌++◌, List, [], ◌∷◌, codes, Option, Some, None, Ok, Err}
 use Rattle.std.specs.List.{concat}
 use Rattle.std.specs.Fmt.{decimal}
 use Rattle.ftd_days.specs.Text.{day_text}
 use Rattle.ftd_messages.specs.declared.status.Status.TheVariants as status
+use Rattle.ftd_machine.specs.Questions.{question_of}
+use Rattle.ftd_machine.specs.declared.requests.Question.{Question}
+use Rattle.ftd_machine.specs.declared.requests.Question.TheVariants.{Status, DueList, ScheduleB}
 use Rattle.ftd_machine.specs.declared.requests.Request.{Request}
-use Rattle.ftd_machine.specs.declared.requests.Request.TheVariants as request
 use Rattle.ftd_rules.specs.declared.Kind.{Kind}
 use Rattle.ftd_rules.specs.declared.Kind.TheVariants.{Monthly, Semiweekly}
 use Rattle.ftd_machine.specs.declared.replies.Reason.{Reason}
@@ -45,20 +47,27 @@ schedule_text day kind reason =
     ∷ codes "\",\"reason\":\"" ∷ reason_text reason ∷ [])
 
 -- the response to a schedule that a request asked for
-abbrev pub scheduled : Request → Kind → Reason → Said
-scheduled (request.Status account day) kind reason =
+abbrev pub scheduled : Option Question → Kind → Reason → Said
+scheduled (Some (Status account day)) kind reason =
     json status.Okay (schedule_text day kind reason)
-scheduled _ kind reason = bare status.InternalServerError
+scheduled (Some (DueList account quarter as_of)) kind reason = bare status.InternalServerError
+scheduled (Some (ScheduleB account quarter)) kind reason = bare status.InternalServerError
+scheduled None kind reason = bare status.InternalServerError
 
 -- the response to the rows of a due list that a request asked for
-abbrev pub listed : Request → List DueRow → Said
-listed (request.DueList account quarter as_of) rows = plain (due_text account quarter as_of rows)
-listed _ rows = bare status.InternalServerError
+abbrev pub listed : Option Question → List DueRow → Said
+listed (Some (Status account day)) rows = bare status.InternalServerError
+listed (Some (DueList account quarter as_of)) rows =
+    plain (due_text account quarter as_of rows)
+listed (Some (ScheduleB account quarter)) rows = bare status.InternalServerError
+listed None rows = bare status.InternalServerError
 
 -- the response to the days of a Schedule B that a request asked for
-abbrev pub summed : Request → List DaySum → Said
-summed (request.ScheduleB account quarter) sums = plain (b_text account quarter sums)
-summed _ sums = bare status.InternalServerError
+abbrev pub summed : Option Question → List DaySum → Said
+summed (Some (Status account day)) sums = bare status.InternalServerError
+summed (Some (DueList account quarter as_of)) sums = bare status.InternalServerError
+summed (Some (ScheduleB account quarter)) sums = plain (b_text account quarter sums)
+summed None sums = bare status.InternalServerError
 
 -- The response to a reply. One that does not fit its request, which the desk does not give, is a
 -- fault of the server.
@@ -67,9 +76,9 @@ replied request reply.Done = json status.Okay (codes "{\"reply\":\"done\"}")
 replied request reply.Already = json status.Okay (codes "{\"reply\":\"already\"}")
 replied request (reply.Posted from to removed added) =
     json status.Okay (posted_text from to removed added)
-replied request (reply.Status kind reason) = scheduled request kind reason
-replied request (reply.Due rows) = listed request rows
-replied request (reply.Days sums) = summed request sums
+replied request (reply.Status kind reason) = scheduled (question_of request) kind reason
+replied request (reply.Due rows) = listed (question_of request) rows
+replied request (reply.Days sums) = summed (question_of request) sums
 
 abbrev pub answered : Request → Answer → Said
 answered request (Ok reply) = replied request reply

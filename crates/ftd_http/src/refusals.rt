@@ -7,7 +7,7 @@ ghost use Rattle.ftd_http.specs.Refusals.{detail_of, year_detail, quarter_detail
 
 use crate::response::{Response, add_number, json};
 use ftd_days::Quarter;
-use ftd_machine::Refusal;
+use ftd_machine::{Named, Refusal};
 use ftd_messages::Status;
 use ftd_reports::quarter_bytes;
 use std::alloc::{AllocError, Global};
@@ -24,7 +24,7 @@ pub fn refused(alloc: Global, refusal: &Refusal) -> Result<Response, AllocError>
 fn refusal_text(alloc: Global, refusal: &Refusal) -> Result<Vec<u8>, AllocError>
     ensures { IfOk result (λ text. text.items ≡ refusal_text refusal.now) }
 {
-    let mut text = detail_of(alloc, refusal)?;
+    let mut text = detail_of(alloc, refusal.named())?;
     text.extend_from_slice(b"\"name\":\"")?;
     text.extend_from_slice(refusal.name().as_bytes())?;
     text.extend_from_slice(b"\",\"refused\":")?;
@@ -37,22 +37,21 @@ fn refusal_text(alloc: Global, refusal: &Refusal) -> Result<Vec<u8>, AllocError>
 fn refusal_status(refusal: &Refusal) -> Status
     ensures { result ≡ refusal_status refusal.now }
 {
-    match refusal {
-        Refusal::Memory | Refusal::Store => Status::InternalServerError,
-        _ => Status::Conflict,
+    if refusal.is_failure() {
+        Status::InternalServerError
+    } else {
+        Status::Conflict
     }
 }
 
 /// What a refusal begins with: the year or the quarter that it names.
-fn detail_of(alloc: Global, refusal: &Refusal) -> Result<Vec<u8>, AllocError>
-    ensures { IfOk result (λ text. text.items ≡ detail_of refusal.now) }
+fn detail_of(alloc: Global, named: Named) -> Result<Vec<u8>, AllocError>
+    ensures { IfOk result (λ text. text.items ≡ detail_of named) }
 {
-    match refusal {
-        Refusal::CalendarMissing(year) => year_detail(alloc, *year),
-        Refusal::YearNotOpen(year) => year_detail(alloc, *year),
-        Refusal::YearMissing(year) => year_detail(alloc, *year),
-        Refusal::QuarterMissing(quarter) => quarter_detail(alloc, *quarter),
-        _ => Vec::from_slice(alloc, b"{"),
+    match named {
+        Named::Nothing => Vec::from_slice(alloc, b"{"),
+        Named::Year(year) => year_detail(alloc, year),
+        Named::Quarter(quarter) => quarter_detail(alloc, quarter),
     }
 }
 

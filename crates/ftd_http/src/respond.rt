@@ -1,6 +1,7 @@
 //! The response to what is asked.
 
 ghost use Rattle.std.specs.Prelude.{◌≡◌, ◌⊎◌, ◌<◌, true, IfOk, OnErr};
+ghost use Rattle.ftd_machine.specs.Questions.{question_of};
 ghost use Rattle.ftd_http.specs.Responses.{Said, said_of, json};
 ghost use Rattle.std.specs.List.{flat_map};
 ghost use Rattle.ftd_reports.specs.DueLists.{due_text};
@@ -13,7 +14,7 @@ use crate::machine::Machine;
 use crate::refusals::refused;
 use crate::response::{Response, add_number, bare, json, other_method, plain};
 use ftd_days::{Day, Quarter};
-use ftd_machine::{Answer, Reason, Reply, Request, are_sums_bounded};
+use ftd_machine::{Answer, Question, Reason, Reply, Request, are_sums_bounded};
 use ftd_messages::Status;
 use ftd_ports::Port;
 use ftd_reports::{DueText, day_bytes, schedule_b};
@@ -134,13 +135,15 @@ fn scheduled(
     kind: Kind,
     reason: Reason,
 ) -> Result<Response, AllocError>
-    ensures { IfOk result (λ response. said_of response ≡ scheduled request.now kind reason) }
+    ensures { IfOk result (λ response. said_of response ≡ scheduled (question_of request.now) kind reason) }
 {
-    match request {
-        Request::Status { account: _, day } => {
+    match request.question() {
+        Some(Question::Status { day, .. }) => {
             Ok(json(Status::Okay, schedule_text(alloc, *day, kind, reason)?))
         }
-        _ => Ok(bare(alloc, Status::InternalServerError)),
+        Some(Question::DueList { .. } | Question::ScheduleB { .. }) | None => {
+            Ok(bare(alloc, Status::InternalServerError))
+        }
     }
 }
 
@@ -185,15 +188,19 @@ fn reason_text(alloc: Global, reason: Reason) -> Result<Vec<u8>, AllocError>
 
 /// The response with a due list that a request asked for.
 fn listed(alloc: Global, request: &Request, rows: &[DueRow]) -> Result<Response, AllocError>
-    ensures { IfOk result (λ response. said_of response ≡ listed request.now rows.now) }
+    ensures { IfOk result (λ response. said_of response ≡ listed (question_of request.now) rows.now) }
 {
-    match request {
-        Request::DueList {
-            account,
-            quarter,
-            as_of,
-        } => Ok(plain(due_text(alloc, account.as_str(), *quarter, *as_of, rows)?)),
-        _ => Ok(bare(alloc, Status::InternalServerError)),
+    match request.question() {
+        Some(
+            Question::DueList {
+                account,
+                quarter,
+                as_of,
+            },
+        ) => Ok(plain(due_text(alloc, account.as_str(), *quarter, *as_of, rows)?)),
+        Some(Question::Status { .. } | Question::ScheduleB { .. }) | None => {
+            Ok(bare(alloc, Status::InternalServerError))
+        }
     }
 }
 
@@ -227,13 +234,15 @@ fn due_text(
 
 /// The response with the Schedule B that a request asked for.
 fn summed(alloc: Global, request: &Request, sums: &[DaySum]) -> Result<Response, AllocError>
-    ensures { IfOk result (λ response. said_of response ≡ summed request.now sums.now) }
+    ensures { IfOk result (λ response. said_of response ≡ summed (question_of request.now) sums.now) }
 {
-    match request {
-        Request::ScheduleB { account, quarter } => {
+    match request.question() {
+        Some(Question::ScheduleB { account, quarter }) => {
             Ok(plain(schedule_b_text(alloc, account.as_str(), *quarter, sums)?))
         }
-        _ => Ok(bare(alloc, Status::InternalServerError)),
+        Some(Question::Status { .. } | Question::DueList { .. }) | None => {
+            Ok(bare(alloc, Status::InternalServerError))
+        }
     }
 }
 

@@ -16,7 +16,7 @@ use crate::timed::{Timed, Timer};
 use crate::wire::Wire;
 use ftd_days::Day;
 use ftd_desk::Desk;
-use ftd_machine::{AccountName, Refusal, Request};
+use ftd_machine::{AccountName, Question, Refusal, Request};
 use ftd_ports::{Port, Target};
 use sqlite::Alter;
 use std::alloc::Global;
@@ -137,10 +137,10 @@ fn take_one<S: Alter, R: Clock + AllocGlobal>(
 fn still_answers<S: Alter>(alloc: Global, desk: &mut Desk<S>) -> bool
     ensures { asks S.Store desk.old result desk.new }
 {
-    let question = Request::Status {
+    let question = Request::Question(Question::Status {
         account: AccountName::from_string(String::new(alloc)),
         day: Day::first_of_month(0),
-    };
+    });
     !matches!(desk.handle(&question), Err(Refusal::Store))
 }
 

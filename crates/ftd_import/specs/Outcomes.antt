@@ -52,18 +52,26 @@ answer_in (skipped number field) = None
 
 -- it was posted, was there already, was refused, was malformed
 abbrev pub is_posted : Answer → Bool
+is_posted (Ok reply.Done) = false
+is_posted (Ok reply.Already) = false
 is_posted (Ok (reply.Posted from to removed added)) = true
-is_posted (Ok _) = false
-is_posted (Err _) = false
+is_posted (Ok (reply.Status kind reason)) = false
+is_posted (Ok (reply.Due rows)) = false
+is_posted (Ok (reply.Days sums)) = false
+is_posted (Err refused) = false
 
 abbrev pub is_already : Answer → Bool
+is_already (Ok reply.Done) = false
 is_already (Ok reply.Already) = true
-is_already (Ok _) = false
-is_already (Err _) = false
+is_already (Ok (reply.Posted from to removed added)) = false
+is_already (Ok (reply.Status kind reason)) = false
+is_already (Ok (reply.Due rows)) = false
+is_already (Ok (reply.Days sums)) = false
+is_already (Err refused) = false
 
 abbrev pub is_refused : Answer → Bool
-is_refused (Ok _) = false
-is_refused (Err _) = true
+is_refused (Ok told) = false
+is_refused (Err why) = true
 
 abbrev pub was_posted : Outcome → Bool
 was_posted (posted number run answer) = is_posted answer
@@ -83,7 +91,7 @@ was_malformed (skipped number field) = true
 
 -- the note of a record that was refused or malformed
 abbrev pub note_of : ℕ → Answer → Option Note
-note_of number (Ok _) = None
+note_of number (Ok told) = None
 note_of number (Err why) = Some (record { number = number; finding = Refused why })
 
 abbrev pub note_in : Outcome → Option Note
@@ -92,10 +100,32 @@ note_in (skipped number field) = Some (record { number = number; finding = Malfo
 
 -- the cause by which an answer stops an import: there was no memory, or the store failed
 abbrev pub fault_of : Answer → Option StopCause
-fault_of (Ok _) = None
+fault_of (Ok told) = None
 fault_of (Err refusal.Memory) = Some cause.Memory
 fault_of (Err refusal.Store) = Some cause.Store
-fault_of (Err _) = None
+fault_of (Err refusal.BadName) = None
+fault_of (Err refusal.BadYear) = None
+fault_of (Err refusal.BadDay) = None
+fault_of (Err refusal.BadCents) = None
+fault_of (Err refusal.BadCalendar) = None
+fault_of (Err refusal.BadNumber) = None
+fault_of (Err refusal.UnknownAccount) = None
+fault_of (Err refusal.AccountDiffers) = None
+fault_of (Err refusal.CalendarDiffers) = None
+fault_of (Err refusal.QuarterDiffers) = None
+fault_of (Err refusal.RunDiffers) = None
+fault_of (Err refusal.PaymentDiffers) = None
+fault_of (Err refusal.UnknownRun) = None
+fault_of (Err refusal.UnknownPayment) = None
+fault_of (Err refusal.BeforeStart) = None
+fault_of (Err (refusal.CalendarMissing year)) = None
+fault_of (Err (refusal.QuarterMissing quarter)) = None
+fault_of (Err (refusal.YearNotOpen year)) = None
+fault_of (Err refusal.TooManyRuns) = None
+fault_of (Err refusal.TooManyPayments) = None
+fault_of (Err refusal.WrongForm) = None
+fault_of (Err refusal.YearDiffers) = None
+fault_of (Err (refusal.YearMissing year)) = None
 
 abbrev pub fault_in : Outcome → Option StopCause
 fault_in (posted number run answer) = fault_of answer

@@ -80,7 +80,32 @@ pub(crate) fn fault_of(answer: &Answer) -> Option<StopCause>
     match answer {
         Err(Refusal::Memory) => Some(StopCause::Memory),
         Err(Refusal::Store) => Some(StopCause::Store),
-        _ => None,
+        Ok(_) => None,
+        Err(
+            Refusal::BadName
+            | Refusal::BadYear
+            | Refusal::BadDay
+            | Refusal::BadCents
+            | Refusal::BadCalendar
+            | Refusal::BadNumber
+            | Refusal::UnknownAccount
+            | Refusal::AccountDiffers
+            | Refusal::CalendarDiffers
+            | Refusal::QuarterDiffers
+            | Refusal::RunDiffers
+            | Refusal::PaymentDiffers
+            | Refusal::UnknownRun
+            | Refusal::UnknownPayment
+            | Refusal::BeforeStart
+            | Refusal::CalendarMissing(_)
+            | Refusal::QuarterMissing(_)
+            | Refusal::YearNotOpen(_)
+            | Refusal::TooManyRuns
+            | Refusal::TooManyPayments
+            | Refusal::WrongForm
+            | Refusal::YearDiffers
+            | Refusal::YearMissing(_),
+        ) => None,
     }
 }
 

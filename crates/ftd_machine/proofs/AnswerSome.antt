@@ -14,17 +14,19 @@ use Rattle.ftd_rules.specs.Accounts.{is_account_name}
 use Rattle.ftd_machine.specs.Requests.{status_checks, void_checks, is_voided}
 use Rattle.ftd_machine.specs.Checks.{Answer, first_of, meets, Decides}
 use Rattle.ftd_machine.specs.Posting.{IsPosted}
-use Rattle.ftd_machine.specs.Asking.{IsStatus, IsDueList, IsScheduleB}
+use Rattle.ftd_machine.specs.Questions.{question_checks, Tells}
 use Rattle.ftd_machine.specs.Step.{Step, OpensNext, may_open, with_entry, with_voided, taken}
 use Rattle.ftd_machine.specs.declared.replies.Reply.TheVariants.{Done}
 use Rattle.ftd_machine.specs.declared.replies.Refusal.TheVariants.{BadName, BadDay, BadNumber}
 use Rattle.ftd_machine.specs.declared.replies.Refusal.TheVariants.{UnknownAccount, YearNotOpen}
 use Rattle.ftd_machine.specs.declared.replies.Refusal.TheVariants.{UnknownRun}
+use Rattle.ftd_machine.specs.declared.requests.Question.{Question as Questions}
+use Rattle.ftd_machine.specs.declared.requests.Question.TheVariants.{Status, DueList, ScheduleB}
 use Rattle.ftd_machine.specs.declared.requests.Request.{Request}
 use Rattle.ftd_machine.specs.declared.requests.Request.TheVariants.{Enrol, Calendar, AddHoliday}
 use Rattle.ftd_machine.specs.declared.requests.Request.TheVariants.{Report, ReportYear, OpenYear}
 use Rattle.ftd_machine.specs.declared.requests.Request.TheVariants.{Post, Void, Pay, VoidPay}
-use Rattle.ftd_machine.specs.declared.requests.Request.TheVariants.{Status, DueList, ScheduleB}
+use Rattle.ftd_machine.specs.declared.requests.Request.TheVariants.{Question}
 use Rattle.ftd_machine.specs.Sound.{IsSound}
 use Rattle.ftd_machine.proofs.Members.{some_of}
 use Rattle.ftd_machine.proofs.Heads.{gives_needs, gives_finds, skip_needs, skip_finds, skip_done}
@@ -63,6 +65,19 @@ known_of_void name number account known e =
     (skip_finds account UnknownAccount _ _
     (skip_done (meets is_voided known) _ _
     (gives_finds known UnknownRun []))))).fact e
+
+-- where each account has lines and the checks pass, something is told
+tells_some : (s : State) (question : Questions)
+    → ((name : List ℕ) → (lines : List YearLine) × AreLinesOf (entries_of s name) lines)
+    → first_of (question_checks s question) ≡ None
+    → (answer : Answer) × Tells s question answer
+tells_some s (Status name day) lines e =
+    let own = entries_of s name in
+    status_some own (lines name).0 day (lines name).1
+    (open_of_status name day own.account (is_open own (year_of day)) e)
+tells_some s (DueList name quarter as_of) lines e =
+    due_list_some (holidays s) (entries_of s name) (lines name).0 quarter as_of (lines name).1
+tells_some s (ScheduleB name quarter) lines e = schedule_some (entries_of s name) quarter
 
 -- where each account has lines, each request has an answer and a next state
 lines_answer : (s : State) (request : Request)
@@ -104,22 +119,9 @@ lines_answer s (Void name number) lines =
     (p.0, after, (run.0, run.1, refl, p.1))))
 lines_answer s (Pay name number paid for_day cents) lines = done s _ _
 lines_answer s (VoidPay name number) lines = done s _ _
-lines_answer s (Status name day) lines =
-    let own = entries_of s name in
-    let there = is_open own (year_of day) in
-    decides s _ (λ a n. (n ≡ s) × IsStatus own day a) (λ e.
-    (let p = status_some own (lines name).0 day (lines name).1
-    (open_of_status name day own.account there e) in
-    (p.0, s, (refl, p.1))))
-lines_answer s (DueList name quarter as_of) lines =
-    let own = entries_of s name in
-    decides s _ (λ a n. (n ≡ s) × IsDueList (holidays s) own quarter as_of a) (λ e.
-    (let p = due_list_some (holidays s) own (lines name).0 quarter as_of (lines name).1 in
-    (p.0, s, (refl, p.1))))
-lines_answer s (ScheduleB name quarter) lines =
-    let own = entries_of s name in
-    decides s _ (λ a n. (n ≡ s) × IsScheduleB own quarter a) (λ e.
-    (let p = schedule_some own quarter in (p.0, s, (refl, p.1))))
+lines_answer s (Question question) lines =
+    decides s _ (λ a n. (n ≡ s) × Tells s question a) (λ e.
+    (let p = tells_some s question lines e in (p.0, s, (refl, p.1))))
 
 -- in each sound state, each request has an answer and a next state
 pub each_request_is_answered : (s : State) (request : Request) → IsSound s

@@ -14,9 +14,9 @@ use Rattle.ftd_machine.specs.declared.requests.Request.{Request}
 use Rattle.ftd_machine.specs.declared.requests.Request.TheVariants.{Enrol, Calendar, AddHoliday}
 use Rattle.ftd_machine.specs.declared.requests.Request.TheVariants.{Report, ReportYear, OpenYear}
 use Rattle.ftd_machine.specs.declared.requests.Request.TheVariants.{Post, Void, Pay, VoidPay}
-use Rattle.ftd_machine.specs.declared.requests.Request.TheVariants.{Status, DueList, ScheduleB}
-use Rattle.ftd_machine.proofs.Single.{IsOnce, lacks_none, lacks_one, posted_one, status_one}
-use Rattle.ftd_machine.proofs.Single.{due_list_one, schedule_one}
+use Rattle.ftd_machine.specs.declared.requests.Request.TheVariants.{Question}
+use Rattle.ftd_machine.proofs.Single.{IsOnce, lacks_none, lacks_one, posted_one}
+use Rattle.ftd_machine.proofs.Questions.{tells_one}
 
 module _ (s : State) (a b : Answer) (m n : State) where
   abbrev Same : Type 0
@@ -110,10 +110,5 @@ one_answer s (Void name number) a b m n once g h =
     (once name)) g h
 one_answer s (Pay name number paid for_day cents) a b m n once g h = done_same s a b m n _ _ g h
 one_answer s (VoidPay name number) a b m n once g h = done_same s a b m n _ _ g h
-one_answer s (Status name day) a b m n once g h = asked_same s a b m n _ _
-    (λ x y. status_one (entries_of s name) day x y (once name)) g h
-one_answer s (DueList name quarter as_of) a b m n once g h =
-    asked_same s a b m n _ _ (λ x y. due_list_one (holidays s) (entries_of s name) quarter as_of x y
-    (once name)) g h
-one_answer s (ScheduleB name quarter) a b m n once g h = asked_same s a b m n _ _
-    (λ x y. schedule_one (entries_of s name) quarter x y) g h
+one_answer s (Question question) a b m n once g h = asked_same s a b m n _ _
+    (λ x y. tells_one s question x y once) g h

@@ -14,7 +14,7 @@ use Rattle.ftd_machine.specs.declared.requests.Request.{Request}
 use Rattle.ftd_machine.specs.declared.requests.Request.TheVariants.{Enrol, Calendar, AddHoliday}
 use Rattle.ftd_machine.specs.declared.requests.Request.TheVariants.{Report, ReportYear, OpenYear}
 use Rattle.ftd_machine.specs.declared.requests.Request.TheVariants.{Post, Void, Pay, VoidPay}
-use Rattle.ftd_machine.specs.declared.requests.Request.TheVariants.{Status, DueList, ScheduleB}
+use Rattle.ftd_machine.specs.declared.requests.Request.TheVariants.{Question}
 use Rattle.ftd_machine.proofs.Adding.{entry_own}
 use Rattle.ftd_machine.proofs.Again.{post_turns, pay_turns}
 use Rattle.ftd_machine.proofs.Keeping.{kept_own}
@@ -77,11 +77,7 @@ counts_stay s (Pay name number paid for_day cents) answer next account other ste
 counts_stay s (VoidPay name number) answer next account other step =
     done_stays (counts_of account) s answer next _ _ step
     (ap (λ n. (runs_of account s, n)) (voided_count s.payments name number account))
-counts_stay s (Status name day) answer next account other step = ap (counts_of account)
-    (asked_leaves _ s answer next _ step)
-counts_stay s (DueList name quarter as_of) answer next account other step = ap (counts_of account)
-    (asked_leaves _ s answer next _ step)
-counts_stay s (ScheduleB name quarter) answer next account other step = ap (counts_of account)
+counts_stay s (Question question) answer next account other step = ap (counts_of account)
     (asked_leaves _ s answer next _ step)
 
 pub same_counts : (s : State) (request : Request) (answer : Answer) (next : State)

@@ -13,7 +13,7 @@ use Rattle.ftd_machine.specs.declared.requests.Request.{Request}
 use Rattle.ftd_machine.specs.declared.requests.Request.TheVariants.{Enrol, Calendar, AddHoliday}
 use Rattle.ftd_machine.specs.declared.requests.Request.TheVariants.{Report, ReportYear, OpenYear}
 use Rattle.ftd_machine.specs.declared.requests.Request.TheVariants.{Post, Void, Pay, VoidPay}
-use Rattle.ftd_machine.specs.declared.requests.Request.TheVariants.{Status, DueList, ScheduleB}
+use Rattle.ftd_machine.specs.declared.requests.Request.TheVariants.{Question}
 use Rattle.ftd_machine.proofs.Deciding.{either}
 
 -- a request that is done has changed the state
@@ -82,6 +82,4 @@ leaves s (Void name number) answer next step stays =
 leaves s (Pay name number paid for_day cents) answer next step stays =
     done_leaves _ s answer next _ step stays
 leaves s (VoidPay name number) answer next step stays = done_leaves _ s answer next _ step stays
-leaves s (Status name day) answer next step stays = asked_leaves _ s answer next _ step
-leaves s (DueList name quarter as_of) answer next step stays = asked_leaves _ s answer next _ step
-leaves s (ScheduleB name quarter) answer next step stays = asked_leaves _ s answer next _ step
+leaves s (Question question) answer next step stays = asked_leaves _ s answer next _ step

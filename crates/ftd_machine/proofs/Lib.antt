@@ -6,8 +6,9 @@ pub mod Own
 pub mod Heads
 pub mod Keeping
 pub mod Again
-pub mod Repeats
 pub mod Single
+pub mod Questions
+pub mod Repeats
 pub mod Answered
 pub mod Few
 pub mod Counted

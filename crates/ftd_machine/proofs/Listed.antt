@@ -4,19 +4,44 @@ use Rattle.std.proofs.Common.{sym, subst, [], Ok}
 use Rattle.ftd_machine.specs.Limits.{IsBounded}
 use Rattle.ftd_machine.specs.State.{State}
 use Rattle.ftd_machine.specs.Checks.{Answer}
+use Rattle.ftd_machine.specs.Questions.{question_checks, Tells}
 use Rattle.ftd_machine.specs.Step.{Step}
 use Rattle.ftd_machine.specs.Sound.{IsSound}
 use Rattle.ftd_machine.specs.declared.replies.Reply.{Reply}
+use Rattle.ftd_machine.specs.declared.requests.Question.{Question as Questions}
+use Rattle.ftd_machine.specs.declared.requests.Question.TheVariants.{Status, DueList, ScheduleB}
 use Rattle.ftd_machine.specs.declared.requests.Request.{Request}
 use Rattle.ftd_machine.specs.declared.requests.Request.TheVariants.{Enrol, Calendar, AddHoliday}
 use Rattle.ftd_machine.specs.declared.requests.Request.TheVariants.{Report, ReportYear, OpenYear}
 use Rattle.ftd_machine.specs.declared.requests.Request.TheVariants.{Post, Void, Pay, VoidPay}
-use Rattle.ftd_machine.specs.declared.requests.Request.TheVariants.{Status, DueList, ScheduleB}
+use Rattle.ftd_machine.specs.declared.requests.Request.TheVariants.{Question}
 use Rattle.ftd_machine.proofs.Repeats.{checks_of}
 use Rattle.ftd_machine.proofs.ListsSmall.{due_list_small, days_small}
-use Rattle.ftd_machine.proofs.Brief.{AnswersBounded, brief_none, brief_needs, brief_done}
+use Rattle.ftd_machine.proofs.Brief.{AnswersBounded, AreBrief, brief_none, brief_needs, brief_done}
 use Rattle.ftd_machine.proofs.Brief.{brief_finds, brief_new, decided, is_done, opens_next}
 use Rattle.ftd_machine.proofs.Brief.{is_posted}
+
+-- ---- questions
+
+question_brief : (s : State) (question : Questions) → AreBrief (question_checks s question)
+question_brief s (Status name day) =
+    brief_needs _ _ _ (brief_needs _ _ _ (brief_finds _ _ _ (brief_needs _ _ [] brief_none)))
+question_brief s (DueList name quarter as_of) =
+    brief_needs _ _ _
+    (brief_needs _ _ _ (brief_needs _ _ _ (brief_finds _ _ _ (brief_needs _ _ [] brief_none))))
+question_brief s (ScheduleB name quarter) =
+    brief_needs _ _ _
+    (brief_needs _ _ _ (brief_finds _ _ _ (brief_needs _ _ _ (brief_needs _ _ [] brief_none))))
+
+tells_bounded : (s : State) (question : Questions) (answer : Answer) → IsSound s
+    → Tells s question answer → AnswersBounded answer
+tells_bounded s (Status name day) answer sound told = subst AnswersBounded (sym told.told) tt
+tells_bounded s (DueList name quarter as_of) answer sound told =
+    subst AnswersBounded (sym told.told) (due_list_small s name sound quarter as_of answer told)
+tells_bounded s (ScheduleB name quarter) answer sound told =
+    subst AnswersBounded (sym told.told) (days_small s name sound quarter answer told)
+
+-- ---- requests
 
 pub answers_bounded : (s : State) (request : Request) (answer : Answer) (next : State) → IsSound s
     → Step s request answer next → AnswersBounded answer
@@ -69,22 +94,9 @@ answers_bounded s (VoidPay name number) answer next sound step =
     (brief_needs _ _ _ (brief_needs _ _ _ (brief_finds _ _ _ (brief_done _ _
     (brief_finds _ _ [] brief_none)))))
     (is_done answer next _) step
-answers_bounded s (Status name day) answer next sound step =
-    decided s answer next (checks_of s (Status name day)) _
-    (brief_needs _ _ _ (brief_needs _ _ _ (brief_finds _ _ _ (brief_needs _ _ [] brief_none))))
-    (λ told. subst AnswersBounded (sym told.1.told) tt) step
-answers_bounded s (DueList name quarter as_of) answer next sound step =
-    decided s answer next (checks_of s (DueList name quarter as_of)) _
-    (brief_needs _ _ _ (brief_needs _ _ _ (brief_needs _ _ _ (brief_finds _ _ _
-    (brief_needs _ _ [] brief_none)))))
-    (λ told. subst AnswersBounded (sym told.1.told)
-    (due_list_small s name sound quarter as_of answer told.1)) step
-answers_bounded s (ScheduleB name quarter) answer next sound step =
-    decided s answer next (checks_of s (ScheduleB name quarter)) _
-    (brief_needs _ _ _ (brief_needs _ _ _ (brief_finds _ _ _ (brief_needs _ _ _
-    (brief_needs _ _ [] brief_none)))))
-    (λ told. subst AnswersBounded (sym told.1.told) (days_small s name sound quarter answer told.1))
-    step
+answers_bounded s (Question question) answer next sound step =
+    decided s answer next (checks_of s (Question question)) _ (question_brief s question)
+    (λ told. tells_bounded s question answer sound told.1) step
 
 pub lists_bounded : (s : State) (request : Request) (reply : Reply) (next : State)
     → IsSound s → Step s request (Ok reply) next → IsBounded reply

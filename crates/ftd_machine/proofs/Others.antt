@@ -12,7 +12,7 @@ use Rattle.ftd_machine.specs.declared.requests.Request.{Request}
 use Rattle.ftd_machine.specs.declared.requests.Request.TheVariants.{Enrol, Calendar, AddHoliday}
 use Rattle.ftd_machine.specs.declared.requests.Request.TheVariants.{Report, ReportYear, OpenYear}
 use Rattle.ftd_machine.specs.declared.requests.Request.TheVariants.{Post, Void, Pay, VoidPay}
-use Rattle.ftd_machine.specs.declared.requests.Request.TheVariants.{Status, DueList, ScheduleB}
+use Rattle.ftd_machine.specs.declared.requests.Request.TheVariants.{Question}
 use Rattle.ftd_machine.proofs.Adding.{account_other, entry_other, voided_other}
 use Rattle.ftd_machine.proofs.Leaving.{asked_leaves}
 
@@ -91,9 +91,5 @@ others s (Pay name number paid for_day cents) answer next account step other =
 others s (VoidPay name number) answer next account step other =
     done_stays (λ x. entries_of x account) s answer next _ _ step
     (rw (voided_other s.payments name number account other) refl)
-others s (Status name day) answer next account step other = ap (λ x. entries_of x account)
-    (asked_leaves _ s answer next _ step)
-others s (DueList name quarter as_of) answer next account step other =
-    ap (λ x. entries_of x account) (asked_leaves _ s answer next _ step)
-others s (ScheduleB name quarter) answer next account step other = ap (λ x. entries_of x account)
+others s (Question question) answer next account step other = ap (λ x. entries_of x account)
     (asked_leaves _ s answer next _ step)

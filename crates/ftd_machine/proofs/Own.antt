@@ -16,17 +16,20 @@ use Rattle.ftd_machine.specs.Requests.{enrol_checks, report_checks, report_year_
 use Rattle.ftd_machine.specs.Requests.{open_year_checks, post_checks, void_checks, pay_checks}
 use Rattle.ftd_machine.specs.Requests.{void_payment_checks, status_checks, due_list_checks}
 use Rattle.ftd_machine.specs.Requests.{schedule_b_checks}
+use Rattle.ftd_machine.specs.Questions.{question_checks, Tells, AsksOf}
 use Rattle.ftd_machine.specs.Posting.{IsPosted}
 use Rattle.ftd_machine.specs.Asking.{IsStatus, IsDueList, IsScheduleB}
 use Rattle.ftd_machine.specs.Step.{Step, OpensNext, may_open, taken, with_account, with_entry}
 use Rattle.ftd_machine.specs.Step.{with_voided}
 use Rattle.ftd_machine.specs.Laws.{Names, AgreeOn}
 use Rattle.ftd_machine.specs.declared.replies.Reply.TheVariants.{Done}
+use Rattle.ftd_machine.specs.declared.requests.Question.{Question as Questions}
+use Rattle.ftd_machine.specs.declared.requests.Question.TheVariants.{Status, DueList, ScheduleB}
 use Rattle.ftd_machine.specs.declared.requests.Request.{Request}
 use Rattle.ftd_machine.specs.declared.requests.Request.TheVariants.{Enrol, Calendar, AddHoliday}
 use Rattle.ftd_machine.specs.declared.requests.Request.TheVariants.{Report, ReportYear, OpenYear}
 use Rattle.ftd_machine.specs.declared.requests.Request.TheVariants.{Post, Void, Pay, VoidPay}
-use Rattle.ftd_machine.specs.declared.requests.Request.TheVariants.{Status, DueList, ScheduleB}
+use Rattle.ftd_machine.specs.declared.requests.Request.TheVariants.{Question}
 use Rattle.ftd_machine.proofs.Adding.{account_own, entry_own, voided_own}
 
 -- ---- the same change of both
@@ -285,6 +288,42 @@ is_given_same : (name : List ℕ) (s t : State) (year : ℕ) → AgreeOn name s 
     → is_given t year ≡ is_given s year
 is_given_same name s t year agree = rw (agree.calendars) refl
 
+-- ---- questions
+
+-- the checks of a question that names an account answer the same
+same_checks : (s t : State) (question : Questions) (name : List ℕ) → AsksOf question name
+    → AgreeOn name s t
+    → first_of (question_checks t question) ≡ first_of (question_checks s question)
+same_checks s t (Status own day) name named agree =
+    let agrees : AgreeOn own s t = subst (λ x. AgreeOn x s t) (sym named) agree in
+    ap (λ (e : Entries). first_of (status_checks own day e.account (is_open e (year_of day))))
+    agrees.own
+same_checks s t (DueList own quarter as_of) name named agree =
+    let agrees : AgreeOn own s t = subst (λ x. AgreeOn x s t) (sym named) agree in
+    ap (λ (e : Entries). first_of (due_list_checks own quarter as_of e.account
+    (is_open e (quarter_year quarter)))) agrees.own
+same_checks s t (ScheduleB own quarter) name named agree =
+    let agrees : AgreeOn own s t = subst (λ x. AgreeOn x s t) (sym named) agree in
+    ap (λ (e : Entries). first_of (schedule_b_checks own quarter e.account
+    (is_open e (quarter_year quarter)))) agrees.own
+
+-- and the same is told
+same_told : (s t : State) (question : Questions) (name : List ℕ) → AsksOf question name
+    → AgreeOn name s t → (answer : Answer) → Tells s question answer → Tells t question answer
+same_told s t (Status own day) name named agree answer told =
+    let agrees : AgreeOn own s t = subst (λ x. AgreeOn x s t) (sym named) agree in
+    subst (λ e. IsStatus e day answer) (sym agrees.own) told
+same_told s t (DueList own quarter as_of) name named agree answer told =
+    let agrees : AgreeOn own s t = subst (λ x. AgreeOn x s t) (sym named) agree in
+    subst (λ h. IsDueList h (entries_of t own) quarter as_of answer)
+    (sym (same_holidays own s t agrees))
+    (subst (λ e. IsDueList (holidays s) e quarter as_of answer) (sym agrees.own) told)
+same_told s t (ScheduleB own quarter) name named agree answer told =
+    let agrees : AgreeOn own s t = subst (λ x. AgreeOn x s t) (sym named) agree in
+    subst (λ e. IsScheduleB e quarter answer) (sym agrees.own) told
+
+-- ---- requests
+
 -- what the checks of a request that names an account see is the same
 pub follows : (s t : State) (request : Request) (answer : Answer) (new : State) (name : List ℕ)
     → Names request name → AgreeOn name s t → Step s request answer new
@@ -355,28 +394,6 @@ follows s t (VoidPay own number) answer new name named agree step =
     (ap (λ (e : Entries). first_of (void_payment_checks own number e.account
     (kept_at number e.payments))) agrees.own)
     (agree_void_payment own s t agrees number) step)
-follows s t (Status own day) answer new name named agree step =
-    let agrees : AgreeOn own s t = subst (λ x. AgreeOn x s t) (sym named) agree in
-    subst (λ x. (then : State) × Step t (Status own day) answer then × AgreeOn x new then) named
-    (asked_follows own s t agrees answer new _ _ _ _
-    (ap (λ (e : Entries). first_of (status_checks own day e.account (is_open e (year_of day))))
-    agrees.own)
-    (λ told. subst (λ e. IsStatus e day answer) (sym agrees.own) told) step)
-follows s t (DueList own quarter as_of) answer new name named agree step =
-    let agrees : AgreeOn own s t = subst (λ x. AgreeOn x s t) (sym named) agree in
-    subst (λ x. (then : State) × Step t (DueList own quarter as_of) answer then
-    × AgreeOn x new then) named
-    (asked_follows own s t agrees answer new _ _ _ _
-    (ap (λ (e : Entries). first_of (due_list_checks own quarter as_of e.account
-    (is_open e (quarter_year quarter)))) agrees.own)
-    (λ told. subst (λ h. IsDueList h (entries_of t own) quarter as_of answer)
-    (sym (same_holidays own s t agrees))
-    (subst (λ e. IsDueList (holidays s) e quarter as_of answer) (sym agrees.own) told)) step)
-follows s t (ScheduleB own quarter) answer new name named agree step =
-    let agrees : AgreeOn own s t = subst (λ x. AgreeOn x s t) (sym named) agree in
-    subst (λ x. (then : State) × Step t (ScheduleB own quarter) answer then × AgreeOn x new then)
-    named
-    (asked_follows own s t agrees answer new _ _ _ _
-    (ap (λ (e : Entries). first_of (schedule_b_checks own quarter e.account
-    (is_open e (quarter_year quarter)))) agrees.own)
-    (λ told. subst (λ e. IsScheduleB e quarter answer) (sym agrees.own) told) step)
+follows s t (Question question) answer new name named agree step =
+    asked_follows name s t agree answer new _ _ _ _ (same_checks s t question name named agree)
+    (same_told s t question name named agree answer) step

@@ -7,7 +7,7 @@ use Rattle.std.specs.List.{list_any}
 use Rattle.std.proofs.lemmas.Bool.{true≢false}
 use Rattle.std.proofs.lemmas.List.Folds.{list_any-append}
 use Rattle.std.proofs.lemmas.List.Elements.{filter-append}
-use Rattle.ftd_days.specs.Calendar.{year_of, quarter_year}
+use Rattle.ftd_days.specs.Calendar.{year_of}
 use Rattle.ftd_days.specs.Business.{is_holiday}
 use Rattle.ftd_days.specs.Holidays.{YearDays}
 use Rattle.ftd_days.specs.declared.cents.Cents.{Cents}
@@ -21,9 +21,8 @@ use Rattle.ftd_machine.specs.Checks.{Answer, first_of, Decides}
 use Rattle.ftd_machine.specs.Requests.{days_of_year, enrol_checks, calendar_checks}
 use Rattle.ftd_machine.specs.Requests.{add_holiday_checks, report_checks, report_year_checks}
 use Rattle.ftd_machine.specs.Requests.{open_year_checks, post_checks, void_checks, pay_checks}
-use Rattle.ftd_machine.specs.Requests.{void_payment_checks, status_checks, due_list_checks}
-use Rattle.ftd_machine.specs.Requests.{schedule_b_checks}
-use Rattle.ftd_machine.specs.Asking.{IsStatus, IsDueList, IsScheduleB}
+use Rattle.ftd_machine.specs.Requests.{void_payment_checks}
+use Rattle.ftd_machine.specs.Questions.{question_checks}
 use Rattle.ftd_machine.specs.Step.{Step, OpensNext, may_open, taken, with_account, with_entry}
 use Rattle.ftd_machine.specs.Step.{with_voided}
 use Rattle.ftd_machine.specs.Runs.{Goes, IsRun}
@@ -33,12 +32,13 @@ use Rattle.ftd_machine.specs.declared.requests.Request.{Request}
 use Rattle.ftd_machine.specs.declared.requests.Request.TheVariants.{Enrol, Calendar, AddHoliday}
 use Rattle.ftd_machine.specs.declared.requests.Request.TheVariants.{Report, ReportYear, OpenYear}
 use Rattle.ftd_machine.specs.declared.requests.Request.TheVariants.{Post, Void, Pay, VoidPay}
-use Rattle.ftd_machine.specs.declared.requests.Request.TheVariants.{Status, DueList, ScheduleB}
+use Rattle.ftd_machine.specs.declared.requests.Request.TheVariants.{Question}
 use Rattle.ftd_machine.proofs.Deciding.{either}
 use Rattle.ftd_machine.proofs.Leaving.{asked_leaves}
 use Rattle.ftd_machine.proofs.Adding.{own_name}
-use Rattle.ftd_machine.proofs.Heads.{done_before, Quiet, quiet_none, quiet_needs, quiet_finds}
-use Rattle.ftd_machine.proofs.Heads.{Turns, Firm, firm_none, firm_needs, firm_finds, Stays}
+use Rattle.ftd_machine.proofs.Heads.{done_before, Quiet, quiet_none, quiet_needs, Turns, Firm}
+use Rattle.ftd_machine.proofs.Heads.{Stays}
+use Rattle.ftd_machine.proofs.Questions.{question_quiet, question_firm, told_is}
 use Rattle.ftd_machine.proofs.Keeping.{found_append, found_last, same_key, kept_own, kept_some}
 use Rattle.ftd_machine.proofs.Keeping.{Keeps, keeps_entry, KeepsVoidable, keeps_same, keeps_more}
 use Rattle.ftd_machine.proofs.Keeping.{keeps_voided, voided_kept}
@@ -74,12 +74,7 @@ checks_of s (Pay name number paid for_day cents) =
     (is_open (entries_of s name) (year_of for_day)) (length (entries_of s name).payments)
 checks_of s (VoidPay name number) = void_payment_checks name number (entries_of s name).account
     (kept_at number (entries_of s name).payments)
-checks_of s (Status name day) = status_checks name day (entries_of s name).account
-    (is_open (entries_of s name) (year_of day))
-checks_of s (DueList name quarter as_of) = due_list_checks name quarter as_of
-    (entries_of s name).account (is_open (entries_of s name) (quarter_year quarter))
-checks_of s (ScheduleB name quarter) = schedule_b_checks name quarter (entries_of s name).account
-    (is_open (entries_of s name) (quarter_year quarter))
+checks_of s (Question question) = question_checks s question
 
 -- they answer that it was done before
 pub record WasDone (s : State) (request : Request) : Type 0 where
@@ -362,17 +357,7 @@ still_done s t (Pay name number paid for_day cents) more =
 still_done s t (VoidPay name number) more =
     through s t (VoidPay name number) (void_payment_stays name number _ _ _ _ (more.accounts name)
     (more.payments name number))
-still_done s t (Status name day) more =
-    never s t (Status name day)
-    (firm_needs _ _ _ (firm_needs _ _ _ (firm_finds _ _ _ (firm_needs _ _ [] firm_none))))
-still_done s t (DueList name quarter as_of) more =
-    never s t (DueList name quarter as_of)
-    (firm_needs _ _ _
-    (firm_needs _ _ _ (firm_needs _ _ _ (firm_finds _ _ _ (firm_needs _ _ [] firm_none)))))
-still_done s t (ScheduleB name quarter) more =
-    never s t (ScheduleB name quarter)
-    (firm_needs _ _ _
-    (firm_needs _ _ _ (firm_finds _ _ _ (firm_needs _ _ _ (firm_needs _ _ [] firm_none)))))
+still_done s t (Question question) more = never s t (Question question) (question_firm s question)
 
 -- ---- a step
 
@@ -528,22 +513,9 @@ step_done s (VoidPay name number) answer next step changes =
     done_after s answer next (record s { payments = with_voided s.payments name number })
     (VoidPay name number) _
     (void_payment_turns name number _ _ _ (voided_kept s.payments name number)) step changes
-step_done s (Status name day) answer next step changes =
-    absurd (no_question s answer next (checks_of s (Status name day)) _
-    (quiet_needs _ _ _ (quiet_needs _ _ _ (quiet_finds _ _ _ (quiet_needs _ _ [] quiet_none))))
-    (λ (told : IsStatus (entries_of s name) day answer). ap is_change told.told) step changes)
-step_done s (DueList name quarter as_of) answer next step changes =
-    absurd (no_question s answer next (checks_of s (DueList name quarter as_of)) _
-    (quiet_needs _ _ _
-    (quiet_needs _ _ _ (quiet_needs _ _ _ (quiet_finds _ _ _ (quiet_needs _ _ [] quiet_none)))))
-    (λ (told : IsDueList (holidays s) (entries_of s name) quarter as_of answer).
-    ap is_change told.told) step changes)
-step_done s (ScheduleB name quarter) answer next step changes =
-    absurd (no_question s answer next (checks_of s (ScheduleB name quarter)) _
-    (quiet_needs _ _ _
-    (quiet_needs _ _ _ (quiet_finds _ _ _ (quiet_needs _ _ _ (quiet_needs _ _ [] quiet_none)))))
-    (λ (told : IsScheduleB (entries_of s name) quarter answer). ap is_change told.told) step
-    changes)
+step_done s (Question question) answer next step changes =
+    absurd (no_question s answer next (checks_of s (Question question)) _ (question_quiet s question)
+    (told_is s question answer) step changes)
 
 -- ---- each step keeps what was kept
 
@@ -609,11 +581,7 @@ step_extends s (Pay name number paid for_day cents) answer next step =
     (taken (record { paid = paid; for_day = for_day; cents = cents })))
 step_extends s (VoidPay name number) answer next step = done_extends _ s answer next _ step
     (extends_void_payment s name number)
-step_extends s (Status name day) answer next step =
-    subst (Extends s) (sym (asked_leaves _ s answer next _ step)) (extends_same s)
-step_extends s (DueList name quarter as_of) answer next step =
-    subst (Extends s) (sym (asked_leaves _ s answer next _ step)) (extends_same s)
-step_extends s (ScheduleB name quarter) answer next step =
+step_extends s (Question question) answer next step =
     subst (Extends s) (sym (asked_leaves _ s answer next _ step)) (extends_same s)
 
 -- ---- the same request again
@@ -645,11 +613,7 @@ step_again s (Void name number) answer next was step = again_told _ s answer nex
 step_again s (Pay name number paid for_day cents) answer next was step =
     again_told _ s answer next _ was.told step
 step_again s (VoidPay name number) answer next was step = again_told _ s answer next _ was.told step
-step_again s (Status name day) answer next was step = again_told _ s answer next _ was.told step
-step_again s (DueList name quarter as_of) answer next was step =
-    again_told _ s answer next _ was.told step
-step_again s (ScheduleB name quarter) answer next was step =
-    again_told _ s answer next _ was.told step
+step_again s (Question question) answer next was step = again_told _ s answer next _ was.told step
 
 -- ---- a run
 

@@ -32,7 +32,7 @@ use Rattle.ftd_machine.specs.declared.requests.Request.{Request}
 use Rattle.ftd_machine.specs.declared.requests.Request.TheVariants.{Enrol, Calendar, AddHoliday}
 use Rattle.ftd_machine.specs.declared.requests.Request.TheVariants.{Report, ReportYear, OpenYear}
 use Rattle.ftd_machine.specs.declared.requests.Request.TheVariants.{Post, Void, Pay, VoidPay}
-use Rattle.ftd_machine.specs.declared.requests.Request.TheVariants.{Status, DueList, ScheduleB}
+use Rattle.ftd_machine.specs.declared.requests.Request.TheVariants.{Question}
 use Rattle.ftd_machine.proofs.Deciding.{either}
 use Rattle.ftd_machine.proofs.Members.{has_last, has_mapped, has_filtered, found_none, has_kept}
 use Rattle.ftd_machine.proofs.Leaving.{asked_leaves}
@@ -795,11 +795,7 @@ step_sound s (Pay name number paid for_day cents) answer next step sound =
 step_sound s (VoidPay name number) answer next step sound =
     done_sound s answer next sound (checks_of s (VoidPay name number)) _ step
     (λ e. sound_void_payment s name number sound)
-step_sound s (Status name day) answer next step sound =
-    subst IsSound (sym (asked_leaves _ s answer next _ step)) sound
-step_sound s (DueList name quarter as_of) answer next step sound =
-    subst IsSound (sym (asked_leaves _ s answer next _ step)) sound
-step_sound s (ScheduleB name quarter) answer next step sound =
+step_sound s (Question question) answer next step sound =
     subst IsSound (sym (asked_leaves _ s answer next _ step)) sound
 
 -- ---- a run

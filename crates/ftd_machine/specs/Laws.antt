@@ -2,13 +2,14 @@
 use Rattle.std.specs.Prelude.{◌≡◌, ◌⊎◌, ℕ, Bool, true, false, List, length, Ok, Err}
 use Rattle.ftd_machine.specs.State.{State, entries_of}
 use Rattle.ftd_machine.specs.Checks.{Answer}
+use Rattle.ftd_machine.specs.Questions.{AsksOf}
 use Rattle.ftd_machine.specs.Runs.{IsFault}
 use Rattle.ftd_machine.specs.declared.replies.Reply.TheVariants as reply
 use Rattle.ftd_machine.specs.declared.requests.Request.{Request}
 use Rattle.ftd_machine.specs.declared.requests.Request.TheVariants.{Enrol, Calendar, AddHoliday}
 use Rattle.ftd_machine.specs.declared.requests.Request.TheVariants.{Report, ReportYear, OpenYear}
 use Rattle.ftd_machine.specs.declared.requests.Request.TheVariants.{Post, Void, Pay, VoidPay}
-use Rattle.ftd_machine.specs.declared.requests.Request.TheVariants.{Status, DueList, ScheduleB}
+use Rattle.ftd_machine.specs.declared.requests.Request.TheVariants.{Question}
 
 -- the request was done, or its run was posted or voided
 abbrev pub is_change : Answer → Bool
@@ -32,21 +33,35 @@ Names (Post name number payday fit ss medicare) account = name ≡ account
 Names (Void name number) account = name ≡ account
 Names (Pay name number paid for_day cents) account = name ≡ account
 Names (VoidPay name number) account = name ≡ account
-Names (Status name day) account = name ≡ account
-Names (DueList name quarter as_of) account = name ≡ account
-Names (ScheduleB name quarter) account = name ≡ account
+Names (Question question) account = AsksOf question account
 
 -- the request asks for a run or a payment more
 unfoldable pub adds_entry : Request → Bool
+adds_entry (Enrol name start carried form) = false
+adds_entry (Calendar year days) = false
+adds_entry (AddHoliday day) = false
+adds_entry (Report name quarter cents) = false
+adds_entry (ReportYear name year cents) = false
+adds_entry (OpenYear name year) = false
 adds_entry (Post name number payday fit ss medicare) = true
+adds_entry (Void name number) = false
 adds_entry (Pay name number paid for_day cents) = true
-adds_entry request = false
+adds_entry (VoidPay name number) = false
+adds_entry (Question question) = false
 
 -- the request is on a run: it posts or voids one
 unfoldable pub is_on_run : Request → Bool
+is_on_run (Enrol name start carried form) = false
+is_on_run (Calendar year days) = false
+is_on_run (AddHoliday day) = false
+is_on_run (Report name quarter cents) = false
+is_on_run (ReportYear name year cents) = false
+is_on_run (OpenYear name year) = false
 is_on_run (Post name number payday fit ss medicare) = true
 is_on_run (Void name number) = true
-is_on_run request = false
+is_on_run (Pay name number paid for_day cents) = false
+is_on_run (VoidPay name number) = false
+is_on_run (Question question) = false
 
 -- how many runs the account has, and how many payments, voided ones too
 abbrev pub runs_of : List ℕ → State → ℕ

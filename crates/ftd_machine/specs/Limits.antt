@@ -7,6 +7,7 @@ use Rattle.ftd_rules.specs.Liability.{cents_of}
 use Rattle.ftd_rules.specs.Verdicts.{amount_of}
 use Rattle.ftd_rules.specs.declared.run.PayRun.{PayRun}
 use Rattle.ftd_machine.specs.declared.replies.Reply.{Reply}
+use Rattle.ftd_machine.specs.declared.replies.Reply.TheVariants.{Done, Already, Posted, Status}
 use Rattle.ftd_machine.specs.declared.replies.Reply.TheVariants.{Due, Days}
 
 -- the year is one of these
@@ -52,4 +53,7 @@ amounts_end = 6_000_000_000_000_000
 abbrev pub IsBounded : Reply → Type 0
 IsBounded (Due rows) = sum_by amount_of rows < amounts_end
 IsBounded (Days sums) = sum_by cents_of sums < amounts_end
-IsBounded _ = ⊤
+IsBounded Done = ⊤
+IsBounded Already = ⊤
+IsBounded (Posted from to removed added) = ⊤
+IsBounded (Status kind reason) = ⊤

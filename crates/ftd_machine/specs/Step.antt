@@ -1,7 +1,7 @@
 -- What the desk answers to each request, and what it keeps then.
 use Rattle.std.specs.Prelude.{◌≡◌, ◌⊎◌, ◌||◌, ◌&&◌, ℕ, ◌-◌, ◌+◌, ◌==◌, Bool, true, false, List, []}
 use Rattle.std.specs.Prelude.{◌∷◌, ◌++◌, length, map, Option, Some, Ok, Err, if◌then◌else◌}
-use Rattle.ftd_days.specs.Calendar.{year_of, quarter_year}
+use Rattle.ftd_days.specs.Calendar.{year_of}
 use Rattle.ftd_days.specs.declared.cents.Cents.{Cents}
 use Rattle.ftd_machine.specs.declared.entries.Account.{Account}
 use Rattle.ftd_rules.specs.declared.run.PayRun.{PayRun}
@@ -15,17 +15,17 @@ use Rattle.ftd_machine.specs.Checks.{Answer, first_of, needs, Decides}
 use Rattle.ftd_machine.specs.Requests.{enrol_checks, calendar_checks, add_holiday_checks}
 use Rattle.ftd_machine.specs.Requests.{report_checks, report_year_checks, open_year_checks}
 use Rattle.ftd_machine.specs.Requests.{post_checks, void_checks, pay_checks, void_payment_checks}
-use Rattle.ftd_machine.specs.Requests.{status_checks, due_list_checks, schedule_b_checks}
 use Rattle.ftd_machine.specs.Posting.{IsPosted}
-use Rattle.ftd_machine.specs.Asking.{IsStatus, IsDueList, IsScheduleB}
+use Rattle.ftd_machine.specs.Questions.{question_checks, Tells}
 use Rattle.ftd_machine.specs.declared.replies.Reply.TheVariants as reply
 use Rattle.ftd_machine.specs.declared.replies.Refusal.{Refusal}
 use Rattle.ftd_machine.specs.declared.replies.Refusal.TheVariants.{YearNotOpen}
+use Rattle.ftd_machine.specs.declared.requests.Question.{Question as Questions}
 use Rattle.ftd_machine.specs.declared.requests.Request.{Request}
 use Rattle.ftd_machine.specs.declared.requests.Request.TheVariants.{Enrol, Calendar, AddHoliday}
 use Rattle.ftd_machine.specs.declared.requests.Request.TheVariants.{Report, ReportYear, OpenYear}
 use Rattle.ftd_machine.specs.declared.requests.Request.TheVariants.{Post, Void, Pay, VoidPay}
-use Rattle.ftd_machine.specs.declared.requests.Request.TheVariants.{Status, DueList, ScheduleB}
+use Rattle.ftd_machine.specs.declared.requests.Request.TheVariants.{Question}
 
 -- an account more, under its name
 abbrev pub with_account : List Enrolled → List ℕ → Account → List Enrolled
@@ -162,28 +162,9 @@ module _ (s : State) (answer : Answer) (new : State) where
       Checks (void_payment_checks name number own.account (kept_at number own.payments))
       (IsDone (record s { payments = with_voided s.payments name number }))
 
-  -- the deposit schedule of a day is told
-  abbrev pub TellsStatus : List ℕ → ℕ → Type 0
-  TellsStatus name day =
-      let own = entries_of s name in
-      Checks (status_checks name day own.account (is_open own (year_of day)))
-      ((new ≡ s) × IsStatus own day answer)
-
-  -- the due list of a quarter is told
-  abbrev pub TellsDue : List ℕ → ℕ → ℕ → Type 0
-  TellsDue name quarter as_of =
-      let own = entries_of s name in
-      let there = is_open own (quarter_year quarter) in
-      Checks (due_list_checks name quarter as_of own.account there)
-      ((new ≡ s) × IsDueList (holidays s) own quarter as_of answer)
-
-  -- the liability of a quarter is told, day by day
-  abbrev pub TellsDays : List ℕ → ℕ → Type 0
-  TellsDays name quarter =
-      let own = entries_of s name in
-      let there = is_open own (quarter_year quarter) in
-      Checks (schedule_b_checks name quarter own.account there)
-      ((new ≡ s) × IsScheduleB own quarter answer)
+  -- a question is answered, and nothing changes
+  abbrev pub Answers : Questions → Type 0
+  Answers question = Checks (question_checks s question) ((new ≡ s) × Tells s question answer)
 
 -- the desk that keeps s answers this to the request, and keeps the new state then
 abbrev pub Step : State → Request → Answer → State → Type 0
@@ -201,6 +182,4 @@ Step s (Void name number) answer new = Voids s answer new name number
 Step s (Pay name number paid for_day cents) answer new =
     Pays s answer new name number (record { paid = paid; for_day = for_day; cents = cents })
 Step s (VoidPay name number) answer new = VoidsPayment s answer new name number
-Step s (Status name day) answer new = TellsStatus s answer new name day
-Step s (DueList name quarter as_of) answer new = TellsDue s answer new name quarter as_of
-Step s (ScheduleB name quarter) answer new = TellsDays s answer new name quarter
+Step s (Question question) answer new = Answers s answer new question

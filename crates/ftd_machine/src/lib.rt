@@ -21,5 +21,5 @@ pub use crate::checks::{
 pub use crate::entries::Account;
 pub use crate::limits::{MOST_ENTRIES, MOST_HOLIDAYS, are_sums_bounded, is_bounded};
 pub use crate::lists::{AccountName, DaySums, Days, DueRows};
-pub use crate::replies::{Reason, Refusal, Reply};
-pub use crate::requests::Request;
+pub use crate::replies::{Named, Reason, Refusal, Reply};
+pub use crate::requests::{Question, Request};

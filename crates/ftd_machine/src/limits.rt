@@ -84,7 +84,7 @@ pub fn is_bounded(reply: &Reply) -> bool
     match reply {
         Reply::Due(rows) => are_rows_bounded(rows.as_slice()),
         Reply::Days(sums) => are_sums_bounded(sums.as_slice()),
-        _ => true,
+        Reply::Done | Reply::Already | Reply::Posted { .. } | Reply::Status { .. } => true,
     }
 }
 

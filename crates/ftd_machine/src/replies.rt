@@ -127,8 +127,19 @@ pub enum Refusal {
     YearMissing(u32),
 }
 
+/// What a refusal names.
+#[derive(Clone, Copy, Debug, PartialEq, Eq)]
+pub enum Named {
+    /// Nothing.
+    Nothing,
+    /// A year whose calendar is not given, or that is not open or not reported.
+    Year(u32),
+    /// A quarter that is not reported.
+    Quarter(Quarter),
+}
+
 impl Refusal {
-    ghost use Rattle.ftd_machine.specs.Refusals.{name_text, number_of};
+    ghost use Rattle.ftd_machine.specs.Refusals.{is_failure, name_text, named_by, number_of};
 
     /// The refusal's number, 1 to 25.
     pub fn number(self) -> u8
@@ -193,6 +204,71 @@ impl Refusal {
             Refusal::WrongForm => "WrongForm",
             Refusal::YearDiffers => "YearDiffers",
             Refusal::YearMissing(_) => "YearMissing",
+        }
+    }
+
+    /// Whether it is a failure, and no refusal: there was no memory, or the store failed.
+    pub fn is_failure(self) -> bool
+        ensures { result ≡ is_failure self }
+    {
+        match self {
+            Refusal::Memory | Refusal::Store => true,
+            Refusal::BadName
+            | Refusal::BadYear
+            | Refusal::BadDay
+            | Refusal::BadCents
+            | Refusal::BadCalendar
+            | Refusal::BadNumber
+            | Refusal::UnknownAccount
+            | Refusal::AccountDiffers
+            | Refusal::CalendarDiffers
+            | Refusal::QuarterDiffers
+            | Refusal::RunDiffers
+            | Refusal::PaymentDiffers
+            | Refusal::UnknownRun
+            | Refusal::UnknownPayment
+            | Refusal::BeforeStart
+            | Refusal::CalendarMissing(_)
+            | Refusal::QuarterMissing(_)
+            | Refusal::YearNotOpen(_)
+            | Refusal::TooManyRuns
+            | Refusal::TooManyPayments
+            | Refusal::WrongForm
+            | Refusal::YearDiffers
+            | Refusal::YearMissing(_) => false,
+        }
+    }
+
+    /// The year or the quarter that it names, if it names one.
+    pub fn named(self) -> Named
+        ensures { result ≡ named_by self }
+    {
+        match self {
+            Refusal::CalendarMissing(year) => Named::Year(year),
+            Refusal::YearNotOpen(year) => Named::Year(year),
+            Refusal::YearMissing(year) => Named::Year(year),
+            Refusal::QuarterMissing(quarter) => Named::Quarter(quarter),
+            Refusal::BadName
+            | Refusal::BadYear
+            | Refusal::BadDay
+            | Refusal::BadCents
+            | Refusal::BadCalendar
+            | Refusal::BadNumber
+            | Refusal::UnknownAccount
+            | Refusal::AccountDiffers
+            | Refusal::CalendarDiffers
+            | Refusal::QuarterDiffers
+            | Refusal::RunDiffers
+            | Refusal::PaymentDiffers
+            | Refusal::UnknownRun
+            | Refusal::UnknownPayment
+            | Refusal::BeforeStart
+            | Refusal::TooManyRuns
+            | Refusal::TooManyPayments
+            | Refusal::Memory
+            | Refusal::Store
+            | Refusal::WrongForm
+            | Refusal::YearDiffers => Named::Nothing,
         }
     }
 }

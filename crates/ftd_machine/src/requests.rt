@@ -1,5 +1,8 @@
 //! What may be asked of the desk.
 
+ghost use Rattle.std.specs.Prelude.{◌≡◌, None, Some, MatchOption};
+ghost use Rattle.ftd_machine.specs.Questions.{question_of};
+
 use crate::lists::{AccountName, Days};
 use ftd_days::{Cents, Day, Quarter};
 use ftd_rules::Form;
@@ -67,6 +70,36 @@ pub enum Request {
         account: AccountName,
         payment: u32,
     },
+    /// A question. Its answer follows from what is kept, and nothing changes.
+    Question(Question),
+}
+
+impl Request {
+    /// The question, if the request is one.
+    pub fn question(&self) -> Option<&Question>
+        ensures { MatchOption result (question_of self.now ≡ None)
+            (λ question. question_of self.now ≡ Some question.now) }
+    {
+        match self {
+            Request::Question(question) => Some(question),
+            Request::Enrol { .. }
+            | Request::Calendar { .. }
+            | Request::AddHoliday { .. }
+            | Request::Report { .. }
+            | Request::ReportYear { .. }
+            | Request::OpenYear { .. }
+            | Request::Post { .. }
+            | Request::Void { .. }
+            | Request::Pay { .. }
+            | Request::VoidPay { .. } => None,
+        }
+    }
+}
+
+/// A question that may be asked of the desk. `docs/REQUESTS.md` has the checks of each in their
+/// order.
+#[derive(Drop)]
+pub enum Question {
     /// What is the deposit schedule of the account on a day, and why?
     Status {
         account: AccountName,

@@ -11,7 +11,10 @@ use Rattle.ftd_machine.specs.Checks.{Answer}
 use Rattle.ftd_machine.specs.Laws.{is_change}
 use Rattle.ftd_machine.specs.declared.replies.Reply.TheVariants.{Posted}
 use Rattle.ftd_machine.specs.declared.requests.Request.{Request}
-use Rattle.ftd_machine.specs.declared.requests.Request.TheVariants.{Post, Void}
+use Rattle.ftd_machine.specs.declared.requests.Request.TheVariants.{Enrol, Calendar, AddHoliday}
+use Rattle.ftd_machine.specs.declared.requests.Request.TheVariants.{Report, ReportYear, OpenYear}
+use Rattle.ftd_machine.specs.declared.requests.Request.TheVariants.{Post, Void, Pay, VoidPay}
+use Rattle.ftd_machine.specs.declared.requests.Request.TheVariants.{Question}
 use Rattle.ftd_repairs.specs.declared.Difference.{Difference}
 use Rattle.ftd_repairs.specs.Reposted.{IsReposted}
 
@@ -48,4 +51,12 @@ Repairs (Post name number payday fit ss medicare) =
     let run : PayRun = record { payday = payday; fit = fit; ss = ss; medicare = medicare } in
     Becoming (PostsRun name number run)
 Repairs (Void name number) = Becoming (VoidsRun name number)
-Repairs request = λ answer before after t. Unit {0}
+Repairs (Enrol name start carried form) = λ answer before after t. Unit {0}
+Repairs (Calendar year days) = λ answer before after t. Unit {0}
+Repairs (AddHoliday day) = λ answer before after t. Unit {0}
+Repairs (Report name quarter cents) = λ answer before after t. Unit {0}
+Repairs (ReportYear name year cents) = λ answer before after t. Unit {0}
+Repairs (OpenYear name year) = λ answer before after t. Unit {0}
+Repairs (Pay name number paid for_day cents) = λ answer before after t. Unit {0}
+Repairs (VoidPay name number) = λ answer before after t. Unit {0}
+Repairs (Question question) = λ answer before after t. Unit {0}

@@ -6,10 +6,9 @@ use Rattle.ftd_machine.specs.State.{State, calendar_at, entries_of}
 use Rattle.ftd_machine.specs.Checks.{Answer}
 use Rattle.ftd_machine.specs.Runs.{Goes, IsFault}
 use Rattle.ftd_machine.specs.declared.replies.Refusal.{Refusal}
-use Rattle.ftd_machine.specs.declared.replies.Refusal.TheVariants.{CalendarDiffers, QuarterMissing}
-use Rattle.ftd_machine.specs.declared.replies.Refusal.TheVariants.{YearNotOpen}
+use Rattle.ftd_machine.specs.declared.replies.Refusal.TheVariants as refusal
 use Rattle.ftd_machine.specs.declared.requests.Request.{Request}
-use Rattle.ftd_machine.specs.declared.requests.Request.TheVariants.{Calendar, OpenYear}
+use Rattle.ftd_machine.specs.declared.requests.Request.TheVariants as request
 use Rattle.ftd_questions.specs.Missing.{first_year, missing_from}
 use Rattle.ftd_desk.specs.Desks.{Held, Keeps}
 use Rattle.ftd_replies.specs.Hints.{account_in}
@@ -34,15 +33,33 @@ ShowsDays None known = known ≡ Nothing
 -- where a year could not be opened, the quarters of its lookback period from this one on that are
 -- still to be reported
 abbrev pub KnowsQuarters : State → Request → ℕ → Known → Type 0
-KnowsQuarters s (OpenYear account year) first known =
+KnowsQuarters s (request.OpenYear account year) first known =
     2001 ≤ year → year ≤ 2098
     → ShowsQuarters (missing_from (entries_of s account) first year) known
-KnowsQuarters s _ first known = known ≡ Nothing
+KnowsQuarters s (request.Enrol account start carried form) first known = known ≡ Nothing
+KnowsQuarters s (request.Calendar year days) first known = known ≡ Nothing
+KnowsQuarters s (request.AddHoliday day) first known = known ≡ Nothing
+KnowsQuarters s (request.Report account quarter cents) first known = known ≡ Nothing
+KnowsQuarters s (request.ReportYear account year cents) first known = known ≡ Nothing
+KnowsQuarters s (request.Post account run payday fit ss medicare) first known = known ≡ Nothing
+KnowsQuarters s (request.Void account run) first known = known ≡ Nothing
+KnowsQuarters s (request.Pay account payment paid for_day cents) first known = known ≡ Nothing
+KnowsQuarters s (request.VoidPay account payment) first known = known ≡ Nothing
+KnowsQuarters s (request.Question question) first known = known ≡ Nothing
 
 -- where a calendar differs, the days that it was given with
 abbrev pub KnowsDays : State → Request → Known → Type 0
-KnowsDays s (Calendar year days) known = ShowsDays (calendar_at s year) known
-KnowsDays s _ known = known ≡ Nothing
+KnowsDays s (request.Calendar year days) known = ShowsDays (calendar_at s year) known
+KnowsDays s (request.Enrol account start carried form) known = known ≡ Nothing
+KnowsDays s (request.AddHoliday day) known = known ≡ Nothing
+KnowsDays s (request.Report account quarter cents) known = known ≡ Nothing
+KnowsDays s (request.ReportYear account year cents) known = known ≡ Nothing
+KnowsDays s (request.OpenYear account year) known = known ≡ Nothing
+KnowsDays s (request.Post account run payday fit ss medicare) known = known ≡ Nothing
+KnowsDays s (request.Void account run) known = known ≡ Nothing
+KnowsDays s (request.Pay account payment paid for_day cents) known = known ≡ Nothing
+KnowsDays s (request.VoidPay account payment) known = known ≡ Nothing
+KnowsDays s (request.Question question) known = known ≡ Nothing
 
 -- where a year is not open, the first of the account's years, if that is a later one
 abbrev pub begins_after : ℕ → Option ℕ → Known
@@ -51,22 +68,43 @@ begins_after year (Some first) = if nat_lt year first then Begins first else Not
 
 -- what is known for a refusal of the request in this state
 abbrev pub KnowsFor : State → Request → Refusal → Known → Type 0
-KnowsFor s request (QuarterMissing first) known = KnowsQuarters s request first known
-KnowsFor s request CalendarDiffers known = KnowsDays s request known
-KnowsFor s request (YearNotOpen year) known =
-    known ≡ begins_after year (first_year (entries_of s (account_in request)))
-KnowsFor s request _ known = known ≡ Nothing
+KnowsFor s asked (refusal.QuarterMissing first) known = KnowsQuarters s asked first known
+KnowsFor s asked refusal.CalendarDiffers known = KnowsDays s asked known
+KnowsFor s asked (refusal.YearNotOpen year) known =
+    known ≡ begins_after year (first_year (entries_of s (account_in asked)))
+KnowsFor s asked refusal.BadName known = known ≡ Nothing
+KnowsFor s asked refusal.BadYear known = known ≡ Nothing
+KnowsFor s asked refusal.BadDay known = known ≡ Nothing
+KnowsFor s asked refusal.BadCents known = known ≡ Nothing
+KnowsFor s asked refusal.BadCalendar known = known ≡ Nothing
+KnowsFor s asked refusal.BadNumber known = known ≡ Nothing
+KnowsFor s asked refusal.UnknownAccount known = known ≡ Nothing
+KnowsFor s asked refusal.AccountDiffers known = known ≡ Nothing
+KnowsFor s asked refusal.QuarterDiffers known = known ≡ Nothing
+KnowsFor s asked refusal.RunDiffers known = known ≡ Nothing
+KnowsFor s asked refusal.PaymentDiffers known = known ≡ Nothing
+KnowsFor s asked refusal.UnknownRun known = known ≡ Nothing
+KnowsFor s asked refusal.UnknownPayment known = known ≡ Nothing
+KnowsFor s asked refusal.BeforeStart known = known ≡ Nothing
+KnowsFor s asked (refusal.CalendarMissing year) known = known ≡ Nothing
+KnowsFor s asked refusal.TooManyRuns known = known ≡ Nothing
+KnowsFor s asked refusal.TooManyPayments known = known ≡ Nothing
+KnowsFor s asked refusal.Memory known = known ≡ Nothing
+KnowsFor s asked refusal.Store known = known ≡ Nothing
+KnowsFor s asked refusal.WrongForm known = known ≡ Nothing
+KnowsFor s asked refusal.YearDiffers known = known ≡ Nothing
+KnowsFor s asked (refusal.YearMissing year) known = known ≡ Nothing
 
 -- what is known is so of the state after the request; in its place a fault may come
 abbrev pub KnowsOf : State → Request → Answer → Result Known Refusal → Type 0
-KnowsOf s request (Ok reply) known = ⊤
-KnowsOf s request (Err refusal) (Ok known) = KnowsFor s request refusal known
-KnowsOf s request (Err refusal) (Err fault) = IsFault (Err fault)
+KnowsOf s asked (Ok reply) known = ⊤
+KnowsOf s asked (Err refused) (Ok known) = KnowsFor s asked refused known
+KnowsOf s asked (Err refused) (Err fault) = IsFault (Err fault)
 
 abbrev pub KnowsAfter : Held → Held → Request → Answer → Result Known Refusal → Type 0
-KnowsAfter old new request answer known =
+KnowsAfter old new asked answer known =
     HasCleanDisk new.db → IsTrue new.db.is_open → (s : State) → Keeps old s
-    → (next : State) × Goes s request answer next × KnowsOf next request answer known
+    → (next : State) × Goes s asked answer next × KnowsOf next asked answer known
 
 -- what the hints are made of: nothing where a fault came
 abbrev pub or_nothing : Result Known Refusal → Known

@@ -1,20 +1,20 @@
 -- What the program prints of an answer, and its exit status.
 use Rattle.std.specs.Prelude.{◌≡◌, ◌⊎◌, ◌≤◌, ℕ, Bool, IsTrue, true, List, Option, Result}
-use Rattle.std.specs.Prelude.{MatchResult, Ok, Err, codes}
+use Rattle.std.specs.Prelude.{Some, None, MatchResult, Ok, Err, codes}
 use Rattle.std.specs.Io.KnownBytes.{Appends}
 use Rattle.ftd_ports.specs.Writing.{WritesPrefix}
 use Rattle.sqlite.specs.State.{HasCleanDisk}
-use Rattle.std.specs.List.{sum_by}
-use Rattle.ftd_rules.specs.Verdicts.{amount_of}
 use Rattle.ftd_rules.specs.declared.verdict.DueRow.{DueRow}
 use Rattle.ftd_reports.specs.DueLists.{due_text}
 use Rattle.ftd_machine.specs.State.{State}
-use Rattle.ftd_machine.specs.Limits.{amounts_end}
 use Rattle.ftd_machine.specs.Runs.{IsFault}
 use Rattle.ftd_machine.specs.Checks.{Answer}
 use Rattle.ftd_machine.specs.declared.replies.Refusal.{Refusal}
 use Rattle.ftd_machine.specs.declared.requests.Request.{Request}
-use Rattle.ftd_machine.specs.declared.requests.Request.TheVariants.{DueList}
+use Rattle.ftd_machine.specs.Questions.{question_of}
+use Rattle.ftd_machine.specs.declared.requests.Question.{Question as Questions}
+use Rattle.ftd_machine.specs.declared.requests.Question.TheVariants.{Status, DueList, ScheduleB}
+use Rattle.ftd_machine.specs.declared.requests.Request.TheVariants.{Question}
 use Rattle.ftd_questions.specs.Telling.{Replies, Refuses}
 use Rattle.ftd_desk.specs.Desks.{Held, Keeps}
 use Rattle.ftd_desk.specs.Telling.{StandsAsBefore}
@@ -116,14 +116,13 @@ module _ {O E : Type 0} (o_taken : O → Option (List ℕ)) (o_failed : O → Bo
     pub status_is : p.status ≡ 3
     pub part : WritesPrefix (o_taken out) (o_taken p.out) (due_text account quarter as_of rows)
     pub line : IsPut (e_taken err) (e_taken p.err) (e_failed p.err)
-        (told_text db (DueList account quarter as_of) refusal Nothing)
+        (told_text db (Question (DueList account quarter as_of)) refusal Nothing)
 
-  -- a prefix of it was printed: standard output failed, or the amounts came to more than those of
-  -- an account can be
+  -- a prefix of it was printed: standard output failed
   pub record FailsDue (rows : List DueRow) (account : List ℕ) (quarter as_of : ℕ) : Type 0 where
     pub status_is : p.status ≡ 3
     pub part : WritesPrefix (o_taken out) (o_taken p.out) (due_text account quarter as_of rows)
-    pub reason : (o_failed p.out ≡ true) ⊎ (amounts_end ≤ sum_by amount_of rows)
+    pub reason : o_failed p.out ≡ true
     pub line : IsPut (e_taken err) (e_taken p.err) (e_failed p.err) (codes "failed Output\n")
 
   -- what was printed of a due list: all of it; why it was refused, with what is known for the
@@ -134,11 +133,11 @@ module _ {O E : Type 0} (o_taken : O → Option (List ℕ)) (o_failed : O → Bo
         → PrintsText 0 (due_text account quarter as_of rows) → PrintsDue s db account quarter as_of
     refused : (refusal : Refusal) (known : Result Known Refusal)
         → Refuses s account quarter as_of refusal
-        → KnowsOf s (DueList account quarter as_of) (Err refusal) known
-        → PrintsRefusal db (DueList account quarter as_of) (or_nothing known) refusal
+        → KnowsOf s (Question (DueList account quarter as_of)) (Err refusal) known
+        → PrintsRefusal db (Question (DueList account quarter as_of)) (or_nothing known) refusal
         → PrintsDue s db account quarter as_of
     unbegun : (refusal : Refusal) → IsFault (Err refusal)
-        → PrintsRefusal db (DueList account quarter as_of) Nothing refusal
+        → PrintsRefusal db (Question (DueList account quarter as_of)) Nothing refusal
         → PrintsDue s db account quarter as_of
     broken : (refusal : Refusal) (rows : List DueRow) → IsFault (Err refusal)
         → Replies s account quarter as_of rows → BreaksDue refusal rows db account quarter as_of
@@ -153,9 +152,16 @@ module _ {O E : Type 0} (o_taken : O → Option (List ℕ)) (o_failed : O → Bo
     pub prints : HasCleanDisk new.db → IsTrue new.db.is_open → (s : State) → Keeps old s
         → PrintsDue s db account quarter as_of
 
+  -- a due list is printed row by row, and every other reply when it is there
+  abbrev pub AsksBy : Held → Held → List ℕ → Request → Option Questions → Type 0
+  AsksBy old new db request None = Performs old new db request
+  AsksBy old new db request (Some (Status account day)) = Performs old new db request
+  AsksBy old new db request (Some (DueList account quarter as_of)) =
+      PerformsDue old new db account quarter as_of
+  AsksBy old new db request (Some (ScheduleB account quarter)) = Performs old new db request
+
   abbrev pub Asks : Held → Held → List ℕ → Request → Type 0
-  Asks old new db (DueList account quarter as_of) = PerformsDue old new db account quarter as_of
-  Asks old new db request = Performs old new db request
+  Asks old new db request = AsksBy old new db request (question_of request)
 
   -- the job of a task was done, with the desk of this file
   abbrev pub Does : Held → Held → List ℕ → List ℕ → Job → Type 0

@@ -34,7 +34,28 @@ pub fn known_for<S: Alter>(
         Refusal::QuarterMissing(first) => quarters_for(desk, request, first),
         Refusal::CalendarDiffers => days_for(desk, request),
         Refusal::YearNotOpen(year) => beginning(desk, account_in(request), year),
-        _ => Ok(Known::Nothing),
+        Refusal::BadName
+        | Refusal::BadYear
+        | Refusal::BadDay
+        | Refusal::BadCents
+        | Refusal::BadCalendar
+        | Refusal::BadNumber
+        | Refusal::UnknownAccount
+        | Refusal::AccountDiffers
+        | Refusal::QuarterDiffers
+        | Refusal::RunDiffers
+        | Refusal::PaymentDiffers
+        | Refusal::UnknownRun
+        | Refusal::UnknownPayment
+        | Refusal::BeforeStart
+        | Refusal::CalendarMissing(_)
+        | Refusal::TooManyRuns
+        | Refusal::TooManyPayments
+        | Refusal::Memory
+        | Refusal::Store
+        | Refusal::WrongForm
+        | Refusal::YearDiffers
+        | Refusal::YearMissing(_) => Ok(Known::Nothing),
     }
 }
 
@@ -57,7 +78,17 @@ fn quarters_for<S: Alter>(
             let quarters = desk.missing_quarters(account.as_str(), first, *year)?;
             Ok(Known::Missing(quarters))
         }
-        _ => Ok(Known::Nothing),
+        Request::Enrol { .. }
+        | Request::Calendar { .. }
+        | Request::AddHoliday { .. }
+        | Request::Report { .. }
+        | Request::ReportYear { .. }
+        | Request::OpenYear { .. }
+        | Request::Post { .. }
+        | Request::Void { .. }
+        | Request::Pay { .. }
+        | Request::VoidPay { .. }
+        | Request::Question(_) => Ok(Known::Nothing),
     }
 }
 

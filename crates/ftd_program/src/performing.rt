@@ -7,7 +7,8 @@ ghost use Rattle.ftd_program.specs.Performing.{Asks, Does, Performs, PerformsDue
 ghost use Rattle.ftd_program.specs.Performing.{PerformsImport, PrintsRefusal, PrintsReply};
 ghost use Rattle.ftd_program.specs.Performing.{PrintsStop, PrintsSummary};
 ghost use Rattle.ftd_machine.specs.Limits.{IsBounded};
-ghost use Rattle.ftd_machine.specs.declared.requests.Request.TheVariants.{DueList};
+ghost use Rattle.ftd_machine.specs.declared.requests.Question.TheVariants.{DueList};
+ghost use Rattle.ftd_machine.specs.declared.requests.Request.TheVariants as requests;
 ghost use Rattle.ftd_ports.specs.Writing.{WritesPrefix};
 ghost use Rattle.ftd_hints.specs.Hints.{record_hints};
 ghost use Rattle.ftd_replies.specs.Putting.{IsPut};
@@ -20,7 +21,7 @@ use ftd_days::{Day, Quarter};
 use ftd_desk::{Desk, DueFault};
 use ftd_hints::write_record_hints;
 use ftd_import::{Progress, StopCause, Stopped, Summary, import};
-use ftd_machine::{Refusal, Reply, Request};
+use ftd_machine::{Question, Refusal, Reply, Request};
 use ftd_ports::Target;
 use ftd_replies::{Known, put, status_of, write_reply, write_told};
 use ftd_reports::{LateDueText, Unwritten};
@@ -73,12 +74,14 @@ fn ask<S: Alter, O: Target, E: Target>(
     ensures { Asks O.taken O.failed E.taken E.failed out err result
         (held S.Store desk.old) (held S.Store desk.new) db.now request.now }
 {
-    match request {
-        Request::DueList {
-            account,
-            quarter,
-            as_of,
-        } => list_due(
+    match request.question() {
+        Some(
+            Question::DueList {
+                account,
+                quarter,
+                as_of,
+            },
+        ) => list_due(
             desk,
             db,
             request,
@@ -88,7 +91,9 @@ fn ask<S: Alter, O: Target, E: Target>(
             out,
             err,
         ),
-        _ => answer(desk, db, request, out, err),
+        Some(Question::Status { .. } | Question::ScheduleB { .. }) | None => {
+            answer(desk, db, request, out, err)
+        }
     }
 }
 
@@ -126,7 +131,7 @@ fn list_due<S: Alter, O: Target, E: Target>(
     out: O,
     err: E,
 ) -> Performed<O, E>
-    requires asked { request.now ≡ DueList account.now quarter as_of }
+    requires asked { request.now ≡ requests.Question (DueList account.now quarter as_of) }
     ensures { PerformsDue O.taken O.failed E.taken E.failed out err result
         (held S.Store desk.old) (held S.Store desk.new) db.now account.now quarter as_of }
 {

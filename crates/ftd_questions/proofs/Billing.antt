@@ -9,7 +9,8 @@ use Rattle.ftd_rows.proofs.Found.{both}
 use Rattle.ftd_schema.specs.Standing.{Tables}
 use Rattle.ftd_store.specs.Finds.{ListsLiability}
 use Rattle.ftd_machine.specs.declared.entries.Account.{Account}
-use Rattle.ftd_machine.specs.declared.requests.Request.TheVariants.{ScheduleB}
+use Rattle.ftd_machine.specs.declared.requests.Question.TheVariants.{ScheduleB}
+use Rattle.ftd_machine.specs.declared.requests.Request.TheVariants.{Question}
 use Rattle.ftd_machine.specs.declared.replies.Reply.TheVariants.{Days}
 use Rattle.ftd_machine.specs.Checks.{Answer, first_of}
 use Rattle.ftd_machine.specs.Limits.{is_between}
@@ -44,7 +45,7 @@ module _ (name : List ℕ) (quarter : ℕ) where
 
     -- a check decides
     pub days_decided : (answer : Answer) → checks ≡ Some answer → (t : Tables) (s : State)
-        → StandsFor t s → IsSound s → Knows known t → Step s (ScheduleB name quarter) answer s
+        → StandsFor t s → IsSound s → Knows known t → Step s (Question (ScheduleB name quarter)) answer s
     days_decided answer is t s stands sound knows = decided _ s answer _
         (checks_are t s stands knows ∙ is)
 
@@ -52,7 +53,7 @@ module _ (name : List ℕ) (quarter : ℕ) where
     pub days_told : {A : Type 0} (last : ℕ) (sums : Vec DaySum A) → last + 1 ≡ quarter_start
         (quarter + 1) → checks ≡ None
         → (t : Tables) (s : State) → StandsFor t s → IsSound s → Knows known t × ListsLiability name
-        (quarter_start quarter) last sums t → Step s (ScheduleB name quarter) (Ok (Days sums.items))
+        (quarter_start quarter) last sums t → Step s (Question (ScheduleB name quarter)) (Ok (Days sums.items))
         s
     days_told last sums is_last is t s stands sound knows =
         let within : Gives (schedule_b_checks name quarter known.0 known.1)

@@ -14,7 +14,8 @@ use Rattle.ftd_rows.specs.Lists.{Pairs}
 use Rattle.ftd_rows.proofs.Found.{both}
 use Rattle.ftd_store.specs.Holidays.{HasYears}
 use Rattle.ftd_machine.specs.declared.entries.Account.{Account}
-use Rattle.ftd_machine.specs.declared.requests.Request.TheVariants.{DueList}
+use Rattle.ftd_machine.specs.declared.requests.Question.TheVariants.{DueList}
+use Rattle.ftd_machine.specs.declared.requests.Request.TheVariants.{Question}
 use Rattle.ftd_machine.specs.declared.replies.Reply.TheVariants.{Due}
 use Rattle.ftd_machine.specs.Checks.{Answer, first_of}
 use Rattle.ftd_machine.specs.Asking.{return_period, has_next_day}
@@ -98,12 +99,12 @@ module _ (name : List ℕ) (quarter as_of : ℕ) (known : KnownForDue) where
   -- a check decides
   pub due_refused : (answer : Answer) → checks ≡ Some answer → (t : Tables) (s : State)
       → StandsFor t s → KnowsForDue name quarter known t
-      → Step s (DueList name quarter as_of) answer s
+      → Step s (Question (DueList name quarter as_of)) answer s
   due_refused answer is t s stands knows = decided _ s answer _ (checks_are t s stands knows ∙ is)
 
   pub due_decided : (answer : Answer) → checks ≡ Some answer → (t : Tables) (s : State)
       → StandsFor t s → IsSound s → KnowsForDue name quarter known t
-      → Step s (DueList name quarter as_of) answer s
+      → Step s (Question (DueList name quarter as_of)) answer s
   due_decided answer is t s stands sound knows = due_refused answer is t s stands knows
 
   -- no check does
@@ -128,7 +129,7 @@ module _ (name : List ℕ) (quarter as_of : ℕ) (known : KnownForDue) where
   pub due_told : (account : Account) (rows : List DueRow) → known.account ≡ Some account
       → checks ≡ None
       → (t : Tables) (s : State) → StandsFor t s → IsSound s → KnowsForDue name quarter known t
-      × KnowsDueList name account.form quarter as_of rows t → Step s (DueList name quarter as_of)
+      × KnowsDueList name account.form quarter as_of rows t → Step s (Question (DueList name quarter as_of))
       (Ok (Due rows)) s
   due_told account rows is_account is t s stands sound knows =
       passed _ s (Ok (Due rows)) s _ (checks_are t s stands knows.0 ∙ is)

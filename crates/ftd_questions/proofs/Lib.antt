@@ -21,3 +21,4 @@ mod DueTold
 mod Dropped
 mod RowsTold
 mod Unreported
+mod Shown

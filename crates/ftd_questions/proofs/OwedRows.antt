@@ -62,7 +62,7 @@ obligation_is account o p e =
     }
 
 -- the first day of a row
-abbrev first_key : ObligationRow → ℕ
+abbrev pub first_key : ObligationRow → ℕ
 first_key r = whole (r.first +ℤ pos 25_567)
 
 -- what a test keeps of obligations by first day is by first day
@@ -79,16 +79,16 @@ kept_by_first_day p (o ∷ os) rise =
     ]
 
 module _ (account : List ℕ) (first last : ℕ) where
-  abbrev begins : ObligationRow → Bool
+  abbrev pub begins : ObligationRow → Bool
   begins = is_obligation_between account (day_number first) (day_number last)
 
-  abbrev row : Obligation → ObligationRow
+  abbrev pub row : Obligation → ObligationRow
   row = obligation_row account
 
   abbrev own : ObligationRow → Bool
   own = is_obligation_of account
 
-  begins_is : (o : Obligation) → begins (row o) ≡ begins_on first last o
+  pub begins_is : (o : Obligation) → begins (row o) ≡ begins_on first last o
   begins_is o =
       ap (λ b. b && (int_le (day_number first) (day_number o.first) && int_le (day_number o.first)
       (day_number last))) (own_name account)
@@ -118,7 +118,7 @@ module _ (account : List ℕ) (first last : ℕ) where
             ∙ (own_begin rows ∙ sym (filter_out begins r rows (other_out r off)))
       ]
 
-  rows_begin : (os : List Obligation) → filter begins (map row os) ≡ map row
+  pub rows_begin : (os : List Obligation) → filter begins (map row os) ≡ map row
       (filter (begins_on first last) os)
   rows_begin [] = refl
   rows_begin (o ∷ os) =
@@ -132,7 +132,7 @@ module _ (account : List ℕ) (first last : ℕ) where
             ∙ (rows_begin os ∙ sym (ap (map row) (filter_out (begins_on first last) o os left)))
       ]
 
-  key_is : (o : Obligation) → first_key (row o) ≡ o.first
+  pub key_is : (o : Obligation) → first_key (row o) ≡ o.first
   key_is o = ap whole (-ℤ-+ℤ_cancel (pos o.first) (pos 25_567))
 
   rows_rise : (os : List Obligation) → ByFirstDay os → KeysRise first_key (map row os)
@@ -158,7 +158,7 @@ module _ (account : List ℕ) (first last : ℕ) where
       let tail : xs ≡ ys = obligations_same xs ys tail_rows in
       cc
 
-  paired : (rows : List ObligationRow) (os : List Obligation) → Pairs (IsObligation account) rows os
+  pub paired : (rows : List ObligationRow) (os : List Obligation) → Pairs (IsObligation account) rows os
       → rows ≡ map row os
   paired [] [] pairs = refl
   paired [] (o ∷ os) pairs = absurd pairs

@@ -16,7 +16,8 @@ use Rattle.ftd_rules.specs.Years.{HasSchedule, HasStatusOn}
 use Rattle.ftd_rows.proofs.Found.{both}
 use Rattle.ftd_schema.specs.Standing.{Tables}
 use Rattle.ftd_machine.specs.declared.entries.Account.{Account}
-use Rattle.ftd_machine.specs.declared.requests.Request.TheVariants.{Status}
+use Rattle.ftd_machine.specs.declared.requests.Question.TheVariants.{Status}
+use Rattle.ftd_machine.specs.declared.requests.Request.TheVariants.{Question}
 use Rattle.ftd_machine.specs.Asking.{IsByLookback, IsTurnBefore, HasNoTurnBefore}
 use Rattle.ftd_machine.specs.Checks.{Answer, first_of}
 use Rattle.ftd_machine.specs.History.{live_sums, AreLinesOf}
@@ -136,12 +137,12 @@ module _ (name : List ℕ) (day : ℕ) (account : Option Account) (lines : List 
       (open_lines (year_of day) lines own.open_years are.years)
 
   pub status_decided : (answer : Answer) → first_of (status_checks name day account there)
-      ≡ Some answer → Step s (Status name day) answer s
+      ≡ Some answer → Step s (Question (Status name day)) answer s
   status_decided answer is = decided _ s answer _ (checks_are ∙ is)
 
   pub status_told : (answer : Answer) → first_of (status_checks name day account there) ≡ None
       → (there ≡ true → AreScheduled lines → IsStatusBy lines day answer)
-      → Step s (Status name day) answer s
+      → Step s (Question (Status name day)) answer s
   status_told answer is tells =
       let opens : Gives (status_checks name day account there) (there ≡ true) =
       skip_needs _ _ _ _ (skip_needs _ _ _ _ (skip_finds _ _ _ _ (gives_needs _ _ _))) in

@@ -5,6 +5,7 @@ pub mod Walks
 pub mod Faults
 pub mod Missing
 pub mod Telling
+pub mod Shown
 pub use Rattle.ftd_days.specs.Calendar
 pub use Rattle.ftd_entries.specs.Opening
 pub use Rattle.ftd_entries.specs.Standing

@@ -15,7 +15,8 @@ use Rattle.ftd_machine.specs.Runs.{IsFault}
 use Rattle.ftd_machine.specs.Step.{Step}
 use Rattle.ftd_machine.specs.declared.replies.Refusal.{Refusal}
 use Rattle.ftd_machine.specs.declared.replies.Reply.TheVariants.{Due}
-use Rattle.ftd_machine.specs.declared.requests.Request.TheVariants.{DueList}
+use Rattle.ftd_machine.specs.declared.requests.Question.TheVariants.{DueList}
+use Rattle.ftd_machine.specs.declared.requests.Request.TheVariants.{Question}
 use Rattle.ftd_entries.specs.Standing.{StandsFor}
 use Rattle.ftd_questions.specs.DueRows.{IsRowBy}
 use Rattle.ftd_questions.specs.Returns.{KnowsPeriod}
@@ -34,10 +35,10 @@ HasTaken {K = K} took old (row ∷ rows) new =
 -- the machine's reply to the question is the due list of these rows, or it refuses the question
 module _ (s : State) (name : List ℕ) (quarter as_of : ℕ) where
   abbrev pub Replies : List DueRow → Type 0
-  Replies rows = Step s (DueList name quarter as_of) (Ok (Due rows)) s
+  Replies rows = Step s (Question (DueList name quarter as_of)) (Ok (Due rows)) s
 
   abbrev pub Refuses : Refusal → Type 0
-  Refuses refusal = Step s (DueList name quarter as_of) (Err refusal) s
+  Refuses refusal = Step s (Question (DueList name quarter as_of)) (Err refusal) s
 
   -- all of its checks pass
   abbrev pub Passes : Type 0

@@ -3,9 +3,11 @@
 ghost use Rattle.std.specs.Prelude.{◌≤◌};
 ghost use Rattle.ftd_days.specs.Calendar.{quarter_year};
 ghost use Rattle.ftd_store.specs.Frame.{Calls, Reads};
-ghost use Rattle.ftd_machine.specs.declared.requests.Request.TheVariants.{DueList};
+ghost use Rattle.ftd_machine.specs.declared.requests.Question.TheVariants.{DueList};
+ghost use Rattle.ftd_machine.specs.declared.requests.Request.TheVariants.{Question};
 ghost use Rattle.ftd_entries.specs.Words.{Serves};
-ghost use Rattle.ftd_questions.specs.DueRows.{KnowsDueList, KnowsForDue};
+ghost use Rattle.ftd_questions.specs.DueRows.{KnowsForDue};
+ghost use Rattle.ftd_questions.specs.Shown.{KnowsRowsOf, Shows};
 
 use crate::due_rows::{due_rows, has_next_day, quarter_return};
 use crate::return_periods::return_period;
@@ -53,7 +55,7 @@ fn rows_of_quarter<S: Alter>(
     requires from { 2001 ≤ quarter_year quarter }
     requires to { quarter_year quarter ≤ 2098 }
     ensures call { Reads S.Store tx.old tx.new result
-        (λ rows. KnowsDueList name.now form quarter as_of rows.items) }
+        (λ rows. KnowsRowsOf name.now form quarter as_of rows.items) }
 {
     let year = quarter.year();
     let holidays = tx.holidays(alloc, year, year + 1)?;
@@ -68,15 +70,18 @@ fn rows_of_quarter<S: Alter>(
 }
 
 /// Tells the account's obligations that begin in the quarter, by first day, each with its makeup
-/// date, what was paid for it by the day, and how it stands as of the day.
-pub fn due_list<S: Alter>(
+/// date, what was paid for it by the day, and how it stands as of the day. They are the rows of the
+/// tables as they stand, whatever else these hold.
+pub(crate) fn due_list<S: Alter>(
     tx: &mut Tx<'_, S>,
     alloc: Global,
     name: &str,
     quarter: Quarter,
     as_of: Day,
 ) -> Result<Answer, StoreFault>
-    ensures call { Calls S.Store tx.old tx.new result (Serves (DueList name.now quarter as_of)) }
+    ensures call { Calls S.Store tx.old tx.new result (Serves (Question (DueList name.now quarter as_of))) }
+    ensures shows { Calls S.Store tx.old tx.new result (λ answer before after t.
+        Shows (DueList name.now quarter as_of) answer t) }
 {
     let before = known_for_due(tx, alloc, name, quarter)?;
     let checked = due_list_check(name, quarter, as_of, before.account, before.is_open);

@@ -1,7 +1,8 @@
 //! The liability of a quarter by day, as Schedule B of Form 941 shows it.
 
 ghost use Rattle.ftd_store.specs.Frame.{Calls};
-ghost use Rattle.ftd_machine.specs.declared.requests.Request.TheVariants.{ScheduleB};
+ghost use Rattle.ftd_machine.specs.declared.requests.Question.TheVariants.{ScheduleB};
+ghost use Rattle.ftd_machine.specs.declared.requests.Request.TheVariants.{Question};
 ghost use Rattle.ftd_entries.specs.Words.{Serves};
 
 use ftd_days::Quarter;
@@ -12,13 +13,13 @@ use sqlite::Alter;
 use std::alloc::Global;
 
 /// Tells the account's liability of the quarter, by each day that has any.
-pub fn schedule_b<S: Alter>(
+pub(crate) fn schedule_b<S: Alter>(
     tx: &mut Tx<'_, S>,
     alloc: Global,
     name: &str,
     quarter: Quarter,
 ) -> Result<Answer, StoreFault>
-    ensures call { Calls S.Store tx.old tx.new result (Serves (ScheduleB name.now quarter)) }
+    ensures call { Calls S.Store tx.old tx.new result (Serves (Question (ScheduleB name.now quarter))) }
 {
     let account = known(tx, name)?;
     let there = is_open(tx, alloc, name, quarter.year())?;

@@ -3,6 +3,7 @@
 //! due list is also told row by row, on the store, and what a refusal can be mended by is read there.
 #![tactic(auto)]
 
+mod answering;
 mod asking;
 mod due;
 mod due_rows;
@@ -14,9 +15,7 @@ mod schedules;
 mod telling;
 mod walking;
 
-pub use crate::due::due_list;
+pub use crate::answering::ask;
 pub use crate::faults::{DueFault, refusal_of};
-pub use crate::liable::schedule_b;
 pub use crate::missing::{first_year, given_days, missing_quarters};
-pub use crate::schedules::status;
 pub use crate::telling::due_into;

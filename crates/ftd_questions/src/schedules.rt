@@ -7,7 +7,8 @@ ghost use Rattle.ftd_rules.specs.Lists.{Has};
 ghost use Rattle.ftd_rules.specs.Years.{HasSchedule, HasStatusOn};
 ghost use Rattle.ftd_store.specs.Frame.{Calls};
 ghost use Rattle.ftd_machine.specs.Asking.{HasNoTurnBefore, IsReason, IsTurnBefore};
-ghost use Rattle.ftd_machine.specs.declared.requests.Request.TheVariants.{Status};
+ghost use Rattle.ftd_machine.specs.declared.requests.Question.TheVariants.{Status};
+ghost use Rattle.ftd_machine.specs.declared.requests.Request.TheVariants.{Question};
 ghost use Rattle.ftd_entries.specs.Opening.{is_line_of};
 ghost use Rattle.ftd_entries.specs.Words.{Serves};
 ghost use Rattle.ftd_questions.specs.Schedules.{AreScheduled, IsStatusBy};
@@ -21,13 +22,13 @@ use sqlite::Alter;
 use std::alloc::Global;
 
 /// Tells the account's deposit schedule on the day, and why.
-pub fn status<S: Alter>(
+pub(crate) fn status<S: Alter>(
     tx: &mut Tx<'_, S>,
     alloc: Global,
     name: &str,
     day: Day,
 ) -> Result<Answer, StoreFault>
-    ensures call { Calls S.Store tx.old tx.new result (Serves (Status name.now day)) }
+    ensures call { Calls S.Store tx.old tx.new result (Serves (Question (Status name.now day))) }
 {
     let account = known(tx, name)?;
     let lines = tx.years(alloc, name)?;

@@ -8,6 +8,8 @@ use Rattle.ftd_days.specs.Business.{is_holiday}
 use Rattle.ftd_days.specs.Text.{day_text, quarter_text}
 use Rattle.ftd_machine.specs.declared.replies.Refusal.{Refusal}
 use Rattle.ftd_machine.specs.declared.replies.Refusal.TheVariants as refusal
+use Rattle.ftd_machine.specs.declared.requests.Question.{Question}
+use Rattle.ftd_machine.specs.declared.requests.Question.TheVariants as question
 use Rattle.ftd_machine.specs.declared.requests.Request.{Request}
 use Rattle.ftd_machine.specs.declared.requests.Request.TheVariants as request
 use Rattle.ftd_replies.specs.Refusals.{refusal_text}
@@ -33,6 +35,12 @@ abbrev pub command_of : List ℕ → List ℕ → List ℕ → List ℕ → List
 command_of before db account word after =
     concat (before ∷ file_text db ∷ codes " " ∷ account ∷ codes " " ∷ word ∷ after ∷ [])
 
+-- the account that a question names
+abbrev pub account_asked : Question → List ℕ
+account_asked (question.Status account day) = account
+account_asked (question.DueList account quarter as_of) = account
+account_asked (question.ScheduleB account quarter) = account
+
 -- the account that a request names, and the number of its run or payment
 abbrev pub account_in : Request → List ℕ
 account_in (request.Enrol account start carried form) = account
@@ -45,45 +53,99 @@ account_in (request.Post account run payday fit ss medicare) = account
 account_in (request.Void account run) = account
 account_in (request.Pay account payment paid for_day cents) = account
 account_in (request.VoidPay account payment) = account
-account_in (request.Status account day) = account
-account_in (request.DueList account quarter as_of) = account
-account_in (request.ScheduleB account quarter) = account
+account_in (request.Question asked) = account_asked asked
 
 abbrev pub number_in : Request → ℕ
+number_in (request.Enrol account start carried form) = 0
+number_in (request.Calendar year days) = 0
+number_in (request.AddHoliday day) = 0
+number_in (request.Report account quarter cents) = 0
+number_in (request.ReportYear account year cents) = 0
+number_in (request.OpenYear account year) = 0
 number_in (request.Post account run payday fit ss medicare) = run
+number_in (request.Void account run) = 0
 number_in (request.Pay account payment paid for_day cents) = payment
-number_in _ = 0
+number_in (request.VoidPay account payment) = 0
+number_in (request.Question question) = 0
 
 -- ---- what is said of a refusal that names nothing, by the request
 
+abbrev totals_years : List ℕ
+totals_years = codes "hint: the years of reported totals are 1999 to 2098\n"
+
+abbrev paydays_years : List ℕ
+paydays_years = codes "hint: the years of paydays are 2001 to 2098\n"
+
 abbrev pub years_text : Request → List ℕ
+years_text (request.Enrol account start carried form) = paydays_years
 years_text (request.Calendar year days) = codes "hint: the years of calendars are 2001 to 2099\n"
-years_text (request.Report account quarter cents) =
-    codes "hint: the years of reported totals are 1999 to 2098\n"
-years_text (request.ReportYear account year cents) =
-    codes "hint: the years of reported totals are 1999 to 2098\n"
-years_text _ = codes "hint: the years of paydays are 2001 to 2098\n"
+years_text (request.AddHoliday day) = paydays_years
+years_text (request.Report account quarter cents) = totals_years
+years_text (request.ReportYear account year cents) = totals_years
+years_text (request.OpenYear account year) = paydays_years
+years_text (request.Post account run payday fit ss medicare) = paydays_years
+years_text (request.Void account run) = paydays_years
+years_text (request.Pay account payment paid for_day cents) = paydays_years
+years_text (request.VoidPay account payment) = paydays_years
+years_text (request.Question question) = paydays_years
+
+abbrev paydays_days : List ℕ
+paydays_days = codes "hint: the days of paydays are those of 2001 to 2098\n"
+
+abbrev pub days_asked : Question → List ℕ
+days_asked (question.Status account day) = paydays_days
+days_asked (question.DueList account quarter as_of) =
+    codes "hint: a due list is as of a day of 2001 to 2099\n"
+days_asked (question.ScheduleB account quarter) = paydays_days
 
 abbrev pub days_text : Request → List ℕ
 days_text (request.Enrol account start carried form) =
     codes "hint: an employer's first day is not after 2098-12-31\n"
+days_text (request.Calendar year days) = paydays_days
 days_text (request.AddHoliday day) = codes "hint: the days of holidays are those of 2001 to 2099\n"
+days_text (request.Report account quarter cents) = paydays_days
+days_text (request.ReportYear account year cents) = paydays_days
+days_text (request.OpenYear account year) = paydays_days
+days_text (request.Post account run payday fit ss medicare) = paydays_days
+days_text (request.Void account run) = paydays_days
 days_text (request.Pay account payment paid for_day cents) =
     codes "hint: a payment is made in 2001 to 2099, for a day of 2001 to 2098\n"
-days_text (request.DueList account quarter as_of) =
-    codes "hint: a due list is as of a day of 2001 to 2099\n"
-days_text _ = codes "hint: the days of paydays are those of 2001 to 2098\n"
+days_text (request.VoidPay account payment) = paydays_days
+days_text (request.Question asked) = days_asked asked
+
+abbrev calendar_days : List ℕ
+calendar_days = codes "hint: the days rise, lie in the year and are at most 60\n"
 
 abbrev pub calendar_text : Request → List ℕ
+calendar_text (request.Enrol account start carried form) = calendar_days
+calendar_text (request.Calendar year days) = calendar_days
 calendar_text (request.AddHoliday day) = codes "hint: a year has at most 60 holidays\n"
-calendar_text _ = codes "hint: the days rise, lie in the year and are at most 60\n"
+calendar_text (request.Report account quarter cents) = calendar_days
+calendar_text (request.ReportYear account year cents) = calendar_days
+calendar_text (request.OpenYear account year) = calendar_days
+calendar_text (request.Post account run payday fit ss medicare) = calendar_days
+calendar_text (request.Void account run) = calendar_days
+calendar_text (request.Pay account payment paid for_day cents) = calendar_days
+calendar_text (request.VoidPay account payment) = calendar_days
+calendar_text (request.Question question) = calendar_days
+
+abbrev no_schedule_b : List ℕ
+no_schedule_b = codes "hint: the account is on Form 943, which has no Schedule B\n"
 
 abbrev pub form_text : Request → List ℕ
+form_text (request.Enrol account start carried form) = no_schedule_b
+form_text (request.Calendar year days) = no_schedule_b
+form_text (request.AddHoliday day) = no_schedule_b
 form_text (request.Report account quarter cents) =
     codes "hint: the account is on Form 943: ftd report-year takes its totals\n"
 form_text (request.ReportYear account year cents) =
     codes "hint: the account is on Form 941: ftd report takes its totals\n"
-form_text _ = codes "hint: the account is on Form 943, which has no Schedule B\n"
+form_text (request.OpenYear account year) = no_schedule_b
+form_text (request.Post account run payday fit ss medicare) = no_schedule_b
+form_text (request.Void account run) = no_schedule_b
+form_text (request.Pay account payment paid for_day cents) = no_schedule_b
+form_text (request.VoidPay account payment) = no_schedule_b
+form_text (request.Question question) = no_schedule_b
 
 -- what is said of a refusal that no command mends; nothing of the others
 unfoldable pub said_text : Request → Refusal → List ℕ
@@ -110,7 +172,15 @@ said_text asked refusal.TooManyRuns =
 said_text asked refusal.TooManyPayments =
     codes "hint: an account has at most 20000 payments, void ones too\n"
 said_text asked refusal.WrongForm = form_text asked
-said_text asked _ = []
+said_text asked refusal.UnknownAccount = []
+said_text asked refusal.RunDiffers = []
+said_text asked refusal.PaymentDiffers = []
+said_text asked (refusal.CalendarMissing year) = []
+said_text asked (refusal.QuarterMissing quarter) = []
+said_text asked (refusal.YearNotOpen year) = []
+said_text asked refusal.Memory = []
+said_text asked refusal.Store = []
+said_text asked (refusal.YearMissing year) = []
 
 -- ---- the hint of a refusal: a command that mends it, or what is said of it
 
@@ -123,8 +193,17 @@ quarter_hint db account quarter =
 -- what stands behind the account in the command that enrols it: the form, where a year's total is
 -- reported, which is one of Form 943
 abbrev pub enrolled_as : Request → List ℕ
+enrolled_as (request.Enrol account start carried form) = codes " START\n"
+enrolled_as (request.Calendar year days) = codes " START\n"
+enrolled_as (request.AddHoliday day) = codes " START\n"
+enrolled_as (request.Report account quarter cents) = codes " START\n"
 enrolled_as (request.ReportYear account year cents) = codes " START --form 943\n"
-enrolled_as _ = codes " START\n"
+enrolled_as (request.OpenYear account year) = codes " START\n"
+enrolled_as (request.Post account run payday fit ss medicare) = codes " START\n"
+enrolled_as (request.Void account run) = codes " START\n"
+enrolled_as (request.Pay account payment paid for_day cents) = codes " START\n"
+enrolled_as (request.VoidPay account payment) = codes " START\n"
+enrolled_as (request.Question question) = codes " START\n"
 
 unfoldable pub hint_text : List ℕ → Request → Refusal → List ℕ
 hint_text db asked refusal.UnknownAccount =
@@ -145,14 +224,40 @@ hint_text db asked (refusal.YearNotOpen year) =
 hint_text db asked (refusal.YearMissing year) =
     command_of (codes "hint: ftd report-year --db ") db (account_in asked) (decimal year)
     (codes " AMOUNT\n")
-hint_text db asked refused = said_text asked refused
+hint_text db asked refusal.BadName = said_text asked refusal.BadName
+hint_text db asked refusal.BadYear = said_text asked refusal.BadYear
+hint_text db asked refusal.BadDay = said_text asked refusal.BadDay
+hint_text db asked refusal.BadCents = said_text asked refusal.BadCents
+hint_text db asked refusal.BadCalendar = said_text asked refusal.BadCalendar
+hint_text db asked refusal.BadNumber = said_text asked refusal.BadNumber
+hint_text db asked refusal.AccountDiffers = said_text asked refusal.AccountDiffers
+hint_text db asked refusal.CalendarDiffers = said_text asked refusal.CalendarDiffers
+hint_text db asked refusal.QuarterDiffers = said_text asked refusal.QuarterDiffers
+hint_text db asked refusal.UnknownRun = said_text asked refusal.UnknownRun
+hint_text db asked refusal.UnknownPayment = said_text asked refusal.UnknownPayment
+hint_text db asked refusal.BeforeStart = said_text asked refusal.BeforeStart
+hint_text db asked refusal.TooManyRuns = said_text asked refusal.TooManyRuns
+hint_text db asked refusal.TooManyPayments = said_text asked refusal.TooManyPayments
+hint_text db asked refusal.Memory = said_text asked refusal.Memory
+hint_text db asked refusal.Store = said_text asked refusal.Store
+hint_text db asked refusal.WrongForm = said_text asked refusal.WrongForm
+hint_text db asked refusal.YearDiffers = said_text asked refusal.YearDiffers
 
 -- ---- with what was asked of the desk
 
 -- the days of a request's calendar
 abbrev pub days_in : Request → List ℕ
+days_in (request.Enrol account start carried form) = []
 days_in (request.Calendar year days) = days
-days_in _ = []
+days_in (request.AddHoliday day) = []
+days_in (request.Report account quarter cents) = []
+days_in (request.ReportYear account year cents) = []
+days_in (request.OpenYear account year) = []
+days_in (request.Post account run payday fit ss medicare) = []
+days_in (request.Void account run) = []
+days_in (request.Pay account payment paid for_day cents) = []
+days_in (request.VoidPay account payment) = []
+days_in (request.Question question) = []
 
 -- the first of the days that is not among those
 abbrev pub first_beside : List ℕ → List ℕ → Option ℕ

@@ -1,27 +1,22 @@
 -- The lines of refusals, and their exit statuses.
-use Rattle.std.specs.Prelude.{ℕ, List, [], ◌∷◌, ◌++◌, codes}
+use Rattle.std.specs.Prelude.{ℕ, List, [], ◌∷◌, ◌++◌, codes, if◌then◌else◌}
 use Rattle.std.specs.Fmt.{decimal}
 use Rattle.std.specs.List.{concat}
 use Rattle.ftd_days.specs.Text.{quarter_text}
-use Rattle.ftd_machine.specs.Refusals.{name_text, number_of}
+use Rattle.ftd_machine.specs.Refusals.{is_failure, name_text, named_by, number_of}
+use Rattle.ftd_machine.specs.declared.replies.Named.{Named}
+use Rattle.ftd_machine.specs.declared.replies.Named.TheVariants.{Nothing, Year, Quarter}
 use Rattle.ftd_machine.specs.declared.replies.Refusal.{Refusal}
-use Rattle.ftd_machine.specs.declared.replies.Refusal.TheVariants.{CalendarMissing, QuarterMissing}
-use Rattle.ftd_machine.specs.declared.replies.Refusal.TheVariants.{YearNotOpen, Memory, Store}
-use Rattle.ftd_machine.specs.declared.replies.Refusal.TheVariants.{YearMissing}
 
 -- where memory or the store failed it is a failure, else a refusal
 abbrev pub verb_text : Refusal → List ℕ
-verb_text Memory = codes "failed "
-verb_text Store = codes "failed "
-verb_text _ = codes "refused "
+verb_text refusal = if is_failure refusal then codes "failed " else codes "refused "
 
 -- the year or the quarter that it names, after a space
-abbrev pub named_text : Refusal → List (List ℕ)
-named_text (CalendarMissing year) = codes " " ∷ decimal year ∷ []
-named_text (QuarterMissing quarter) = codes " " ∷ quarter_text quarter ∷ []
-named_text (YearNotOpen year) = codes " " ∷ decimal year ∷ []
-named_text (YearMissing year) = codes " " ∷ decimal year ∷ []
-named_text _ = []
+abbrev pub named_text : Named → List (List ℕ)
+named_text Nothing = []
+named_text (Year year) = codes " " ∷ decimal year ∷ []
+named_text (Quarter quarter) = codes " " ∷ quarter_text quarter ∷ []
 
 -- a verb, a number, a name, and what is named
 abbrev pub line_of : List ℕ → ℕ → List ℕ → List (List ℕ) → List ℕ
@@ -31,9 +26,7 @@ line_of verb number name named =
 -- `refused 17 QuarterMissing 2024Q2`
 unfoldable pub refusal_text : Refusal → List ℕ
 refusal_text refusal =
-    line_of (verb_text refusal) (number_of refusal) (name_text refusal) (named_text refusal)
+    line_of (verb_text refusal) (number_of refusal) (name_text refusal) (named_text (named_by refusal))
 
 abbrev pub refusal_status : Refusal → ℕ
-refusal_status Memory = 3
-refusal_status Store = 3
-refusal_status _ = 1
+refusal_status refusal = if is_failure refusal then 3 else 1

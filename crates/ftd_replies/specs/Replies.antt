@@ -1,5 +1,5 @@
 -- The texts of replies.
-use Rattle.std.specs.Prelude.{ℕ, List, [], ◌∷◌, codes}
+use Rattle.std.specs.Prelude.{ℕ, List, [], ◌∷◌, Option, Some, None, codes}
 use Rattle.std.specs.Fmt.{decimal}
 use Rattle.std.specs.List.{concat}
 use Rattle.ftd_days.specs.Text.{day_text}
@@ -11,7 +11,9 @@ use Rattle.ftd_machine.specs.declared.replies.Reason.TheVariants.{Lookback, Turn
 use Rattle.ftd_machine.specs.declared.replies.Reply.{Reply}
 use Rattle.ftd_machine.specs.declared.replies.Reply.TheVariants as reply
 use Rattle.ftd_machine.specs.declared.requests.Request.{Request}
-use Rattle.ftd_machine.specs.declared.requests.Request.TheVariants.{Status, ScheduleB}
+use Rattle.ftd_machine.specs.Questions.{question_of}
+use Rattle.ftd_machine.specs.declared.requests.Question.{Question}
+use Rattle.ftd_machine.specs.declared.requests.Question.TheVariants.{Status, DueList, ScheduleB}
 use Rattle.ftd_reports.specs.SchedulesB.{b_text}
 
 -- `posted 2024-05-01 2024-05-31 removed 0 added 1`
@@ -34,13 +36,17 @@ status_text day kind Carried =
     concat (day_text day ∷ kind_text kind ∷ codes " carried" ∷ (10 ∷ []) ∷ [])
 
 -- the texts of the replies to questions, by what was asked
-abbrev pub status_told : Request → Kind → Reason → List ℕ
-status_told (Status account day) kind reason = status_text day kind reason
-status_told _ kind reason = []
+abbrev pub status_told : Option Question → Kind → Reason → List ℕ
+status_told (Some (Status account day)) kind reason = status_text day kind reason
+status_told (Some (DueList account quarter as_of)) kind reason = []
+status_told (Some (ScheduleB account quarter)) kind reason = []
+status_told None kind reason = []
 
-abbrev pub days_told : Request → List DaySum → List ℕ
-days_told (ScheduleB account quarter) sums = b_text account quarter sums
-days_told _ sums = []
+abbrev pub days_told : Option Question → List DaySum → List ℕ
+days_told (Some (Status account day)) sums = []
+days_told (Some (DueList account quarter as_of)) sums = []
+days_told (Some (ScheduleB account quarter)) sums = b_text account quarter sums
+days_told None sums = []
 
 -- the text of the reply to a request. A due list has none here: it is printed row by row, and
 -- `PrintsDue` says of what text.
@@ -48,6 +54,6 @@ abbrev pub reply_text : Request → Reply → List ℕ
 reply_text request reply.Done = concat (codes "done" ∷ (10 ∷ []) ∷ [])
 reply_text request reply.Already = concat (codes "already" ∷ (10 ∷ []) ∷ [])
 reply_text request (reply.Posted from to removed added) = posted_text from to removed added
-reply_text request (reply.Status kind reason) = status_told request kind reason
+reply_text request (reply.Status kind reason) = status_told (question_of request) kind reason
 reply_text request (reply.Due rows) = []
-reply_text request (reply.Days sums) = days_told request sums
+reply_text request (reply.Days sums) = days_told (question_of request) sums

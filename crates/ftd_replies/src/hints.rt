@@ -5,8 +5,9 @@ ghost use Rattle.std.specs.Fmt.{decimal};
 ghost use Rattle.std.specs.List.{flat_map, list_all};
 ghost use Rattle.std.specs.Io.KnownBytes.{Appends};
 ghost use Rattle.ftd_ports.specs.Writing.{WritesPrefix};
-ghost use Rattle.ftd_replies.specs.Hints.{account_in, calendar_text, command_of, command_on};
-ghost use Rattle.ftd_replies.specs.Hints.{days_in, days_text, differing_text, enrolled_as};
+ghost use Rattle.ftd_replies.specs.Hints.{account_asked, account_in, calendar_text, command_of};
+ghost use Rattle.ftd_replies.specs.Hints.{command_on, days_asked, days_in, days_text};
+ghost use Rattle.ftd_replies.specs.Hints.{differing_text, enrolled_as};
 ghost use Rattle.ftd_replies.specs.Hints.{file_text, first_beside, first_text, form_text};
 ghost use Rattle.ftd_replies.specs.Hints.{hint_text, hints_text};
 ghost use Rattle.ftd_replies.specs.Hints.{is_plain, left_out_text, new_text, number_in};
@@ -14,7 +15,7 @@ ghost use Rattle.ftd_replies.specs.Hints.{quarter_hint, said_text, told_text, ye
 
 use crate::refusals::write_refusal;
 use ftd_days::{Day, Quarter};
-use ftd_machine::{Refusal, Request};
+use ftd_machine::{Question, Refusal, Request};
 use ftd_ports::{Target, WriteFault, write_all, write_pieces};
 use ftd_reports::{day_bytes, quarter_bytes};
 use itoa::Buffer;
@@ -100,6 +101,17 @@ fn file_bytes(db: &str) -> &[u8]
     }
 }
 
+/// The account that the question names.
+fn account_asked(question: &Question) -> &str
+    ensures { result.now ≡ account_asked question.now }
+{
+    match question {
+        Question::Status { account, .. } => account.as_str(),
+        Question::DueList { account, .. } => account.as_str(),
+        Question::ScheduleB { account, .. } => account.as_str(),
+    }
+}
+
 /// The account that the request names. The empty text where it names none.
 pub fn account_in(request: &Request) -> &str
     ensures { result.now ≡ account_in request.now }
@@ -114,9 +126,7 @@ pub fn account_in(request: &Request) -> &str
         Request::Void { account, .. } => account.as_str(),
         Request::Pay { account, .. } => account.as_str(),
         Request::VoidPay { account, .. } => account.as_str(),
-        Request::Status { account, .. } => account.as_str(),
-        Request::DueList { account, .. } => account.as_str(),
-        Request::ScheduleB { account, .. } => account.as_str(),
+        Request::Question(question) => account_asked(question),
     }
 }
 
@@ -127,7 +137,15 @@ fn number_in(request: &Request) -> u32
     match request {
         Request::Post { run, .. } => *run,
         Request::Pay { payment, .. } => *payment,
-        _ => 0,
+        Request::Enrol { .. }
+        | Request::Calendar { .. }
+        | Request::AddHoliday { .. }
+        | Request::Report { .. }
+        | Request::ReportYear { .. }
+        | Request::OpenYear { .. }
+        | Request::Void { .. }
+        | Request::VoidPay { .. }
+        | Request::Question(_) => 0,
     }
 }
 
@@ -137,7 +155,16 @@ fn days_in(request: &Request) -> &[Day]
 {
     match request {
         Request::Calendar { days, .. } => days.as_slice(),
-        _ => &[],
+        Request::Enrol { .. }
+        | Request::AddHoliday { .. }
+        | Request::Report { .. }
+        | Request::ReportYear { .. }
+        | Request::OpenYear { .. }
+        | Request::Post { .. }
+        | Request::Void { .. }
+        | Request::Pay { .. }
+        | Request::VoidPay { .. }
+        | Request::Question(_) => &[],
     }
 }
 
@@ -149,7 +176,26 @@ fn years_said(request: &Request) -> &'static [u8]
         Request::Calendar { .. } => b"hint: the years of calendars are 2001 to 2099\n",
         Request::Report { .. } => b"hint: the years of reported totals are 1999 to 2098\n",
         Request::ReportYear { .. } => b"hint: the years of reported totals are 1999 to 2098\n",
-        _ => b"hint: the years of paydays are 2001 to 2098\n",
+        Request::Enrol { .. }
+        | Request::AddHoliday { .. }
+        | Request::OpenYear { .. }
+        | Request::Post { .. }
+        | Request::Void { .. }
+        | Request::Pay { .. }
+        | Request::VoidPay { .. }
+        | Request::Question(_) => b"hint: the years of paydays are 2001 to 2098\n",
+    }
+}
+
+/// What is said of a day of a question that is out of range.
+fn days_asked(question: &Question) -> &'static [u8]
+    ensures { result.now ≡ days_asked question.now }
+{
+    match question {
+        Question::DueList { .. } => b"hint: a due list is as of a day of 2001 to 2099\n",
+        Question::Status { .. } | Question::ScheduleB { .. } => {
+            b"hint: the days of paydays are those of 2001 to 2098\n"
+        }
     }
 }
 
@@ -163,8 +209,14 @@ fn days_said(request: &Request) -> &'static [u8]
         Request::Pay { .. } => {
             b"hint: a payment is made in 2001 to 2099, for a day of 2001 to 2098\n"
         }
-        Request::DueList { .. } => b"hint: a due list is as of a day of 2001 to 2099\n",
-        _ => b"hint: the days of paydays are those of 2001 to 2098\n",
+        Request::Question(question) => days_asked(question),
+        Request::Calendar { .. }
+        | Request::Report { .. }
+        | Request::ReportYear { .. }
+        | Request::OpenYear { .. }
+        | Request::Post { .. }
+        | Request::Void { .. }
+        | Request::VoidPay { .. } => b"hint: the days of paydays are those of 2001 to 2098\n",
     }
 }
 
@@ -174,7 +226,16 @@ fn calendar_said(request: &Request) -> &'static [u8]
 {
     match request {
         Request::AddHoliday { .. } => b"hint: a year has at most 60 holidays\n",
-        _ => b"hint: the days rise, lie in the year and are at most 60\n",
+        Request::Enrol { .. }
+        | Request::Calendar { .. }
+        | Request::Report { .. }
+        | Request::ReportYear { .. }
+        | Request::OpenYear { .. }
+        | Request::Post { .. }
+        | Request::Void { .. }
+        | Request::Pay { .. }
+        | Request::VoidPay { .. }
+        | Request::Question(_) => b"hint: the days rise, lie in the year and are at most 60\n",
     }
 }
 
@@ -189,7 +250,15 @@ fn form_said(request: &Request) -> &'static [u8]
         Request::ReportYear { .. } => {
             b"hint: the account is on Form 941: ftd report takes its totals\n"
         }
-        _ => b"hint: the account is on Form 943, which has no Schedule B\n",
+        Request::Enrol { .. }
+        | Request::Calendar { .. }
+        | Request::AddHoliday { .. }
+        | Request::OpenYear { .. }
+        | Request::Post { .. }
+        | Request::Void { .. }
+        | Request::Pay { .. }
+        | Request::VoidPay { .. }
+        | Request::Question(_) => b"hint: the account is on Form 943, which has no Schedule B\n",
     }
 }
 
@@ -401,7 +470,16 @@ fn enrolled_as(request: &Request) -> &'static [u8]
 {
     match request {
         Request::ReportYear { .. } => b" START --form 943\n",
-        _ => b" START\n",
+        Request::Enrol { .. }
+        | Request::Calendar { .. }
+        | Request::AddHoliday { .. }
+        | Request::Report { .. }
+        | Request::OpenYear { .. }
+        | Request::Post { .. }
+        | Request::Void { .. }
+        | Request::Pay { .. }
+        | Request::VoidPay { .. }
+        | Request::Question(_) => b" START\n",
     }
 }
 
@@ -450,7 +528,24 @@ fn write_hint<W: Target>(
                 target,
             )
         }
-        _ => write_all(target, said(request, refusal)),
+        Refusal::BadName
+        | Refusal::BadYear
+        | Refusal::BadDay
+        | Refusal::BadCents
+        | Refusal::BadCalendar
+        | Refusal::BadNumber
+        | Refusal::AccountDiffers
+        | Refusal::CalendarDiffers
+        | Refusal::QuarterDiffers
+        | Refusal::UnknownRun
+        | Refusal::UnknownPayment
+        | Refusal::BeforeStart
+        | Refusal::TooManyRuns
+        | Refusal::TooManyPayments
+        | Refusal::Memory
+        | Refusal::Store
+        | Refusal::WrongForm
+        | Refusal::YearDiffers => write_all(target, said(request, refusal)),
     }
 }
 
@@ -484,6 +579,14 @@ fn said(request: &Request, refusal: Refusal) -> &'static [u8]
             b"hint: an account has at most 20000 payments, void ones too\n"
         }
         Refusal::WrongForm => form_said(request),
-        _ => b"",
+        Refusal::UnknownAccount
+        | Refusal::RunDiffers
+        | Refusal::PaymentDiffers
+        | Refusal::CalendarMissing(_)
+        | Refusal::QuarterMissing(_)
+        | Refusal::YearNotOpen(_)
+        | Refusal::Memory
+        | Refusal::Store
+        | Refusal::YearMissing(_) => b"",
     }
 }

@@ -9,7 +9,7 @@ ghost use Rattle.ftd_replies.specs.Refusals.{line_of, named_text, refusal_status
 ghost use Rattle.ftd_replies.specs.Refusals.{refusal_text, verb_text};
 
 use ftd_days::Quarter;
-use ftd_machine::Refusal;
+use ftd_machine::{Named, Refusal};
 use ftd_ports::{Target, WriteFault, write_pieces};
 use ftd_reports::quarter_bytes;
 use itoa::Buffer;
@@ -18,19 +18,17 @@ use itoa::Buffer;
 pub fn status_of(refusal: Refusal) -> u8
     ensures { result ≡ refusal_status refusal }
 {
-    match refusal {
-        Refusal::Memory | Refusal::Store => 3,
-        _ => 1,
-    }
+    if refusal.is_failure() { 3 } else { 1 }
 }
 
 /// Whether the desk refused, or failed.
 fn verb_of(refusal: Refusal) -> &'static [u8]
     ensures { result.now ≡ verb_text refusal }
 {
-    match refusal {
-        Refusal::Memory | Refusal::Store => b"failed ",
-        _ => b"refused ",
+    if refusal.is_failure() {
+        b"failed "
+    } else {
+        b"refused "
     }
 }
 
@@ -44,7 +42,7 @@ pub fn write_refusal<W: Target>(refusal: &Refusal, target: &mut W) -> Result<(),
     ensures fault { OnErr result (W.failed target.new ≡ true) }
 {
     write_line(
-        *refusal,
+        refusal.named(),
         verb_of(*refusal),
         refusal.number(),
         refusal.name().as_bytes(),
@@ -52,26 +50,24 @@ pub fn write_refusal<W: Target>(refusal: &Refusal, target: &mut W) -> Result<(),
     )
 }
 
-/// Writes the line of a refusal with this verb, number and name.
+/// Writes the line of a refusal that names this, with this verb, number and name.
 fn write_line<W: Target>(
-    refusal: Refusal,
+    named: Named,
     verb: &[u8],
     number: u8,
     name: &[u8],
     target: &mut W,
 ) -> Result<(), WriteFault>
     ensures ok { OnOk result (Appends (W.taken target.old) (W.taken target.new)
-        (line_of verb.now number name.now (named_text refusal))) }
+        (line_of verb.now number name.now (named_text named))) }
     ensures err { OnErr result (WritesPrefix (W.taken target.old) (W.taken target.new)
-        (line_of verb.now number name.now (named_text refusal))) }
+        (line_of verb.now number name.now (named_text named))) }
     ensures fault { OnErr result (W.failed target.new ≡ true) }
 {
-    match refusal {
-        Refusal::CalendarMissing(year) => write_year(verb, number, name, year, target),
-        Refusal::YearNotOpen(year) => write_year(verb, number, name, year, target),
-        Refusal::YearMissing(year) => write_year(verb, number, name, year, target),
-        Refusal::QuarterMissing(quarter) => write_quarter(verb, number, name, quarter, target),
-        _ => write_plain(verb, number, name, target),
+    match named {
+        Named::Nothing => write_plain(verb, number, name, target),
+        Named::Year(year) => write_year(verb, number, name, year, target),
+        Named::Quarter(quarter) => write_quarter(verb, number, name, quarter, target),
     }
 }
 

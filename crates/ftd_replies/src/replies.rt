@@ -6,11 +6,12 @@ ghost use Rattle.std.specs.Io.KnownBytes.{Appends};
 ghost use Rattle.ftd_ports.specs.Writing.{WritesPrefix};
 ghost use Rattle.ftd_rules.specs.Liability.{cents_of};
 ghost use Rattle.ftd_machine.specs.Limits.{IsBounded, amounts_end};
+ghost use Rattle.ftd_machine.specs.Questions.{question_of};
 ghost use Rattle.ftd_replies.specs.Replies.{days_told, kind_text, posted_text, reply_text};
 ghost use Rattle.ftd_replies.specs.Replies.{status_told, status_text};
 
 use ftd_days::Day;
-use ftd_machine::{Reason, Reply, Request};
+use ftd_machine::{Question, Reason, Reply, Request};
 use ftd_ports::{Target, WriteFault, write_all, write_pieces};
 use ftd_reports::{day_bytes, schedule_b};
 use ftd_rules::{DaySum, Kind};
@@ -99,15 +100,17 @@ fn write_status<W: Target>(
 ) -> Result<(), WriteFault>
     ensures ok { OnOk result
         (Appends (W.taken target.old) (W.taken target.new)
-        (status_told request.now kind reason)) }
+        (status_told (question_of request.now) kind reason)) }
     ensures err { OnErr result
         (WritesPrefix (W.taken target.old) (W.taken target.new)
-        (status_told request.now kind reason)) }
+        (status_told (question_of request.now) kind reason)) }
     ensures fault { OnErr result (W.failed target.new ≡ true) }
 {
-    match request {
-        Request::Status { day, .. } => write_schedule(*day, kind, reason, target),
-        _ => write_all(target, b""),
+    match request.question() {
+        Some(Question::Status { day, .. }) => write_schedule(*day, kind, reason, target),
+        Some(Question::DueList { .. } | Question::ScheduleB { .. }) | None => {
+            write_all(target, b"")
+        }
     }
 }
 
@@ -144,15 +147,17 @@ fn write_days<W: Target>(
 ) -> Result<(), WriteFault>
     requires bounded { sum_by cents_of sums.now < amounts_end }
     ensures ok { OnOk result
-        (Appends (W.taken target.old) (W.taken target.new) (days_told request.now sums.now)) }
+        (Appends (W.taken target.old) (W.taken target.new) (days_told (question_of request.now) sums.now)) }
     ensures err { OnErr result
-        (WritesPrefix (W.taken target.old) (W.taken target.new) (days_told request.now sums.now)) }
+        (WritesPrefix (W.taken target.old) (W.taken target.new) (days_told (question_of request.now) sums.now)) }
     ensures fault { OnErr result (W.failed target.new ≡ true) }
 {
-    match request {
-        Request::ScheduleB { account, quarter } => {
+    match request.question() {
+        Some(Question::ScheduleB { account, quarter }) => {
             schedule_b(account.as_str(), *quarter, sums, target)
         }
-        _ => write_all(target, b""),
+        Some(Question::Status { .. } | Question::DueList { .. }) | None => {
+            write_all(target, b"")
+        }
     }
 }

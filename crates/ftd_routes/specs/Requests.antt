@@ -3,6 +3,7 @@ use Rattle.std.specs.Prelude.{ℕ, List, Option, Some, option_and_then, codes}
 use Rattle.serde_json.specs.Data.{Data}
 use Rattle.serde_json.specs.Find.{get}
 use Rattle.ftd_days.specs.Spelling.{day_of, spelled_quarter}
+use Rattle.ftd_machine.specs.declared.requests.Question.TheVariants as question
 use Rattle.ftd_machine.specs.declared.requests.Request.{Request}
 use Rattle.ftd_machine.specs.declared.requests.Request.TheVariants as request
 use Rattle.ftd_routes.specs.Paths.{part}
@@ -88,18 +89,18 @@ void_payment_in target = do
 unfoldable pub status_in : List ℕ → Option Request
 status_in target = do
   day ← day_of (part 4 target)
-  Some (request.Status (account_in target) day)
+  Some (request.Question (question.Status (account_in target) day))
 
 unfoldable pub due_list_in : List ℕ → Option Request
 due_list_in target = do
   quarter ← spelled_quarter (part 4 target)
   as_of ← day_of (part 5 target)
-  Some (request.DueList (account_in target) quarter as_of)
+  Some (request.Question (question.DueList (account_in target) quarter as_of))
 
 unfoldable pub schedule_b_in : List ℕ → Option Request
 schedule_b_in target = do
   quarter ← spelled_quarter (part 4 target)
-  Some (request.ScheduleB (account_in target) quarter)
+  Some (request.Question (question.ScheduleB (account_in target) quarter))
 
 -- the request of a route
 abbrev pub request_of : Ask → List ℕ → List ℕ → Option Request

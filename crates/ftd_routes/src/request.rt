@@ -14,7 +14,7 @@ use crate::body::{
 use crate::path::part;
 use crate::values::{name, path_number};
 use ftd_days::{Day, Quarter};
-use ftd_machine::{Days, Request};
+use ftd_machine::{Days, Question, Request};
 use serde_json::Value;
 use std::alloc::{AllocError, Global};
 
@@ -261,7 +261,7 @@ fn status(alloc: Global, target: &str) -> Result<Option<Request>, AllocError>
         return Ok(None);
     };
     let account = name(alloc, part(target, 2))?;
-    Ok(Some(Request::Status { account, day }))
+    Ok(Some(Request::Question(Question::Status { account, day })))
 }
 
 /// What is due for a quarter.
@@ -276,11 +276,11 @@ fn due_list(alloc: Global, target: &str) -> Result<Option<Request>, AllocError>
         return Ok(None);
     };
     let account = name(alloc, part(target, 2))?;
-    Ok(Some(Request::DueList {
+    Ok(Some(Request::Question(Question::DueList {
         account,
         quarter,
         as_of,
-    }))
+    })))
 }
 
 /// The liability of a quarter.
@@ -292,5 +292,5 @@ fn schedule_b(alloc: Global, target: &str) -> Result<Option<Request>, AllocError
         return Ok(None);
     };
     let account = name(alloc, part(target, 2))?;
-    Ok(Some(Request::ScheduleB { account, quarter }))
+    Ok(Some(Request::Question(Question::ScheduleB { account, quarter })))
 }

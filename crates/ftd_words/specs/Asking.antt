@@ -1,6 +1,7 @@
 -- What the values of a subcommand ask.
 use Rattle.std.specs.Prelude.{ℕ, ◌≡◌, ◌||◌, nat_lt, List, Result, Ok, Err, if◌then◌else◌, ⊤}
 use Rattle.clap.specs.Words.{Row, Text}
+use Rattle.ftd_machine.specs.declared.requests.Question.TheVariants as question
 use Rattle.ftd_machine.specs.declared.requests.Request.{Request}
 use Rattle.ftd_machine.specs.declared.requests.Request.TheVariants as request
 use Rattle.ftd_rules.specs.Accounts.{is_account_name}
@@ -103,20 +104,20 @@ unfoldable pub status_of : List Row → Result Request WordFault
 status_of rows =
     then_with (text_in word.Account rows) (λ account.
     then_with (day_in word.Day rows) (λ day.
-    Ok (request.Status account day)))
+    Ok (request.Question (question.Status account day))))
 
 unfoldable pub due_of : List Row → Result Request WordFault
 due_of rows =
     then_with (text_in word.Account rows) (λ account.
     then_with (quarter_in word.Quarter rows) (λ quarter.
     then_with (day_in word.AsOf rows) (λ as_of.
-    Ok (request.DueList account quarter as_of))))
+    Ok (request.Question (question.DueList account quarter as_of)))))
 
 unfoldable pub schedule_b_of : List Row → Result Request WordFault
 schedule_b_of rows =
     then_with (text_in word.Account rows) (λ account.
     then_with (quarter_in word.Quarter rows) (λ quarter.
-    Ok (request.ScheduleB account quarter)))
+    Ok (request.Question (question.ScheduleB account quarter))))
 
 -- ---- what a subcommand asks: the deposits of pay runs from standard input; or a server, an import,
 -- or a request to the desk in a database, for which so many seconds are waited

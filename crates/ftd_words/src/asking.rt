@@ -13,7 +13,7 @@ use crate::reading::{
 };
 use crate::table::Word;
 use clap::ArgMatches;
-use ftd_machine::{AccountName, Request};
+use ftd_machine::{AccountName, Question, Request};
 use std::alloc::Global;
 
 /// The account.
@@ -166,7 +166,7 @@ pub fn status(alloc: Global, inner: &ArgMatches<'_>) -> Result<Request, WordFaul
 {
     let account = account_at(alloc, inner)?;
     let day = day_at(inner, Word::Day)?;
-    Ok(Request::Status { account, day })
+    Ok(Request::Question(Question::Status { account, day }))
 }
 
 /// What `due` asks.
@@ -177,11 +177,11 @@ pub fn due(alloc: Global, inner: &ArgMatches<'_>) -> Result<Request, WordFault>
     let account = account_at(alloc, inner)?;
     let quarter = quarter_at(inner, Word::Quarter)?;
     let as_of = day_at(inner, Word::AsOf)?;
-    Ok(Request::DueList {
+    Ok(Request::Question(Question::DueList {
         account,
         quarter,
         as_of,
-    })
+    }))
 }
 
 /// What `schedule-b` asks.
@@ -191,5 +191,5 @@ pub fn schedule_b(alloc: Global, inner: &ArgMatches<'_>) -> Result<Request, Word
 {
     let account = account_at(alloc, inner)?;
     let quarter = quarter_at(inner, Word::Quarter)?;
-    Ok(Request::ScheduleB { account, quarter })
+    Ok(Request::Question(Question::ScheduleB { account, quarter }))
 }

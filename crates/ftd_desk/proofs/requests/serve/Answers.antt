@@ -1,31 +1,47 @@
 use Rattle.std.proofs.Common.{◌∙◌, refl, sym, ap, subst}
 use Rattle.ftd_store.specs.Frame.{Calls}
-use Rattle.ftd_machine.specs.declared.requests.Request.TheVariants.{Void}
+use Rattle.ftd_machine.specs.declared.requests.Request.TheVariants.{Post, Void}
+use Rattle.ftd_rules.specs.declared.run.PayRun.{PayRun}
 use Rattle.ftd_desk.specs.Counted.{ServesCounted}
 use Rattle.ftd_posting.specs.Repaired.{Becoming, VoidsRun}
 use Rattle.ftd_desk.proofs.Counting.{entry_counted, void_counted}
 use Rattle.ftd_desk.proofs.Repairing.{entry_repairs, call_repairs, pays_no_run, post_repairs}
-use Rattle.ftd_desk.proofs.Repairing.{void_repairs, answer_repairs}
+use Rattle.ftd_desk.proofs.Repairing.{void_repairs, answer_repairs, others_add_none}
+use Rattle.ftd_desk.proofs.Repairing.{others_on_none}
 use Rattle.ftd_desk.proofs.requests.serve.Goals as goal
 
-pub returns-in_ok-answer-in_default-request : goal.returns-in_ok-answer-in_default-request
-returns-in_ok-answer-in_default-request g c =
-    let answer = c.in_ok-answer-in_default-request in
-    record {
-      call = entry_counted g.S.Store c.args.tx.now c.serve_entry.new.tx answer.answer c.args.counts
-          c.args.request.now answer.ensures.adds_none answer.ensures.call;
-      repairs = entry_repairs g.S.Store c.args.tx.now c.serve_entry.new.tx answer.answer _
-          c.args.request.now answer.ensures.on_none answer.ensures.call;
-    }
+pub serve_entry-requires-clause-adds_none : goal.serve_entry-requires-clause-adds_none
+serve_entry-requires-clause-adds_none g c = others_add_none c.args.request.now c.in-Enrol.is
 
-pub returns-in-Some-clause-call : goal.returns-in-Some-clause-call
-returns-in-Some-clause-call g c =
-    subst (λ request. Calls g.S.Store c.args.tx.now c.serve_post.new.tx c.serve_post.result
-    (ServesCounted c.args.counts request)) (sym c.in-Some.ensures) c.serve_post.ensures.call
+pub serve_entry-requires-clause-on_none : goal.serve_entry-requires-clause-on_none
+serve_entry-requires-clause-on_none g c = others_on_none c.args.request.now c.in-Enrol.is
 
-pub returns-in-Some-clause-repairs : goal.returns-in-Some-clause-repairs
-returns-in-Some-clause-repairs g c = post_repairs g.S.Store c.args.tx.now c.serve_post.new.tx
-    c.serve_post.result c.args.request.now _ _ _ c.in-Some.ensures c.serve_post.ensures.repairs
+pub returns-in_ok-answer-in-Enrol-clause-call : goal.returns-in_ok-answer-in-Enrol-clause-call
+returns-in_ok-answer-in-Enrol-clause-call g c =
+    let answer = c.in_ok-answer-in-Enrol in
+    entry_counted g.S.Store c.args.tx.now c.serve_entry.new.tx answer.answer c.args.counts
+    c.args.request.now (others_add_none c.args.request.now c.in-Enrol.is) answer.ensures.call
+
+pub returns-in_ok-answer-in-Enrol-clause-repairs : goal.returns-in_ok-answer-in-Enrol-clause-repairs
+returns-in_ok-answer-in-Enrol-clause-repairs g c =
+    let answer = c.in_ok-answer-in-Enrol in
+    entry_repairs g.S.Store c.args.tx.now c.serve_entry.new.tx answer.answer _ c.args.request.now
+    (others_on_none c.args.request.now c.in-Enrol.is) answer.ensures.call
+
+pub returns-in-Post-clause-repairs : goal.returns-in-Post-clause-repairs
+returns-in-Post-clause-repairs g c =
+    let name = c.as_str.result.now in
+    let run : PayRun = record {
+      payday = c.in-Post.payday;
+      fit = c.in-Post.fit;
+      ss = c.in-Post.ss;
+      medicare = c.in-Post.medicare;
+    } in
+    post_repairs g.S.Store c.args.tx.now c.serve_post.new.tx c.serve_post.result
+    c.args.request.now name c.in-Post.number run
+    (c.in-Post.is
+    ∙ ap (λ n. Post n c.in-Post.number run.payday run.fit run.ss run.medicare) (sym c.as_str.ensures))
+    c.serve_post.ensures.repairs
 
 pub returns-in-Pay-clause-repairs : goal.returns-in-Pay-clause-repairs
 returns-in-Pay-clause-repairs g c =

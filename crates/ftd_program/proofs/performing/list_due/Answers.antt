@@ -1,8 +1,11 @@
-use Rattle.std.proofs.Common.{◌≡◌, inl, inr, ◌++◌, ◌∷◌, refl, sym, ap, ◌∙◌, subst, IsTrue}
+use Rattle.std.proofs.Common.{◌≡◌, inl, inr, ◌++◌, ◌∷◌, refl, sym, ap, ◌∙◌, subst, IsTrue, arith}
 use Rattle.std.specs.Prelude.{IfOk}
 use Rattle.sqlite.specs.State.{HasCleanDisk}
 use Rattle.ftd_machine.specs.State.{State}
-use Rattle.ftd_machine.specs.declared.requests.Request.TheVariants.{DueList}
+use Rattle.ftd_machine.specs.declared.requests.Question.TheVariants.{DueList}
+use Rattle.ftd_machine.specs.declared.requests.Request.TheVariants.{Question}
+use Rattle.ftd_machine.specs.declared.replies.Reply.TheVariants.{Due}
+use Rattle.ftd_machine.proofs.Listed.{lists_bounded}
 use Rattle.ftd_desk.specs.Desks.{Keeps, held}
 use Rattle.ftd_program.specs.Mending.{KnowsFor}
 use Rattle.ftd_program.proofs.Mended.{known_of, nothing_of, stands_on}
@@ -46,7 +49,7 @@ returns-in-Err g c =
             part = subst (λ o. WritesPrefix (g.O.Target.taken c.args.out) (g.O.Target.taken o)
                 (due_text c.args.account.now c.args.quarter c.args.as_of told.0)) (sym out)
                 (c.in-Err.ensures.prefix _ _ _ _ told.0 has);
-            reason = inl (ap g.O.Target.failed out ∙ c.in-Err.ensures.fault);
+            reason = ap g.O.Target.failed out ∙ c.in-Err.ensures.fault;
             line = c.fail_output.ensures.line;
           });
     }
@@ -60,7 +63,7 @@ returns-in-Err-Refused g c =
     → IsTrue (held g.S.Store c.known_for.new.desk).db.is_open → (s : State)
     → Keeps (held g.S.Store c.due_into.new.self) s
     → IfOk c.known_for.result
-    (KnowsFor s (DueList c.args.account.now c.args.quarter c.args.as_of) refusal) =
+    (KnowsFor s (Question (DueList c.args.account.now c.args.quarter c.args.as_of)) refusal) =
     rw c.requires.asked at mended.knows in
     let writer : c.print_refusal.result.out ≡ writer_of c.due_into.new.sink = printed.out_is
     ∙ c.into_writer-out.ensures in
@@ -77,7 +80,7 @@ returns-in-Err-Refused g c =
           c.in-Err-Refused.field-0 c.in-Err-Refused.is refusal
           c.in-Err-Refused.field-0-is (c.due_into.ensures.tells then opened s keeps)) [
             | inl refuses ↦ refused refusal c.known_for.result refuses.0
-                (known_of s (DueList c.args.account.now c.args.quarter c.args.as_of) refusal
+                (known_of s (Question (DueList c.args.account.now c.args.quarter c.args.as_of)) refusal
                 c.known_for.result known mended.fault)
                 (record {
                   status_is = printed.status_is;
@@ -87,7 +90,7 @@ returns-in-Err-Refused g c =
                 })
             | inr faulted ↦
                 let none = nothing_of s
-                (DueList c.args.account.now c.args.quarter c.args.as_of) refusal
+                (Question (DueList c.args.account.now c.args.quarter c.args.as_of)) refusal
                 c.known_for.result faulted.0 known in
                 let bare = rw none at printed in (elim faulted.1 [
                   | inl same ↦ unbegun refusal faulted.0
@@ -135,8 +138,11 @@ returns-in-Err-Sink g c =
                 (due_text c.args.account.now c.args.quarter c.args.as_of rows))
                 (sym writer) breaks.part;
             reason = (elim breaks.reason [
-              | inl fails ↦ inl (ap g.O.Target.failed writer ∙ fails)
-              | inr over ↦ inr (come_to told.0 told.2 told.1 over)
+              | inl fails ↦ ap g.O.Target.failed writer ∙ fails
+              | inr over ↦ absurd (let reached = come_to told.0 told.2 told.1 over in
+                  let below = lists_bounded s
+                  (Question (DueList c.args.account.now c.args.quarter c.args.as_of)) (Due rows) s
+                  keeps.rests.kept.sound told.3 in omega arith)
             ]);
             line = c.fail_output-in-Err-Sink.ensures.line;
           });

@@ -1,10 +1,13 @@
-use Rattle.std.proofs.Common.{◌≡◌, None, Ok, rules, sym}
+use Rattle.std.proofs.Common.{◌≡◌, ◌∙◌, Some, None, Ok, rules, sym, ap}
 use Rattle.ftd_store.proofs.Telling.{then_reads}
-use Rattle.ftd_machine.specs.declared.requests.Request.TheVariants.{DueList}
+use Rattle.ftd_machine.specs.declared.requests.Question.TheVariants.{DueList}
+use Rattle.ftd_machine.specs.declared.requests.Request.TheVariants.{Question}
 use Rattle.ftd_machine.specs.declared.replies.Reply.TheVariants.{Due}
 use Rattle.ftd_entries.proofs.Serving.{served_looked}
-use Rattle.ftd_questions.specs.DueRows.{KnowsForDue, KnowsDueList}
+use Rattle.ftd_questions.specs.DueRows.{KnowsForDue}
+use Rattle.ftd_questions.specs.Shown.{KnowsRowsOf}
 use Rattle.ftd_questions.proofs.DueTold.{checks, due_decided, due_told}
+use Rattle.ftd_questions.proofs.Shown.{due_list_refuses, shown_by, told_rows}
 use Rattle.ftd_questions.proofs.due.due_list.Goals as goal
 
 pub returns-in-Some : goal.returns-in-Some
@@ -15,9 +18,13 @@ returns-in-Some g c =
     let known = c.in_ok-before.before in
     let answer = c.in-Some.answer in
     record {
-      call = served_looked g.S.Store (DueList name quarter as_of) c.args.tx.now
+      call = served_looked g.S.Store (Question (DueList name quarter as_of)) c.args.tx.now
           c.known_for_due.new.tx known answer (KnowsForDue name quarter) c.in_ok-before.ensures.call
           (due_decided name quarter as_of known answer (search rules));
+      shows = shown_by g.S.Store c.args.tx.now c.known_for_due.new.tx known answer
+          (DueList name quarter as_of) (KnowsForDue name quarter) c.in_ok-before.ensures.call
+          (λ t knows rows is. absurd ((due_list_refuses name quarter as_of known).never (Due rows)
+          (search rules ∙ ap Some is)));
     }
 
 pub returns : goal.returns
@@ -31,15 +38,19 @@ returns g c =
     let passed : checks name quarter as_of known ≡ None = search rules in
     let read = then_reads g.S.Store c.args.tx.now c.known_for_due.new.tx c.rows_of_quarter.new.tx
     known rows rows (KnowsForDue name quarter)
-    (λ rs. KnowsDueList name account.form quarter as_of rs.items)
-    (λ rs t. KnowsForDue name quarter known t × KnowsDueList name account.form quarter as_of
+    (λ rs. KnowsRowsOf name account.form quarter as_of rs.items)
+    (λ rs t. KnowsForDue name quarter known t × KnowsRowsOf name account.form quarter as_of
     rs.items t) (λ t knows lists. (knows, lists)) c.in_ok-before.ensures.call
     c.in_ok-rows.ensures.call in
     record {
-      call = served_looked g.S.Store (DueList name quarter as_of) c.args.tx.now
+      call = served_looked g.S.Store (Question (DueList name quarter as_of)) c.args.tx.now
           c.rows_of_quarter.new.tx rows (Ok (Due c.from_vec.result)) _ read
           (λ t s stands sound knows.
           rw (sym c.from_vec.ensures) at
           (due_told name quarter as_of known account rows.items c.in-Some-account.is passed t s
-          stands sound knows));
+          stands sound (knows.0, knows.1.0)));
+      shows = shown_by g.S.Store c.args.tx.now c.rows_of_quarter.new.tx rows
+          (Ok (Due c.from_vec.result)) (DueList name quarter as_of) _ read
+          (λ t knows others is. rw (sym c.from_vec.ensures ∙ told_rows c.from_vec.result others is) at
+          knows.1.1);
     }

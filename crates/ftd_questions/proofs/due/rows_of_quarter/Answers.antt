@@ -10,9 +10,11 @@ use Rattle.ftd_store.proofs.Going.{then_goes}
 use Rattle.ftd_store.proofs.Telling.{then_reads}
 use Rattle.ftd_store.proofs.Turning.{gave_up_after}
 use Rattle.ftd_questions.specs.Returns.{KnowsPeriod}
-use Rattle.ftd_questions.specs.DueRows.{IsRowBy, KnowsDueList, begins_in, is_next_day_row}
+use Rattle.ftd_questions.specs.DueRows.{IsRowBy, begins_in, is_next_day_row}
+use Rattle.ftd_questions.specs.Shown.{KnowsRowsOf}
 use Rattle.ftd_questions.proofs.DueTold.{due_known}
 use Rattle.ftd_questions.proofs.OwedRows.{obligations_known}
+use Rattle.ftd_questions.proofs.Shown.{rows_shown}
 use Rattle.ftd_questions.proofs.due.rows_of_quarter.Goals as goal
 
 pub returns-in-Ok : goal.returns-in-Ok
@@ -44,12 +46,17 @@ returns-in-Ok g c =
           found rows (λ p t. HasYears c.year-year.result (c.year-year.result + 1)
           (holidays_of given) t × KnowsPeriod name form quarter p t)
           (ListsObligations name period.first period.last)
-          (λ rs. KnowsDueList name form quarter as_of rs.items)
-          (λ t knows lists. due_known name form quarter as_of given period
-          c.has_next_day-next_day.result found.items of_return rows.items c.requires.from
-          c.requires.to c.quarter_return-of_return.ensures.stands next_day are_rows t
-          (subst (λ year. HasYears year (year + 1) (holidays_of given) t) c.year-year.ensures
-          knows.0) knows.1 (obligations_known name period.first period.last found t lists)) read
+          (λ rs. KnowsRowsOf name form quarter as_of rs.items)
+          (λ t knows lists. (
+            due_known name form quarter as_of given period
+                c.has_next_day-next_day.result found.items of_return rows.items c.requires.from
+                c.requires.to c.quarter_return-of_return.ensures.stands next_day are_rows t
+                (subst (λ year. HasYears year (year + 1) (holidays_of given) t) c.year-year.ensures
+                knows.0) knows.1 (obligations_known name period.first period.last found t lists),
+            rows_shown name quarter form period.first period.last as_of found.items of_return
+                rows.items t c.requires.from c.requires.to knows.1.first knows.1.last lists are_rows,
+          ))
+          read
           c.in_ok-obligations.ensures.call;
     }
 

@@ -3,7 +3,8 @@ use Rattle.ftd_days.specs.Calendar.{quarter_start}
 use Rattle.ftd_store.specs.Finds.{ListsLiability}
 use Rattle.ftd_store.proofs.Telling.{then_reads}
 use Rattle.ftd_machine.specs.declared.entries.Account.{Account}
-use Rattle.ftd_machine.specs.declared.requests.Request.TheVariants.{ScheduleB}
+use Rattle.ftd_machine.specs.declared.requests.Question.TheVariants.{ScheduleB}
+use Rattle.ftd_machine.specs.declared.requests.Request.TheVariants.{Question}
 use Rattle.ftd_machine.specs.declared.replies.Reply.TheVariants.{Days}
 use Rattle.ftd_entries.specs.Known.{KnowsAccount, KnowsYear}
 use Rattle.ftd_entries.proofs.Reading.{both_read}
@@ -21,7 +22,7 @@ returns-in-Some g c =
     (KnowsAccount name) (KnowsYear name c.year.result) c.in_ok-account.ensures.call
     c.in_ok-there.ensures.call in
     record {
-      call = served_looked g.S.Store (ScheduleB name quarter) c.args.tx.now c.is_open.new.tx known
+      call = served_looked g.S.Store (Question (ScheduleB name quarter)) c.args.tx.now c.is_open.new.tx known
           c.in-Some.answer _ read
           (λ t s stands sound knows. days_decided name quarter known c.in-Some.answer
           (search rules) t s stands sound
@@ -48,7 +49,7 @@ returns g c =
     ))
     read c.in_ok-sums.ensures.call in
     record {
-      call = served_looked g.S.Store (ScheduleB name quarter) c.args.tx.now c.day_sums.new.self
+      call = served_looked g.S.Store (Question (ScheduleB name quarter)) c.args.tx.now c.day_sums.new.self
           known (Ok (Days c.from_vec.result)) _ all
           (λ t s stands sound knows.
           rw (sym c.from_vec.ensures) at

@@ -10,7 +10,10 @@ use Rattle.ftd_machine.specs.Laws.{is_change}
 use Rattle.ftd_machine.specs.Runs.{IsFault}
 use Rattle.ftd_machine.specs.declared.replies.Refusal.TheVariants.{Store}
 use Rattle.ftd_questions.specs.Faults.{refusal_of}
+use Rattle.ftd_machine.specs.Questions.{question_of}
+use Rattle.ftd_desk.specs.Shown.{ShowsAsked}
 use Rattle.ftd_desk.specs.Words.{Handles}
+use Rattle.ftd_desk.proofs.Showing.{asked_shows, change_shows, refusal_shows}
 use Rattle.ftd_desk.proofs.Handling.{ServesBy, none_known, served_ok, served_err, served_less}
 use Rattle.ftd_desk.proofs.Handling.{handles_dropped, handles_uncommitted, handles_committed}
 use Rattle.ftd_desk.proofs.Handling.{at_err, at_ok, handles_still, handles_unbegun, is_fault}
@@ -164,3 +167,44 @@ returns-in-Err-serve_alone-clause-handles g c =
     c.serve_alone.new.tx fault (search rules) c.in-Err-serve_alone.ensures.call forgotten)
     c.drop-tx.ensures.undone c.drop-tx.ensures.crash c.drop-tx.ensures.opens (λ s counted. counted)
     refl))
+
+pub returns-then-self-clause-shows : goal.returns-then-self-clause-shows
+returns-then-self-clause-shows g c =
+    λ clean t stands. refusal_shows (question_of c.args.request.now) Store t
+
+pub returns-in-Err-clause-shows : goal.returns-in-Err-clause-shows
+returns-in-Err-clause-shows g c =
+    λ clean t stands. refusal_shows (question_of c.args.request.now) c.refusal_of.result t
+
+pub returns-in-Err-serve_alone-clause-shows : goal.returns-in-Err-serve_alone-clause-shows
+returns-in-Err-serve_alone-clause-shows g c =
+    λ clean t stands. refusal_shows (question_of c.args.request.now)
+    c.refusal_of-in-Err-serve_alone.result t
+
+pub returns-then-not-is_change-clause-shows : goal.returns-then-not-is_change-clause-shows
+returns-then-not-is_change-clause-shows g c =
+    let old = seen g.S.Store c.args.self.now.store in
+    let request = c.args.request.now in
+    let end = c.drop-tx-then-not-is_change.new.self.0 in
+    let served = c.in-Ok-serve_alone.served in
+    let same : end ≡ c.self-then-not-is_change-1.given.0 = search rules in
+    subst (λ (store : StoreOf g.row.S.Denot). ShowsAsked old (seen g.S.Store store) request
+    c.bounded.result) same
+    (elim c.bounded.ensures.same [
+      | inl as_it_is ↦ subst (λ answer. ShowsAsked old (seen g.S.Store end) request answer)
+          (sym as_it_is)
+          (asked_shows g.S.Store old (seen g.S.Store end) request c.in-Ok.tx
+          c.serve_alone.new.tx served c.in-Ok.ensures.begun
+          c.drop-tx-then-not-is_change.ensures.crash c.in-Ok-serve_alone.ensures.shows)
+      | inr fault ↦ subst (λ answer. ShowsAsked old (seen g.S.Store end) request answer)
+          (sym fault) (λ clean t stands. refusal_shows (question_of request) Store t)
+    ])
+
+pub returns-then-is_err-clause-shows : goal.returns-then-is_err-clause-shows
+returns-then-is_err-clause-shows g c =
+    λ clean t stands. refusal_shows (question_of c.args.request.now) Store t
+
+pub returns-clause-shows : goal.returns-clause-shows
+returns-clause-shows g c =
+    λ clean t stands. change_shows (question_of c.args.request.now)
+    c.in-Ok-serve_alone.served.answer t (search rules)

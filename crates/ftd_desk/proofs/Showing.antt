@@ -1,0 +1,63 @@
+-- What a due list shows of the rows of the tables, from its first call to its last.
+use Rattle.std.proofs.Common.{◌≡◌, true, false, sym, subst, arith, Option, None, Some, Result, Ok, Err}
+use Rattle.std.proofs.lemmas.Bool.{true≢false}
+use Rattle.sqlite.specs.Store as store
+use Rattle.sqlite.specs.State as database
+use Rattle.sqlite.specs.State.{HasCleanDisk}
+use Rattle.ftd_rows.specs.declared.faults.StoreFault.{StoreFault}
+use Rattle.ftd_schema.specs.Standing.{Tables, Stands}
+use Rattle.ftd_schema.specs.States.{CrashKeeps}
+use Rattle.ftd_store.specs.declared.tx.Tx.{Tx}
+use Rattle.ftd_store.specs.Seen.{shown}
+use Rattle.ftd_store.specs.Ends.{Begins}
+use Rattle.ftd_store.specs.Frame.{Calls}
+use Rattle.ftd_store.proofs.Going.{goes_on}
+use Rattle.ftd_machine.specs.Checks.{Answer}
+use Rattle.ftd_machine.specs.Laws.{is_change}
+use Rattle.ftd_machine.specs.Questions.{question_of}
+use Rattle.ftd_machine.specs.declared.replies.Refusal.{Refusal}
+use Rattle.ftd_machine.specs.declared.requests.Question.{Question}
+use Rattle.ftd_machine.specs.declared.requests.Question.TheVariants.{Status, DueList, ScheduleB}
+use Rattle.ftd_machine.specs.declared.requests.Request.{Request}
+use Rattle.ftd_desk.specs.Shown.{ShowsIf, ShowsFor, ShowsAsked}
+use Rattle.ftd_desk.specs.declared.listed.Answered.{Answered}
+use Rattle.ftd_desk.specs.declared.requests.Served.{Served}
+
+-- a refusal shows nothing, nor does an answer that tells of a change
+pub refusal_shows : (asked : Option Question) (refusal : Refusal) (t : Tables)
+    → ShowsIf asked (Err refusal) t
+refusal_shows None refusal t = tt
+refusal_shows (Some (Status name day)) refusal t = tt
+refusal_shows (Some (DueList name quarter as_of)) refusal t = λ rows is. absurd cc
+refusal_shows (Some (ScheduleB name quarter)) refusal t = tt
+
+pub change_shows : (asked : Option Question) (answer : Answer) (t : Tables)
+    → is_change answer ≡ true → ShowsIf asked answer t
+change_shows None answer t changes = tt
+change_shows (Some (Status name day)) answer t changes = tt
+change_shows (Some (DueList name quarter as_of)) answer t changes =
+    λ rows is. absurd (true≢false (sym (rw is at changes)))
+change_shows (Some (ScheduleB name quarter)) answer t changes = tt
+
+module _ {S : Type 0} (g : store.Ghosts S) where
+  pub past_shows : (old new : Tx S) (served : Served) (past : Answered) (request : Request)
+      → past.answer ≡ served.answer
+      → Calls g old new (Ok served) (λ told before after t. ShowsFor request told.answer t)
+      → Calls g old new (Ok past) (λ told before after t. ShowsFor request told.answer t)
+  past_shows old new served past request same c = record {
+    frame = goes_on g old new served past c.frame;
+    does = λ clean t stands. subst (λ said. ShowsFor request said t) (sym same)
+        (c.does clean t stands);
+  }
+
+  -- from the beginning of the transaction to its end
+  pub asked_shows : (a e : database.State) (request : Request) (old new : Tx S) (served : Answered)
+      → (HasCleanDisk (shown g old) → Begins a (shown g old))
+      → CrashKeeps (shown g new) e
+      → Calls g old new (Ok served) (λ told before after t. ShowsFor request told.answer t)
+      → ShowsAsked a e request served.answer
+  asked_shows a e request old new served begun dropped c clean t stands =
+      let clean_m : HasCleanDisk (shown g new) = omega (arith, dropped.clean) in
+      let clean_b : HasCleanDisk (shown g old) = omega (arith, c.frame.crash.clean) in
+      let start = (begun clean_b).shows.now_is in
+      c.does clean_m t (subst (λ db. Stands db t) (sym start) stands)

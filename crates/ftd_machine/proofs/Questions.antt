@@ -1,0 +1,69 @@
+-- What each question's checks and answers have in common, one clause a question.
+use Rattle.std.proofs.Common.{◌≡◌, ap, ℕ, List, [], Some, false}
+use Rattle.std.specs.Prelude.{unwrap_or}
+use Rattle.ftd_machine.specs.State.{State, entries_of, holidays}
+use Rattle.ftd_machine.specs.Checks.{Answer}
+use Rattle.ftd_machine.specs.Laws.{is_change}
+use Rattle.ftd_machine.specs.Questions.{question_checks, question_of, Tells}
+use Rattle.ftd_machine.specs.declared.requests.Question.{Question}
+use Rattle.ftd_machine.specs.declared.requests.Question.TheVariants.{Status, DueList, ScheduleB}
+use Rattle.ftd_machine.specs.declared.requests.Request.{Request}
+use Rattle.ftd_machine.specs.declared.requests.Request.TheVariants as request
+use Rattle.ftd_machine.proofs.Heads.{Quiet, quiet_none, quiet_needs, quiet_finds}
+use Rattle.ftd_machine.proofs.Heads.{Firm, firm_none, firm_needs, firm_finds}
+use Rattle.ftd_machine.proofs.Single.{IsOnce, status_one, due_list_one, schedule_one}
+
+-- the checks of a question answer no change
+pub question_quiet : (s : State) (question : Question) → Quiet (question_checks s question)
+question_quiet s (Status name day) =
+    quiet_needs _ _ _ (quiet_needs _ _ _ (quiet_finds _ _ _ (quiet_needs _ _ [] quiet_none)))
+question_quiet s (DueList name quarter as_of) =
+    quiet_needs _ _ _
+    (quiet_needs _ _ _ (quiet_needs _ _ _ (quiet_finds _ _ _ (quiet_needs _ _ [] quiet_none))))
+question_quiet s (ScheduleB name quarter) =
+    quiet_needs _ _ _
+    (quiet_needs _ _ _ (quiet_finds _ _ _ (quiet_needs _ _ _ (quiet_needs _ _ [] quiet_none))))
+
+-- nor that something was done before
+pub question_firm : (s : State) (question : Question) → Firm (question_checks s question)
+question_firm s (Status name day) =
+    firm_needs _ _ _ (firm_needs _ _ _ (firm_finds _ _ _ (firm_needs _ _ [] firm_none)))
+question_firm s (DueList name quarter as_of) =
+    firm_needs _ _ _
+    (firm_needs _ _ _ (firm_needs _ _ _ (firm_finds _ _ _ (firm_needs _ _ [] firm_none))))
+question_firm s (ScheduleB name quarter) =
+    firm_needs _ _ _
+    (firm_needs _ _ _ (firm_finds _ _ _ (firm_needs _ _ _ (firm_needs _ _ [] firm_none))))
+
+-- what is told is no change
+pub told_is : (s : State) (question : Question) (answer : Answer) → Tells s question answer
+    → is_change answer ≡ false
+told_is s (Status name day) answer told = ap is_change told.told
+told_is s (DueList name quarter as_of) answer told = ap is_change told.told
+told_is s (ScheduleB name quarter) answer told = ap is_change told.told
+
+-- one thing is told
+pub tells_one : (s : State) (question : Question) (a b : Answer)
+    → ((name : List ℕ) → IsOnce (entries_of s name))
+    → Tells s question a → Tells s question b → a ≡ b
+tells_one s (Status name day) a b once g h =
+    status_one (entries_of s name) day a b (once name) g h
+tells_one s (DueList name quarter as_of) a b once g h =
+    due_list_one (holidays s) (entries_of s name) quarter as_of a b (once name) g h
+tells_one s (ScheduleB name quarter) a b once g h =
+    schedule_one (entries_of s name) quarter a b g h
+
+-- a request that is a question is this one
+pub question_is : (asked : Request) (question : Question) → question_of asked ≡ Some question
+    → asked ≡ request.Question question
+question_is (request.Question asked) question e = ap request.Question (ap (λ o. unwrap_or o asked) e)
+question_is (request.Enrol name start carried form) question e = absurd cc
+question_is (request.Calendar year days) question e = absurd cc
+question_is (request.AddHoliday day) question e = absurd cc
+question_is (request.Report name quarter cents) question e = absurd cc
+question_is (request.ReportYear name year cents) question e = absurd cc
+question_is (request.OpenYear name year) question e = absurd cc
+question_is (request.Post name number payday fit ss medicare) question e = absurd cc
+question_is (request.Void name number) question e = absurd cc
+question_is (request.Pay name number paid for_day cents) question e = absurd cc
+question_is (request.VoidPay name number) question e = absurd cc

@@ -1,0 +1,40 @@
+-- The rows of a due list beside those of the tables, whatever else these hold.
+use Rattle.std.specs.Prelude.{◌≡◌, ℕ, List, map, Ok, ⊤}
+use Rattle.std.specs.List.Sorted.{IsPermutation}
+use Rattle.ftd_rules.specs.declared.verdict.DueRow.{DueRow}
+use Rattle.ftd_rules.specs.declared.Form.{Form}
+use Rattle.ftd_rules.specs.Lists.{KeysDoNotFall}
+use Rattle.ftd_schema.specs.Rows.{ObligationRow}
+use Rattle.ftd_schema.specs.Standing.{Tables}
+use Rattle.ftd_rows.specs.Rows.{obligation_row}
+use Rattle.ftd_store.specs.Walking.{rows_in}
+use Rattle.ftd_machine.specs.Asking.{first_of_row}
+use Rattle.ftd_machine.specs.Checks.{Answer}
+use Rattle.ftd_machine.specs.declared.replies.Reply.TheVariants.{Due}
+use Rattle.ftd_questions.specs.DueRows.{KnowsDueList}
+use Rattle.ftd_machine.specs.declared.requests.Question.{Question}
+use Rattle.ftd_machine.specs.declared.requests.Question.TheVariants.{Status, DueList, ScheduleB}
+
+-- the account's obligation of a row, as it stands in the tables
+abbrev pub row_shown : List ℕ → DueRow → ObligationRow
+row_shown name row = obligation_row name row.obligation
+
+-- the rows are those of exactly the account's obligations in the tables that begin in the quarter,
+-- each once, by first day
+pub record ShowsRows (name : List ℕ) (quarter : ℕ) (rows : List DueRow) (t : Tables)
+    : Type 0 where
+  pub all : IsPermutation (rows_in name quarter t) (map (row_shown name) rows)
+  pub by_first_day : KeysDoNotFall first_of_row rows
+
+-- the rows are the due list of each sound state for which the tables stand, and show the tables'
+-- rows as they stand
+abbrev pub KnowsRowsOf : List ℕ → Form → ℕ → ℕ → List DueRow → Tables → Type 0
+KnowsRowsOf name form quarter as_of rows t =
+    KnowsDueList name form quarter as_of rows t × ShowsRows name quarter rows t
+
+-- a due list that is answered shows the tables' rows as they stand
+abbrev pub Shows : Question → Answer → Tables → Type 0
+Shows (Status name day) answer t = ⊤
+Shows (DueList name quarter as_of) answer t =
+    (rows : List DueRow) → answer ≡ Ok (Due rows) → ShowsRows name quarter rows t
+Shows (ScheduleB name quarter) answer t = ⊤

@@ -1,0 +1,38 @@
+//! Each question goes to its function.
+
+ghost use Rattle.ftd_store.specs.Frame.{Calls};
+ghost use Rattle.ftd_machine.specs.declared.requests.Request.TheVariants as requests;
+ghost use Rattle.ftd_entries.specs.Words.{Serves};
+ghost use Rattle.ftd_questions.specs.Shown.{Shows};
+
+use crate::due::due_list;
+use crate::liable::schedule_b;
+use crate::schedules::status;
+use ftd_machine::{Answer, Question};
+use ftd_store::{StoreFault, Tx};
+use sqlite::Alter;
+use std::alloc::Global;
+
+/// Answers a question within a transaction. `Memory` and `Failed` come in place of an answer where
+/// there was no memory or the store failed.
+pub fn ask<S: Alter>(
+    tx: &mut Tx<'_, S>,
+    alloc: Global,
+    question: &Question,
+) -> Result<Answer, StoreFault>
+    ensures call { Calls S.Store tx.old tx.new result (Serves (requests.Question question.now)) }
+    ensures shows { Calls S.Store tx.old tx.new result (λ answer before after t.
+        Shows question.now answer t) }
+{
+    match question {
+        Question::Status { account, day } => status(tx, alloc, account.as_str(), *day),
+        Question::DueList {
+            account,
+            quarter,
+            as_of,
+        } => due_list(tx, alloc, account.as_str(), *quarter, *as_of),
+        Question::ScheduleB { account, quarter } => {
+            schedule_b(tx, alloc, account.as_str(), *quarter)
+        }
+    }
+}
