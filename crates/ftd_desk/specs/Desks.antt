@@ -35,3 +35,7 @@ pub record Rests (db : database.State) (s : State) : Type 0 where
 pub record Keeps (h : Held) (s : State) : Type 0 where
   pub rests : Rests h.db s
   pub known : IsKnown h.known s
+
+-- it does, if its connection is open
+abbrev pub KeepsIfOpen : Held → State → Type 0
+KeepsIfOpen h s = IsTrue h.db.is_open → Keeps h s

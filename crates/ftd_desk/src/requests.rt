@@ -43,28 +43,35 @@ pub(crate) fn posting_of(request: &Request) -> Option<Posting<'_>>
     ensures { IfSome result (λ posting. let run = posting.run in request.now
         ≡ Post posting.account.now posting.number run.payday run.fit run.ss run.medicare) }
 {
-    let Request::Post {
-        account,
-        run: number,
-        payday,
-        fit,
-        ss,
-        medicare,
-    } = request
-    else {
-        return None;
-    };
-    let run = PayRun {
-        payday: *payday,
-        fit: *fit,
-        ss: *ss,
-        medicare: *medicare,
-    };
-    Some(Posting {
-        account: account.as_str(),
-        number: *number,
-        run,
-    })
+    match request {
+        Request::Post {
+            account,
+            run: number,
+            payday,
+            fit,
+            ss,
+            medicare,
+        } => Some(Posting {
+            account: account.as_str(),
+            number: *number,
+            run: PayRun {
+                payday: *payday,
+                fit: *fit,
+                ss: *ss,
+                medicare: *medicare,
+            },
+        }),
+        Request::Enrol { .. }
+        | Request::Calendar { .. }
+        | Request::AddHoliday { .. }
+        | Request::Report { .. }
+        | Request::ReportYear { .. }
+        | Request::OpenYear { .. }
+        | Request::Void { .. }
+        | Request::Pay { .. }
+        | Request::VoidPay { .. }
+        | Request::Question(_) => None,
+    }
 }
 
 /// Answers the request within a transaction.

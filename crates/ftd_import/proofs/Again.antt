@@ -3,19 +3,20 @@ use Rattle.std.proofs.Common.{◌≡◌, ◌⊎◌, refl, sym, ap, subst, ◌∙
 use Rattle.std.proofs.Common.{rules, Bool, true, false, ℕ, List, [], ◌∷◌, ◌++◌, length, map, Option}
 use Rattle.std.proofs.Common.{Some, None, Result, Ok, Err, length-append}
 use Rattle.std.specs.List.{cons_option, filter_map, list_any}
-use Rattle.std.specs.Prelude.{MatchResult, ◌||◌, ⊤}
+use Rattle.std.specs.Prelude.{MatchResult, ◌||◌}
 use Rattle.std.proofs.lemmas.List.{append_assoc, append-nil}
 use Rattle.std.proofs.lemmas.List.Elements.{filter_map-append}
 use Rattle.sqlite.specs.State.{Survives}
 use Rattle.ftd_csv.specs.Records.{Said}
 use Rattle.ftd_machine.specs.State.{State}
 use Rattle.ftd_machine.specs.Checks.{Answer}
-use Rattle.ftd_machine.specs.Runs.{IsFault, IsRun}
+use Rattle.ftd_machine.specs.Runs.{IsRun}
 use Rattle.ftd_machine.specs.declared.replies.Refusal.{Refusal}
 use Rattle.ftd_machine.specs.declared.replies.Refusal.TheVariants as refusal
 use Rattle.ftd_machine.specs.declared.requests.Request.{Request}
 use Rattle.ftd_desk.specs.Desks.{Held}
 use Rattle.ftd_desk.specs.Words.{AreAnswers, AreSteps, HandlesAll, HandlesTogether, is_fault}
+use Rattle.ftd_desk.proofs.Running.{all_none}
 use Rattle.ftd_import.specs.Outcomes.{Counts, CountsAnswers, IsNothing, IsSame, IsSummary, Outcome}
 use Rattle.ftd_import.specs.Outcomes.{answer_in, fault_in, fault_of, post_in, post_of, posted}
 use Rattle.ftd_import.specs.Outcomes.{posts_of, record_in, request_in, skipped}
@@ -26,7 +27,7 @@ use Rattle.ftd_import.specs.declared.summary.StopCause.TheVariants as cause
 use Rattle.ftd_import.specs.declared.summary.Summary.{Summary}
 use Rattle.ftd_import.proofs.Together.{all_again, all_together, either_after, none_together}
 use Rattle.ftd_import.proofs.Together.{some_again}
-use Rattle.ftd_import.proofs.Outcomes.{are_then, asks_then, counts_then, summary_of}
+use Rattle.ftd_import.proofs.Outcomes.{are_then, asks_then, counts_then, no_fault, summary_of}
 
 -- the posts asked for are those of the records
 requests_are : (xs : List Outcome) → filter_map request_in xs ≡ posts_of (map record_in xs)
@@ -63,10 +64,6 @@ none_faulty (posted number run answer ∷ xs) e =
     rw (fault_none answer both.0) (none_faulty xs both.1)
 none_faulty (skipped number field ∷ xs) e = none_faulty xs e
 
-no_fault : (answer : Answer) → fault_of answer ≡ None → IsFault answer → ⊥
-no_fault answer none (inl memory) = let e = rw memory at none in absurd (cc)
-no_fault answer none (inr store) = let e = rw store at none in absurd (cc)
-
 -- a run with no fault is one of steps
 steps_of_run : (xs : List Outcome) → filter_map fault_in xs ≡ [] → (s end : State)
     → IsRun s (filter_map request_in xs) (filter_map answer_in xs) end
@@ -96,10 +93,10 @@ posts_together a b rs requests answers p q r is handles told same counts = recor
   };
   counts = counts_then p q r [] counts.outcomes same counts.counts;
   asks =
-      subst (λ (xs : List Request). HandlesAll ⊤ a b xs (filter_map answer_in counts.outcomes))
+      subst (λ (xs : List Request). HandlesAll ⊥ a b xs (filter_map answer_in counts.outcomes))
       (is ∙ sym (requests_of_records rs counts.outcomes counts.all))
-      (subst (λ (said : List Answer). HandlesAll ⊤ a b requests said) (sym counts.answered)
-      (all_together a b requests answers told.count handles));
+      (subst (λ (said : List Answer). HandlesAll ⊥ a b requests said) (sym counts.answered)
+      (all_together ⊥ a b requests answers told.count handles));
 }
 
 -- none was posted, and then all, one after the other
@@ -110,16 +107,16 @@ posts_again failed a b c rs p q r none same posts = record {
   are = posts.are;
   counts = counts_then p q r [] posts.outcomes same posts.counts;
   asks = elim none [
-    | inl asks ↦ asks_then a b c [] posts.outcomes asks posts.asks
+    | inl asks ↦ asks_then ⊥ a b c [] posts.outcomes asks posts.asks
     | inr met ↦
         let requests = requests_of_records rs posts.outcomes posts.are.all in
         let answers = filter_map answer_in posts.outcomes in
         let sure = subst (λ (xs : List Request). (s end : State) → IsRun s xs answers end
         → AreSteps s xs answers end) requests
         (λ s end run. steps_of_run posts.outcomes posts.are.no_fault s end run) in
-        subst (λ (xs : List Request). HandlesAll ⊤ a c xs answers) (sym requests)
-        (all_again a b c (posts_of rs) met.1.0 answers sure met.1.1
-        (subst (λ (xs : List Request). HandlesAll ⊤ b c xs answers) requests posts.asks))
+        subst (λ (xs : List Request). HandlesAll ⊥ a c xs answers) (sym requests)
+        (all_again ⊥ a b c (posts_of rs) met.1.0 answers sure met.1.1
+        (subst (λ (xs : List Request). HandlesAll ⊥ b c xs answers) requests posts.asks))
   ];
 }
 
@@ -131,7 +128,7 @@ shorter rs passed at others split = let whole = ap length split
 -- none was posted, and then some, one after the other
 pub stops_again : (failed later : Type 0) (a b c : Held) (rs : List (ℕ × Said)) (p q r : Summary)
     (why : StopCause) → length rs ≤ most_together → (failed → later)
-    → PostsNone failed a b (posts_of rs) → IsSame p q → StopsIn b c rs q r why
+    → PostsNone failed a b (posts_of rs) → IsSame p q → StopsIn later b c rs q r why
     → StopsWithin later a c rs (λ outcomes. Counts p outcomes r) why
 stops_again failed later a b c rs p q r why short stays none same stops =
     let outcomes = stops.outcomes ++ stops.last in
@@ -146,7 +143,7 @@ stops_again failed later a b c rs p q r why short stays none same stops =
       last = stops.last;
       stop = stops.stop;
       asks = elim none [
-        | inl asks ↦ inl (asks_then a b c [] outcomes asks stops.asks)
+        | inl asks ↦ inl (asks_then later a b c [] outcomes asks stops.asks)
         | inr met ↦ inr (
           stays met.0,
           record {
@@ -158,7 +155,7 @@ stops_again failed later a b c rs p q r why short stays none same stops =
             begins = omega arith;
             ends = let less = shorter rs stops.passed stops.at stops.others stops.split in
                 omega arith;
-            asks = some_again a b c (posts_of rs) met.1.0 (filter_map request_in outcomes)
+            asks = some_again later a b c (posts_of rs) met.1.0 (filter_map request_in outcomes)
                 (filter_map answer_in outcomes) met.1.1 stops.asks;
           },
         )
@@ -171,14 +168,14 @@ pub none_posted : (failed : Type 0) (a b : Held) (posts requests : List Request)
     (λ _. ⊥) → PostsNone failed a b posts
 none_posted failed a b posts requests why is h keeps = elim keeps [
   | inl met ↦ inr (met, (why, subst (λ (rs : List Request). HandlesTogether a b rs (Err why)) is h))
-  | inr crash ↦ inl (none_together a b requests why h crash)
+  | inr crash ↦ inl (none_together ⊥ a b requests why h crash)
 ]
 
 -- whatever became of its records then
 pub list_again : {A : Type 0} (failed later : Type 0) (a b c : Held) (rs : List (ℕ × Said))
     (p q r : Summary) (result : Result A StopCause) → length rs ≤ most_together → (failed → later)
     → PostsNone failed a b (posts_of rs) → IsSame p q
-    → MatchResult result (λ _. Posts b c rs q r) (λ why. StopsIn b c rs q r why)
+    → MatchResult result (λ _. Posts b c rs q r) (λ why. StopsIn later b c rs q r why)
     → MatchResult result (λ _. Posts a c rs p r)
     (λ why. StopsWithin later a c rs (λ outcomes. Counts p outcomes r) why)
 list_again failed later a b c rs p q r (Ok x) short stays none same posts =
@@ -196,23 +193,24 @@ regroup_list : (pre before list others more : List (ℕ × Said))
 regroup_list pre before list others more = simp append_assoc
 
 -- the outcomes of the first records, before those of a list whose commit failed
-either_then : (a b c : Held) (rs list : List (ℕ × Said)) (xs ys : List Outcome) → AreOutcomes rs xs
-    → Asks a b xs → HandlesOrLeaves b c (filter_map request_in ys) (filter_map answer_in ys)
+either_then : (failed : Type 0) (a b c : Held) (rs list : List (ℕ × Said)) (xs ys : List Outcome)
+    → AreOutcomes rs xs → Asks ⊥ a b xs
+    → HandlesOrLeaves failed b c (filter_map request_in ys) (filter_map answer_in ys)
     (posts_of list)
-    → HandlesOrLeaves a c (filter_map request_in (xs ++ ys)) (filter_map answer_in (xs ++ ys))
-    (posts_of (rs ++ list))
-either_then a b c rs list xs ys are first later =
-    subst (λ (qs : List Request). HandlesOrLeaves a c qs (filter_map answer_in (xs ++ ys))
+    → HandlesOrLeaves failed a c (filter_map request_in (xs ++ ys))
+    (filter_map answer_in (xs ++ ys)) (posts_of (rs ++ list))
+either_then failed a b c rs list xs ys are first later =
+    subst (λ (qs : List Request). HandlesOrLeaves failed a c qs (filter_map answer_in (xs ++ ys))
     (posts_of (rs ++ list))) (sym (filter_map-append request_in xs ys))
-    (subst (λ (ps : List Answer). HandlesOrLeaves a c
+    (subst (λ (ps : List Answer). HandlesOrLeaves failed a c
     (filter_map request_in xs ++ filter_map request_in ys) ps (posts_of (rs ++ list)))
     (sym (filter_map-append answer_in xs ys))
-    (subst (λ (all : List Request). HandlesOrLeaves a c
+    (subst (λ (all : List Request). HandlesOrLeaves failed a c
     (filter_map request_in xs ++ filter_map request_in ys)
     (filter_map answer_in xs ++ filter_map answer_in ys) all)
     (ap (λ (z : List Request). z ++ posts_of list) (requests_of_records rs xs are.all)
     ∙ sym (filter_map-append post_in rs list))
-    (either_after a b c (filter_map request_in xs) (filter_map answer_in xs)
+    (either_after failed a b c (filter_map request_in xs) (filter_map answer_in xs)
     (filter_map request_in ys) (filter_map answer_in ys) (posts_of list)
     (λ s end run. steps_of_run xs are.no_fault s end run) first later)))
 
@@ -233,8 +231,8 @@ stops_later failed a b c pre list more all p q r why split posts stops = record 
   last = stops.last;
   stop = stops.stop;
   asks = elim stops.asks [
-    | inl asks ↦ inl (subst (λ (xs : List Outcome). Asks a c xs) (sym together)
-        (asks_then a b c posts.outcomes (stops.outcomes ++ stops.last) posts.asks asks))
+    | inl asks ↦ inl (subst (λ (xs : List Outcome). Asks failed a c xs) (sym together)
+        (asks_then failed a b c posts.outcomes (stops.outcomes ++ stops.last) posts.asks asks))
     | inr met ↦
         let again = met.1 in
         inr (
@@ -251,14 +249,14 @@ stops_later failed a b c pre list more all p q r why split posts stops = record 
             ends = let l = length-append pre again.before in
                 let m = length-append pre stops.passed in let n = again.ends in omega arith;
             asks =
-                subst (λ (xs : List Outcome). HandlesOrLeaves a c (filter_map request_in xs)
-                (filter_map answer_in xs) (posts_of ((pre ++ again.before) ++ again.list)))
+                subst (λ (xs : List Outcome). HandlesOrLeaves failed a c
+                (filter_map request_in xs) (filter_map answer_in xs) (posts_of ((pre ++ again.before) ++ again.list)))
                 (sym together)
-                (subst (λ (rs : List (ℕ × Said)). HandlesOrLeaves a c
+                (subst (λ (rs : List (ℕ × Said)). HandlesOrLeaves failed a c
                 (filter_map request_in (posts.outcomes ++ (stops.outcomes ++ stops.last)))
                 (filter_map answer_in (posts.outcomes ++ (stops.outcomes ++ stops.last)))
                 (posts_of rs)) (sym (append_assoc pre again.before again.list))
-                (either_then a b c pre (again.before ++ again.list) posts.outcomes
+                (either_then failed a b c pre (again.before ++ again.list) posts.outcomes
                 (stops.outcomes ++ stops.last) posts.are posts.asks again.asks));
           },
         )
@@ -284,16 +282,14 @@ stops_unread failed a b pre (at ∷ others) all p q split some posts = record {
   told = posts.counts;
   last = [];
   stop = inl (refl, refl);
-  asks = inl (subst (λ (xs : List Outcome). Asks a b xs) (sym (append-nil posts.outcomes))
-      posts.asks);
+  asks = inl (asks_then failed a b b posts.outcomes [] posts.asks (all_none failed b));
 }
 
 -- ---- the whole text
-pub stops_told : (failed later : Type 0) (a b : Held) (rs : List (ℕ × Said)) (p q : Summary)
-    (why : StopCause) → (failed → later) → IsNothing p → StopsWithin failed a b rs
-    (λ outcomes. Counts p outcomes q) why
-    → StopsWithin later a b rs (λ outcomes. IsSummary outcomes q) why
-stops_told failed later a b rs p q why stays none stops = record {
+pub stops_told : (failed : Type 0) (a b : Held) (rs : List (ℕ × Said)) (p q : Summary)
+    (why : StopCause) → IsNothing p → StopsWithin failed a b rs (λ outcomes. Counts p outcomes q) why
+    → StopsWithin failed a b rs (λ outcomes. IsSummary outcomes q) why
+stops_told failed a b rs p q why none stops = record {
   passed = stops.passed;
   at = stops.at;
   others = stops.others;
@@ -303,25 +299,5 @@ stops_told failed later a b rs p q why stays none stops = record {
   told = summary_of p q stops.outcomes none stops.told;
   last = stops.last;
   stop = stops.stop;
-  asks = elim stops.asks [ inl asks ↦ inl asks | inr met ↦ inr (stays met.0, met.1) ];
+  asks = stops.asks;
 }
-
--- no commit failed, or one did
-pub one_by_one : (failed : Type 0) (a b : Held) (rs : List (ℕ × Said)) (IsTold : List Outcome
-    → Type 0) (why : StopCause) → StopsWithin failed a b rs IsTold why
-    → failed ⊎ StopsWithin ⊥ a b rs IsTold why
-one_by_one failed a b rs IsTold why stops = elim stops.asks [
-  | inl asks ↦ inr (record {
-    passed = stops.passed;
-    at = stops.at;
-    others = stops.others;
-    split = stops.split;
-    outcomes = stops.outcomes;
-    are = stops.are;
-    told = stops.told;
-    last = stops.last;
-    stop = stops.stop;
-    asks = inl asks;
-  })
-  | inr met ↦ inl met.0
-]

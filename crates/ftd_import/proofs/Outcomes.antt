@@ -1,13 +1,14 @@
 -- Outcomes of records, one after the other.
-use Rattle.std.proofs.Common.{◌≡◌, refl, sym, ap, subst, ◌∙◌, ◌+◌, inl, inr, arith}
+use Rattle.std.proofs.Common.{◌≡◌, ◌⊎◌, refl, sym, ap, subst, ◌∙◌, ◌+◌, inl, inr, arith}
 use Rattle.std.proofs.Common.{Bool, ℕ, List, [], ◌∷◌, ◌++◌, length, map}
 use Rattle.std.proofs.Common.{Some, None, Ok, Err, Result, OnErr, length-append}
-use Rattle.std.specs.Prelude.{⊤}
 use Rattle.std.specs.List.{filter, filter_map}
 use Rattle.std.proofs.lemmas.List.{append_assoc, append-nil, map-append}
 use Rattle.std.proofs.lemmas.List.Elements.{filter-append, filter_map-append}
 use Rattle.ftd_csv.specs.Records.{Run, Said, pay_run, malformed}
 use Rattle.ftd_machine.specs.Checks.{Answer}
+use Rattle.ftd_machine.specs.Runs.{IsFault}
+use Rattle.ftd_desk.specs.States.{CrashKeeps}
 use Rattle.ftd_desk.specs.Desks.{Held}
 use Rattle.ftd_desk.specs.Words.{Handles, HandlesAll}
 use Rattle.ftd_desk.proofs.Running.{all_none, all_one, all_then}
@@ -91,25 +92,31 @@ are_then rs ss xs ys first second = record {
       ∙ second.no_fault;
 }
 
-pub asks_then : (a b c : Held) (xs ys : List Outcome) → Asks a b xs → Asks b c ys
-    → Asks a c (xs ++ ys)
-asks_then a b c xs ys first second =
-    subst (λ rs. HandlesAll ⊤ a c rs (filter_map answer_in (xs ++ ys)))
+-- after records of which no commit failed
+pub asks_then : (failed : Type 0) (a b c : Held) (xs ys : List Outcome) → Asks ⊥ a b xs
+    → Asks failed b c ys → Asks failed a c (xs ++ ys)
+asks_then failed a b c xs ys first second =
+    subst (λ rs. HandlesAll failed a c rs (filter_map answer_in (xs ++ ys)))
     (sym (filter_map-append request_in xs ys))
-    (subst (λ qs. HandlesAll ⊤ a c (filter_map request_in xs ++ filter_map request_in ys) qs)
+    (subst (λ qs. HandlesAll failed a c (filter_map request_in xs ++ filter_map request_in ys) qs)
     (sym (filter_map-append answer_in xs ys))
-    (all_then ⊤ ⊤ a b c (filter_map request_in xs) (filter_map answer_in xs)
-    (filter_map request_in ys) (filter_map answer_in ys) (λ met. met) first second))
+    (all_then ⊥ failed a b c (filter_map request_in xs) (filter_map answer_in xs)
+    (filter_map request_in ys) (filter_map answer_in ys) (λ none. absurd none) first second))
 
 pub on_err : {A E P : Type 0} (result : Result A E) → P → OnErr result P
 on_err (Ok x) p = tt
 on_err (Err e) p = p
 
--- one request, whatever became of its commit
-asks_one : (a b : Held) (run : Run) (answer : Answer) → Handles a b (post_of run) answer
-    → HandlesAll ⊤ a b (post_of run ∷ []) (answer ∷ [])
-asks_one a b run answer handles = all_one ⊤ a b (post_of run) answer handles
-    (on_err answer (inl tt))
+pub no_fault : (answer : Answer) → fault_of answer ≡ None → IsFault answer → ⊥
+no_fault answer none (inl memory) = let e = rw memory at none in absurd (cc)
+no_fault answer none (inr store) = let e = rw store at none in absurd (cc)
+
+-- one request that no fault answered: no commit failed
+no_commit_failed : (a b : Held) (run : Run) (answer : Answer) → Handles a b (post_of run) answer
+    → fault_of answer ≡ None → OnErr answer (⊥ ⊎ CrashKeeps a.db b.db)
+no_commit_failed a b run (Ok reply) handles none = tt
+no_commit_failed a b run (Err why) handles none =
+    inr (handles.keeps refl (λ is. no_fault (Err why) none (inr is)))
 
 -- ---- posts
 pub posts_none : (a : Held) (p : Summary) → Posts a a [] p p
@@ -117,7 +124,7 @@ posts_none a p = record {
   outcomes = [];
   are = record { all = refl; no_fault = refl };
   counts = same p;
-  asks = all_none ⊤ a;
+  asks = all_none ⊥ a;
 }
 
 pub posts_then : (a b c : Held) (rs ss : List (ℕ × Said)) (p q r : Summary) → Posts a b rs p q
@@ -126,7 +133,7 @@ posts_then a b c rs ss p q r first second = record {
   outcomes = first.outcomes ++ second.outcomes;
   are = are_then rs ss first.outcomes second.outcomes first.are second.are;
   counts = counts_then p q r first.outcomes second.outcomes first.counts second.counts;
-  asks = asks_then a b c first.outcomes second.outcomes first.asks second.asks;
+  asks = asks_then ⊥ a b c first.outcomes second.outcomes first.asks second.asks;
 }
 
 pub posts_same : (a b : Held) (rs : List (ℕ × Said)) (p q r : Summary) → IsSame p q
@@ -147,7 +154,7 @@ posts_one a b number run answer p q handles none counts = record {
   outcomes = posted number run answer ∷ [];
   are = record { all = refl; no_fault = rw none refl };
   counts = counts;
-  asks = asks_one a b run answer handles;
+  asks = all_one ⊥ a b (post_of run) answer handles (no_commit_failed a b run answer handles none);
 }
 
 -- a malformed record
@@ -157,27 +164,28 @@ skips_one a number field p q counts = record {
   outcomes = skipped number field ∷ [];
   are = record { all = refl; no_fault = refl };
   counts = counts;
-  asks = all_none ⊤ a;
+  asks = all_none ⊥ a;
 }
 
 -- ---- stops
-pub no_room : (a : Held) (at : ℕ × Said) → StopsAt a a at cause.Memory
-no_room a at = record { last = []; stop = inl (refl, refl); asks = all_none ⊤ a }
+pub no_room : (failed : Type 0) (a : Held) (at : ℕ × Said) → StopsAt failed a a at cause.Memory
+no_room failed a at = record { last = []; stop = inl (refl, refl); asks = all_none failed a }
 
-pub faulted : (a b : Held) (number : ℕ) (run : Run) (answer : Answer) (why : StopCause)
-    → Handles a b (post_of run) answer → fault_of answer ≡ Some why
-    → StopsAt a b (number, pay_run run) why
-faulted a b number run answer why handles fault = record {
+pub faulted : (failed : Type 0) (a b : Held) (number : ℕ) (run : Run) (answer : Answer)
+    (why : StopCause) → Handles a b (post_of run) answer
+    → OnErr answer (failed ⊎ CrashKeeps a.db b.db) → fault_of answer ≡ Some why
+    → StopsAt failed a b (number, pay_run run) why
+faulted failed a b number run answer why handles stops fault = record {
   last = posted number run answer ∷ [];
   stop = inr (posted number run answer, refl, refl, fault);
-  asks = asks_one a b run answer handles;
+  asks = all_one failed a b (post_of run) answer handles stops;
 }
 
-pub posts_stop : (a b c : Held) (rs : List (ℕ × Said)) (at : ℕ × Said) (others : List (ℕ × Said))
+pub posts_stop : (failed : Type 0) (a b c : Held) (rs : List (ℕ × Said)) (at : ℕ × Said) (others : List (ℕ × Said))
     (all : List (ℕ × Said)) (p q r : Summary) (why : StopCause)
-    → all ≡ rs ++ at ∷ others → Posts a b rs p q → StopsAt b c at why → IsSame q r
-    → StopsIn a c all p r why
-posts_stop a b c rs at others all p q r why split posts stops keeps = record {
+    → all ≡ rs ++ at ∷ others → Posts a b rs p q → StopsAt failed b c at why → IsSame q r
+    → StopsIn failed a c all p r why
+posts_stop failed a b c rs at others all p q r why split posts stops keeps = record {
   passed = rs;
   at = at;
   others = others;
@@ -188,5 +196,5 @@ posts_stop a b c rs at others all p q r why split posts stops keeps = record {
       (counts_then p q r posts.outcomes [] posts.counts keeps);
   last = stops.last;
   stop = stops.stop;
-  asks = asks_then a b c posts.outcomes stops.last posts.asks stops.asks;
+  asks = asks_then failed a b c posts.outcomes stops.last posts.asks stops.asks;
 }

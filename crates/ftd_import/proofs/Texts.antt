@@ -1,7 +1,6 @@
 -- The records of a text, in lists.
 use Rattle.std.proofs.Common.{◌≡◌, ◌⊎◌, sym, subst, refl, inl, inr, rules, true, ℕ, List, Some, Ok}
 use Rattle.std.proofs.Common.{Err}
-use Rattle.std.specs.Prelude.{⊤}
 use Rattle.std.proofs.lemmas.Bool.{false≢true}
 use Rattle.ftd_csv.specs.Answers.{RecordsFail}
 use Rattle.ftd_csv.specs.Places.{Opens, records_left}
@@ -20,7 +19,7 @@ use Rattle.ftd_import.specs.Imports.{StopsWithin, is_of_text, numbered_in}
 use Rattle.ftd_import.specs.declared.summary.StopCause.{StopCause}
 use Rattle.ftd_import.specs.declared.summary.StopCause.TheVariants as cause
 use Rattle.ftd_import.specs.declared.summary.Summary.{Summary}
-use Rattle.ftd_import.proofs.Again.{one_by_one, stops_told}
+use Rattle.ftd_import.proofs.Again.{stops_told}
 use Rattle.ftd_import.proofs.Outcomes.{summary_of}
 
 -- there are no records
@@ -28,10 +27,10 @@ pub text_fails : (failed : Type 0) (a : Held) (text : List ℕ) (done : Summary)
     (why : StopCause) → why ≡ text_cause fault → IsNothing done → RecordsFail text fault
     → StopsFor failed a a text done why
 text_fails failed a text done text_fault.TooLong why is none fails =
-    rw is (fails, (none, all_none ⊤ a))
+    rw is (fails, (none, all_none ⊥ a))
 text_fails failed a text done text_fault.BadHeader why is none fails =
-    rw is (fails.0, fails.1, (none, all_none ⊤ a))
-text_fails failed a text done text_fault.Memory why is none fails = rw is (inl (none, all_none ⊤ a))
+    rw is (fails.0, fails.1, (none, all_none ⊥ a))
+text_fails failed a text done text_fault.Memory why is none fails = rw is (inl (none, all_none ⊥ a))
 
 -- an import stops at a record for want of memory, or since the store failed
 fault_cause : (answer : Answer) (why : StopCause) → fault_of answer ≡ Some why
@@ -63,32 +62,21 @@ module _ (text : List ℕ) (records : Records) (opens : Opens text records) (a b
     asks = posts.asks;
   }
 
-  pub text_stops : (failed later : Type 0) (why : StopCause) → (failed → later)
-      → StopsWithin failed a b (records_left records) (λ outcomes. Counts p outcomes q) why
-      → StopsFor later a b text q why
-  text_stops failed later why stays stops =
-      let among : StopsAmong later a b text q why = record {
+  pub text_stops : (failed : Type 0) (why : StopCause) → StopsWithin failed a b (records_left records) (λ outcomes. Counts p outcomes q) why
+      → StopsFor failed a b text q why
+  text_stops failed why stops =
+      let among : StopsAmong failed a b text q why = record {
         short = opens.short;
         header = opens.header;
-        stops = stops_told failed later a b (numbered_in text) p q why stays none
+        stops = stops_told failed a b (numbered_in text) p q why none
             (subst (λ (rs : List (ℕ × Said)). StopsWithin failed a b rs
             (λ outcomes. Counts p outcomes q) why) all stops);
       } in
       elim (stop_cause stops.at why stops.last stops.stop) [
-        | inl memory ↦ subst (λ (c : StopCause). StopsFor later a b text q c) (sym memory)
-            (inr (subst (λ (c : StopCause). StopsAmong later a b text q c) memory among))
-        | inr store ↦ subst (λ (c : StopCause). StopsFor later a b text q c) (sym store)
-            (subst (λ (c : StopCause). StopsAmong later a b text q c) store among)
-      ]
-
-  pub text_one_by_one : (failed : Type 0) (why : StopCause)
-      → StopsWithin failed a b (records_left records) (λ outcomes. Counts p outcomes q) why
-      → failed ⊎ StopsFor ⊥ a b text q why
-  text_one_by_one failed why stops =
-      elim (one_by_one failed a b (records_left records) (λ outcomes. Counts p outcomes q) why
-      stops) [
-        | inl met ↦ inl met
-        | inr plain ↦ inr (text_stops ⊥ ⊥ why (λ met. met) plain)
+        | inl memory ↦ subst (λ (c : StopCause). StopsFor failed a b text q c) (sym memory)
+            (inr (subst (λ (c : StopCause). StopsAmong failed a b text q c) memory among))
+        | inr store ↦ subst (λ (c : StopCause). StopsFor failed a b text q c) (sym store)
+            (subst (λ (c : StopCause). StopsAmong failed a b text q c) store among)
       ]
 
 -- the text is not at fault then

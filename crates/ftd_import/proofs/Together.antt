@@ -2,7 +2,6 @@
 use Rattle.std.proofs.Common.{◌≡◌, ◌∙◌, refl, sym, ap, subst, inl, inr, IsTrue, true, Ok, Err}
 use Rattle.std.proofs.Common.{List, [], ◌∷◌, ◌++◌, Result, length}
 use Rattle.std.specs.List.{list_any}
-use Rattle.std.specs.Prelude.{⊤}
 use Rattle.std.proofs.lemmas.Bool.{true≢false, cases_Bool}
 use Rattle.std.proofs.lemmas.List.{append-nil}
 use Rattle.std.proofs.lemmas.List.Elements.{All-nil}
@@ -63,9 +62,9 @@ steps_once s (x ∷ xs) (p ∷ ps) (q ∷ qs) m n sound g h =
     (ap (λ it. it ∷ ps) one.0 ∙ ap (λ its. q ∷ its) more.0, more.1)
 
 -- the state after a whole list is that of the run whose answers were given
-whole : (s : State) (xs : List Request) (ps : List Answer) (left : Trees)
-    → MayLeaveAll s xs (Ok ps) left → MayLeaveRun ⊤ s xs ps left
-whole s xs ps left m = record {
+whole : (failed : Type 0) (s : State) (xs : List Request) (ps : List Answer) (left : Trees)
+    → MayLeaveAll s xs (Ok ps) left → MayLeaveRun failed s xs ps left
+whole failed s xs ps left m = record {
   asked = xs;
   others = [];
   first = sym (append-nil xs);
@@ -110,21 +109,21 @@ met_fault s xs why left m = record {
 }
 
 -- a list that was answered is a run of its requests
-pub all_together : (a b : Held) (xs : List Request) (ps : List Answer) → length ps ≡ length xs
-    → HandlesTogether a b xs (Ok ps) → HandlesAll ⊤ a b xs ps
-all_together a b xs ps count h = record {
+pub all_together : (failed : Type 0) (a b : Held) (xs : List Request) (ps : List Answer)
+    → length ps ≡ length xs → HandlesTogether a b xs (Ok ps) → HandlesAll failed a b xs ps
+all_together failed a b xs ps count h = record {
   count = count;
   honest = h.honest;
   opens = h.opens;
   answered = λ clean s keeps. let done = h.answered clean s keeps in
       (done.0, run_of_steps s xs ps done.0 done.1, done.2);
   shut = h.shut;
-  crash = survives_weaker a.db b.db (MayLeaveAllOf a xs (Ok ps)) (MayLeaveRunOf ⊤ a xs ps)
-      (λ clean left may. (may.0, λ s keeps. whole s xs ps left (may.1 s keeps))) h.crash;
+  crash = survives_weaker a.db b.db (MayLeaveAllOf a xs (Ok ps)) (MayLeaveRunOf failed a xs ps)
+      (λ clean left may. (may.0, λ s keeps. whole failed s xs ps left (may.1 s keeps))) h.crash;
   lasts = λ clean change s keeps left may.
       let done = h.answered clean s keeps in
       let lasts = h.lasts clean change in
-      run_whole ⊤ s done.0 xs ps b left (run_of_steps s xs ps done.0 done.1) (done.2 lasts.0)
+      run_whole failed s done.0 xs ps b left (run_of_steps s xs ps done.0 done.1) (done.2 lasts.0)
       (lasts.1 left may);
 }
 
@@ -135,21 +134,22 @@ still a b xs why h clean is_open s keeps = let back = h.answered clean s keeps i
     subst (λ (end : State). Keeps b end) back.1.1 (back.2 is_open)
 
 -- and where a crash finds none of it, nothing was asked
-pub none_together : (a b : Held) (xs : List Request) (why : Refusal)
-    → HandlesTogether a b xs (Err why) → Survives a.db b.db (λ _. ⊥) → HandlesAll ⊤ a b [] []
-none_together a b xs why h crash = record {
+pub none_together : (failed : Type 0) (a b : Held) (xs : List Request) (why : Refusal)
+    → HandlesTogether a b xs (Err why) → Survives a.db b.db (λ _. ⊥) → HandlesAll failed a b [] []
+none_together failed a b xs why h crash = record {
   count = refl;
   honest = h.honest;
   opens = h.opens;
   answered = λ clean s keeps. (s, refl, λ is_open. still a b xs why h clean is_open s keeps);
   shut = λ clean closed. All-nil IsFault;
-  crash = survives_weaker a.db b.db (λ _. ⊥) (MayLeaveRunOf ⊤ a [] [])
+  crash = survives_weaker a.db b.db (λ _. ⊥) (MayLeaveRunOf failed a [] [])
       (λ clean left none. absurd none) crash;
   lasts = λ clean change. absurd (true≢false (sym change));
 }
 
-module _ (a b c : Held) (list : List Request) (why : Refusal) (xs : List Request)
-    (ps : List Answer) (p : HandlesTogether a b list (Err why)) (q : HandlesAll ⊤ b c xs ps) where
+module _ (failed : Type 0) (a b c : Held) (list : List Request) (why : Refusal)
+    (xs : List Request) (ps : List Answer) (p : HandlesTogether a b list (Err why))
+    (q : HandlesAll failed b c xs ps) where
   -- what was answered after a list that met a fault
   again_answered : HasCleanDisk c.db → (s : State) → Keeps a s
       → (end : State) × IsRun s xs ps end × (IsTrue c.db.is_open → Keeps c end)
@@ -163,27 +163,27 @@ module _ (a b c : Held) (list : List Request) (why : Refusal) (xs : List Request
   ]
 
   again_lasts : HasCleanDisk c.db → list_any is_change ps ≡ true → (s : State) → Keeps a s
-      → (left : Trees) → c.db.may_leave left → MayLeaveRun ⊤ s xs ps left
+      → (left : Trees) → c.db.may_leave left → MayLeaveRun failed s xs ps left
   again_lasts clean change s keeps left may =
-      let is_open = open_where_changed (λ from trees. MayLeaveRun ⊤ from xs ps trees) b c xs ps q
-      clean change in
+      let is_open = open_where_changed (λ from trees. MayLeaveRun failed from xs ps trees) b c xs ps
+      q clean change in
       q.lasts clean change s (still a b list why p (q.honest clean) is_open s keeps) left may
 
-  again_later : HasCleanDisk c.db → (left : Trees) → MayLeaveRunOf ⊤ b xs ps left → (s : State)
-      → Keeps a s → MayLeaveRun ⊤ s xs ps left
+  again_later : HasCleanDisk c.db → (left : Trees) → MayLeaveRunOf failed b xs ps left → (s : State)
+      → Keeps a s → MayLeaveRun failed s xs ps left
   again_later clean left may s keeps = may.1 s
       (still a b list why p (q.honest clean) may.0 s keeps)
 
   -- the requests of a list one after the other, up to some place
-  pub some_again : HandlesOrLeaves a c xs ps list
+  pub some_again : HandlesOrLeaves failed a c xs ps list
   some_again = record {
     count = q.count;
     honest = λ clean. p.honest (q.honest clean);
     opens = λ clean is_open. p.opens (q.honest clean) (q.opens clean is_open);
     answered = again_answered;
     shut = λ clean closed. q.shut clean (λ is_open. closed (p.opens (q.honest clean) is_open));
-    crash = survives_then a.db b.db c.db (MayLeaveAllOf a list (Err why)) (MayLeaveRunOf ⊤ b xs ps)
-        (LeavesOf (MayLeaveEither xs ps list) a)
+    crash = survives_then a.db b.db c.db (MayLeaveAllOf a list (Err why))
+        (MayLeaveRunOf failed b xs ps) (LeavesOf (MayLeaveEither failed xs ps list) a)
         (λ clean left may. (may.0, λ s keeps. inr (met_fault s list why left (may.1 s keeps))))
         (λ clean left may. (
           p.opens (q.honest clean) may.0,
@@ -194,44 +194,45 @@ module _ (a b c : Held) (list : List Request) (why : Refusal) (xs : List Request
   }
 
 -- the list again, one request after the other, to its end, with no fault
-pub all_again : (a b c : Held) (xs : List Request) (why : Refusal) (ps : List Answer)
-    → ((s end : State) → IsRun s xs ps end → AreSteps s xs ps end)
-    → HandlesTogether a b xs (Err why) → HandlesAll ⊤ b c xs ps → HandlesAll ⊤ a c xs ps
-all_again a b c xs why ps sure p q = record {
+pub all_again : (failed : Type 0) (a b c : Held) (xs : List Request) (why : Refusal)
+    (ps : List Answer) → ((s end : State) → IsRun s xs ps end → AreSteps s xs ps end)
+    → HandlesTogether a b xs (Err why) → HandlesAll failed b c xs ps
+    → HandlesAll failed a c xs ps
+all_again failed a b c xs why ps sure p q = record {
   count = q.count;
   honest = λ clean. p.honest (q.honest clean);
   opens = λ clean is_open. p.opens (q.honest clean) (q.opens clean is_open);
-  answered = again_answered a b c xs why xs ps p q;
+  answered = again_answered failed a b c xs why xs ps p q;
   shut = λ clean closed. q.shut clean (λ is_open. closed (p.opens (q.honest clean) is_open));
-  crash = survives_then a.db b.db c.db (MayLeaveAllOf a xs (Err why)) (MayLeaveRunOf ⊤ b xs ps)
-      (MayLeaveRunOf ⊤ a xs ps)
+  crash = survives_then a.db b.db c.db (MayLeaveAllOf a xs (Err why))
+      (MayLeaveRunOf failed b xs ps) (MayLeaveRunOf failed a xs ps)
       (λ clean left may. (
         may.0,
         λ s keeps.
-            (let done = again_answered a b c xs why xs ps p q clean s keeps in
-            whole s xs ps left (with_answers s xs ps done.0 why left keeps.rests.kept.sound
+            (let done = again_answered failed a b c xs why xs ps p q clean s keeps in
+            whole failed s xs ps left (with_answers s xs ps done.0 why left keeps.rests.kept.sound
             (sure s done.0 done.1) (may.1 s keeps))),
       ))
       (λ clean left may. (
         p.opens (q.honest clean) may.0,
-        λ s keeps. again_later a b c xs why xs ps p q clean left may s keeps,
+        λ s keeps. again_later failed a b c xs why xs ps p q clean left may s keeps,
       ))
       p.crash q.crash;
-  lasts = again_lasts a b c xs why xs ps p q;
+  lasts = again_lasts failed a b c xs why xs ps p q;
 }
 
 -- requests before the list that were answered by steps
-pub either_after : (a b c : Held) (xs : List Request) (ps : List Answer) (ys : List Request)
-    (qs : List Answer) (list : List Request)
+pub either_after : (failed : Type 0) (a b c : Held) (xs : List Request) (ps : List Answer)
+    (ys : List Request) (qs : List Answer) (list : List Request)
     → ((s end : State) → IsRun s xs ps end → AreSteps s xs ps end)
-    → HandlesAll ⊤ a b xs ps → HandlesOrLeaves b c ys qs list → HandlesOrLeaves a c (xs ++ ys)
-    (ps ++ qs) (xs ++ list)
-either_after a b c xs ps ys qs list sure p q =
-    leaving_then (λ s left. MayLeaveRun ⊤ s xs ps left) (MayLeaveEither ys qs list)
-    (MayLeaveEither (xs ++ ys) (ps ++ qs) (xs ++ list)) a b c xs ps ys qs p q
-    (λ s left quiet m. inl (still_first ⊤ ⊤ s xs ps ys qs left (λ met. met) quiet m))
+    → HandlesAll ⊥ a b xs ps → HandlesOrLeaves failed b c ys qs list
+    → HandlesOrLeaves failed a c (xs ++ ys) (ps ++ qs) (xs ++ list)
+either_after failed a b c xs ps ys qs list sure p q =
+    leaving_then (λ s left. MayLeaveRun ⊥ s xs ps left) (MayLeaveEither failed ys qs list)
+    (MayLeaveEither failed (xs ++ ys) (ps ++ qs) (xs ++ list)) a b c xs ps ys qs p q
+    (λ s left quiet m. inl (still_first ⊥ failed s xs ps ys qs left (λ none. absurd none) quiet m))
     (λ s mid left run may. elim may [
-      | inl m ↦ inl (run_after ⊤ s xs ps mid ys qs left run m)
+      | inl m ↦ inl (run_after failed s xs ps mid ys qs left run m)
       | inr m ↦ inr (record {
         answers = ps ++ m.answers;
         told = tt;

@@ -1,5 +1,5 @@
 -- What an import does to the desk.
-use Rattle.std.specs.Prelude.{◌≡◌, ◌⊎◌, ◌<◌, ◌≤◌, ◌+◌, ◌++◌, ◌∷◌, [], ⊤, ℕ, Bool, true, false}
+use Rattle.std.specs.Prelude.{◌≡◌, ◌⊎◌, ◌<◌, ◌≤◌, ◌+◌, ◌++◌, ◌∷◌, [], ℕ, Bool, true, false}
 use Rattle.std.specs.Prelude.{List, Some, Err, length, map}
 use Rattle.std.specs.List.{filter_map}
 use Rattle.sqlite.specs.Tree.{Trees}
@@ -20,23 +20,24 @@ use Rattle.ftd_import.specs.declared.summary.StopCause.TheVariants as cause
 use Rattle.ftd_import.specs.declared.summary.Stopped.{Stopped}
 use Rattle.ftd_import.specs.declared.summary.Summary.{Summary}
 
--- the desk was asked for the posts of these records, one after the other, and answered so
-abbrev pub Asks : Held → Held → List Outcome → Type 0
-Asks old new outcomes =
-    HandlesAll ⊤ old new (filter_map request_in outcomes) (filter_map answer_in outcomes)
+-- the desk was asked for the posts of these records, one after the other, and answered so; only
+-- where the first premise holds may a crash find what a commit that failed was to keep
+abbrev pub Asks : Type 0 → Held → Held → List Outcome → Type 0
+Asks failed old new outcomes =
+    HandlesAll failed old new (filter_map request_in outcomes) (filter_map answer_in outcomes)
 
 -- these are outcomes of the records, none of which is a fault
 pub record AreOutcomes (records : List (ℕ × Said)) (outcomes : List Outcome) : Type 0 where
   pub all : map record_in outcomes ≡ records
   pub no_fault : filter_map fault_in outcomes ≡ []
 
--- the records were posted, each in its place, and counted
+-- the records were posted, each in its place, and counted; no commit failed
 pub record Posts (old new : Held) (records : List (ℕ × Said))
     (before after : Summary) : Type 0 where
   pub outcomes : List Outcome
   pub are : AreOutcomes records outcomes
   pub counts : Counts before outcomes after
-  pub asks : Asks old new outcomes
+  pub asks : Asks ⊥ old new outcomes
 
 -- this became of a record at which an import stopped: there was no memory to post it or to note it,
 -- or its post was answered by a fault
@@ -47,14 +48,15 @@ IsStop at why last =
     × (fault_in outcome ≡ Some why))
 
 -- an import stopped at this record
-pub record StopsAt (old new : Held) (at : ℕ × Said) (why : StopCause) : Type 0 where
+pub record StopsAt (failed : Type 0) (old new : Held) (at : ℕ × Said) (why : StopCause)
+    : Type 0 where
   pub last : List Outcome
   pub stop : IsStop at why last
-  pub asks : Asks old new last
+  pub asks : Asks failed old new last
 
 -- an import stopped at one of the records: those before it were posted and counted
-pub record StopsIn (old new : Held) (records : List (ℕ × Said)) (before after : Summary)
-    (why : StopCause) : Type 0 where
+pub record StopsIn (failed : Type 0) (old new : Held) (records : List (ℕ × Said))
+    (before after : Summary) (why : StopCause) : Type 0 where
   pub passed : List (ℕ × Said)
   pub at : ℕ × Said
   pub others : List (ℕ × Said)
@@ -64,7 +66,7 @@ pub record StopsIn (old new : Held) (records : List (ℕ × Said)) (before after
   pub counts : Counts before outcomes after
   pub last : List Outcome
   pub stop : IsStop at why last
-  pub asks : Asks old new (outcomes ++ last)
+  pub asks : Asks failed old new (outcomes ++ last)
 
 -- so many records at most go to the desk together
 abbrev pub most_together : ℕ
@@ -74,25 +76,27 @@ most_together = 16_384
 -- do
 abbrev pub PostsNone : Type 0 → Held → Held → List Request → Type 0
 PostsNone failed old new posts =
-    Asks old new [] ⊎ (failed × ((why : Refusal) × HandlesTogether old new posts (Err why)))
+    Asks ⊥ old new [] ⊎ (failed × ((why : Refusal) × HandlesTogether old new posts (Err why)))
 
 -- what a crash may leave of requests that were answered so, one after the other, or of a whole list
 -- whose commit failed
-abbrev pub MayLeaveEither : List Request → List Answer → List Request → State → Trees → Type 0
-MayLeaveEither requests answers list s left =
-    MayLeaveRun ⊤ s requests answers left ⊎ MayLeaveAll s list (Err refusal.Store) left
+abbrev pub MayLeaveEither : Type 0 → List Request → List Answer → List Request → State → Trees
+    → Type 0
+MayLeaveEither failed requests answers list s left =
+    MayLeaveRun failed s requests answers left ⊎ MayLeaveAll s list (Err refusal.Store) left
 
 -- the requests are answered one after the other, and the desk stands for the state at the end; a
 -- crash finds what it would have found before, or a state of this run from the last change on, or
 -- the state after all of a list
-abbrev pub HandlesOrLeaves : Held → Held → List Request → List Answer → List Request → Type 0
-HandlesOrLeaves old new requests answers list =
-    HandlesLeaving (MayLeaveEither requests answers list) old new requests answers
+abbrev pub HandlesOrLeaves : Type 0 → Held → Held → List Request → List Answer → List Request
+    → Type 0
+HandlesOrLeaves failed old new requests answers list =
+    HandlesLeaving (MayLeaveEither failed requests answers list) old new requests answers
 
 -- The commit of a list of posts failed, and the list was asked for again, one post after the other,
 -- up to some record of it. So the desk answered the posts up to there one after the other, and a
 -- crash may also find the state after all of the list.
-pub record AsksAgain (old new : Held) (records passed : List (ℕ × Said))
+pub record AsksAgain (failed : Type 0) (old new : Held) (records passed : List (ℕ × Said))
     (outcomes : List Outcome) : Type 0 where
   pub before : List (ℕ × Said)
   pub list : List (ℕ × Said)
@@ -101,7 +105,7 @@ pub record AsksAgain (old new : Held) (records passed : List (ℕ × Said))
   pub short : length list ≤ most_together
   pub begins : length before ≤ length passed
   pub ends : length passed < length before + length list
-  pub asks : HandlesOrLeaves old new (filter_map request_in outcomes)
+  pub asks : HandlesOrLeaves failed old new (filter_map request_in outcomes)
       (filter_map answer_in outcomes) (posts_of (before ++ list))
 
 -- an import stopped at one of the records: those before it were posted, each in its place, and told
@@ -117,8 +121,8 @@ pub record StopsWithin (failed : Type 0) (old new : Held) (records : List (ℕ �
   pub told : IsTold outcomes
   pub last : List Outcome
   pub stop : IsStop at why last
-  pub asks : Asks old new (outcomes ++ last)
-      ⊎ (failed × AsksAgain old new records passed (outcomes ++ last))
+  pub asks : Asks failed old new (outcomes ++ last)
+      ⊎ (failed × AsksAgain failed old new records passed (outcomes ++ last))
 
 -- the records of the text, each with its number
 abbrev pub numbered_in : List ℕ → List (ℕ × Said)
@@ -131,7 +135,7 @@ pub record Imports (old new : Held) (text : List ℕ) (summary : Summary) : Type
   pub outcomes : List Outcome
   pub are : AreOutcomes (numbered_in text) outcomes
   pub summary_is : IsSummary outcomes summary
-  pub asks : Asks old new outcomes
+  pub asks : Asks ⊥ old new outcomes
 
 -- the import stopped at one of the records: those before it were posted, each in its place, and
 -- this is their summary
@@ -144,7 +148,7 @@ pub record StopsAmong (failed : Type 0) (old new : Held) (text : List ℕ) (done
 
 -- nothing was posted
 abbrev pub StopsFirst : Held → Held → Summary → Type 0
-StopsFirst old new done = IsNothing done × Asks old new []
+StopsFirst old new done = IsNothing done × Asks ⊥ old new []
 
 -- where each cause stands; want of memory may come before there are records, or at one of them
 abbrev pub StopsFor : Type 0 → Held → Held → List ℕ → Summary → StopCause → Type 0
@@ -156,14 +160,10 @@ StopsFor failed old new text done cause.Memory =
     StopsFirst old new done ⊎ StopsAmong failed old new text done cause.Memory
 StopsFor failed old new text done cause.Store = StopsAmong failed old new text done cause.Store
 
--- the import stopped so: the posts went one after the other, or a commit failed, and they went in
--- lists
-abbrev pub Stops : Held → Held → List ℕ → Stopped → Type 0
-Stops old new text stopped = StopsFor ⊤ old new text stopped.done stopped.cause
-
--- the import stopped so, and the posts went one after the other
-abbrev pub StopsOneByOne : Held → Held → List ℕ → Stopped → Type 0
-StopsOneByOne old new text stopped = StopsFor ⊥ old new text stopped.done stopped.cause
+-- the import stopped so: the posts went one after the other, or, only where the first premise holds,
+-- in lists of which a commit failed
+abbrev pub Stops : Type 0 → Held → Held → List ℕ → Stopped → Type 0
+Stops failed old new text stopped = StopsFor failed old new text stopped.done stopped.cause
 
 -- the text itself is at fault
 abbrev pub is_of_text : StopCause → Bool

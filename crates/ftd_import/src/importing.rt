@@ -1,8 +1,8 @@
 //! Pay runs out of a text.
 
-ghost use Rattle.std.specs.Prelude.{◌≡◌, ◌⊎◌, true, IfErr, MatchResult};
+ghost use Rattle.std.specs.Prelude.{◌≡◌, true, IfErr, MatchResult};
 ghost use Rattle.ftd_desk.specs.Desks.{IsStopped, held};
-ghost use Rattle.ftd_import.specs.Imports.{Imports, Stops, StopsOneByOne, is_of_text};
+ghost use Rattle.ftd_import.specs.Imports.{Imports, Stops, is_of_text};
 
 use crate::lists::post_lists;
 use crate::progress::Progress;
@@ -33,9 +33,8 @@ pub fn import<S: Alter, P: Progress>(
 ) -> Result<Summary, Stopped>
     ensures imports { MatchResult result
         (λ summary. Imports (held S.Store desk.old) (held S.Store desk.new) text.now summary)
-        (λ stopped. Stops (held S.Store desk.old) (held S.Store desk.new) text.now stopped) }
-    ensures one_by_one { IfErr result (λ stopped. IsStopped desk.new
-        ⊎ StopsOneByOne (held S.Store desk.old) (held S.Store desk.new) text.now stopped) }
+        (λ stopped. Stops (IsStopped desk.new) (held S.Store desk.old) (held S.Store desk.new)
+        text.now stopped) }
     ensures untouched { IfErr result
         (λ stopped. is_of_text stopped.cause ≡ true → desk.new ≡ desk.old) }
 {

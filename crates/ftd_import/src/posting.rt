@@ -27,7 +27,7 @@ fn post_run<S: Alter>(
         (Posts (held S.Store desk.old) (held S.Store desk.new)
         ((number, pay_run run) ∷ []) done.old done.new) }
     ensures stops { (run : Run) → post.now ≡ post_of run → IfErr result
-        (λ cause. StopsAt (held S.Store desk.old) (held S.Store desk.new)
+        (λ cause. StopsAt (IsStopped desk.new) (held S.Store desk.old) (held S.Store desk.new)
         (number, pay_run run) cause) }
     ensures same { OnErr result (done.new ≡ done.old) }
     ensures grows { OnOk result (tally done.new ≤ tally done.old + 1) }
@@ -60,7 +60,8 @@ fn post_record<'p, S: Alter>(
         (Posts (held S.Store desk.old) (held S.Store desk.new) (at ∷ []) done.old done.new) }
     ensures stops { (at : ℕ × Said) (later : List (ℕ × Said)) → place.now ≡ kept_of at
         → posts.now ≡ posts_of (at ∷ later) → IfErr result
-        (λ cause. StopsAt (held S.Store desk.old) (held S.Store desk.new) at cause) }
+        (λ cause. StopsAt (IsStopped desk.new) (held S.Store desk.old) (held S.Store desk.new)
+        at cause) }
     ensures same { OnErr result (IsSame done.old done.new) }
     ensures grows { OnOk result (tally done.new ≤ tally done.old + 1) }
     ensures stopped { IsStopped desk.old → IsStopped desk.new }
@@ -93,7 +94,7 @@ pub(crate) fn post_all<S: Alter>(
     requires fits { tally done.old + length list.now.places.items ≤ most_counted }
     ensures posts { (records : List (ℕ × Said)) → IsListOf records list.now → MatchResult result
         (λ _. Posts (held S.Store desk.old) (held S.Store desk.new) records done.old done.new)
-        (λ cause. StopsIn (held S.Store desk.old) (held S.Store desk.new)
+        (λ cause. StopsIn (IsStopped desk.new) (held S.Store desk.old) (held S.Store desk.new)
         records done.old done.new cause) }
     ensures grows { OnOk result
         (tally done.new ≤ tally done.old + length list.now.places.items) }

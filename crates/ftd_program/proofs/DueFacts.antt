@@ -2,6 +2,7 @@
 use Rattle.std.proofs.Common.{◌≡◌, inl, inr, ℕ, ◌+◌, ◌≤◌, Bool, List, [], ◌∷◌, ◌++◌, Option, Result}
 use Rattle.std.proofs.Common.{Ok, Err, sym, ap, ◌∙◌, subst, arith, append_assoc, append-nil}
 use Rattle.std.specs.List.{sum_by}
+use Rattle.std.proofs.lemmas.Bool.{cases_Bool}
 use Rattle.std.proofs.lemmas.List.Sums.{sum_by-append, sum_by-cons}
 use Rattle.ftd_ports.specs.Writing.{WritesPrefix}
 use Rattle.ftd_rules.specs.Verdicts.{amount_of}
@@ -13,6 +14,7 @@ use Rattle.ftd_reports.proofs.LateFacts.{first_part}
 use Rattle.ftd_machine.specs.Checks.{Answer}
 use Rattle.ftd_machine.specs.Limits.{amounts_end}
 use Rattle.ftd_machine.specs.Runs.{IsFault}
+use Rattle.ftd_machine.specs.Refusals.{is_failure}
 use Rattle.ftd_machine.specs.declared.replies.Refusal.{Refusal}
 use Rattle.ftd_program.specs.Refusals.{refusal_status}
 use Rattle.ftd_machine.specs.State.{State}
@@ -72,6 +74,13 @@ status_in (Err refusal) = refusal_status refusal
 pub fault_status : (refusal : Refusal) → IsFault (Err refusal) → refusal_status refusal ≡ 3
 fault_status refusal (inl memory) = ap status_in memory
 fault_status refusal (inr store) = ap status_in store
+
+-- no refusal has status 0
+pub some_status : (refusal : Refusal) → refusal_status refusal ≡ 0 → ⊥
+some_status refusal zero = elim (cases_Bool (is_failure refusal)) [
+  | inl is ↦ let e = rw is at zero in omega arith
+  | inr not ↦ let e = rw not at zero in omega arith
+]
 
 -- what is told of a list that was refused, or at which the sink failed
 module _ {K : Type 0} (took broke : K → DueRow → K → Type 0) (s : State) (name : List ℕ)

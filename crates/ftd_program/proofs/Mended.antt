@@ -9,7 +9,7 @@ use Rattle.ftd_machine.specs.State.{State}
 use Rattle.ftd_machine.specs.declared.replies.Refusal.{Refusal}
 use Rattle.ftd_machine.specs.declared.replies.Reply.{Reply}
 use Rattle.ftd_machine.specs.declared.requests.Request.{Request}
-use Rattle.ftd_desk.specs.Desks.{Held, Keeps}
+use Rattle.ftd_desk.specs.Desks.{Held, Keeps, KeepsIfOpen}
 use Rattle.ftd_desk.specs.Telling.{StandsAsBefore}
 use Rattle.ftd_desk.specs.Words.{Handles, MayLeave}
 use Rattle.ftd_machine.specs.Runs.{IsFault}
@@ -72,20 +72,20 @@ module _ (a b c : Held) (request : Request) (refusal : Refusal)
   }
 
   -- what it told is so of the state after the request
-  pub knows_after : (known : Result Known Refusal) → (HasCleanDisk c.db → IsTrue c.db.is_open
-      → (s : State) → Keeps b s → IfOk known (KnowsFor s request refusal))
+  pub knows_after : (known : Result Known Refusal) → (HasCleanDisk c.db
+      → (s : State) → KeepsIfOpen b s → IfOk known (KnowsFor s request refusal))
       → IfErr known (λ fault. IsFault (Err fault))
       → KnowsAfter a c request (Err refusal) known
-  knows_after known knows faults = λ clean is_open s keeps.
+  knows_after known knows faults = λ clean s keeps.
       let first = handles.answered (stands.honest clean) s keeps in (
         first.0,
         first.1,
         known_of first.0 request refusal known
-            (knows clean is_open first.0 (first.2 (stands.opens clean is_open))) faults,
+            (knows clean first.0 first.2) faults,
       )
 
 -- after a reply nothing more is asked
 pub answered_after : (a b : Held) (request : Request) (reply : Reply)
     → Handles a b request (Ok reply) → KnowsAfter a b request (Ok reply) (Ok Nothing)
-answered_after a b request reply handles = λ clean is_open s keeps.
+answered_after a b request reply handles = λ clean s keeps.
     let first = handles.answered clean s keeps in (first.0, first.1, tt)

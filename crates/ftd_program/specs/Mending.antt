@@ -1,5 +1,5 @@
 -- What is asked of the desk for the hints of a refusal.
-use Rattle.std.specs.Prelude.{◌≡◌, ◌≤◌, ℕ, nat_lt, IsTrue, List, Option, None, Some, Result}
+use Rattle.std.specs.Prelude.{◌≡◌, ◌≤◌, ℕ, nat_lt, List, Option, None, Some, Result}
 use Rattle.std.specs.Prelude.{Ok, Err, ⊤, if◌then◌else◌}
 use Rattle.sqlite.specs.State.{HasCleanDisk}
 use Rattle.ftd_machine.specs.State.{State, calendar_at, entries_of}
@@ -103,7 +103,7 @@ KnowsOf s asked (Err refused) (Err fault) = IsFault (Err fault)
 
 abbrev pub KnowsAfter : Held → Held → Request → Answer → Result Known Refusal → Type 0
 KnowsAfter old new asked answer known =
-    HasCleanDisk new.db → IsTrue new.db.is_open → (s : State) → Keeps old s
+    HasCleanDisk new.db → (s : State) → Keeps old s
     → (next : State) × Goes s asked answer next × KnowsOf next asked answer known
 
 -- what the hints are made of: nothing where a fault came

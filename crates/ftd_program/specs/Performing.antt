@@ -1,5 +1,5 @@
 -- What the program prints of an answer, and its exit status.
-use Rattle.std.specs.Prelude.{◌≡◌, ◌⊎◌, ◌≤◌, ℕ, Bool, IsTrue, true, List, Option, Result}
+use Rattle.std.specs.Prelude.{◌≡◌, ◌⊎◌, ◌≤◌, ℕ, Bool, true, List, Option, Result}
 use Rattle.std.specs.Prelude.{Some, None, MatchResult, Ok, Err, codes}
 use Rattle.std.specs.Io.KnownBytes.{Appends}
 use Rattle.ftd_ports.specs.Writing.{WritesPrefix}
@@ -15,7 +15,10 @@ use Rattle.ftd_machine.specs.Questions.{question_of}
 use Rattle.ftd_machine.specs.declared.requests.Question.{Question as Questions}
 use Rattle.ftd_machine.specs.declared.requests.Question.TheVariants.{Status, DueList, ScheduleB}
 use Rattle.ftd_machine.specs.declared.requests.Request.TheVariants.{Question}
+use Rattle.ftd_questions.specs.Shown.{ShowsRows}
 use Rattle.ftd_questions.specs.Telling.{Replies, Refuses}
+use Rattle.ftd_questions.specs.Walks.{StandIfOpen}
+use Rattle.ftd_schema.specs.Standing.{Tables}
 use Rattle.ftd_desk.specs.Desks.{Held, Keeps}
 use Rattle.ftd_desk.specs.Telling.{StandsAsBefore}
 use Rattle.ftd_desk.specs.Words.{Handles}
@@ -89,11 +92,12 @@ module _ {O E : Type 0} (o_taken : O → Option (List ℕ)) (o_failed : O → Bo
       PrintsBoth input stopped.cause (summary_text stopped.done)
       ⊎ FailsOutput (summary_text stopped.done)
 
-  -- the pay runs of the text were imported, and what became of them printed
-  pub record PerformsImport (old new : Held) (text : List ℕ) : Type 0 where
+  -- the pay runs of the text were imported, and what became of them printed; only where the first
+  -- premise holds may a commit have failed
+  pub record PerformsImport (stopped : Type 0) (old new : Held) (text : List ℕ) : Type 0 where
     pub import : Result Summary Stopped
     pub imports : MatchResult import (λ summary. Imports old new text summary)
-        (λ stopped. Stops old new text stopped)
+        (λ end. Stops stopped old new text end)
     pub prints : MatchResult import (PrintsSummary text) (PrintsStop text)
 
   -- the text of the reply, or the lines of the refusal
@@ -145,12 +149,22 @@ module _ {O E : Type 0} (o_taken : O → Option (List ℕ)) (o_failed : O → Bo
     failed : (rows : List DueRow) → Replies s account quarter as_of rows
         → FailsDue rows account quarter as_of → PrintsDue s db account quarter as_of
 
+  -- a due list was printed of exactly the account's obligations in the tables that begin in the
+  -- quarter, each once, by first day
+  abbrev pub ShowsDue : List ℕ → ℕ → ℕ → Tables → Type 0
+  ShowsDue account quarter as_of t =
+      (rows : List DueRow) × ShowsRows account quarter rows t
+      × PrintsText 0 (due_text account quarter as_of rows)
+
   -- the due list was asked of the desk, and printed from its rows as they came
   pub record PerformsDue (old new : Held) (db account : List ℕ) (quarter as_of : ℕ)
       : Type 0 where
     pub stands : StandsAsBefore old new
-    pub prints : HasCleanDisk new.db → IsTrue new.db.is_open → (s : State) → Keeps old s
+    pub prints : HasCleanDisk new.db → (s : State) → Keeps old s
         → PrintsDue s db account quarter as_of
+    -- so of any tables, whether they stand for a state or not
+    pub shows : HasCleanDisk new.db → p.status ≡ 0 → (t : Tables) → StandIfOpen old.db t
+        → ShowsDue account quarter as_of t
 
   -- a due list is printed row by row, and every other reply when it is there
   abbrev pub AsksBy : Held → Held → List ℕ → Request → Option Questions → Type 0
@@ -164,6 +178,6 @@ module _ {O E : Type 0} (o_taken : O → Option (List ℕ)) (o_failed : O → Bo
   Asks old new db request = AsksBy old new db request (question_of request)
 
   -- the job of a task was done, with the desk of this file
-  abbrev pub Does : Held → Held → List ℕ → List ℕ → Job → Type 0
-  Does old new input db (job.Import file) = PerformsImport old new input
-  Does old new input db (job.Ask request) = Asks old new db request
+  abbrev pub Does : Type 0 → Held → Held → List ℕ → List ℕ → Job → Type 0
+  Does stopped old new input db (job.Import file) = PerformsImport stopped old new input
+  Does stopped old new input db (job.Ask request) = Asks old new db request

@@ -1,10 +1,10 @@
 //! What is asked of the desk for the hints of a refusal.
 
-ghost use Rattle.std.specs.Prelude.{◌≡◌, Err, IfErr, IfOk, IsTrue};
+ghost use Rattle.std.specs.Prelude.{◌≡◌, Err, IfErr, IfOk};
 ghost use Rattle.sqlite.specs.State.{HasCleanDisk};
 ghost use Rattle.ftd_machine.specs.Runs.{IsFault};
 ghost use Rattle.ftd_machine.specs.State.{State, entries_of};
-ghost use Rattle.ftd_desk.specs.Desks.{Keeps, held};
+ghost use Rattle.ftd_desk.specs.Desks.{KeepsIfOpen, held};
 ghost use Rattle.ftd_desk.specs.Telling.{StandsAsBefore};
 ghost use Rattle.ftd_questions.specs.Missing.{first_year};
 ghost use Rattle.ftd_program.specs.Mending.{KnowsDays, KnowsFor, KnowsQuarters, begins_after};
@@ -24,8 +24,7 @@ pub fn known_for<S: Alter>(
     refusal: Refusal,
 ) -> Result<Known, Refusal>
     ensures knows { HasCleanDisk (held S.Store desk.new).db
-        → IsTrue (held S.Store desk.new).db.is_open
-        → (s : State) → Keeps (held S.Store desk.old) s
+        → (s : State) → KeepsIfOpen (held S.Store desk.old) s
         → IfOk result (KnowsFor s request.now refusal) }
     ensures fault { IfErr result (λ fault. IsFault (Err fault)) }
     ensures stands { StandsAsBefore (held S.Store desk.old) (held S.Store desk.new) }
@@ -67,8 +66,7 @@ fn quarters_for<S: Alter>(
     first: Quarter,
 ) -> Result<Known, Refusal>
     ensures knows { HasCleanDisk (held S.Store desk.new).db
-        → IsTrue (held S.Store desk.new).db.is_open
-        → (s : State) → Keeps (held S.Store desk.old) s
+        → (s : State) → KeepsIfOpen (held S.Store desk.old) s
         → IfOk result (KnowsQuarters s request.now first) }
     ensures fault { IfErr result (λ fault. IsFault (Err fault)) }
     ensures stands { StandsAsBefore (held S.Store desk.old) (held S.Store desk.new) }
@@ -95,26 +93,33 @@ fn quarters_for<S: Alter>(
 /// Of a calendar that differs, the days that it was given with.
 fn days_for<S: Alter>(desk: &mut Desk<S>, request: &Request) -> Result<Known, Refusal>
     ensures knows { HasCleanDisk (held S.Store desk.new).db
-        → IsTrue (held S.Store desk.new).db.is_open
-        → (s : State) → Keeps (held S.Store desk.old) s
+        → (s : State) → KeepsIfOpen (held S.Store desk.old) s
         → IfOk result (KnowsDays s request.now) }
     ensures fault { IfErr result (λ fault. IsFault (Err fault)) }
     ensures stands { StandsAsBefore (held S.Store desk.old) (held S.Store desk.new) }
 {
-    let Request::Calendar { year, .. } = request else {
-        return Ok(Known::Nothing);
-    };
-    match desk.given_days(*year)? {
-        Some(days) => Ok(Known::Given(days)),
-        None => Ok(Known::Nothing),
+    match request {
+        Request::Calendar { year, .. } => match desk.given_days(*year)? {
+            Some(days) => Ok(Known::Given(days)),
+            None => Ok(Known::Nothing),
+        },
+        Request::Enrol { .. }
+        | Request::AddHoliday { .. }
+        | Request::Report { .. }
+        | Request::ReportYear { .. }
+        | Request::OpenYear { .. }
+        | Request::Post { .. }
+        | Request::Void { .. }
+        | Request::Pay { .. }
+        | Request::VoidPay { .. }
+        | Request::Question(_) => Ok(Known::Nothing),
     }
 }
 
 /// Of a year that is not open, the first of the account's years, if that is a later one.
 fn beginning<S: Alter>(desk: &mut Desk<S>, account: &str, year: u32) -> Result<Known, Refusal>
     ensures knows { HasCleanDisk (held S.Store desk.new).db
-        → IsTrue (held S.Store desk.new).db.is_open
-        → (s : State) → Keeps (held S.Store desk.old) s
+        → (s : State) → KeepsIfOpen (held S.Store desk.old) s
         → IfOk result (λ known.
         known ≡ begins_after year (first_year (entries_of s account.now))) }
     ensures fault { IfErr result (λ fault. IsFault (Err fault)) }

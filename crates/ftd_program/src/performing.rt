@@ -2,7 +2,7 @@
 
 ghost use Rattle.std.specs.Prelude.{◌≡◌, codes};
 ghost use Rattle.std.specs.String.{string_bytes};
-ghost use Rattle.ftd_desk.specs.Desks.{held};
+ghost use Rattle.ftd_desk.specs.Desks.{IsStopped, held};
 ghost use Rattle.ftd_program.specs.Performing.{Asks, Does, Performs, PerformsDue};
 ghost use Rattle.ftd_program.specs.Performing.{PerformsImport, PrintsRefusal, PrintsReply};
 ghost use Rattle.ftd_program.specs.Performing.{PrintsStop, PrintsSummary};
@@ -54,7 +54,7 @@ pub fn perform<S: Alter, O: Target, E: Target, P: Progress>(
     progress: &mut P,
 ) -> Performed<O, E>
     ensures { Does O.taken O.failed E.taken E.failed out err result
-        (held S.Store desk.old) (held S.Store desk.new) input.now (string_bytes task.now.db)
+        (IsStopped desk.new) (held S.Store desk.old) (held S.Store desk.new) input.now (string_bytes task.now.db)
         task.now.job }
 {
     match &task.job {
@@ -166,7 +166,7 @@ fn post_runs<S: Alter, O: Target, E: Target, P: Progress>(
     progress: &mut P,
 ) -> Performed<O, E>
     ensures { PerformsImport O.taken O.failed E.taken E.failed out err result
-        (held S.Store desk.old) (held S.Store desk.new) input.now }
+        (IsStopped desk.new) (held S.Store desk.old) (held S.Store desk.new) input.now }
 {
     match import(alloc, desk, input, progress) {
         Ok(summary) => print_summary(alloc, input, &summary, out, err),

@@ -9,13 +9,14 @@ use Rattle.ftd_schema.proofs.Controls.{crash_then, undone_all}
 use Rattle.ftd_schema.specs.Standing.{Tables, Stands}
 use Rattle.ftd_store.specs.Ends.{Begins, EndsAs}
 use Rattle.ftd_machine.specs.Runs.{IsFault}
+use Rattle.ftd_machine.specs.Sound.{IsSound}
 use Rattle.ftd_machine.specs.State.{State}
 use Rattle.ftd_machine.specs.declared.replies.Refusal.{Refusal}
-use Rattle.ftd_entries.specs.Words.{IsKept}
+use Rattle.ftd_entries.specs.Standing.{StandsFor}
 use Rattle.ftd_questions.specs.Telling.{KnowsAsked}
-use Rattle.ftd_questions.specs.Walks.{Stays, IsSeen}
+use Rattle.ftd_questions.specs.Walks.{Stays, StandIfOpen, KeptIfOpen}
 use Rattle.ftd_questions.specs.declared.asking.KnownReturn.{KnownReturn}
-use Rattle.ftd_questions.proofs.Walked.{clean_before, stood}
+use Rattle.ftd_questions.proofs.Walked.{clean_before}
 
 -- from what was seen before it to its end: as it began, as it was dropped, and afterwards
 module _ (a b m e : database.State) (entered : CrashKeeps a b) (begun : HasCleanDisk b → Begins a b)
@@ -37,19 +38,25 @@ module _ (a b m e : database.State) (entered : CrashKeeps a b) (begun : HasClean
     crash = crash_then a b e entered (crash_then b m e crash left);
   }
 
-  -- rows that the tables have now they had in it
-  pub stood_in_it : IsSeen e → (t : Tables) → Stands e.now t → Stands b.now t
-  stood_in_it is t stands =
-      let clean_b = clean_before b m crash (clean_before m e left is.0) in
-      subst (λ (db : Database). Stands db t) (sym (begun clean_b).shows.now_is)
-      (stood a e dropped_stays is t stands)
+-- it began where the store was open, and had the rows from before it
+pub stood_in_it : (a b m e : database.State) → (HasCleanDisk b → Begins a b) → CrashKeeps b m
+    → CrashKeeps m e → HasCleanDisk e → (t : Tables) → StandIfOpen a t → Stands b.now t
+stood_in_it a b m e begun crash left clean t stands =
+    let began = begun (clean_before b m crash (clean_before m e left clean)) in
+    subst (λ (db : Database). Stands db t) (sym began.shows.now_is) (stands began.shows.was_open)
 
--- rows that stood for a state before it stood in it
+-- and kept the state from before it
 pub kept_in_it : (a b m e : database.State) → (HasCleanDisk b → Begins a b) → CrashKeeps b m
-    → CrashKeeps m e → IsSeen e → (s : State) (kept : IsKept a.now s) → Stands b.now kept.tables
-kept_in_it a b m e begun crash left is s kept =
-    let clean_b = clean_before b m crash (clean_before m e left is.0) in
-    subst (λ (db : Database). Stands db kept.tables) (sym (begun clean_b).shows.now_is) kept.stands
+    → CrashKeeps m e → HasCleanDisk e → (s : State) → KeptIfOpen a s
+    → (t : Tables) × Stands b.now t × StandsFor t s × IsSound s
+kept_in_it a b m e begun crash left clean s kept =
+    let began = begun (clean_before b m crash (clean_before m e left clean)) in
+    let its = kept began.shows.was_open in (
+      its.tables,
+      subst (λ (db : Database). Stands db its.tables) (sym began.shows.now_is) its.stands,
+      its.stands_for,
+      its.sound,
+    )
 
 -- what was read in it, with no fault
 pub answered : (name : List ℕ) (quarter as_of : ℕ) (t : Tables) (asked : Result KnownReturn Refusal)

@@ -218,6 +218,30 @@ module _ (name : List ℕ) (quarter : ℕ) where
       ap (λ p. obligation_row name p ∷ map (obligation_row name) os) (sym pairs.0.obligation)
       ∙ ap (λ rs. row_shown name r ∷ rs) (rows_are of_return as_of os rows pairs.1)
 
+  -- over any tables, the rows that go with the obligations of the quarter that were walked over are
+  -- exactly the tables' rows of the quarter, by first day
+  pub walk_shown : (of_return : QuarterReturn) (as_of : ℕ) (found : List Obligation)
+      (rows : List DueRow) (t : Tables)
+      → Lists ObligationsRise (IsObligation name) (filter (begins name starts ends) (t Obligations))
+      found
+      → Pairs (IsRowBy of_return as_of) found rows → ShowsRows name quarter rows t
+  walk_shown of_return as_of found rows t lists pairs =
+      let read : List ObligationRow = map (obligation_row name) found in
+      let ordered : lists.ordered ≡ read = paired name starts ends lists.ordered found lists.pairs in
+      let same : read ≡ map (row_shown name) rows = rows_are of_return as_of found rows pairs in
+      let falls : KeysDoNotFall first_key read =
+      subst (KeysDoNotFall first_key) ordered
+      (next_do_not_fall first_key lists.ordered (λ k d less. key_rises _ _ (lists.rise k d less))) in
+      record {
+        all =
+            subst (λ l. IsPermutation (filter (begins name starts ends) (t Obligations)) l)
+            (ordered ∙ same) lists.same;
+        by_first_day =
+            seen_do_not_fall first_key (row_shown name) first_of_row
+            (λ r. key_is name starts ends r.obligation) rows
+            (subst (KeysDoNotFall first_key) same falls);
+      }
+
   -- over any tables, the rows that go with the obligations that were listed of the return period
   -- and begin in the quarter are exactly the tables' rows of the quarter, by first day
   pub rows_shown : (form : Form) (first last as_of : ℕ) (found : List Obligation)

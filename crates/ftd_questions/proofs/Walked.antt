@@ -1,6 +1,8 @@
 -- What a walk over an account's obligations leaves, and what it tells.
 use Rattle.std.proofs.Common.{◌≡◌, ℕ, ◌+◌, ◌-◌, List, [], ◌∷◌, ◌++◌, Option, Some, None, refl, sym}
 use Rattle.std.proofs.Common.{◌∙◌, subst, arith, inl, inr, Bool, true, false}
+use Rattle.std.proofs.Common.{Result, Ok, Err}
+use Rattle.std.specs.Prelude.{IfOk}
 use Rattle.std.specs.List.{list_any}
 use Rattle.std.proofs.lemmas.Bool.{cases_Bool, true≢false}
 use Rattle.sqlite.specs.Store as store
@@ -21,7 +23,7 @@ use Rattle.ftd_store.specs.Walking.{rows_in, walked, HasListed, Continues}
 use Rattle.sqlite.specs.declared.rows.stream.Rows.{Rows}
 use Rattle.ftd_machine.specs.State.{State}
 use Rattle.ftd_entries.specs.Standing.{StandsFor}
-use Rattle.ftd_questions.specs.Walks.{Stays, StaysIfSettled, IsSeen, begun}
+use Rattle.ftd_questions.specs.Walks.{Stays, StaysIfSettled, StandIfOpen, begun}
 use Rattle.ftd_questions.proofs.OwedDays.{of_quarter}
 use Rattle.ftd_questions.proofs.OwedRows.{obligations_listed, first_listed}
 
@@ -102,22 +104,29 @@ begun_then a b c same crash settled walked =
       crash = walked.crash;
     })
 
-pub seen_before : (a b : database.State) → Stays a b → IsSeen b → IsSeen a
-seen_before a b stays is = (clean_before a b stays.crash is.0, (stays.rows is.0).was_open is.1)
+-- rows that the tables had they still have
+pub stand_still : (a b : database.State) → Stays a b → HasCleanDisk b → (t : Tables)
+    → StandIfOpen a t → StandIfOpen b t
+stand_still a b stays clean t stands = λ on. let left = stays.rows clean in
+    subst (λ (db : Database). Stands db t) (sym (left.now_is on)) (stands (left.was_open on))
 
--- rows that the tables have now they had before
-pub stood : (a b : database.State) → Stays a b → IsSeen b → (t : Tables) → Stands b.now t
-    → Stands a.now t
-stood a b stays is t stands = subst (λ (db : Database). Stands db t) ((stays.rows is.0).now_is is.1)
-    stands
-
--- and the reverse
-pub stands_still : (a b : database.State) → Stays a b → IsSeen b → (t : Tables) → Stands a.now t
+-- what answered and left everything unchanged was open, and left the rows
+pub stand_unchanged : (a b : database.State) → IsUnchanged a b → (t : Tables) → StandIfOpen a t
     → Stands b.now t
-stands_still a b stays is t stands = subst (λ (db : Database). Stands db t)
-    (sym ((stays.rows is.0).now_is is.1)) stands
+stand_unchanged a b same t stands = subst (λ (db : Database). Stands db t) (sym same.0.now_is)
+    (stands same.0.was_open)
+
+-- what follows of a thing that is so with Ok
+pub if_ok : {A E : Type 0} {P Q : A → Type 0} (result : Result A E) → ((x : A) → P x → Q x)
+    → IfOk result P → IfOk result Q
+if_ok (Ok x) f p = f x p
+if_ok (Err e) f p = p
 
 -- ---- what a walk tells
+
+-- a walk shows the rows that it began with
+abbrev ShowsSame : {S : Type 0} (g : store.Ghosts S) → Rows S g → Rows S g → Type 0
+ShowsSame g old new = HasCleanDisk (walked g new) → (walked g new).now ≡ (walked g old).now
 
 -- so far a walk from here has given these
 abbrev pub HasWalked : {S : Type 0} (g : store.Ghosts S) → Rows S g → Rows S g → List Obligation
@@ -155,8 +164,26 @@ NextTells g mid new next = HasCleanDisk (walked g new) → (name : List ℕ) (qu
     (listed : List Obligation) → HasListed g name quarter mid listed
     → Continues g name quarter new listed next
 
+-- a walk from here has given these, which are the first
+pub record WalksTo {S : Type 0} (g : store.Ghosts S) (old new : Rows S g)
+    (listed : List Obligation) : Type 0 where
+  pub given : HasWalked g old new listed
+  pub same : ShowsSame g old new
+  pub first : HasCleanDisk (walked g new) → (name : List ℕ) (quarter : ℕ)
+      → HasListed g name quarter old [] → (t : Tables) → Stands (walked g old).now t
+      → AreFirst name quarter listed t
+
+-- it begins
+pub walks_none : {S : Type 0} (g : store.Ghosts S) (old : Rows S g) → WalksTo g old old []
+walks_none g old = record {
+  given = λ clean name quarter has. has;
+  same = λ clean. refl;
+  first = λ clean name quarter has t stands s stands_for. (begun stands_for name quarter, refl);
+}
+
 module _ {S : Type 0} (g : store.Ghosts S) (old mid new : Rows S g) (listed : List Obligation)
-    (so_far : HasWalked g old mid listed) (crash : CrashKeeps (walked g mid) (walked g new))
+    (so_far : WalksTo g old mid listed) (crash : CrashKeeps (walked g mid) (walked g new))
+    (same : HasCleanDisk (walked g new) → IsUnchanged (walked g mid) (walked g new))
     (next : Option Obligation) (tells : NextTells g mid new next) where
   tells_so : (found : Option Obligation) → next ≡ found → HasCleanDisk (walked g new)
       → (name : List ℕ) (quarter : ℕ) → HasListed g name quarter old []
@@ -164,40 +191,33 @@ module _ {S : Type 0} (g : store.Ghosts S) (old mid new : Rows S g) (listed : Li
   tells_so found is clean name quarter has =
       subst (λ (o : Option Obligation). Continues g name quarter new listed o) is
       (tells clean name quarter listed
-      (so_far (clean_before (walked g mid) (walked g new) crash clean) name quarter has))
+      (so_far.given (clean_before (walked g mid) (walked g new) crash clean) name quarter has))
+
+  still_same : ShowsSame g old new
+  still_same clean = (same clean).0.now_is
+      ∙ so_far.same (clean_before (walked g mid) (walked g new) crash clean)
+
+  still_stands : HasCleanDisk (walked g new) → (t : Tables) → Stands (walked g old).now t
+      → Stands (walked g new).now t
+  still_stands clean t stands = subst (λ (db : Database). Stands db t) (sym (still_same clean))
+      stands
 
   -- one more was given
-  pub more_walked : (o : Obligation) → next ≡ Some o → HasWalked g old new (listed ++ o ∷ [])
-  more_walked o is clean name quarter has = (tells_so (Some o) is clean name quarter has).0
-
-  pub more_known : (o : Obligation) → next ≡ Some o → HasCleanDisk (walked g new)
-      → (name : List ℕ) (quarter : ℕ) → HasListed g name quarter old []
-      → (t : Tables) → Stands (walked g new).now t → AreFirst name quarter (listed ++ o ∷ []) t
-  more_known o is clean name quarter has t stands = first_known name quarter (listed ++ o ∷ []) t
-      ((tells_so (Some o) is clean name quarter has).1 t stands)
+  pub walks_more : (o : Obligation) → next ≡ Some o → WalksTo g old new (listed ++ o ∷ [])
+  walks_more o is = record {
+    given = λ clean name quarter has. (tells_so (Some o) is clean name quarter has).0;
+    same = still_same;
+    first = λ clean name quarter has t stands. first_known name quarter (listed ++ o ∷ []) t
+        ((tells_so (Some o) is clean name quarter has).1 t (still_stands clean t stands));
+  }
 
   -- those were all
-  pub all_walked : next ≡ None → HasCleanDisk (walked g new) → (name : List ℕ) (quarter : ℕ)
+  pub all_listed : next ≡ None → HasCleanDisk (walked g new) → (name : List ℕ) (quarter : ℕ)
       → HasListed g name quarter old []
-      → (t : Tables) → Stands (walked g new).now t → (s : State) (stands : StandsFor t s)
-      → begun stands name quarter ≡ listed
-  all_walked is clean name quarter has t stands = all_known name quarter listed t
-      (tells_so None is clean name quarter has t stands)
-
--- a walk from here has given these, which are the first
-pub record WalksTo {S : Type 0} (g : store.Ghosts S) (old new : Rows S g)
-    (listed : List Obligation) : Type 0 where
-  pub given : HasWalked g old new listed
-  pub first : IsSeen (walked g new) → (name : List ℕ) (quarter : ℕ)
-      → HasListed g name quarter old [] → (t : Tables) → Stands (walked g new).now t
-      → AreFirst name quarter listed t
-
--- it begins
-pub walks_none : {S : Type 0} (g : store.Ghosts S) (old : Rows S g) → WalksTo g old old []
-walks_none g old = record {
-  given = λ clean name quarter has. has;
-  first = λ is name quarter has t stands s stands_for. (begun stands_for name quarter, refl);
-}
+      → (t : Tables) → Stands (walked g old).now t
+      → Lists ObligationsRise (IsObligation name) (rows_in name quarter t) listed
+  all_listed is clean name quarter has t stands = tells_so None is clean name quarter has t
+      (still_stands clean t stands)
 
 -- ---- a next-day obligation among those that were given
 

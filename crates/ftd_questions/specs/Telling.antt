@@ -20,6 +20,7 @@ use Rattle.ftd_machine.specs.declared.requests.Request.TheVariants.{Question}
 use Rattle.ftd_entries.specs.Standing.{StandsFor}
 use Rattle.ftd_questions.specs.DueRows.{IsRowBy}
 use Rattle.ftd_questions.specs.Returns.{KnowsPeriod}
+use Rattle.ftd_questions.specs.Shown.{ShowsRows}
 use Rattle.ftd_questions.specs.Walks.{begun}
 use Rattle.ftd_questions.specs.declared.asking.KnownReturn.{KnownReturn}
 use Rattle.ftd_questions.specs.declared.due_rows.QuarterReturn.{QuarterReturn}
@@ -31,6 +32,13 @@ abbrev pub HasTaken : {K : Type 0} → (K → DueRow → K → Type 0) → K →
 HasTaken took old [] new = new ≡ old
 HasTaken {K = K} took old (row ∷ rows) new =
     (next : K) × took old row next × HasTaken took next rows new
+
+-- it took exactly the account's obligations in the tables that begin in the quarter, each once, by
+-- first day, whatever else these hold
+abbrev pub TakesShown : {K : Type 0} → (K → DueRow → K → Type 0) → List ℕ → ℕ → K → K → Tables
+    → Type 0
+TakesShown took name quarter old new t =
+    (rows : List DueRow) × HasTaken took old rows new × ShowsRows name quarter rows t
 
 -- the machine's reply to the question is the due list of these rows, or it refuses the question
 module _ (s : State) (name : List ℕ) (quarter as_of : ℕ) where

@@ -6,11 +6,12 @@ use Rattle.sqlite.specs.State.{HasCleanDisk}
 use Rattle.ftd_rules.specs.declared.Form.{Form}
 use Rattle.ftd_rules.specs.declared.Obligation.{Obligation}
 use Rattle.ftd_schema.specs.States.{CrashKeeps}
-use Rattle.ftd_schema.specs.Standing.{Tables}
+use Rattle.ftd_schema.specs.Standing.{Tables, Stands}
 use Rattle.ftd_store.specs.Ends.{IsSettled, LeavesRows}
 use Rattle.ftd_machine.specs.State.{State}
 use Rattle.ftd_machine.specs.Asking.{return_period, has_next_day}
 use Rattle.ftd_entries.specs.Standing.{StandsFor}
+use Rattle.ftd_entries.specs.Words.{IsKept}
 use Rattle.ftd_questions.specs.DueRows.{begins_in, is_next_day_row}
 
 -- the rows of the tables are as they were, and a crash finds what it would have found
@@ -23,9 +24,13 @@ pub record StaysIfSettled (old new : database.State) : Type 0 where
   pub rows : HasCleanDisk new → IsSettled old → LeavesRows old new
   pub crash : CrashKeeps old new
 
--- the disk returned what was written, and the store is open
-abbrev pub IsSeen : database.State → Type 0
-IsSeen s = HasCleanDisk s × IsTrue s.is_open
+-- if the store is open, its tables have these rows
+abbrev pub StandIfOpen : database.State → Tables → Type 0
+StandIfOpen db t = IsTrue db.is_open → Stands db.now t
+
+-- if the store is open, its tables keep this state
+abbrev pub KeptIfOpen : database.State → State → Type 0
+KeptIfOpen db s = IsTrue db.is_open → IsKept db.now s
 
 -- the account's obligations that begin in the quarter, by first day, in a state for which the
 -- tables stand

@@ -1,11 +1,12 @@
 //! What a due list that is told row by row rests on besides its obligations, or why it is refused.
 
 ghost use Rattle.std.specs.Prelude.{◌≡◌, ◌⊎◌, ◌<◌, ◌≤◌, None, Some, Ok, Err, IfOk, IfErr};
-ghost use Rattle.std.specs.Prelude.{MatchResult};
+ghost use Rattle.std.specs.Prelude.{IsTrue, MatchResult};
 ghost use Rattle.std.specs.List.{sum_by};
 ghost use Rattle.ftd_days.specs.Calendar.{quarter_year};
 ghost use Rattle.ftd_rules.specs.Payments.{payment_cents};
-ghost use Rattle.ftd_schema.specs.Standing.{Tables, Stands};
+ghost use Rattle.sqlite.specs.State.{HasCleanDisk};
+ghost use Rattle.ftd_schema.specs.Standing.{Tables};
 ghost use Rattle.ftd_store.specs.Frame.{Reads};
 ghost use Rattle.ftd_store.specs.Seen.{seen};
 ghost use Rattle.ftd_machine.specs.History.{form_of};
@@ -13,7 +14,7 @@ ghost use Rattle.ftd_machine.specs.Checks.{first_of};
 ghost use Rattle.ftd_machine.specs.Requests.{due_list_checks};
 ghost use Rattle.ftd_machine.specs.Runs.{IsFault};
 ghost use Rattle.ftd_questions.specs.Telling.{KnowsReturn, KnowsAsked};
-ghost use Rattle.ftd_questions.specs.Walks.{Stays, IsSeen};
+ghost use Rattle.ftd_questions.specs.Walks.{Stays, StandIfOpen};
 
 use crate::due::{KnownForDue, known_for_due};
 use crate::faults::refusal_of;
@@ -50,7 +51,7 @@ fn asked_form(
 {
     match &due_list_check(name, quarter, as_of, known.account, known.is_open) {
         Some(Err(refusal)) => Err(*refusal),
-        _ => match known.account {
+        Some(Ok(_)) | None => match known.account {
             Some(account) => Ok(account.form),
             None => Err(Refusal::UnknownAccount),
         },
@@ -114,10 +115,13 @@ pub(crate) fn read_return<S: Alter>(
     quarter: Quarter,
     as_of: Day,
 ) -> Result<KnownReturn, Refusal>
-    ensures knows { IsSeen (seen S.Store store.new) → (t : Tables)
-        → Stands (seen S.Store store.new).now t → MatchResult result
+    ensures knows { HasCleanDisk (seen S.Store store.new) → (t : Tables)
+        → StandIfOpen (seen S.Store store.old) t → MatchResult result
         (λ known. KnowsAsked name.now quarter as_of (Ok known) t)
         (λ refusal. IsFault (Err refusal) ⊎ KnowsAsked name.now quarter as_of (Err refusal) t) }
+    ensures shut { HasCleanDisk (seen S.Store store.new)
+        → (IsTrue (seen S.Store store.old).is_open → ⊥)
+        → MatchResult result (λ known. ⊥) (λ refusal. IsFault (Err refusal)) }
     ensures years { IfOk result (λ known.
         (2001 ≤ quarter_year quarter) × (quarter_year quarter ≤ 2098)) }
     ensures small { IfOk result (λ known.

@@ -2,15 +2,15 @@
 //! still to be reported, the days that a calendar was given with, and the first year of an account.
 
 ghost use Rattle.std.specs.Prelude.{◌≡◌, ◌≤◌, Err, IfErr, IfOk, map, option_map};
+ghost use Rattle.sqlite.specs.State.{HasCleanDisk};
 ghost use Rattle.ftd_store.specs.Frame.{Reads};
 ghost use Rattle.ftd_store.specs.Seen.{seen};
 ghost use Rattle.ftd_machine.specs.History.{year_of_line};
 ghost use Rattle.ftd_machine.specs.Runs.{IsFault};
 ghost use Rattle.ftd_machine.specs.State.{State, calendar_at, entries_of};
-ghost use Rattle.ftd_entries.specs.Words.{IsKept};
 ghost use Rattle.ftd_questions.specs.Missing.{KnowsFirstYear, KnowsMissing, are_missing};
 ghost use Rattle.ftd_questions.specs.Missing.{first_among, first_year, missing_from};
-ghost use Rattle.ftd_questions.specs.Walks.{Stays, IsSeen};
+ghost use Rattle.ftd_questions.specs.Walks.{Stays, KeptIfOpen};
 
 use crate::faults::refusal_of;
 use ftd_days::{Cents, Day, Quarter};
@@ -78,8 +78,8 @@ pub fn missing_quarters<S: Alter>(
 ) -> Result<Vec<Quarter>, Refusal>
     requires from { 2001 ≤ year }
     requires to { year ≤ 2098 }
-    ensures knows { IsSeen (seen S.Store store.new) → (s : State)
-        → IsKept (seen S.Store store.old).now s
+    ensures knows { HasCleanDisk (seen S.Store store.new) → (s : State)
+        → KeptIfOpen (seen S.Store store.old) s
         → IfOk result (λ quarters.
         quarters.items ≡ missing_from (entries_of s name.now) first year) }
     ensures fault { IfErr result (λ refusal. IsFault (Err refusal)) }
@@ -103,8 +103,8 @@ pub fn given_days<S: Alter>(
     alloc: Global,
     year: u32,
 ) -> Result<Option<Vec<Day>>, Refusal>
-    ensures knows { IsSeen (seen S.Store store.new) → (s : State)
-        → IsKept (seen S.Store store.old).now s
+    ensures knows { HasCleanDisk (seen S.Store store.new) → (s : State)
+        → KeptIfOpen (seen S.Store store.old) s
         → IfOk result (λ days. calendar_at s year ≡ option_map (λ it. it.items) days) }
     ensures fault { IfErr result (λ refusal. IsFault (Err refusal)) }
     ensures stays { Stays (seen S.Store store.old) (seen S.Store store.new) }
@@ -153,8 +153,8 @@ pub fn first_year<S: Alter>(
     alloc: Global,
     name: &str,
 ) -> Result<Option<u32>, Refusal>
-    ensures knows { IsSeen (seen S.Store store.new) → (s : State)
-        → IsKept (seen S.Store store.old).now s
+    ensures knows { HasCleanDisk (seen S.Store store.new) → (s : State)
+        → KeptIfOpen (seen S.Store store.old) s
         → IfOk result (λ year. year ≡ first_year (entries_of s name.now)) }
     ensures fault { IfErr result (λ refusal. IsFault (Err refusal)) }
     ensures stays { Stays (seen S.Store store.old) (seen S.Store store.new) }

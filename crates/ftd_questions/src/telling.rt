@@ -3,20 +3,19 @@
 ghost use Rattle.std.specs.Prelude.{◌≡◌, ◌<◌, ℕ, List, [], true, Err, OnOk};
 ghost use Rattle.std.specs.List.{sum_by};
 ghost use Rattle.sqlite.specs.Held.{state};
+ghost use Rattle.sqlite.specs.State.{HasCleanDisk};
 ghost use Rattle.ftd_rules.specs.Payments.{payment_cents};
 ghost use Rattle.ftd_rules.specs.declared.verdict.DueRow.{DueRow as DueRowValue};
 ghost use Rattle.ftd_schema.specs.Standing.{Tables, Stands};
-ghost use Rattle.ftd_store.specs.Ends.{IsSettled};
 ghost use Rattle.ftd_store.specs.Seen.{seen};
 ghost use Rattle.ftd_store.specs.Walking.{walked, HasListed};
 ghost use Rattle.ftd_machine.specs.Sound.{IsSound};
 ghost use Rattle.ftd_machine.specs.State.{State};
 ghost use Rattle.ftd_machine.specs.declared.replies.Refusal.{Refusal as RefusalValue};
 ghost use Rattle.ftd_entries.specs.Standing.{StandsFor};
-ghost use Rattle.ftd_entries.specs.Words.{IsKept};
 ghost use Rattle.ftd_questions.specs.DueRows.{IsRowBy};
-ghost use Rattle.ftd_questions.specs.Telling.{KnowsRows, Tells};
-ghost use Rattle.ftd_questions.specs.Walks.{Stays, StaysIfSettled, IsSeen};
+ghost use Rattle.ftd_questions.specs.Telling.{KnowsRows, Tells, TakesShown};
+ghost use Rattle.ftd_questions.specs.Walks.{Stays, StaysIfSettled, StandIfOpen, KeptIfOpen};
 
 use crate::asking::{KnownReturn, read_return};
 use crate::due_rows::{QuarterReturn, due_row, quarter_return};
@@ -64,12 +63,16 @@ fn tell_rows<S: Alter, K: DueSink>(
 ) -> Result<(), DueFault>
     requires { sum_by payment_cents of_return.now.payments.items < 6_000_000_000_000_000 }
     ensures same_reference { rows.new.conn.ghost_name ≡ rows.old.conn.ghost_name }
-    ensures tells { IsSettled (walked S.Store rows.old) → IsSeen (walked S.Store rows.new)
+    ensures tells { HasCleanDisk (walked S.Store rows.new)
         → (name : List ℕ) (quarter : ℕ) → HasListed S.Store name quarter rows.old []
-        → (t : Tables) → Stands (walked S.Store rows.new).now t
+        → (t : Tables) → Stands (walked S.Store rows.old).now t
         → KnowsRows name quarter as_of of_return.now t
         → (s : State) → StandsFor t s → IsSound s
         → Tells K.took K.broke s name quarter as_of sink.old sink.new result }
+    ensures shows { HasCleanDisk (walked S.Store rows.new) → OnOk result
+        ((name : List ℕ) (quarter : ℕ) → HasListed S.Store name quarter rows.old []
+        → (t : Tables) → Stands (walked S.Store rows.old).now t
+        → TakesShown K.took name quarter sink.old sink.new t) }
     ensures failed { result ≡ Err DueFault.Sink → K.failed sink.new ≡ true }
     ensures stays { StaysIfSettled (walked S.Store rows.old) (walked S.Store rows.new) }
 {
@@ -97,10 +100,14 @@ fn tell_quarter<S: Alter, K: DueSink>(
     sink: &mut K,
 ) -> Result<(), DueFault>
     requires { sum_by payment_cents of_return.now.payments.items < 6_000_000_000_000_000 }
-    ensures tells { IsSeen (state S.Store conn.new) → (t : Tables)
-        → Stands (state S.Store conn.new).now t → KnowsRows name.now quarter as_of of_return.now t
+    ensures tells { HasCleanDisk (state S.Store conn.new) → (t : Tables)
+        → StandIfOpen (state S.Store conn.old) t
+        → KnowsRows name.now quarter as_of of_return.now t
         → (s : State) → StandsFor t s → IsSound s
         → Tells K.took K.broke s name.now quarter as_of sink.old sink.new result }
+    ensures shows { HasCleanDisk (state S.Store conn.new) → OnOk result ((t : Tables)
+        → StandIfOpen (state S.Store conn.old) t
+        → TakesShown K.took name.now quarter sink.old sink.new t) }
     ensures failed { result ≡ Err DueFault.Sink → K.failed sink.new ≡ true }
     ensures stays { Stays (state S.Store conn.old) (state S.Store conn.new) }
 {
@@ -114,8 +121,9 @@ fn tell_quarter<S: Alter, K: DueSink>(
 /// gives the sink one row after the other, by first day. What they rest on is read in a transaction
 /// that is dropped; then the obligations are walked over, first for a next-day one, then for the
 /// rows. With `Refused` by the checks no row is told. Want of memory and a fault of the store may
-/// come at any row, and a sink that fails stops the telling. The tables stay as they are, whatever
-/// comes of it.
+/// come at any row, and a sink that fails stops the telling. With Ok the sink took the rows of the
+/// tables as they stand, whatever else these hold. The tables stay as they are, whatever comes of
+/// it.
 pub fn due_into<S: Alter, K: DueSink>(
     store: &mut Store<S>,
     alloc: Global,
@@ -124,9 +132,12 @@ pub fn due_into<S: Alter, K: DueSink>(
     as_of: Day,
     sink: &mut K,
 ) -> Result<(), DueFault>
-    ensures tells { IsSeen (seen S.Store store.new) → (s : State)
-        → IsKept (seen S.Store store.old).now s
+    ensures tells { HasCleanDisk (seen S.Store store.new) → (s : State)
+        → KeptIfOpen (seen S.Store store.old) s
         → Tells K.took K.broke s name.now quarter as_of sink.old sink.new result }
+    ensures shows { HasCleanDisk (seen S.Store store.new) → OnOk result ((t : Tables)
+        → StandIfOpen (seen S.Store store.old) t
+        → TakesShown K.took name.now quarter sink.old sink.new t) }
     ensures failed { result ≡ Err DueFault.Sink → K.failed sink.new ≡ true }
     ensures stays { Stays (seen S.Store store.old) (seen S.Store store.new) }
 {

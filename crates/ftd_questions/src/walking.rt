@@ -8,8 +8,9 @@ ghost use Rattle.ftd_schema.specs.Standing.{Tables, Stands};
 ghost use Rattle.ftd_store.specs.Seen.{seen};
 ghost use Rattle.ftd_store.specs.Walking.{walked, HasListed};
 ghost use Rattle.ftd_machine.specs.Asking.{return_period};
-ghost use Rattle.ftd_questions.specs.Walks.{Stays, StaysIfSettled, IsSeen, KnowsNextDay};
-ghost use Rattle.ftd_questions.specs.Walks.{KnowsNextDayOfReturn};
+ghost use Rattle.sqlite.specs.State.{HasCleanDisk};
+ghost use Rattle.ftd_questions.specs.Walks.{Stays, StaysIfSettled, StandIfOpen};
+ghost use Rattle.ftd_questions.specs.Walks.{KnowsNextDay, KnowsNextDayOfReturn};
 
 use crate::due_rows::is_next_day;
 use ftd_days::Quarter;
@@ -20,9 +21,9 @@ use sqlite::{Alter, Connection, Rows};
 /// Whether one of the rows is a next-day obligation. They are left at the first.
 fn meets_next_day<S: Alter>(rows: &mut Rows<'_, S>) -> Result<bool, StoreFault>
     ensures same_reference { rows.new.conn.ghost_name ≡ rows.old.conn.ghost_name }
-    ensures knows { IsSeen (walked S.Store rows.new) → (name : List ℕ) (quarter : ℕ)
+    ensures knows { HasCleanDisk (walked S.Store rows.new) → (name : List ℕ) (quarter : ℕ)
         → HasListed S.Store name quarter rows.old [] → IfOk result (λ found. (t : Tables)
-        → Stands (walked S.Store rows.new).now t → KnowsNextDay name quarter found t) }
+        → Stands (walked S.Store rows.old).now t → KnowsNextDay name quarter found t) }
     ensures stays { StaysIfSettled (walked S.Store rows.old) (walked S.Store rows.new) }
 {
     for _ in 0..u64::MAX {
@@ -44,8 +45,8 @@ fn begins_next_day<S: Alter>(
     name: &str,
     quarter: Quarter,
 ) -> Result<bool, StoreFault>
-    ensures knows { IsSeen (state S.Store conn.new) → IfOk result (λ found. (t : Tables)
-        → Stands (state S.Store conn.new).now t → KnowsNextDay name.now quarter found t) }
+    ensures knows { HasCleanDisk (state S.Store conn.new) → IfOk result (λ found. (t : Tables)
+        → StandIfOpen (state S.Store conn.old) t → KnowsNextDay name.now quarter found t) }
     ensures stays { Stays (state S.Store conn.old) (state S.Store conn.new) }
 {
     match rows_of(conn, name, quarter) {
@@ -83,8 +84,8 @@ pub(crate) fn return_has_next_day<S: Alter>(
     quarter: Quarter,
 ) -> Result<bool, StoreFault>
     requires { quarter_year quarter ≤ 2098 }
-    ensures knows { IsSeen (seen S.Store store.new) → IfOk result (λ found. (t : Tables)
-        → Stands (seen S.Store store.new).now t
+    ensures knows { HasCleanDisk (seen S.Store store.new) → IfOk result (λ found. (t : Tables)
+        → StandIfOpen (seen S.Store store.old) t
         → KnowsNextDayOfReturn name.now form quarter found t) }
     ensures stays { Stays (seen S.Store store.old) (seen S.Store store.new) }
 {

@@ -1,11 +1,11 @@
 //! What the tables keep that a refusal can be mended by.
 
-ghost use Rattle.std.specs.Prelude.{◌≡◌, ◌≤◌, Err, IfErr, IfOk, IsTrue, option_map};
+ghost use Rattle.std.specs.Prelude.{◌≡◌, ◌≤◌, Err, IfErr, IfOk, option_map};
 ghost use Rattle.sqlite.specs.State.{HasCleanDisk};
 ghost use Rattle.ftd_machine.specs.Runs.{IsFault};
 ghost use Rattle.ftd_machine.specs.State.{State, calendar_at, entries_of};
 ghost use Rattle.ftd_questions.specs.Missing.{first_year, missing_from};
-ghost use Rattle.ftd_desk.specs.Desks.{IsStopped, held, Keeps};
+ghost use Rattle.ftd_desk.specs.Desks.{IsStopped, held, KeepsIfOpen};
 ghost use Rattle.ftd_desk.specs.Telling.{StandsAsBefore};
 
 use crate::desk::Desk;
@@ -27,8 +27,7 @@ impl<S: Alter> Desk<S> {
         requires from { 2001 ≤ year }
         requires to { year ≤ 2098 }
         ensures knows { HasCleanDisk (held S.Store self.new).db
-            → IsTrue (held S.Store self.new).db.is_open
-            → (s : State) → Keeps (held S.Store self.old) s
+            → (s : State) → KeepsIfOpen (held S.Store self.old) s
             → IfOk result (λ quarters.
             quarters.items ≡ missing_from (entries_of s account.now) first year) }
         ensures fault { IfErr result (λ refusal. IsFault (Err refusal)) }
@@ -47,8 +46,7 @@ impl<S: Alter> Desk<S> {
     /// as they are. A desk that is stopped answers `Store`, and touches nothing.
     pub fn given_days(&mut self, year: u32) -> Result<Option<Vec<Day>>, Refusal>
         ensures knows { HasCleanDisk (held S.Store self.new).db
-            → IsTrue (held S.Store self.new).db.is_open
-            → (s : State) → Keeps (held S.Store self.old) s
+            → (s : State) → KeepsIfOpen (held S.Store self.old) s
             → IfOk result (λ days. calendar_at s year ≡ option_map (λ it. it.items) days) }
         ensures fault { IfErr result (λ refusal. IsFault (Err refusal)) }
         ensures stands { StandsAsBefore (held S.Store self.old) (held S.Store self.new) }
@@ -67,8 +65,7 @@ impl<S: Alter> Desk<S> {
     /// answers `Store`, and touches nothing.
     pub fn first_year(&mut self, account: &str) -> Result<Option<u32>, Refusal>
         ensures knows { HasCleanDisk (held S.Store self.new).db
-            → IsTrue (held S.Store self.new).db.is_open
-            → (s : State) → Keeps (held S.Store self.old) s
+            → (s : State) → KeepsIfOpen (held S.Store self.old) s
             → IfOk result (λ year. year ≡ first_year (entries_of s account.now)) }
         ensures fault { IfErr result (λ refusal. IsFault (Err refusal)) }
         ensures stands { StandsAsBefore (held S.Store self.old) (held S.Store self.new) }

@@ -1,6 +1,6 @@
 use Rattle.std.proofs.Common.{◌≡◌, ◌∷◌, [], refl, sym, subst, rules, ℕ}
 use Rattle.ftd_csv.specs.Records.{Said}
-use Rattle.ftd_desk.specs.Desks.{held}
+use Rattle.ftd_desk.specs.Desks.{IsStopped, held}
 use Rattle.ftd_import.specs.Imports.{Posts, StopsAt}
 use Rattle.ftd_import.specs.declared.summary.Summary.{Summary}
 use Rattle.ftd_import.proofs.Outcomes.{counts_then, posts_same, skips_one, with_room}
@@ -41,5 +41,6 @@ returns-in-Err-clause-stops g c =
     let (run, is) = is_run at c.args.place.now kept c.in-None.is in
     let post = first_post c.args.place.now.number run at later c.args.posts.now _ _ is posts first
     in
-    subst (λ (x : ℕ × Said). StopsAt before after x c.in-Err.cause) (sym is)
+    subst (λ (x : ℕ × Said). StopsAt (IsStopped c.post_run.new.desk) before after x c.in-Err.cause)
+    (sym is)
     (c.in-Err.ensures.stops run post)

@@ -1,6 +1,6 @@
 use Rattle.std.proofs.Common.{sym, subst}
 use Rattle.ftd_machine.specs.declared.requests.Request.{Request}
-use Rattle.ftd_desk.specs.Desks.{held}
+use Rattle.ftd_desk.specs.Desks.{IsStopped, held}
 use Rattle.ftd_desk.specs.Words.{Handles}
 use Rattle.ftd_import.proofs.Outcomes.{faulted, posts_one}
 use Rattle.ftd_import.proofs.posting.post_run.Goals as goal
@@ -10,9 +10,9 @@ returns-in-Some-clause-stops g c =
     let before = held g.S.Store c.args.desk.now in
     let after = held g.S.Store c.handle-answer.new.self in
     λ run is.
-    faulted before after c.args.number run c.handle-answer.result c.in-Some.cause
+    faulted (IsStopped c.handle-answer.new.self) before after c.args.number run c.handle-answer.result c.in-Some.cause
     (subst (λ (r : Request). Handles before after r c.handle-answer.result) is
-    c.handle-answer.ensures.handles) (sym c.in-Some.ensures)
+    c.handle-answer.ensures.handles) c.handle-answer.ensures.stops (sym c.in-Some.ensures)
 
 pub returns-clause-posts : goal.returns-clause-posts
 returns-clause-posts g c =

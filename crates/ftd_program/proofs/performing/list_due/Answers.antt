@@ -1,4 +1,4 @@
-use Rattle.std.proofs.Common.{◌≡◌, inl, inr, ◌++◌, ◌∷◌, refl, sym, ap, ◌∙◌, subst, IsTrue, arith}
+use Rattle.std.proofs.Common.{◌≡◌, inl, inr, ◌++◌, ◌∷◌, refl, sym, ap, ◌∙◌, subst, arith}
 use Rattle.std.specs.Prelude.{IfOk}
 use Rattle.sqlite.specs.State.{HasCleanDisk}
 use Rattle.ftd_machine.specs.State.{State}
@@ -6,7 +6,7 @@ use Rattle.ftd_machine.specs.declared.requests.Question.TheVariants.{DueList}
 use Rattle.ftd_machine.specs.declared.requests.Request.TheVariants.{Question}
 use Rattle.ftd_machine.specs.declared.replies.Reply.TheVariants.{Due}
 use Rattle.ftd_machine.proofs.Listed.{lists_bounded}
-use Rattle.ftd_desk.specs.Desks.{Keeps, held}
+use Rattle.ftd_desk.specs.Desks.{KeepsIfOpen, held}
 use Rattle.ftd_program.specs.Mending.{KnowsFor}
 use Rattle.ftd_program.proofs.Mended.{known_of, nothing_of, stands_on}
 use Rattle.ftd_reports.specs.LateTexts.{BreaksAt, TakesRow, writer_of}
@@ -14,15 +14,15 @@ use Rattle.ftd_ports.specs.Writing.{WritesPrefix}
 use Rattle.ftd_reports.specs.DueLists.{due_text}
 use Rattle.ftd_program.specs.Performing.{broken, failed, refused, unbegun, whole}
 use Rattle.ftd_program.proofs.DueFacts.{as_refused, as_sink, come_to, fault_status, has_broken}
-use Rattle.ftd_program.proofs.DueFacts.{has_first, has_taken}
+use Rattle.ftd_program.proofs.DueFacts.{has_first, has_taken, some_status}
 use Rattle.ftd_program.proofs.performing.list_due.Goals as goal
 
 pub returns-in-Ok-end : goal.returns-in-Ok-end
 returns-in-Ok-end g c =
     record {
       stands = c.in-Ok.ensures.stands;
-      prints = λ clean is_open s keeps.
-          let told = c.in-Ok.ensures.tells clean is_open s keeps in
+      prints = λ clean s keeps.
+          let told = c.in-Ok.ensures.tells clean s (λ on. keeps) in
           let has = has_taken g.O.Target.taken (g.O.Target.taken c.args.out) c.args.account.now
           c.args.quarter c.args.as_of told.0 c.new-text.result c.due_into.new.sink
           c.new-text.ensures.rows told.2 in
@@ -32,14 +32,27 @@ returns-in-Ok-end g c =
             err_is = refl;
             whole = c.in-Ok-end.ensures.text _ _ _ _ told.0 has;
           });
+      shows = λ clean zero t stands.
+          let shown = c.in-Ok.ensures.shows clean t stands in
+          let has = has_taken g.O.Target.taken (g.O.Target.taken c.args.out) c.args.account.now
+          c.args.quarter c.args.as_of shown.0 c.new-text.result c.due_into.new.sink
+          c.new-text.ensures.rows shown.1 in (
+            shown.0,
+            shown.2,
+            record {
+              status_is = refl;
+              err_is = refl;
+              whole = c.in-Ok-end.ensures.text _ _ _ _ shown.0 has;
+            },
+          );
     }
 
 pub returns-in-Err : goal.returns-in-Err
 returns-in-Err g c =
     record {
       stands = c.in-Ok.ensures.stands;
-      prints = λ clean is_open s keeps.
-          let told = c.in-Ok.ensures.tells clean is_open s keeps in
+      prints = λ clean s keeps.
+          let told = c.in-Ok.ensures.tells clean s (λ on. keeps) in
           let has = has_taken g.O.Target.taken (g.O.Target.taken c.args.out) c.args.account.now
           c.args.quarter c.args.as_of told.0 c.new-text.result c.due_into.new.sink
           c.new-text.ensures.rows told.2 in
@@ -52,6 +65,7 @@ returns-in-Err g c =
             reason = ap g.O.Target.failed out ∙ c.in-Err.ensures.fault;
             line = c.fail_output.ensures.line;
           });
+      shows = λ clean zero. absurd (let three = c.fail_output.ensures.status in omega arith);
     }
 
 pub returns-in-Err-Refused : goal.returns-in-Err-Refused
@@ -60,8 +74,7 @@ returns-in-Err-Refused g c =
     let mended = c.known_for.ensures in
     let printed = rw (c.requires.asked, c.or_nothing-known.ensures) at c.print_refusal.ensures in
     let knows : HasCleanDisk (held g.S.Store c.known_for.new.desk).db
-    → IsTrue (held g.S.Store c.known_for.new.desk).db.is_open → (s : State)
-    → Keeps (held g.S.Store c.due_into.new.self) s
+    → (s : State) → KeepsIfOpen (held g.S.Store c.due_into.new.self) s
     → IfOk c.known_for.result
     (KnowsFor s (Question (DueList c.args.account.now c.args.quarter c.args.as_of)) refusal) =
     rw c.requires.asked at mended.knows in
@@ -69,16 +82,14 @@ returns-in-Err-Refused g c =
     ∙ c.into_writer-out.ensures in
     record {
       stands = stands_on _ _ _ c.due_into.ensures.stands mended.stands;
-      prints = λ clean is_open s keeps.
+      prints = λ clean s keeps.
           let then = mended.stands.honest clean in
-          let opened = mended.stands.opens clean is_open in
-          let known = knows clean is_open s
-          (c.due_into.ensures.stands.stands then opened s keeps) in
+          let known = knows clean s (λ on. c.due_into.ensures.stands.stands then on s keeps) in
           (elim (as_refused (TakesRow g.O.Target.taken)
           (BreaksAt g.O.Target.taken g.O.Target.failed) s c.args.account.now c.args.quarter
           c.args.as_of c.new-text.result c.due_into.new.sink c.due_into.result
           c.in-Err-Refused.field-0 c.in-Err-Refused.is refusal
-          c.in-Err-Refused.field-0-is (c.due_into.ensures.tells then opened s keeps)) [
+          c.in-Err-Refused.field-0-is (c.due_into.ensures.tells then s (λ on. keeps))) [
             | inl refuses ↦ refused refusal c.known_for.result refuses.0
                 (known_of s (Question (DueList c.args.account.now c.args.quarter c.args.as_of)) refusal
                 c.known_for.result known mended.fault)
@@ -114,6 +125,7 @@ returns-in-Err-Refused g c =
                       })
                 ])
           ]);
+      shows = λ clean zero. absurd (some_status refusal (sym printed.status_is ∙ zero));
     }
 
 pub returns-in-Err-Sink : goal.returns-in-Err-Sink
@@ -122,12 +134,12 @@ returns-in-Err-Sink g c =
     c.fail_output-in-Err-Sink.ensures.out ∙ c.into_writer.ensures in
     record {
       stands = c.due_into.ensures.stands;
-      prints = λ clean is_open s keeps.
+      prints = λ clean s keeps.
           let told = as_sink (TakesRow g.O.Target.taken)
           (BreaksAt g.O.Target.taken g.O.Target.failed) s c.args.account.now c.args.quarter
           c.args.as_of c.new-text.result c.due_into.new.sink c.due_into.result c.in-Err-Sink.field-0
           c.in-Err-Sink.is c.in-Err-Sink.field-0-is
-          (c.due_into.ensures.tells clean is_open s keeps) in
+          (c.due_into.ensures.tells clean s (λ on. keeps)) in
           let rows = told.0 ++ told.1 ∷ told.2 in
           let breaks = has_broken g.O.Target.taken (g.O.Target.taken c.args.out) c.args.account.now
           c.args.quarter c.args.as_of g.O.Target.failed told.0 told.2 told.1 c.new-text.result
@@ -146,4 +158,6 @@ returns-in-Err-Sink g c =
             ]);
             line = c.fail_output-in-Err-Sink.ensures.line;
           });
+      shows = λ clean zero. absurd (let three = c.fail_output-in-Err-Sink.ensures.status in
+          omega arith);
     }

@@ -1,14 +1,18 @@
 use Rattle.std.proofs.Common.{◌≡◌, Ok, Err, ◌⊎◌, subst, rules}
 use Rattle.std.specs.Prelude.{MatchResult}
-use Rattle.ftd_schema.specs.Standing.{Tables, Stands}
+use Rattle.sqlite.specs.State.{HasCleanDisk}
+use Rattle.ftd_schema.specs.Standing.{Tables}
 use Rattle.ftd_store.specs.Seen.{seen, shown}
 use Rattle.ftd_store.specs.declared.store.Store.{Store}
 use Rattle.ftd_machine.specs.Runs.{IsFault}
 use Rattle.ftd_questions.specs.Telling.{KnowsAsked}
-use Rattle.ftd_questions.specs.Walks.{IsSeen}
+use Rattle.ftd_questions.specs.Walks.{StandIfOpen}
 use Rattle.ftd_questions.proofs.Dropped.{stood_in_it, answered}
 use Rattle.ftd_questions.proofs.Walked.{clean_before}
 use Rattle.ftd_questions.proofs.asking.read_return.Goals as goal
+
+pub returns-in-Ok-asked-clause-shut : goal.returns-in-Ok-asked-clause-shut
+returns-in-Ok-asked-clause-shut g c = search rules
 
 pub returns-in-Ok-asked-clause-knows : goal.returns-in-Ok-asked-clause-knows
 returns-in-Ok-asked-clause-knows g c =
@@ -19,14 +23,13 @@ returns-in-Ok-asked-clause-knows g c =
     let end = c.drop-tx.new.self.0 in
     let call = c.in-Ok-asked.ensures.call in
     let same : end ≡ c.store-in-Ok-asked-1.given.0 = search rules in
-    let Knows : Store g.row.S.Denot → Type 0 = λ store. IsSeen (seen g.S.Store store) → (t : Tables)
-    → Stands (seen g.S.Store store).now t → MatchResult c.in-Ok-asked.asked
+    let Knows : Store g.row.S.Denot → Type 0 = λ store.
+    HasCleanDisk (seen g.S.Store store) → (t : Tables) → StandIfOpen a t → MatchResult c.in-Ok-asked.asked
     (λ known. KnowsAsked name c.args.quarter c.args.as_of (Ok known) t)
     (λ refusal. IsFault (Err refusal) ⊎ KnowsAsked name c.args.quarter c.args.as_of
     (Err refusal) t) in
-    subst Knows same (λ is t stands.
-    let before = stood_in_it a b m (seen g.S.Store end) c.in-Ok.ensures.crash c.in-Ok.ensures.begun
-    call.frame.crash call.frame.kept c.drop-tx.ensures.undone c.drop-tx.ensures.crash
-    c.drop-tx.ensures.opens is t stands in
+    subst Knows same (λ clean t stands.
+    let before = stood_in_it a b m (seen g.S.Store end) c.in-Ok.ensures.begun call.frame.crash
+    c.drop-tx.ensures.crash clean t stands in
     answered name c.args.quarter c.args.as_of t c.in-Ok-asked.asked
-    (call.does (clean_before m (seen g.S.Store end) c.drop-tx.ensures.crash is.0) t before).0)
+    (call.does (clean_before m (seen g.S.Store end) c.drop-tx.ensures.crash clean) t before).0)

@@ -1,10 +1,11 @@
 use Rattle.std.proofs.Common.{◌≡◌, subst, rules}
 use Rattle.std.specs.Prelude.{IfOk}
 use Rattle.sqlite.specs.Held.{Held, state}
-use Rattle.ftd_schema.specs.Standing.{Tables, Stands}
+use Rattle.sqlite.specs.State.{HasCleanDisk}
+use Rattle.ftd_schema.specs.Standing.{Tables}
 use Rattle.ftd_store.specs.Walking.{walked}
-use Rattle.ftd_questions.specs.Walks.{Stays, IsSeen, KnowsNextDay}
-use Rattle.ftd_questions.proofs.Walked.{clean_before, begun_then}
+use Rattle.ftd_questions.specs.Walks.{Stays, StandIfOpen, KnowsNextDay}
+use Rattle.ftd_questions.proofs.Walked.{clean_before, begun_then, stand_unchanged, if_ok}
 use Rattle.ftd_questions.proofs.walking.begins_next_day.Goals as goal
 
 pub returns-in-Ok-clause-knows : goal.returns-in-Ok-clause-knows
@@ -12,13 +13,17 @@ returns-in-Ok-clause-knows g c =
     let name = c.args.name.now in
     let end = c.meets_next_day.new.rows.conn.now in
     let left : end ≡ c.conn-1.given.0 = search rules in
-    let Knows : Held g.row.S.Denot → Type 0 = λ conn. IsSeen (state g.S.Store conn)
-    → IfOk c.meets_next_day.result (λ found. (t : Tables) → Stands (state g.S.Store conn).now t
+    let old = state g.S.Store c.args.conn.now in
+    let mid = walked g.S.Store c.in-Ok.rows in
+    let Knows : Held g.row.S.Denot → Type 0 = λ conn. HasCleanDisk (state g.S.Store conn)
+    → IfOk c.meets_next_day.result (λ found. (t : Tables) → StandIfOpen old t
     → KnowsNextDay name c.args.quarter found t) in
-    subst Knows left (λ is.
-    let clean = clean_before (walked g.S.Store c.in-Ok.rows) (state g.S.Store end)
-    c.meets_next_day.ensures.stays.crash is.0 in
-    c.meets_next_day.ensures.knows is name c.args.quarter (c.in-Ok.ensures.begun clean).0)
+    subst Knows left (λ clean.
+    let begun = c.in-Ok.ensures.begun (clean_before mid (state g.S.Store end)
+    c.meets_next_day.ensures.stays.crash clean) in
+    if_ok c.meets_next_day.result
+    (λ found knows t stands. knows t (stand_unchanged old mid begun.1 t stands))
+    (c.meets_next_day.ensures.knows clean name c.args.quarter begun.0))
 
 pub returns-in-Ok-clause-stays : goal.returns-in-Ok-clause-stays
 returns-in-Ok-clause-stays g c =
