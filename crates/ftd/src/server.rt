@@ -6,9 +6,13 @@ use ftd_desk::Desk;
 use ftd_http::{Limits, announce, serve_on};
 use ftd_ports::Port;
 use ftd_words::ServeTask;
-use sqlite::{File, FileStore};
+use sqlite::{Connection, Error, ErrorCode, File, FileStore, Options};
+use std::hash::{BuildHasher, RandomState};
 use std::io;
 use std::net::TcpListener;
+
+/// After how many frames, of 4,120 bytes each, the log of a server is copied into its file.
+const LOG_FRAMES: usize = 254;
 
 /// For how many seconds at least a server tries to open its file again.
 const REOPENING: u32 = 10;
@@ -98,11 +102,40 @@ fn serve_until(
     )
 }
 
-/// The desk of the database file.
+/// The desk of the database file, whose log is copied into it before it is long.
 fn opened_desk(
     rt: &HostRuntime,
     task: &ServeTask,
     wait: u32,
 ) -> Result<Desk<FileStore<File>>, ProgramFault> {
-    desk_of(rt, opened(rt, &task.db, wait)?)
+    let options = short_log(rt)?;
+    let conn = opened(rt, &task.db, wait)?;
+    desk_of(rt, reopened(rt, conn, options)?)
+}
+
+/// Options by which a log is copied into its file after fewer frames.
+fn short_log(rt: &HostRuntime) -> Result<Options, Error> {
+    match RandomState::new(rt) {
+        Ok(random) => Ok(Options {
+            checkpoint_frames: LOG_FRAMES,
+            ..Options::new(random.hash_one(&0u8))
+        }),
+        Err(_) => Err(Error::SqliteFailure(ErrorCode::CannotOpen)),
+    }
+}
+
+/// The database of the same files with these options.
+fn reopened(
+    rt: &HostRuntime,
+    conn: Connection<FileStore<File>>,
+    options: Options,
+) -> Result<Connection<FileStore<File>>, Error> {
+    let files = match conn.close_files() {
+        Ok(files) => files,
+        Err((error, _)) => return Err(error),
+    };
+    match Connection::open_files_with(rt.alloc(), files, options, true) {
+        Ok(conn) => Ok(conn),
+        Err((error, _)) => Err(error),
+    }
 }

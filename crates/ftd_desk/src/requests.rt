@@ -13,6 +13,7 @@ ghost use Rattle.ftd_desk.specs.Shown.{ShowsFor};
 
 use crate::counts::Counts;
 use crate::kept::Kept;
+use ftd_days::{Cents, Day};
 use ftd_entries::{enrol, open_year, pay, report, report_year, take_calendar, void_payment};
 use ftd_holidays::add_holiday;
 use ftd_machine::{Account, Answer, Request};
@@ -28,6 +29,29 @@ use std::alloc::Global;
 pub(crate) struct Served {
     pub answer: Answer,
     pub counts: Counts,
+}
+
+/// The pay run of these values.
+fn run_of(payday: Day, fit: Cents, ss: Cents, medicare: Cents) -> PayRun
+    ensures { result ≡ record { payday = payday; fit = fit; ss = ss; medicare = medicare } }
+{
+    PayRun {
+        payday,
+        fit,
+        ss,
+        medicare,
+    }
+}
+
+/// The payment of these values.
+fn payment_of(paid: Day, for_day: Day, cents: Cents) -> Payment
+    ensures { result ≡ record { paid = paid; for_day = for_day; cents = cents } }
+{
+    Payment {
+        paid,
+        for_day,
+        cents,
+    }
 }
 
 /// A pay run that is to be posted, of an account and under a number.
@@ -54,12 +78,7 @@ pub(crate) fn posting_of(request: &Request) -> Option<Posting<'_>>
         } => Some(Posting {
             account: account.as_str(),
             number: *number,
-            run: PayRun {
-                payday: *payday,
-                fit: *fit,
-                ss: *ss,
-                medicare: *medicare,
-            },
+            run: run_of(*payday, *fit, *ss, *medicare),
         }),
         Request::Enrol { .. }
         | Request::Calendar { .. }
@@ -96,12 +115,7 @@ pub(crate) fn serve<S: Alter>(
             ss,
             medicare,
         } => {
-            let run = PayRun {
-                payday: *payday,
-                fit: *fit,
-                ss: *ss,
-                medicare: *medicare,
-            };
+            let run = run_of(*payday, *fit, *ss, *medicare);
             serve_post(tx, alloc, counts, account.as_str(), *number, run)
         }
         Request::Pay {
@@ -111,11 +125,7 @@ pub(crate) fn serve<S: Alter>(
             for_day,
             cents,
         } => {
-            let content = Payment {
-                paid: *paid,
-                for_day: *for_day,
-                cents: *cents,
-            };
+            let content = payment_of(*paid, *for_day, *cents);
             serve_pay(tx, alloc, counts, account.as_str(), *payment, content)
         }
         Request::Void { account, run } => {

@@ -41,7 +41,7 @@ returns-in-Post-clause-repairs g c =
     c.args.request.now name c.in-Post.number run
     (c.in-Post.is
     ∙ ap (λ n. Post n c.in-Post.number run.payday run.fit run.ss run.medicare) (sym c.as_str.ensures))
-    c.serve_post.ensures.repairs
+    (rw c.run_of-run.ensures at c.serve_post.ensures.repairs)
 
 pub returns-in-Pay-clause-repairs : goal.returns-in-Pay-clause-repairs
 returns-in-Pay-clause-repairs g c =
