@@ -332,7 +332,7 @@ case_one holidays own rows quarter as_of r s c d o m g h =
     truth_one c.quarter_paid d.quarter_paid there h.quarter_paid in
     rw (cents, due, makeup, returned, asked, paid, made, small, all) refl
 
-row_one : (holidays : List ℕ) (own : Entries) (rows : List Obligation) (quarter as_of : ℕ)
+pub row_one : (holidays : List ℕ) (own : Entries) (rows : List Obligation) (quarter as_of : ℕ)
     (r s : DueRow)
     → r.obligation ≡ s.obligation → IsDueRow holidays own rows quarter as_of r
     → IsDueRow holidays own rows quarter as_of s → r ≡ s

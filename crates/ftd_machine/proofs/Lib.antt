@@ -28,3 +28,4 @@ pub mod Brief
 pub mod Listed
 pub mod Alike
 pub mod Examples
+pub mod Deposit

@@ -16,7 +16,7 @@ use Rattle.ftd_rules.specs.declared.run.PayRun.{PayRun}
 use Rattle.ftd_rules.specs.declared.payment.Payment.{Payment}
 use Rattle.ftd_rules.specs.declared.run.Voidable.{Voidable}
 use Rattle.ftd_machine.specs.State.{State, entries_of, is_named, account_of, kept_at, is_open}
-use Rattle.ftd_machine.specs.State.{is_given, calendar_at, days_of, added_in, holidays}
+use Rattle.ftd_machine.specs.State.{is_given, calendar_at, days_of, added_in}
 use Rattle.ftd_machine.specs.Checks.{Answer, first_of, Decides}
 use Rattle.ftd_machine.specs.Requests.{days_of_year, enrol_checks, calendar_checks}
 use Rattle.ftd_machine.specs.Requests.{add_holiday_checks, report_checks, report_year_checks}
