@@ -13,6 +13,8 @@ use Rattle.ftd_machine.specs.declared.requests.Question.TheVariants as question
 use Rattle.ftd_machine.specs.declared.requests.Request.{Request}
 use Rattle.ftd_machine.specs.declared.requests.Request.TheVariants as request
 use Rattle.ftd_replies.specs.Refusals.{refusal_text}
+use Rattle.ftd_replies.specs.declared.hints.Hint.{Hint}
+use Rattle.ftd_replies.specs.declared.hints.Hint.TheVariants as hint
 use Rattle.ftd_replies.specs.declared.hints.Known.{Known}
 use Rattle.ftd_replies.specs.declared.hints.Known.TheVariants.{Nothing, Missing, Given, Begins}
 
@@ -205,43 +207,59 @@ enrolled_as (request.Pay account payment paid for_day cents) = codes " START\n"
 enrolled_as (request.VoidPay account payment) = codes " START\n"
 enrolled_as (request.Question question) = codes " START\n"
 
-unfoldable pub hint_text : List ℕ → Request → Refusal → List ℕ
-hint_text db asked refusal.UnknownAccount =
+-- which command mends a refusal, with the year or the quarter that it is for; where none does,
+-- something is said of it
+unfoldable pub hint_of : Refusal → Hint
+hint_of refusal.UnknownAccount = hint.Enrol
+hint_of refusal.RunDiffers = hint.Void
+hint_of refusal.PaymentDiffers = hint.VoidPay
+hint_of (refusal.CalendarMissing year) = hint.Calendar year
+hint_of (refusal.QuarterMissing quarter) = hint.Report quarter
+hint_of (refusal.YearNotOpen year) = hint.OpenYear year
+hint_of (refusal.YearMissing year) = hint.ReportYear year
+hint_of refusal.BadName = hint.Said
+hint_of refusal.BadYear = hint.Said
+hint_of refusal.BadDay = hint.Said
+hint_of refusal.BadCents = hint.Said
+hint_of refusal.BadCalendar = hint.Said
+hint_of refusal.BadNumber = hint.Said
+hint_of refusal.AccountDiffers = hint.Said
+hint_of refusal.CalendarDiffers = hint.Said
+hint_of refusal.QuarterDiffers = hint.Said
+hint_of refusal.UnknownRun = hint.Said
+hint_of refusal.UnknownPayment = hint.Said
+hint_of refusal.BeforeStart = hint.Said
+hint_of refusal.TooManyRuns = hint.Said
+hint_of refusal.TooManyPayments = hint.Said
+hint_of refusal.Memory = hint.Said
+hint_of refusal.Store = hint.Said
+hint_of refusal.WrongForm = hint.Said
+hint_of refusal.YearDiffers = hint.Said
+
+-- the command, or what is said
+abbrev pub mended_text : List ℕ → Request → Refusal → Hint → List ℕ
+mended_text db asked refusal hint.Said = said_text asked refusal
+mended_text db asked refusal hint.Enrol =
     command_on (codes "hint: if name and file are right, ftd enrol --db ") db (account_in asked)
     (enrolled_as asked)
-hint_text db asked refusal.RunDiffers =
+mended_text db asked refusal hint.Void =
     command_of (codes "hint: take a new number; if the run that has it is wrong, ftd void --db ") db
     (account_in asked) (decimal (number_in asked)) (codes "\n")
-hint_text db asked refusal.PaymentDiffers =
+mended_text db asked refusal hint.VoidPay =
     command_of (codes "hint: take a new number; if that payment is wrong, ftd void-pay --db ") db
     (account_in asked) (decimal (number_in asked)) (codes "\n")
-hint_text db asked (refusal.CalendarMissing year) =
+mended_text db asked refusal (hint.Calendar year) =
     command_on (codes "hint: ftd calendar --db ") db (decimal year) (codes " DAY ..\n")
-hint_text db asked (refusal.QuarterMissing quarter) = quarter_hint db (account_in asked) quarter
-hint_text db asked (refusal.YearNotOpen year) =
-    command_of (codes "hint: ftd open-year --db ") db (account_in asked) (decimal year)
-    (codes "\n")
-hint_text db asked (refusal.YearMissing year) =
+mended_text db asked refusal (hint.Report quarter) = quarter_hint db (account_in asked) quarter
+mended_text db asked refusal (hint.ReportYear year) =
     command_of (codes "hint: ftd report-year --db ") db (account_in asked) (decimal year)
     (codes " AMOUNT\n")
-hint_text db asked refusal.BadName = said_text asked refusal.BadName
-hint_text db asked refusal.BadYear = said_text asked refusal.BadYear
-hint_text db asked refusal.BadDay = said_text asked refusal.BadDay
-hint_text db asked refusal.BadCents = said_text asked refusal.BadCents
-hint_text db asked refusal.BadCalendar = said_text asked refusal.BadCalendar
-hint_text db asked refusal.BadNumber = said_text asked refusal.BadNumber
-hint_text db asked refusal.AccountDiffers = said_text asked refusal.AccountDiffers
-hint_text db asked refusal.CalendarDiffers = said_text asked refusal.CalendarDiffers
-hint_text db asked refusal.QuarterDiffers = said_text asked refusal.QuarterDiffers
-hint_text db asked refusal.UnknownRun = said_text asked refusal.UnknownRun
-hint_text db asked refusal.UnknownPayment = said_text asked refusal.UnknownPayment
-hint_text db asked refusal.BeforeStart = said_text asked refusal.BeforeStart
-hint_text db asked refusal.TooManyRuns = said_text asked refusal.TooManyRuns
-hint_text db asked refusal.TooManyPayments = said_text asked refusal.TooManyPayments
-hint_text db asked refusal.Memory = said_text asked refusal.Memory
-hint_text db asked refusal.Store = said_text asked refusal.Store
-hint_text db asked refusal.WrongForm = said_text asked refusal.WrongForm
-hint_text db asked refusal.YearDiffers = said_text asked refusal.YearDiffers
+mended_text db asked refusal (hint.OpenYear year) =
+    command_of (codes "hint: ftd open-year --db ") db (account_in asked) (decimal year)
+    (codes "\n")
+
+unfoldable pub hint_text : List ℕ → Request → Refusal → List ℕ
+hint_text db asked refusal = mended_text db asked refusal (hint_of refusal)
 
 -- ---- with what was asked of the desk
 

@@ -9,7 +9,7 @@ ghost use Rattle.ftd_replies.specs.Hints.{account_asked, account_in, calendar_te
 ghost use Rattle.ftd_replies.specs.Hints.{command_on, days_asked, days_in, days_text};
 ghost use Rattle.ftd_replies.specs.Hints.{differing_text, enrolled_as};
 ghost use Rattle.ftd_replies.specs.Hints.{file_text, first_beside, first_text, form_text};
-ghost use Rattle.ftd_replies.specs.Hints.{hint_text, hints_text};
+ghost use Rattle.ftd_replies.specs.Hints.{hint_of, hint_text, hints_text};
 ghost use Rattle.ftd_replies.specs.Hints.{is_plain, left_out_text, new_text, number_in};
 ghost use Rattle.ftd_replies.specs.Hints.{quarter_hint, said_text, told_text, years_text};
 
@@ -483,51 +483,33 @@ fn enrolled_as(request: &Request) -> &'static [u8]
     }
 }
 
-/// Writes the hint of a refusal.
-#[tactic(auto, unfolding(crate::specs::Hints::hint_text, crate::specs::Hints::said_text))]
-fn write_hint<W: Target>(
-    db: &str,
-    request: &Request,
-    refusal: Refusal,
-    target: &mut W,
-) -> Result<(), WriteFault>
-    ensures ok { OnOk result (Appends (W.taken target.old) (W.taken target.new)
-        (hint_text db.now request.now refusal)) }
-    ensures err { OnErr result (WritesPrefix (W.taken target.old) (W.taken target.new)
-        (hint_text db.now request.now refusal)) }
-    ensures fault { OnErr result (W.failed target.new ≡ true) }
+/// Which command mends a refusal, with the year or the quarter that it is for.
+#[derive(Clone, Copy)]
+enum Hint {
+    /// None does, and something is said of the refusal.
+    Said,
+    Enrol,
+    Void,
+    VoidPay,
+    Calendar(u32),
+    Report(Quarter),
+    ReportYear(u32),
+    OpenYear(u32),
+}
+
+/// Which command mends the refusal.
+#[tactic(auto, unfolding(crate::specs::Hints::hint_of))]
+fn hint_of(refusal: &Refusal) -> Hint
+    ensures { result ≡ hint_of refusal.now }
 {
-    let account = account_in(request);
     match refusal {
-        Refusal::UnknownAccount => {
-            let before = b"hint: if name and file are right, ftd enrol --db ";
-            write_on(before, db, account.as_bytes(), enrolled_as(request), target)
-        }
-        Refusal::RunDiffers => {
-            let before =
-                b"hint: take a new number; if the run that has it is wrong, ftd void --db ";
-            write_number(before, db, account, number_in(request), b"\n", target)
-        }
-        Refusal::PaymentDiffers => {
-            let before = b"hint: take a new number; if that payment is wrong, ftd void-pay --db ";
-            write_number(before, db, account, number_in(request), b"\n", target)
-        }
-        Refusal::CalendarMissing(year) => write_year(db, year, target),
-        Refusal::QuarterMissing(quarter) => write_quarter(db, account, quarter, target),
-        Refusal::YearNotOpen(year) => {
-            let before = b"hint: ftd open-year --db ";
-            write_number(before, db, account, year, b"\n", target)
-        }
-        Refusal::YearMissing(year) => {
-            write_number(
-                b"hint: ftd report-year --db ",
-                db,
-                account,
-                year,
-                b" AMOUNT\n",
-                target,
-            )
-        }
+        Refusal::UnknownAccount => Hint::Enrol,
+        Refusal::RunDiffers => Hint::Void,
+        Refusal::PaymentDiffers => Hint::VoidPay,
+        Refusal::CalendarMissing(year) => Hint::Calendar(*year),
+        Refusal::QuarterMissing(quarter) => Hint::Report(*quarter),
+        Refusal::YearNotOpen(year) => Hint::OpenYear(*year),
+        Refusal::YearMissing(year) => Hint::ReportYear(*year),
         Refusal::BadName
         | Refusal::BadYear
         | Refusal::BadDay
@@ -545,7 +527,49 @@ fn write_hint<W: Target>(
         | Refusal::Memory
         | Refusal::Store
         | Refusal::WrongForm
-        | Refusal::YearDiffers => write_all(target, said(request, refusal)),
+        | Refusal::YearDiffers => Hint::Said,
+    }
+}
+
+/// Writes the hint of a refusal.
+fn write_hint<W: Target>(
+    db: &str,
+    request: &Request,
+    refusal: Refusal,
+    target: &mut W,
+) -> Result<(), WriteFault>
+    ensures ok { OnOk result (Appends (W.taken target.old) (W.taken target.new)
+        (hint_text db.now request.now refusal)) }
+    ensures err { OnErr result (WritesPrefix (W.taken target.old) (W.taken target.new)
+        (hint_text db.now request.now refusal)) }
+    ensures fault { OnErr result (W.failed target.new ≡ true) }
+{
+    let account = account_in(request);
+    match hint_of(&refusal) {
+        Hint::Said => write_all(target, said(request, refusal)),
+        Hint::Enrol => {
+            let before = b"hint: if name and file are right, ftd enrol --db ";
+            write_on(before, db, account.as_bytes(), enrolled_as(request), target)
+        }
+        Hint::Void => {
+            let before =
+                b"hint: take a new number; if the run that has it is wrong, ftd void --db ";
+            write_number(before, db, account, number_in(request), b"\n", target)
+        }
+        Hint::VoidPay => {
+            let before = b"hint: take a new number; if that payment is wrong, ftd void-pay --db ";
+            write_number(before, db, account, number_in(request), b"\n", target)
+        }
+        Hint::Calendar(year) => write_year(db, year, target),
+        Hint::Report(quarter) => write_quarter(db, account, quarter, target),
+        Hint::ReportYear(year) => {
+            let before = b"hint: ftd report-year --db ";
+            write_number(before, db, account, year, b" AMOUNT\n", target)
+        }
+        Hint::OpenYear(year) => {
+            let before = b"hint: ftd open-year --db ";
+            write_number(before, db, account, year, b"\n", target)
+        }
     }
 }
 

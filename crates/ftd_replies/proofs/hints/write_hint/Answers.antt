@@ -1,66 +1,83 @@
+use Rattle.std.proofs.Common.{◌∙◌, sym}
 use Rattle.ftd_replies.specs.Hints.{hint_text}
 use Rattle.ftd_replies.proofs.hints.write_hint.Goals as goal
 
-pub returns-in-UnknownAccount-clause-ok : goal.returns-in-UnknownAccount-clause-ok
+pub returns-in-Said-clause-ok : goal.returns-in-Said-clause-ok
 unfolding hint_text
-returns-in-UnknownAccount-clause-ok g c = rw c.in-UnknownAccount.is
-    (rw (c.as_bytes.ensures.value, c.account_in-account.ensures, c.enrolled_as.ensures) at
-    c.write_on.ensures.ok)
+returns-in-Said-clause-ok g c = rw (sym c.hint_of.ensures ∙ c.in-Said.is)
+    (rw (c.said.ensures) at c.write_all.ensures.ok)
 
-pub returns-in-UnknownAccount-clause-err : goal.returns-in-UnknownAccount-clause-err
+pub returns-in-Said-clause-err : goal.returns-in-Said-clause-err
 unfolding hint_text
-returns-in-UnknownAccount-clause-err g c = rw c.in-UnknownAccount.is
-    (rw (c.as_bytes.ensures.value, c.account_in-account.ensures, c.enrolled_as.ensures) at
-    c.write_on.ensures.err)
+returns-in-Said-clause-err g c = rw (sym c.hint_of.ensures ∙ c.in-Said.is)
+    (rw (c.said.ensures) at c.write_all.ensures.err)
 
-pub returns-in-RunDiffers-clause-ok : goal.returns-in-RunDiffers-clause-ok
+pub returns-in-Enrol-clause-ok : goal.returns-in-Enrol-clause-ok
 unfolding hint_text
-returns-in-RunDiffers-clause-ok g c = rw c.in-RunDiffers.is
+returns-in-Enrol-clause-ok g c = rw (sym c.hint_of.ensures ∙ c.in-Enrol.is)
+    (rw (c.as_bytes.ensures.value, c.account_in-account.ensures, c.enrolled_as.ensures) at c.write_on.ensures.ok)
+
+pub returns-in-Enrol-clause-err : goal.returns-in-Enrol-clause-err
+unfolding hint_text
+returns-in-Enrol-clause-err g c = rw (sym c.hint_of.ensures ∙ c.in-Enrol.is)
+    (rw (c.as_bytes.ensures.value, c.account_in-account.ensures, c.enrolled_as.ensures) at c.write_on.ensures.err)
+
+pub returns-in-Void-clause-ok : goal.returns-in-Void-clause-ok
+unfolding hint_text
+returns-in-Void-clause-ok g c = rw (sym c.hint_of.ensures ∙ c.in-Void.is)
     (rw (c.account_in-account.ensures, c.number_in.ensures) at c.write_number.ensures.ok)
 
-pub returns-in-RunDiffers-clause-err : goal.returns-in-RunDiffers-clause-err
+pub returns-in-Void-clause-err : goal.returns-in-Void-clause-err
 unfolding hint_text
-returns-in-RunDiffers-clause-err g c = rw c.in-RunDiffers.is
+returns-in-Void-clause-err g c = rw (sym c.hint_of.ensures ∙ c.in-Void.is)
     (rw (c.account_in-account.ensures, c.number_in.ensures) at c.write_number.ensures.err)
 
-pub returns-in-PaymentDiffers-clause-ok : goal.returns-in-PaymentDiffers-clause-ok
+pub returns-in-VoidPay-clause-ok : goal.returns-in-VoidPay-clause-ok
 unfolding hint_text
-returns-in-PaymentDiffers-clause-ok g c = rw c.in-PaymentDiffers.is
-    (rw (c.account_in-account.ensures, c.number_in-in-PaymentDiffers.ensures) at
-    c.write_number-in-PaymentDiffers.ensures.ok)
+returns-in-VoidPay-clause-ok g c = rw (sym c.hint_of.ensures ∙ c.in-VoidPay.is)
+    (rw (c.account_in-account.ensures, c.number_in-in-VoidPay.ensures) at c.write_number-in-VoidPay.ensures.ok)
 
-pub returns-in-PaymentDiffers-clause-err : goal.returns-in-PaymentDiffers-clause-err
+pub returns-in-VoidPay-clause-err : goal.returns-in-VoidPay-clause-err
 unfolding hint_text
-returns-in-PaymentDiffers-clause-err g c = rw c.in-PaymentDiffers.is
-    (rw (c.account_in-account.ensures, c.number_in-in-PaymentDiffers.ensures) at
-    c.write_number-in-PaymentDiffers.ensures.err)
+returns-in-VoidPay-clause-err g c = rw (sym c.hint_of.ensures ∙ c.in-VoidPay.is)
+    (rw (c.account_in-account.ensures, c.number_in-in-VoidPay.ensures) at c.write_number-in-VoidPay.ensures.err)
 
-pub returns-in-QuarterMissing-clause-ok : goal.returns-in-QuarterMissing-clause-ok
+pub returns-in-Calendar-clause-ok : goal.returns-in-Calendar-clause-ok
 unfolding hint_text
-returns-in-QuarterMissing-clause-ok g c = rw c.in-QuarterMissing.is
-    (rw c.account_in-account.ensures at c.write_quarter.ensures.ok)
+returns-in-Calendar-clause-ok g c = rw (sym c.hint_of.ensures ∙ c.in-Calendar.is)
+    (c.write_year.ensures.ok)
 
-pub returns-in-QuarterMissing-clause-err : goal.returns-in-QuarterMissing-clause-err
+pub returns-in-Calendar-clause-err : goal.returns-in-Calendar-clause-err
 unfolding hint_text
-returns-in-QuarterMissing-clause-err g c = rw c.in-QuarterMissing.is
-    (rw c.account_in-account.ensures at c.write_quarter.ensures.err)
+returns-in-Calendar-clause-err g c = rw (sym c.hint_of.ensures ∙ c.in-Calendar.is)
+    (c.write_year.ensures.err)
 
-pub returns-in-YearNotOpen-clause-ok : goal.returns-in-YearNotOpen-clause-ok
+pub returns-in-Report-clause-ok : goal.returns-in-Report-clause-ok
 unfolding hint_text
-returns-in-YearNotOpen-clause-ok g c = rw c.in-YearNotOpen.is
-    (rw c.account_in-account.ensures at c.write_number-in-YearNotOpen.ensures.ok)
+returns-in-Report-clause-ok g c = rw (sym c.hint_of.ensures ∙ c.in-Report.is)
+    (rw (c.account_in-account.ensures) at c.write_quarter.ensures.ok)
 
-pub returns-in-YearNotOpen-clause-err : goal.returns-in-YearNotOpen-clause-err
+pub returns-in-Report-clause-err : goal.returns-in-Report-clause-err
 unfolding hint_text
-returns-in-YearNotOpen-clause-err g c = rw c.in-YearNotOpen.is
-    (rw c.account_in-account.ensures at c.write_number-in-YearNotOpen.ensures.err)
+returns-in-Report-clause-err g c = rw (sym c.hint_of.ensures ∙ c.in-Report.is)
+    (rw (c.account_in-account.ensures) at c.write_quarter.ensures.err)
 
-pub returns-in-YearMissing-clause-ok : goal.returns-in-YearMissing-clause-ok
+pub returns-in-ReportYear-clause-ok : goal.returns-in-ReportYear-clause-ok
 unfolding hint_text
-returns-in-YearMissing-clause-ok g c = rw c.in-YearMissing.is
-    (rw c.account_in-account.ensures at c.write_number-in-YearMissing.ensures.ok)
+returns-in-ReportYear-clause-ok g c = rw (sym c.hint_of.ensures ∙ c.in-ReportYear.is)
+    (rw (c.account_in-account.ensures) at c.write_number-in-ReportYear.ensures.ok)
 
-pub returns-in-YearMissing-clause-err : goal.returns-in-YearMissing-clause-err
+pub returns-in-ReportYear-clause-err : goal.returns-in-ReportYear-clause-err
 unfolding hint_text
-returns-in-YearMissing-clause-err g c = rw c.in-YearMissing.is
-    (rw c.account_in-account.ensures at c.write_number-in-YearMissing.ensures.err)
+returns-in-ReportYear-clause-err g c = rw (sym c.hint_of.ensures ∙ c.in-ReportYear.is)
+    (rw (c.account_in-account.ensures) at c.write_number-in-ReportYear.ensures.err)
+
+pub returns-in-OpenYear-clause-ok : goal.returns-in-OpenYear-clause-ok
+unfolding hint_text
+returns-in-OpenYear-clause-ok g c = rw (sym c.hint_of.ensures ∙ c.in-OpenYear.is)
+    (rw (c.account_in-account.ensures) at c.write_number-in-OpenYear.ensures.ok)
+
+pub returns-in-OpenYear-clause-err : goal.returns-in-OpenYear-clause-err
+unfolding hint_text
+returns-in-OpenYear-clause-err g c = rw (sym c.hint_of.ensures ∙ c.in-OpenYear.is)
+    (rw (c.account_in-account.ensures) at c.write_number-in-OpenYear.ensures.err)
