@@ -9,7 +9,8 @@ use Rattle.std.proofs.KnownBytes.{Consumes-nil, Consumes-trans, Appends-nil, App
 use Rattle.std.proofs.lemmas.Grind.{flat_map-append}
 use Rattle.std.proofs.lemmas.List.Elements.{All-nil, All-push}
 use Rattle.ftd_ports.specs.Writing.{WritesPrefix}
-use Rattle.ftd_messages.specs.Messages.{Message, IsMessage, message_bytes, closes, IsRefused, IsCut}
+use Rattle.ftd_messages.specs.Messages.{Message, IsMessage, message_bytes, AreMessages, closes}
+use Rattle.ftd_messages.specs.Messages.{IsRefused, IsCut}
 use Rattle.ftd_messages.specs.Looks.{IsMessageAt}
 use Rattle.ftd_messages.specs.Reading.{Reads, Takes}
 use Rattle.ftd_messages.specs.declared.look.Parts.{Parts}
@@ -21,7 +22,7 @@ use Rattle.ftd_http.specs.Responses.{Said, response_text}
 use Rattle.ftd_routes.specs.Asking.{asked_of}
 use Rattle.ftd_http.specs.Replying.{Responds}
 use Rattle.ftd_routes.specs.declared.ask.Asked.{Asked}
-use Rattle.ftd_http.specs.Serving.{Ends, closed, truncated, bad, asked, limit, idled, AreMessages}
+use Rattle.ftd_http.specs.Serving.{Ends, closed, truncated, bad, asked, limit, idled}
 use Rattle.ftd_http.specs.Serving.{closes_after, refusal_text, IsAnswer, none, more, Answered}
 use Rattle.ftd_http.specs.Serving.{Broken, Serves, BreaksOff, unasked, in_answer, in_refusal}
 use Rattle.ftd_http.specs.Serving.{Breaks, HasEnded, HasFailed, Talk}

@@ -1,9 +1,9 @@
 -- What is served on a connection.
 use Rattle.std.specs.Prelude.{◌≡◌, ◌≢◌, ◌<◌, ◌+◌, ◌++◌, ℕ, ◌==◌, ◌||◌, Bool, true, false, List, []}
 use Rattle.std.specs.Prelude.{◌∷◌, length, All, Option, Some, None, Result, Ok, Err}
-use Rattle.std.specs.List.{flat_map}
 use Rattle.std.specs.Io.KnownBytes.{Consumes, Appends, IsAtEnd}
-use Rattle.ftd_messages.specs.Messages.{Message, IsMessage, message_bytes, closes, IsRefused, IsCut}
+use Rattle.ftd_messages.specs.Messages.{Message, IsMessage, message_bytes, AreMessages, closes}
+use Rattle.ftd_messages.specs.Messages.{IsRefused, IsCut}
 use Rattle.ftd_messages.specs.declared.status.Status.{Status}
 use Rattle.ftd_machine.specs.declared.requests.Request.{Request}
 use Rattle.ftd_machine.specs.Checks.{Answer}
@@ -23,8 +23,8 @@ pub record AreOpen (messages : List Message) : Type 0 where
   pub few : length messages < 100
 
 -- How a stream ends after these messages, where `rest` is what comes after them: between two
--- messages, since the peer closed it or was idle for too long; inside one; with one that its head refuses, by a status; after the last of them, which
--- asks for it; or after the hundredth.
+-- messages, since the peer closed it or was idle for too long; inside one; with one that its head
+-- refuses, by a status; after the last of them, which asks for it; or after the hundredth.
 pub data Ends (rest : List ℕ) : List Message → Option Status → End → Type 0 where
   closed : (messages : List Message) → AreOpen messages → rest ≡ []
       → Ends rest messages None end.Closed
@@ -39,11 +39,6 @@ pub data Ends (rest : List ℕ) : List Message → Option Status → End → Typ
   limit : (messages : List Message) (last : Message) → AreOpen messages → closes last ≡ false
       → length messages ≡ 99
       → Ends rest (messages ++ last ∷ []) None end.Limit
-
--- these bytes are these messages, one after the other, and then the rest
-pub record AreMessages (bytes : List ℕ) (messages : List Message) (rest : List ℕ) : Type 0 where
-  pub are : All IsMessage messages
-  pub parts : bytes ≡ flat_map message_bytes messages ++ rest
 
 -- the connection closes after the answer to a message that comes after so many others
 abbrev pub closes_after : ℕ → Message → Bool

@@ -4,6 +4,7 @@
 
 mod closing;
 mod connection;
+pub mod laws;
 mod lines;
 mod machine;
 mod office;

@@ -1,3 +1,4 @@
+pub mod CutFacts
 pub mod FieldFacts
 pub mod LengthFacts
 pub mod ListFacts
