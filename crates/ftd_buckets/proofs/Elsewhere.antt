@@ -61,14 +61,17 @@ turn_early L M day old new c t is early =
             ∙ (sym c.opening ∙ m.0) in cc)
         | inr m2 ↦
             let its = turn_is L old t is m.1 in
-            let i0 = its.0 in let i1 = its.1 in let i2 = its.2 in
+            let i0 = its.0.not_before in let i1 = its.1 in let i2 = its.0.holds in
             let at = c.apart (month_start (month_of t)) t (inl early) in
             let turn : IsTurn M (year_start old.year) (year_last old.year) t = (
-              i0,
+              record {
+                not_before = i0;
+                holds = omega arith;
+                first = λ v l n reaches.
+                    (let q = c.apart (month_start (month_of v)) v (inl (omega arith)) in
+                    its.0.first v l n (omega arith));
+              },
               i1,
-              omega arith,
-              λ v l n. (let small = its.3 v l n in
-                  let q = c.apart (month_start (month_of v)) v (inl (omega arith)) in omega arith),
             ) in
             let P : ℕ → Type 0 = λ y. IsTurn M (year_start y) (year_last y) t in
             turn_one M new t m2.1 (subst P year turn)

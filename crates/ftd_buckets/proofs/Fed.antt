@@ -11,7 +11,7 @@ use Rattle.ftd_rules.specs.declared.YearLine.{YearLine}
 use Rattle.ftd_rules.specs.declared.Obligation.{Obligation}
 use Rattle.ftd_rules.specs.Liability.{liability}
 use Rattle.ftd_rules.specs.Lists.{Has}
-use Rattle.ftd_rules.specs.Years.{given, year_last, TurnedBefore}
+use Rattle.ftd_rules.specs.Years.{basis_of, year_last, TurnedBefore}
 use Rattle.ftd_rules.specs.Private.Years.{semiweekly_from, IsScheduled}
 use Rattle.ftd_rules.specs.Private.Walk.{due_date, AreOwed, periods}
 use Rattle.ftd_rules.proofs.Schedules.{year_facts, year_divides, schedule_same, schedule_iff}
@@ -26,7 +26,7 @@ use Rattle.ftd_buckets.specs.Patches.{AreRows, AreSumsOf}
 use Rattle.ftd_buckets.specs.Ready.{repairing}
 use Rattle.ftd_buckets.specs.Standing.{Stands, StandsIn}
 use Rattle.ftd_buckets.specs.Private.Answered.{Holds, IsSettledYear}
-use Rattle.ftd_buckets.proofs.Chain.{given_same}
+use Rattle.ftd_buckets.proofs.Chain.{basis_same}
 use Rattle.ftd_buckets.proofs.Places.{rows_are}
 use Rattle.ftd_buckets.proofs.Years.{rows_append}
 
@@ -50,7 +50,7 @@ pub year_settled : (form : Form) → (day : ℕ) (holidays : List ℕ) (before a
     → All (λ d. d < holidays_end) (holidays_of s.holidays.now)
     → (st : Stands form day holidays before after (repairing s (stage.Year turned)))
     → AreSumsOf after s.asked sums
-    → given new ≡ given st.old → IsScheduled (IsTrue turned) (liability sums) new
+    → basis_of new ≡ basis_of st.old → IsScheduled (IsTrue turned) (liability sums) new
     → AreOwed (due_date (holidays_of s.holidays.now)) (liability sums)
     (periods form (semiweekly_from new)) (year_start new.year) (year_last new.year + 1) added
     → t.lines.now ≡ s.lines.now → holidays_of t.holidays.now ≡ holidays_of s.holidays.now
@@ -81,8 +81,8 @@ year_settled form day holidays before after s t turned sums new added known0 st 
     let Q : ℕ → Type 0 = λ z. IsScheduled (TurnedBefore after.lines z) M st.new in
     let theirs : IsScheduled T M st.new = subst Q (sym st.common.year.same)
     (c.is_after.schedules st.new st.common.year.is_new) in
-    let both : given new ≡ given st.new = e
-    ∙ given_same day before after c old st.new st.common.year.is_old st.common.year.is_new
+    let both : basis_of new ≡ basis_of st.new = e
+    ∙ basis_same day before after c old st.new st.common.year.is_old st.common.year.is_new
     st.common.year.same in
     let one : st.new ≡ new = sym (line_equal T M new st.new both mine theirs) in
     let has : Has after.lines new = subst (λ (z : YearLine). Has after.lines z) one

@@ -97,7 +97,7 @@ no_stop form h line first last s is has period monthly l m big =
         | inr some ↦
             (let e = from_turn line some.0 its.0 some.1 in
             let at = turn_is (liability h.sums) line some.0 some.1 its.2 in
-            let small = at.3 s (omega arith) (omega arith) in omega arith)
+            let small = at.0.first s (omega arith) (omega arith) in omega arith)
       ]
     ]
 

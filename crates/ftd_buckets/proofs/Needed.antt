@@ -1,28 +1,32 @@
 -- What a repair asks for is needed, and a patch that changes no line is that of one deposit period.
 use Rattle.ftd_rules.specs.declared.Form.{Form}
-use Rattle.std.proofs.Common.{◌≡◌, ℕ, ◌+◌, ◌<◌, ◌≤◌, inl, inr, List, [], length, Bool, sym, ap, ◌∙◌}
-use Rattle.std.proofs.Common.{subst, arith}
+use Rattle.std.proofs.Common.{◌≡◌, ℕ, ◌+◌, ◌<◌, ◌≤◌, inl, inr, List, [], ◌∷◌, length, Bool, refl}
+use Rattle.std.proofs.Common.{sym, ap, ◌∙◌, subst, arith}
+use Rattle.std.specs.Prelude.{Option, IsSome, map}
 use Rattle.ftd_days.specs.Calendar.{year_start}
 use Rattle.ftd_rules.specs.declared.YearLine.{YearLine}
 use Rattle.ftd_rules.specs.Lists.{Has}
-use Rattle.ftd_rules.specs.Years.{year_last, IsSemiweeklyOn}
-use Rattle.ftd_rules.specs.Private.Years.{semiweekly_from}
+use Rattle.ftd_rules.specs.Liability.{liability}
+use Rattle.ftd_rules.specs.Years.{year_last, IsSemiweeklyOn, basis_of, TurnedBefore}
+use Rattle.ftd_rules.specs.Private.Years.{semiweekly_from, IsScheduled}
 use Rattle.ftd_rules.proofs.Stated.{period_run, semiweekly_is}
 use Rattle.ftd_rules.proofs.Cuts.{lt_or_le}
 use Rattle.ftd_rules.proofs.Schedules.{year_facts, year_start-mono, year_only, line_one}
+use Rattle.ftd_rules.proofs.Schedules.{schedule_iff}
 use Rattle.ftd_rules.proofs.Covering.{line_is, period_same}
-use Rattle.ftd_rules.proofs.Earlier.{counterpart}
+use Rattle.ftd_rules.proofs.Earlier.{counterpart, opening_same}
 use Rattle.ftd_buckets.specs.declared.Window.{Window}
 use Rattle.ftd_buckets.specs.declared.Patch.{Patch}
 use Rattle.ftd_buckets.specs.declared.state.Stage.{Stage}
 use Rattle.ftd_buckets.specs.declared.state.Stage.TheVariants as stage
 use Rattle.ftd_buckets.specs.Histories.{History, IsChange}
-use Rattle.ftd_buckets.specs.Windows.{IsPeriodOf, IsNeeded, IsLastNeeded}
-use Rattle.ftd_buckets.specs.Patches.{AreRows, IsPatch}
+use Rattle.ftd_buckets.specs.Windows.{IsPeriodOf, NoTurnDiffers, IsNeeded, IsLastNeeded}
+use Rattle.ftd_buckets.specs.Patches.{AreRows, AreChanged, IsPatch}
 use Rattle.ftd_buckets.specs.Ready.{Repairing}
 use Rattle.ftd_buckets.specs.Standing.{Stands, StandsIn, StandsAt}
 use Rattle.ftd_buckets.proofs.Chain.{later_same}
 use Rattle.ftd_buckets.proofs.Few.{four_rows, one_row}
+use Rattle.ftd_buckets.proofs.Turns.{line_same}
 
 needed_at : (form : Form) (day : ℕ) (holidays : List ℕ) (before after : History) (r : Repairing)
     (old new : YearLine) (at : Stage)
@@ -211,3 +215,52 @@ four_at_most form day before after holidays fed patch c is last none =
                 c.is_after n its.2.0 semi rows in omega arith)
           ]))
     ]
+
+-- where no turn differs, the year before a year turned in both histories or in neither
+turned_too : (g h : History) → map basis_of g.lines ≡ map basis_of h.lines → NoTurnDiffers g h
+    → (year : ℕ) → TurnedBefore g.lines year → TurnedBefore h.lines year
+turned_too g h same still year t =
+    let k = counterpart g.lines h.lines t.0 same t.1 in
+    let own : t.0.year ≡ k.0.year = ap (λ (z : ℕ × ℕ × Bool). z.0) k.2 in
+    let turn = still t.0 k.0 (record { is_old = t.1; is_new = k.1; same = own }) in (
+      k.0,
+      k.1,
+      ap (λ z. z + 1) (sym own) ∙ t.2,
+      subst (λ (o : Option ℕ). IsSome o) turn t.3,
+    )
+
+-- so each year opens as before, and its line stays
+line_kept : (day : ℕ) (g h : History) → IsChange day g h → NoTurnDiffers g h → (line : YearLine)
+    → Has h.lines line → Has g.lines line
+line_kept day g h c still line has =
+    let k = counterpart h.lines g.lines line (sym c.same_years) has in
+    let old = k.0 in
+    let year : line.year ≡ old.year = ap (λ (z : ℕ × ℕ × Bool). z.0) k.2 in
+    let turn = still old line (record { is_old = k.1; is_new = has; same = sym year }) in
+    let back : NoTurnDiffers h g =
+    λ x y both. sym (still y x (record {
+      is_old = both.is_new;
+      is_new = both.is_old;
+      same = sym both.same;
+    })) in
+    let T : Type 0 = TurnedBefore h.lines old.year in
+    let first : IsScheduled T (liability g.sums) old =
+    schedule_iff (TurnedBefore g.lines old.year) T (liability g.sums) old
+    (turned_too g h c.same_years still old.year)
+    (turned_too h g (sym c.same_years) back old.year) (c.is_before.schedules old k.1) in
+    let P : ℕ → Type 0 = λ z. IsScheduled (TurnedBefore h.lines z) (liability h.sums) line in
+    let second : IsScheduled T (liability h.sums) line =
+    subst P year (c.is_after.schedules line has) in
+    let opening = opening_same T (liability g.sums) (liability h.sums) old line (sym k.2) first
+    second in
+    let equal : line ≡ old = line_same old line (sym k.2) opening (sym turn) in
+    subst (λ (z : YearLine). Has g.lines z) (sym equal) k.1
+
+-- no line differs where no turn does
+pub none_changed : (day : ℕ) (before after : History) (lines : List YearLine)
+    → IsChange day before after → NoTurnDiffers before after → AreChanged before after lines
+    → lines ≡ []
+none_changed day before after [] c still are = refl
+none_changed day before after (line ∷ lines) c still are =
+    let w = (are.all line).0 (inl refl) in
+    absurd (w.1 (line_kept day before after c still line w.0))

@@ -15,7 +15,7 @@ use Rattle.ftd_rules.specs.declared.Obligation.{Obligation}
 use Rattle.ftd_rules.specs.declared.Kind.TheVariants as kind
 use Rattle.ftd_rules.specs.Liability.{liability, SumsRise}
 use Rattle.ftd_rules.specs.Lists.{Has}
-use Rattle.ftd_rules.specs.Years.{HasTurn, year_last}
+use Rattle.ftd_rules.specs.Years.{IsTurnOf, HasTurn, year_last}
 use Rattle.ftd_rules.specs.Private.Years.{semiweekly_from}
 use Rattle.ftd_rules.specs.Private.Walk.{due_date, AreOwed, Divides, periods, period_first}
 use Rattle.ftd_rules.proofs.Status.{month_at_least}
@@ -28,7 +28,7 @@ use Rattle.ftd_buckets.specs.Histories.{History, TurnsWithin}
 use Rattle.ftd_buckets.specs.Patches.{AreRows, AreSumsOf}
 use Rattle.ftd_buckets.specs.Ready.{repairing, ReadyRest}
 use Rattle.ftd_buckets.specs.Private.Ready.{with_turn, IsWhole}
-use Rattle.ftd_buckets.specs.Private.Turned.{IsFirstTurn, IsMonthStart}
+use Rattle.ftd_buckets.specs.Private.Turned.{IsMonthStart}
 use Rattle.ftd_buckets.specs.Standing.{Stands, StandsIn}
 use Rattle.ftd_buckets.specs.Private.Answered.{IsSettledYear}
 use Rattle.ftd_buckets.proofs.Turns.{month_total, line_same, line_year}
@@ -43,7 +43,7 @@ pub record Found (form : Form) (line : YearLine) (asked : Window) (held : List D
   pub begin : 2001 ≤ line.year
   pub end : line.year ≤ 2098
   pub ready : ReadyRest form line asked held first turn
-  pub now_is : MatchOption turn (IsFirstTurn (liability all) first asked.to now) (λ t. now ≡ Some t)
+  pub now_is : MatchOption turn (IsTurnOf (liability all) first asked.to now) (λ t. now ≡ Some t)
 
 -- the first day of the open period lies in the year, before the rest
 pub open_within : (form : Form) → (line : YearLine) (asked : Window) (held : List DaySum)
@@ -99,7 +99,7 @@ rest_turn form line asked held first turn all now h =
           let found = rw none at h.now_is in
           elim (cases_turn now) [
             | inl never ↦ rw never tt
-            | inr is ↦ (let its = rw is.1 at found in let i0 = its.0 in let i1 = its.1 in
+            | inr is ↦ (let its = rw is.1 at found in let i0 = its.0.not_before in let i1 = its.1 in
                 rw is.1 (h.ready.monthly, omega arith, omega arith))
           ]
       | inr is ↦
@@ -132,7 +132,7 @@ rest_whole form line asked held first turn all now h =
           let monthly : first < semiweekly_from n =
           elim (cases_turn now) [
             | inl never ↦ (let e = from_none n h.ready.monthly never in omega arith)
-            | inr is ↦ (let its = rw is.1 at found in let i0 = its.0 in
+            | inr is ↦ (let its = rw is.1 at found in let i0 = its.0.not_before in
                 let e = from_turn n is.0 h.ready.monthly is.1 in omega arith)
           ] in
           let end = month_start-end in
@@ -169,7 +169,7 @@ pub turn_found : (M F : ℕ → ℕ → ℕ) (line : YearLine) (first : ℕ) (no
     → year_last line.year ≤ last_day → HasTurn M line → IsMonthStart first
     → year_start line.year ≤ first
     → ((t : ℕ) → line.turn ≡ Some t → first ≤ t) → ((u t : ℕ) → first ≤ u → t ≤ year_last line.year
-    → M u t ≡ F u t) → IsFirstTurn F first (year_last line.year) now → line.turn ≡ now
+    → M u t ≡ F u t) → IsTurnOf F first (year_last line.year) now → line.turn ≡ now
 turn_found M F line first now top h begins from late agree found =
     let total : (v : ℕ) → first ≤ v → v ≤ year_last line.year → month_total M v ≡ month_total F v =
     λ v l m. (let k = month_at_least v begins.0 (omega arith) (omega arith) in
@@ -181,27 +181,26 @@ turn_found M F line first now top h begins from late agree found =
           let calm = rw none at h in
           elim (cases_turn now) [
             | inl never ↦ none ∙ sym never
-            | inr is ↦ absurd (let its = rw is.1 at found in let i0 = its.0 in let i1 = its.1 in
-                let i2 = its.2 in let e = total is.0 i0 i1 in
-                let small = calm is.0 (omega arith) i1 in omega arith)
+            | inr is ↦
+                absurd (let its = rw is.1 at found in let i0 = its.0.not_before in
+                let i1 = its.1 in let i2 = its.0.holds in let e = total is.0 i0 i1 in
+                calm is.0 (omega arith) i1 (omega arith))
           ]
       | inr some ↦
           let at = turn_is M line some.0 some.1 h in
-          let a1 = at.1 in let a2 = at.2 in
+          let a1 = at.1 in let a2 = at.0.holds in
           let l = late some.0 some.1 in
           let e = total some.0 l a1 in
           elim (cases_turn now) [
-            | inl never ↦ absurd (let calm = rw never at found in let small = calm some.0 l a1 in
-                omega arith)
+            | inl never ↦ absurd (let calm = rw never at found in calm some.0 l a1 (omega arith))
             | inr is ↦
                 let its = rw is.1 at found in
-                let i0 = its.0 in let i1 = its.1 in let i2 = its.2 in
+                let i0 = its.0.not_before in let i1 = its.1 in let i2 = its.0.holds in
                 let g = total is.0 i0 i1 in
                 elim (cases_order some.0 is.0) [
                   | inl same ↦ some.1 ∙ (ap Some same ∙ sym is.1)
-                  | inr (inl less) ↦ absurd (let small = its.3 some.0 l less in omega arith)
-                  | inr (inr more) ↦ absurd (let small = at.3 is.0 (omega arith) more in
-                      omega arith)
+                  | inr (inl less) ↦ absurd (its.0.first some.0 l less (omega arith))
+                  | inr (inr more) ↦ absurd (at.0.first is.0 (omega arith) more (omega arith))
                 ]
           ]
     ]
@@ -263,8 +262,8 @@ rest_settled form day holidays before after s t first turn now sums added known0
           λ v e. (let k = rw e at after_it in omega arith) in
           let F = liability all in
           let ends : ℕ → Type 0 = λ z. (u v : ℕ) → first ≤ u → v ≤ year_last z → M u v ≡ F u v in
-          let Q : ℕ → Type 0 = λ z. IsFirstTurn F first z now in
-          let found_now : IsFirstTurn F first (year_last st.new.year) now =
+          let Q : ℕ → Type 0 = λ z. IsTurnOf F first z now in
+          let found_now : IsTurnOf F first (year_last st.new.year) now =
           subst Q (a_to ∙ ap year_last same) is in
           let T : ℕ → Type 0 = λ z. year_last z ≤ last_day in
           let S : ℕ → Type 0 = λ z. year_start z ≤ first in

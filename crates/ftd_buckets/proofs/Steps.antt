@@ -9,7 +9,7 @@ use Rattle.ftd_rules.specs.declared.Kind.{Kind}
 use Rattle.ftd_rules.specs.declared.Kind.TheVariants as kind
 use Rattle.ftd_rules.specs.Liability.{liability}
 use Rattle.ftd_rules.specs.Lists.{Has}
-use Rattle.ftd_rules.specs.Years.{YearsFrom, given, year_last, TurnedBefore}
+use Rattle.ftd_rules.specs.Years.{YearsFrom, basis_of, year_last, TurnedBefore}
 use Rattle.ftd_rules.specs.Private.Years.{OpensBy, IsScheduled}
 use Rattle.ftd_rules.proofs.Schedules.{year_facts, year_start-mono, line_one}
 use Rattle.ftd_rules.proofs.Covering.{line_is}
@@ -91,7 +91,7 @@ pub record NextYear (before after : History) (old new next : YearLine) (rest : L
   pub opening : next_new.opening ≡ opens
 
 opens_same : (T U : Type 0) (L : ℕ → ℕ → ℕ) (line other : YearLine) (k : Kind)
-    → given line ≡ given other → (T → U) → (U → T) → IsScheduled T L other
+    → basis_of line ≡ basis_of other → (T → U) → (U → T) → IsScheduled T L other
     → k ≡ kind.Semiweekly ↔ OpensBy U line → other.opening ≡ k
 opens_same T U L line other k e f g h opens =
     let lookback : line.lookback.0 ≡ other.lookback.0 = ap (λ (z : ℕ × ℕ × Bool). z.1) e in

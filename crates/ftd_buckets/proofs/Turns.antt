@@ -11,8 +11,7 @@ use Rattle.ftd_days.proofs.Months.{month_of_is, month_of_only, month_start-mono,
 use Rattle.ftd_rules.specs.declared.YearLine.{YearLine}
 use Rattle.ftd_rules.specs.declared.Kind.{Kind}
 use Rattle.ftd_rules.specs.declared.Kind.TheVariants as kind
-use Rattle.ftd_rules.specs.Stops.{next_day_amount}
-use Rattle.ftd_rules.specs.Years.{IsTurn, HasTurn, given, year_last}
+use Rattle.ftd_rules.specs.Years.{Reaches, IsTurn, HasTurn, basis_of, year_last}
 use Rattle.ftd_rules.specs.Private.Years.{semiweekly_from}
 use Rattle.ftd_rules.specs.Periods.{IsPeriod}
 use Rattle.ftd_rules.specs.Private.Walk.{years_end, period_first, period_last}
@@ -30,6 +29,10 @@ use Rattle.ftd_buckets.specs.Private.Turned.{IsYearChange}
 abbrev pub month_total : (ℕ → ℕ → ℕ) → ℕ → ℕ
 month_total L t = L (month_start (month_of t)) t
 
+-- no day from a to b reaches 100,000.00
+abbrev pub Quiet : (ℕ → ℕ → ℕ) → ℕ → ℕ → Type 0
+Quiet F a b = (v : ℕ) → a ≤ v → v ≤ b → Reaches F v → ⊥
+
 pub cases_kind : (k : Kind) → (k ≡ kind.Semiweekly) ⊎ (k ≡ kind.Monthly)
 cases_kind kind.Semiweekly = inl refl
 cases_kind kind.Monthly = inr refl
@@ -41,31 +44,29 @@ cases_opening line = cases_kind line.opening
 pub turn_one : (M : ℕ → ℕ → ℕ) (line : YearLine) (t : ℕ) → HasTurn M line
     → IsTurn M (year_start line.year) (year_last line.year) t → line.turn ≡ Some t
 turn_one M line t h its =
-    let i0 = its.0 in let i1 = its.1 in let i2 = its.2 in
+    let i0 = its.0.not_before in let i1 = its.1 in
     elim (cases_turn line.turn) [
-      | inl none ↦ absurd (let k = rw none at h in let small = k t i0 i1 in omega arith)
+      | inl none ↦ absurd (let k = rw none at h in k t i0 i1 its.0.holds)
       | inr some ↦
           let at = turn_is M line some.0 some.1 h in
-          let a0 = at.0 in let a1 = at.1 in let a2 = at.2 in
           elim (cases_order t some.0) [
             | inl same ↦ some.1 ∙ ap Some (sym same)
-            | inr (inl less) ↦ absurd (let small = at.3 t i0 less in omega arith)
-            | inr (inr more) ↦ absurd (let small = its.3 some.0 a0 more in omega arith)
+            | inr (inl less) ↦ absurd (at.0.first t i0 less its.0.holds)
+            | inr (inr more) ↦ absurd (its.0.first some.0 at.0.not_before more at.0.holds)
           ]
     ]
 
 -- and none where no day is one
 pub turn_none : (M : ℕ → ℕ → ℕ) (line : YearLine) → HasTurn M line
-    → ((v : ℕ) → year_start line.year ≤ v → v ≤ year_last line.year
-    → month_total M v < next_day_amount) → line.turn ≡ None
+    → Quiet M (year_start line.year) (year_last line.year) → line.turn ≡ None
 turn_none M line h quiet =
     elim (cases_turn line.turn) [
       | inl none ↦ none
-      | inr some ↦ absurd (let at = turn_is M line some.0 some.1 h in let a2 = at.2 in
-          let small = quiet some.0 at.0 at.1 in omega arith)
+      | inr some ↦ absurd (let at = turn_is M line some.0 some.1 h in
+          quiet some.0 at.0.not_before at.1 at.0.holds)
     ]
 
-pub line_same : (old new : YearLine) → given old ≡ given new → old.opening ≡ new.opening
+pub line_same : (old new : YearLine) → basis_of old ≡ basis_of new → old.opening ≡ new.opening
     → new.turn ≡ old.turn → new ≡ old
 line_same old new e opening turn =
     let year : new.year ≡ old.year = sym (ap (λ (z : ℕ × ℕ × Bool). z.0) e) in
@@ -169,19 +170,19 @@ new_monthly form L M F day old new a b c monthly =
 -- nothing turns before the period
 quiet_before : (form : Form) → (L M F : ℕ → ℕ → ℕ) (day : ℕ) (old new : YearLine) (a b : ℕ)
     → Shown form L M F day old new a b → a < semiweekly_from old
-    → (v : ℕ) → year_start old.year ≤ v → v < a → month_total M v < next_day_amount
-quiet_before form L M F day old new a b c monthly v l m =
+    → (v : ℕ) → year_start old.year ≤ v → v < a → Reaches M v → ⊥
+quiet_before form L M F day old new a b c monthly v l m reaches =
     let h = old_monthly form L M F day old new a b c monthly in
     let k = period_facts form old a b c.year c.period in
     let k2 = k.2 in let k4 = k.4 in
     let from = c.from in
     let q = c.change.apart (month_start (month_of v)) v (inl (omega arith)) in
     elim (cases_turn old.turn) [
-      | inl none ↦ let z = rw none at h.1 in let small = z v l (omega arith) in omega arith
+      | inl none ↦ let z = rw none at h.1 in z v l (omega arith) (omega arith)
       | inr some ↦
           let its = turn_is L old some.0 some.1 h.1 in
           let e = from_turn old some.0 h.0 some.1 in
-          let small = its.3 v l (omega arith) in omega arith
+          its.0.first v l (omega arith) (omega arith)
     ]
 
 -- within it, the month's total is that of the sums
@@ -207,25 +208,24 @@ pub turn_shown : (form : Form) → (L M F : ℕ → ℕ → ℕ) (day : ℕ) (ol
 turn_shown form L M F day old new a b t c monthly its =
     let k = period_facts form old a b c.year c.period in
     let k3 = k.3 in let k4 = k.4 in
-    let i0 = its.0 in let i1 = its.1 in let i2 = its.2 in
+    let i0 = its.0.not_before in let i1 = its.1 in let i2 = its.0.holds in
     let year : old.year ≡ new.year = ap (λ (z : ℕ × ℕ × Bool). z.0) c.change.same in
     let at = total_within form L M F day old new a b c monthly t i0 i1 in
     let turn : IsTurn M (year_start old.year) (year_last old.year) t = (
+      record {
+        not_before = omega arith;
+        holds = omega arith;
+        first = λ v l m reaches. elim (lt_or_le v a) [
+          | inl before ↦ quiet_before form L M F day old new a b c monthly v l before reaches
+          | inr within ↦
+              let e = total_within form L M F day old new a b c monthly v within (omega arith) in
+              its.0.first v within m (omega arith)
+        ];
+      },
       omega arith,
-      omega arith,
-      omega arith,
-      λ v l m. elim (lt_or_le v a) [
-        | inl before ↦ quiet_before form L M F day old new a b c monthly v l before
-        | inr within ↦ let small = its.3 v within m in
-            let e = total_within form L M F day old new a b c monthly v within (omega arith) in
-            omega arith
-      ],
     ) in
     let P : ℕ → Type 0 = λ y. IsTurn M (year_start y) (year_last y) t in
     turn_one M new t (new_monthly form L M F day old new a b c monthly) (subst P year turn)
-
-abbrev pub Quiet : (ℕ → ℕ → ℕ) → ℕ → ℕ → Type 0
-Quiet F a b = (v : ℕ) → a ≤ v → v ≤ b → month_total F v < next_day_amount
 
 -- where they show none, it comes after the period
 pub turn_after : (form : Form) → (L M F : ℕ → ℕ → ℕ) (day : ℕ) (old new : YearLine) (a b : ℕ)
@@ -235,15 +235,15 @@ turn_after form L M F day old new a b c monthly quiet t e =
     let year : old.year ≡ new.year = ap (λ (z : ℕ × ℕ × Bool). z.0) c.change.same in
     let at = turn_is M new t e (new_monthly form L M F day old new a b c monthly) in
     let P : ℕ → Type 0 = λ y. year_start y ≤ t in
-    let a0 : year_start old.year ≤ t = subst P (sym year) at.0 in
-    let a2 = at.2 in
+    let a0 : year_start old.year ≤ t = subst P (sym year) at.0.not_before in
+    let a2 = at.0.holds in
     elim (lt_or_le b t) [
       | inl less ↦ less
       | inr more ↦ absurd (elim (lt_or_le t a) [
-        | inl before ↦ let small = quiet_before form L M F day old new a b c monthly t a0 before in
-            omega arith
-        | inr within ↦ let small = quiet t within more in
-            let q = total_within form L M F day old new a b c monthly t within more in omega arith
+        | inl before ↦ quiet_before form L M F day old new a b c monthly t a0 before a2
+        | inr within ↦
+            let q = total_within form L M F day old new a b c monthly t within more in
+            quiet t within more (omega arith)
       ])
     ]
 
@@ -270,31 +270,29 @@ turn_stays form L M F day old new a b c monthly quiet other =
     let r = month_start-mono (month_of a + 1) (month_of v) q in
     c.change.apart (month_start (month_of v)) v (inr (omega arith))) in
     let small : (v : ℕ) → year_start old.year ≤ v → v ≤ year_last old.year
-    → (b < v → month_start (month_of a + 1) ≤ b + 1) → (b < v → month_total L v < next_day_amount)
-    → month_total M v < next_day_amount =
-    λ v l m whole less. elim (lt_or_le v a) [
-      | inl before ↦ quiet_before form L M F day old new a b c monthly v l before
+    → (b < v → month_start (month_of a + 1) ≤ b + 1) → (b < v → Reaches L v → ⊥)
+    → Reaches M v → ⊥ =
+    λ v l m whole less reaches. elim (lt_or_le v a) [
+      | inl before ↦ quiet_before form L M F day old new a b c monthly v l before reaches
       | inr from ↦ elim (lt_or_le b v) [
-        | inl past ↦ let e = later v past m (whole past) in let z = less past in omega arith
+        | inl past ↦ let e = later v past m (whole past) in less past (omega arith)
         | inr within ↦ let e = total_within form L M F day old new a b c monthly v from within in
-            let z = quiet v from within in omega arith
+            quiet v from within (omega arith)
       ]
     ] in
     elim (cases_turn old.turn) [
       | inl none ↦
           let e = from_none old h.0 none in
           let calm = rw none at h.1 in
-          let all : (v : ℕ) → year_start old.year ≤ v → v ≤ year_last old.year
-          → month_total M v < next_day_amount =
+          let all : Quiet M (year_start old.year) (year_last old.year) =
           λ v l m. small v l m (λ past. omega arith) (λ past. calm v l m) in
-          let P : ℕ → Type 0 = λ y. (v : ℕ) → year_start y ≤ v → v ≤ year_last y
-          → month_total M v < next_day_amount in
+          let P : ℕ → Type 0 = λ y. Quiet M (year_start y) (year_last y) in
           turn_none M new g (subst P year all) ∙ sym none
       | inr some ↦
           let t = some.0 in
           let e = from_turn old t h.0 some.1 in
           let its = turn_is L old t some.1 h.1 in
-          let i0 = its.0 in let i1 = its.1 in let i2 = its.2 in
+          let i0 = its.0.not_before in let i1 = its.1 in let i2 = its.0.holds in
           let past : b < t = elim (lt_or_le b t) [
             | inl less ↦ less
             | inr more ↦ absurd (let same : b ≡ t = omega arith in
@@ -302,8 +300,14 @@ turn_stays form L M F day old new a b c monthly quiet other =
           ] in
           let whole : month_start (month_of a + 1) ≤ b + 1 = omega arith in
           let at = later t past i1 whole in
-          let turn : IsTurn M (year_start old.year) (year_last old.year) t =
-          (i0, i1, omega arith, λ v l m. small v l (omega arith) (λ p. whole) (λ p. its.3 v l m)) in
+          let turn : IsTurn M (year_start old.year) (year_last old.year) t = (
+            record {
+              not_before = i0;
+              holds = omega arith;
+              first = λ v l m. small v l (omega arith) (λ p. whole) (λ p. its.0.first v l m);
+            },
+            i1,
+          ) in
           let P : ℕ → Type 0 = λ y. IsTurn M (year_start y) (year_last y) t in
           turn_one M new t g (subst P year turn) ∙ sym some.1
     ]
@@ -331,15 +335,17 @@ turn_earlier form L M F day old new a b c semi =
               let t = some.0 in
               let e = from_turn old t m.0 some.1 in
               let its = turn_is L old t some.1 m.1 in
-              let i0 = its.0 in let i1 = its.1 in let i2 = its.2 in
+              let i0 = its.0.not_before in let i1 = its.1 in let i2 = its.0.holds in
               let at = c.change.apart (month_start (month_of t)) t (inl (omega arith)) in
               let turn : IsTurn M (year_start old.year) (year_last old.year) t = (
-                i0,
+                record {
+                  not_before = i0;
+                  holds = omega arith;
+                  first = λ v l n reaches.
+                      (let q = c.change.apart (month_start (month_of v)) v (inl (omega arith)) in
+                      its.0.first v l n (omega arith));
+                },
                 i1,
-                omega arith,
-                λ v l n. (let small = its.3 v l n in
-                    let q = c.change.apart (month_start (month_of v)) v (inl (omega arith)) in
-                    omega arith),
               ) in
               let P : ℕ → Type 0 = λ y. IsTurn M (year_start y) (year_last y) t in
               turn_one M new t m2.1 (subst P year turn) ∙ sym some.1

@@ -1,11 +1,11 @@
 -- What a change of one day's runs changes in an account's obligations and years.
 use Rattle.ftd_rules.specs.declared.Form.{Form}
-use Rattle.std.specs.Prelude.{◌≡◌, ℕ, ◌+◌, ◌<◌, ◌≤◌, ◌⊎◌, ◌↔◌, List, [], ◌∷◌}
+use Rattle.std.specs.Prelude.{◌≡◌, ℕ, ◌+◌, ◌<◌, ◌≤◌, ◌⊎◌, ◌↔◌, List}
 use Rattle.ftd_rules.specs.declared.DaySum.{DaySum}
 use Rattle.ftd_rules.specs.declared.YearLine.{YearLine}
 use Rattle.ftd_rules.specs.declared.Obligation.{Obligation}
 use Rattle.ftd_rules.specs.Liability.{liability}
-use Rattle.ftd_rules.specs.Lists.{Has}
+use Rattle.ftd_rules.specs.Lists.{Has, KeysRise}
 use Rattle.ftd_rules.specs.Obligations.{IsObligation, ByFirstDay}
 use Rattle.ftd_buckets.specs.declared.Window.{Window}
 use Rattle.ftd_buckets.specs.declared.Patch.{Patch}
@@ -29,9 +29,7 @@ pub record AreRows (form : Form) (h : History) (holidays : List ℕ) (a b : ℕ)
 
 -- each line is of an earlier year than those after it
 abbrev pub ByYear : List YearLine → Type 0
-ByYear [] = Unit {0}
-ByYear (line ∷ lines) =
-    ((later : YearLine) → Has lines later → line.year < later.year) × ByYear lines
+ByYear lines = KeysRise (λ line. line.year) lines
 
 -- the lines of the history after the change that differ
 pub record AreChanged (before after : History) (lines : List YearLine) : Type 0 where

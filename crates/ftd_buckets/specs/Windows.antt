@@ -18,11 +18,16 @@ abbrev pub IsDayPeriod : Form → ℕ → History → Window → Type 0
 IsDayPeriod form day before w =
     (line : YearLine) × Has before.lines line × IsPeriodOf form line day w
 
--- a year whose line differs: the line before and the line after
+-- the lines of one year, before the change and after it
 pub record IsYearOf (before after : History) (old new : YearLine) : Type 0 where
   pub is_old : Has before.lines old
   pub is_new : Has after.lines new
   pub same : old.year ≡ new.year
+
+-- no year's turn differs: it is the same before and after, or there is none in both
+abbrev pub NoTurnDiffers : History → History → Type 0
+NoTurnDiffers before after =
+    (old new : YearLine) → IsYearOf before after old new → old.turn ≡ new.turn
 
 -- the rest of the day's year after that period, where there is one and the year's turn differs
 pub record IsRestOfYear (form : Form) (day : ℕ) (before after : History) (w : Window) : Type 0 where

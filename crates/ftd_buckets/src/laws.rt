@@ -11,7 +11,7 @@ ghost use Rattle.ftd_rules.specs.Periods.{IsPeriod};
 ghost use Rattle.ftd_rules.specs.Years.{year_last, IsSemiweeklyOn};
 ghost use Rattle.ftd_buckets.specs.declared.Window.{Window};
 ghost use Rattle.ftd_buckets.specs.declared.Patch.{Patch};
-ghost use Rattle.ftd_buckets.specs.Windows.{IsLastNeeded};
+ghost use Rattle.ftd_buckets.specs.Windows.{NoTurnDiffers, IsLastNeeded};
 ghost use Rattle.ftd_buckets.specs.Histories.{History, IsHistory, IsChange};
 ghost use Rattle.ftd_buckets.specs.Patches.{AreRows, IsPatch};
 
@@ -32,17 +32,23 @@ pub fn a_monthly_period_has_one_row()
         → AreRows form h holidays first (last + 1) rows → length rows ≤ 1 }
 {}
 
-/// A patch that changes no line has at most four rows, and at most one where the day's deposit
-/// period before the change is monthly.
-pub fn a_patch_without_lines_is_small()
+/// A patch of a change by which no year's turn differs changes no line. It has at most four rows,
+/// and at most one where the day's deposit period before the change is monthly.
+pub fn a_patch_is_small_where_no_turn_differs()
+    ensures lines { (form : Form) (day : ℕ) (before after : History) (holidays : List ℕ)
+        (fed : Window) (patch : Patch)
+        → IsChange day before after → NoTurnDiffers before after
+        → IsPatch form day before after holidays fed patch → patch.years ≡ [] }
     ensures four { (form : Form) (day : ℕ) (before after : History) (holidays : List ℕ)
         (fed : Window) (patch : Patch)
-        → IsChange day before after → IsPatch form day before after holidays fed patch
-        → IsLastNeeded form day before after fed → patch.years ≡ [] → length patch.rows ≤ 4 }
+        → IsChange day before after → NoTurnDiffers before after
+        → IsPatch form day before after holidays fed patch
+        → IsLastNeeded form day before after fed → length patch.rows ≤ 4 }
     ensures one { (form : Form) (day : ℕ) (before after : History) (holidays : List ℕ)
         (fed : Window) (patch : Patch) (line : YearLine)
-        → IsChange day before after → IsPatch form day before after holidays fed patch
-        → IsLastNeeded form day before after fed → patch.years ≡ []
+        → IsChange day before after → NoTurnDiffers before after
+        → IsPatch form day before after holidays fed patch
+        → IsLastNeeded form day before after fed
         → Has before.lines line → year_start line.year ≤ day → day ≤ year_last line.year
         → (IsSemiweeklyOn line patch.from → ⊥) → length patch.rows ≤ 1 }
 {}

@@ -7,8 +7,9 @@ ghost use Rattle.ftd_rules.specs.declared.Form.{Form};
 ghost use Rattle.ftd_rules.specs.declared.YearLine.{YearLine};
 ghost use Rattle.ftd_rules.specs.Liability.{liability, cents_of, SumsRise};
 ghost use Rattle.ftd_rules.specs.Periods.{IsPeriod};
+ghost use Rattle.ftd_rules.specs.Years.{IsTurnOf};
 ghost use Rattle.ftd_buckets.specs.Histories.{TurnsWithin};
-ghost use Rattle.ftd_buckets.specs.Private.Turned.{IsYearChange, IsTurnNow, IsWithin, IsFirstTurn};
+ghost use Rattle.ftd_buckets.specs.Private.Turned.{IsYearChange, IsTurnNow, IsWithin};
 ghost use Rattle.ftd_buckets.specs.Private.Turned.{IsMonthStart};
 
 use crate::Window;
@@ -71,7 +72,7 @@ pub fn turn_from(turn: Option<Day>, first: Day, last: Day, sums: &[DaySum]) -> O
     requires ends { last ≤ last_day }
     requires rise { SumsRise first last sums.now }
     requires small { sum_by cents_of sums.now < 6_000_000_000_000_000 }
-    ensures { MatchOption turn (IsFirstTurn (liability sums.now) first last result)
+    ensures { MatchOption turn (IsTurnOf (liability sums.now) first last result)
         (λ t. result ≡ Some t) }
 {
     match turn {

@@ -16,7 +16,7 @@ use Rattle.ftd_rules.specs.declared.DaySum.{DaySum}
 use Rattle.ftd_rules.specs.declared.YearLine.{YearLine}
 use Rattle.ftd_rules.specs.Liability.{cents_of}
 use Rattle.ftd_rules.specs.Lists.{Has}
-use Rattle.ftd_rules.specs.Years.{LiesInYears, given, year_last}
+use Rattle.ftd_rules.specs.Years.{LiesInYears, basis_of, year_last}
 use Rattle.ftd_csv.specs.Answers.{RecordsFail, most_bytes}
 use Rattle.ftd_csv.specs.declared.record.RecordFault.{RecordFault}
 use Rattle.ftd_csv.specs.declared.record.RecordFault.TheVariants as records
@@ -227,11 +227,11 @@ pub whole_sum : (sums : List DaySum) → length sums ≤ most_runs
 whole_sum sums few small = let bound = sum_by-le cents_of 299_999_999_997 sums small in omega arith
 
 pub only_line : (lines : List YearLine) (year lookback : ℕ) (carried : Bool)
-    → map given lines ≡ (year, lookback, carried) ∷ [] → (one : YearLine) × (lines ≡ one ∷ [])
+    → map basis_of lines ≡ (year, lookback, carried) ∷ [] → (one : YearLine) × (lines ≡ one ∷ [])
     × (one.year ≡ year) × (one.lookback.0 ≡ lookback) × (one.carried ≡ carried)
 only_line [] year lookback carried e = cc e
 only_line (one ∷ []) year lookback carried e =
-    let same : given one ≡ (year, lookback, carried) = cc in (
+    let same : basis_of one ≡ (year, lookback, carried) = cc in (
       one,
       refl,
       ap (λ (g : ℕ × ℕ × Bool). g.0) same,

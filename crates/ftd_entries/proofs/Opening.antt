@@ -1,8 +1,8 @@
 -- A year that is opened: what is answered, and the tables stand for the machine's next state.
-use Rattle.std.proofs.Common.{◌≡◌, ℕ, ◌+◌, ◌<◌, ◌≤◌, ◌==◌, ◌&&◌, ◌⊎◌, Bool, true, false, pos, List}
+use Rattle.std.proofs.Common.{◌≡◌, ℕ, ◌+◌, ◌≤◌, ◌==◌, ◌&&◌, ◌⊎◌, Bool, true, false, pos, List}
 use Rattle.std.proofs.Common.{[], ◌∷◌, ◌++◌, length, map, Option, None, Some, Ok, Err, inl, inr}
 use Rattle.std.proofs.Common.{refl, sym, ap, subst, ◌∙◌, arith}
-use Rattle.std.specs.Prelude.{filter, bytes_eq, is_some, nat_le, IsSome, MatchOption, IsPermutation}
+use Rattle.std.specs.Prelude.{filter, bytes_eq, is_some, nat_le, IsSome, IsPermutation}
 use Rattle.std.specs.Ordering.{int_eq}
 use Rattle.std.proofs.lemmas.Bool.{true≢false, eqb-true, leb-true, cases_Bool}
 use Rattle.std.proofs.lemmas.List.{map-append}
@@ -19,9 +19,8 @@ use Rattle.ftd_rules.specs.declared.run.PayRun.{PayRun}
 use Rattle.ftd_rules.specs.declared.run.Voidable.{Voidable}
 use Rattle.ftd_rules.specs.Lists.{Has}
 use Rattle.ftd_rules.specs.Liability.{liability, share}
-use Rattle.ftd_rules.specs.Stops.{next_day_amount}
 use Rattle.ftd_rules.specs.Years.{year_last, YearsFrom, AreOpenYears, TurnedBefore, OpensSemiweekly}
-use Rattle.ftd_rules.specs.Years.{IsTurn, HasSchedule, AreLines}
+use Rattle.ftd_rules.specs.Years.{IsTurnOf, HasSchedule, AreLines}
 use Rattle.ftd_rules.specs.Obligations.{AreObligations}
 use Rattle.ftd_rules.proofs.Cuts.{lt_or_le}
 use Rattle.ftd_rules.proofs.Walk.{liability-cons, share_before, share_after}
@@ -235,12 +234,9 @@ module _ (lines : List YearLine) (line : YearLine) (turnless : line.turn ≡ Non
   )
     where
       turn : (o : Option ℕ) → o ≡ None
-          → MatchOption o
-          ((day : ℕ) → year_start line.year ≤ day → day ≤ year_last line.year
-          → liability sums (month_start (month_of day)) day < next_day_amount)
-          (λ t. IsTurn (liability sums) (year_start line.year) (year_last line.year) t)
+          → IsTurnOf (liability sums) (year_start line.year) (year_last line.year) o
       turn (Some t) is = absurd cc
-      turn None is = λ day from to.
+      turn None is = λ day from to reaches.
           (let facts = year_facts line.year low high in
           let end = facts.2 in
           let month = month_in_year line.year day (omega arith) from in

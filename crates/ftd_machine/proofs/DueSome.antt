@@ -67,26 +67,26 @@ week_some day = elim (lt_or_le (day % 7) 3) [
   | inl early ↦ (
     day + (2 - day % 7),
     record {
-      after = omega arith;
-      is_one = inl (omega arith);
-      least = λ e l m h. elim h [ inl wednesday ↦ omega arith | inr friday ↦ omega arith ];
+      not_before = omega arith;
+      holds = inl (omega arith);
+      first = λ e l m h. elim h [ inl wednesday ↦ omega arith | inr friday ↦ omega arith ];
     },
   )
   | inr late ↦ elim (lt_or_le (day % 7) 5) [
     | inl middle ↦ (
       day + (4 - day % 7),
       record {
-        after = omega arith;
-        is_one = inr (omega arith);
-        least = λ e l m h. elim h [ inl wednesday ↦ omega arith | inr friday ↦ omega arith ];
+        not_before = omega arith;
+        holds = inr (omega arith);
+        first = λ e l m h. elim h [ inl wednesday ↦ omega arith | inr friday ↦ omega arith ];
       },
     )
     | inr end ↦ (
       day + (9 - day % 7),
       record {
-        after = omega arith;
-        is_one = inl (omega arith);
-        least = λ e l m h. elim h [ inl wednesday ↦ omega arith | inr friday ↦ omega arith ];
+        not_before = omega arith;
+        holds = inl (omega arith);
+        first = λ e l m h. elim h [ inl wednesday ↦ omega arith | inr friday ↦ omega arith ];
       },
     )
   ]
@@ -96,8 +96,8 @@ neither : (a b : ℕ) → (a < b → ⊥) → (b < a → ⊥) → a ≡ b
 neither a b f g = omega arith
 
 week_one : (day a b : ℕ) → IsFirstWednesdayOrFriday day a → IsFirstWednesdayOrFriday day b → a ≡ b
-week_one day a b g h = neither a b (λ l. h.least a g.after l g.is_one)
-    (λ l. g.least b h.after l h.is_one)
+week_one day a b g h = neither a b (λ l. h.first a g.not_before l g.holds)
+    (λ l. g.first b h.not_before l h.holds)
 
 earlier_some : (form : Form) (holidays : List ℕ) (last due : ℕ)
     → (makeup : ℕ) × IsEarlierMakeup form holidays last due makeup

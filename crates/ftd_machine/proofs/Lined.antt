@@ -8,7 +8,7 @@ use Rattle.ftd_rules.specs.declared.Kind.TheVariants as kind
 use Rattle.ftd_rules.specs.declared.YearLine.{YearLine}
 use Rattle.ftd_rules.specs.declared.Obligation.{Obligation}
 use Rattle.ftd_rules.specs.Lists.{Has}
-use Rattle.ftd_rules.specs.Years.{YearsFrom, AreOpenYears, given}
+use Rattle.ftd_rules.specs.Years.{YearsFrom, AreOpenYears, basis_of}
 use Rattle.ftd_rules.proofs.Opened.{lines_some}
 use Rattle.ftd_rules.proofs.Earlier.{counterpart}
 use Rattle.ftd_rules.proofs.Owing.{obligations_some}
@@ -25,25 +25,25 @@ use Rattle.ftd_machine.proofs.Totals.{SameButRuns, lookback_still}
 
 -- ---- the same but for the openings and the turns
 
-years_same : (xs ys : List YearLine) → map given xs ≡ map given ys
+years_same : (xs ys : List YearLine) → map basis_of xs ≡ map basis_of ys
     → map year_of_line xs ≡ map year_of_line ys
 years_same [] [] e = refl
 years_same [] (y ∷ ys) e = absurd cc
 years_same (x ∷ xs) [] e = absurd cc
 years_same (x ∷ xs) (y ∷ ys) e =
-    let head : ◌≡◌ {A = ℕ × ℕ × Bool} (given x) (given y) = cc in
-    let tail : map given xs ≡ map given ys = cc in
+    let head : ◌≡◌ {A = ℕ × ℕ × Bool} (basis_of x) (basis_of y) = cc in
+    let tail : map basis_of xs ≡ map basis_of ys = cc in
     let year : x.year ≡ y.year = ap (λ (z : ℕ × ℕ × Bool). z.0) head in
     rw (year, years_same xs ys tail) refl
 
-carried_same : (b : Bool) (xs ys : List YearLine) → map given xs ≡ map given ys
+carried_same : (b : Bool) (xs ys : List YearLine) → map basis_of xs ≡ map basis_of ys
     → AreCarried b xs → AreCarried b ys
 carried_same b [] [] e h = tt
 carried_same b [] (y ∷ ys) e h = absurd cc
 carried_same b (x ∷ xs) [] e h = absurd cc
 carried_same b (x ∷ xs) (y ∷ ys) e h =
-    let head : ◌≡◌ {A = ℕ × ℕ × Bool} (given x) (given y) = cc in
-    let tail : map given xs ≡ map given ys = cc in
+    let head : ◌≡◌ {A = ℕ × ℕ × Bool} (basis_of x) (basis_of y) = cc in
+    let tail : map basis_of xs ≡ map basis_of ys = cc in
     let flag : x.carried ≡ y.carried = ap (λ (z : ℕ × ℕ × Bool). z.2) head in
     (sym flag ∙ h.0, carried_same false xs ys tail h.1)
 

@@ -13,7 +13,7 @@ use Rattle.ftd_rules.specs.declared.Obligation.{Obligation}
 use Rattle.ftd_rules.specs.declared.verdict.DueRow.{DueRow}
 use Rattle.ftd_rules.specs.Lists.{Has, KeysRise}
 use Rattle.ftd_rules.specs.Lookback.{lookback_quarters, IsFirstMissing, AreReportedOnce}
-use Rattle.ftd_rules.specs.Years.{given, YearsFrom, HasStatusOn}
+use Rattle.ftd_rules.specs.Years.{basis_of, YearsFrom, HasStatusOn}
 use Rattle.ftd_rules.specs.Obligations.{AreObligations}
 use Rattle.ftd_rules.proofs.Figures.{together_one, together_all, year_one, year_none}
 use Rattle.ftd_rules.proofs.Stated.{lookback_together, rows_owed}
@@ -111,7 +111,7 @@ given_one : (own : Entries) (carried : Bool) (xs ys : List YearLine) → IsOnce 
     → map year_of_line xs ≡ map year_of_line ys
     → ((line : YearLine) → Has xs line → HasLookback own line.year line.lookback)
     → ((line : YearLine) → Has ys line → HasLookback own line.year line.lookback)
-    → AreCarried carried xs → AreCarried carried ys → map given xs ≡ map given ys
+    → AreCarried carried xs → AreCarried carried ys → map basis_of xs ≡ map basis_of ys
 given_one own carried [] [] once e f g c d = refl
 given_one own carried [] (y ∷ ys) once e f g c d = absurd cc
 given_one own carried (x ∷ xs) [] once e f g c d = absurd cc
@@ -123,7 +123,7 @@ given_one own carried (x ∷ xs) (y ∷ ys) once e f g c d =
     let amount : x.lookback.0 ≡ y.lookback.0 = lookback_one (form_of own.account) own x.year
     x.lookback y.lookback once (f x (inl refl)) there in
     let flag : x.carried ≡ y.carried = c.0 ∙ sym d.0 in
-    let rest : map given xs ≡ map given ys =
+    let rest : map basis_of xs ≡ map basis_of ys =
     given_one own false xs ys once years (λ line has. f line (inr has))
     (λ line has. g line (inr has)) c.1 d.1 in
     rw (year, amount, flag, rest) refl

@@ -88,12 +88,13 @@ paid_for_return own n day =
     let form = form_of own.account in
     paid_by (live_payments own) (return_period_first form n) (return_period_last form n) day day
 
--- an obligation that begins in the return period is next-day
+-- the rule is that of a next-day deposit
 abbrev pub is_next_day : Rule → Bool
 is_next_day rule.Monthly = false
 is_next_day rule.Semiweekly = false
 is_next_day rule.NextDay = true
 
+-- an obligation that begins in the return period is next-day
 abbrev pub has_next_day : Form → List Obligation → ℕ → Bool
 has_next_day form rows n =
     list_any (λ o. (return_period_of form o.first == n) && is_next_day o.rule) rows

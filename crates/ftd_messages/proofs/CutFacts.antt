@@ -1,14 +1,13 @@
 -- Bytes are cut into messages in one way.
 use Rattle.std.proofs.Common.{◌≡◌, ◌≤◌, ◌<◌, ◌+◌, ◌++◌, ◌⊎◌, inl, inr, ℕ, zero, suc, List, [], ◌∷◌}
-use Rattle.std.proofs.Common.{length, get_or, take, drop, Result, Ok, Err, All, IsTrue, refl, sym, ap, ◌∙◌, subst}
+use Rattle.std.proofs.Common.{length, get_or, take, drop, Result, Ok, Err, IsTrue, refl, sym, ap, ◌∙◌, subst}
 use Rattle.std.proofs.Common.{arith, append_assoc, append-nil, length-append}
 use Rattle.std.specs.List.{flat_map}
 use Rattle.std.proofs.lemmas.List.{take_at, drop_at}
 use Rattle.std.proofs.lemmas.Str.{IsUtf8-from_ascii}
 use Rattle.std.proofs.lemmas.List.Elements.{All-head, All-tail, All-nil, All-cons}
-use Rattle.httparse.specs.Grammar.{RequestHead, IsRequestHead, IsField, ReadsRequest, EndsInTarget}
+use Rattle.httparse.specs.Grammar.{RequestHead, IsRequestHead, IsField, ReadsRequest}
 use Rattle.httparse.specs.Grammar.{is_token_byte, is_uri_byte, lf, print_end, print_request}
-use Rattle.httparse.specs.Spans.{RequestExceeds}
 use Rattle.httparse.proofs.GrammarLemmas.{request_unique}
 use Rattle.ftd_messages.specs.Messages.{Message, IsHead, IsMessage, message_bytes, body_length}
 use Rattle.ftd_messages.specs.Messages.{AreMessages, MayBeCutOrRefused}

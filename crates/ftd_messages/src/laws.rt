@@ -14,9 +14,9 @@ pub fn one_cut_into_messages()
         → length messages ≡ length others → (messages ≡ others) × (rest ≡ other_rest) }
 {}
 
-/// What comes next in bytes is one of four things, a whole message, nothing, a message that is cut
-/// and one that is refused, and never two of them, but where the bytes end inside a request target
-/// or more than 64 fields stand in a head: that message may be cut and refused.
+/// Of a whole message, nothing, a message that is cut and one that is refused, no two come next in
+/// the same bytes. But where the bytes end inside a request target, or more than 64 fields stand in
+/// a head, that message may be cut and refused.
 pub fn one_thing_comes_next()
     ensures whole_or_nothing { (bytes rest : List ℕ) (message : Message)
         → AreMessages bytes (message ∷ []) rest → bytes ≡ [] → ⊥ }

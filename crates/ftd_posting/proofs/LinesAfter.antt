@@ -11,7 +11,7 @@ use Rattle.ftd_rules.specs.declared.YearLine.{YearLine}
 use Rattle.ftd_rules.specs.declared.run.PayRun.{PayRun}
 use Rattle.ftd_rules.specs.declared.run.Voidable.{Voidable}
 use Rattle.ftd_rules.specs.Lists.{Has}
-use Rattle.ftd_rules.specs.Years.{AreLines, given}
+use Rattle.ftd_rules.specs.Years.{AreLines, basis_of}
 use Rattle.ftd_rules.proofs.Earlier.{counterpart}
 use Rattle.ftd_rules.proofs.Schedules.{line_one}
 use Rattle.ftd_rows.specs.Lists.{Pairs}
@@ -39,7 +39,8 @@ turns (Some a) (Some b) = elim (same_or_not a b) [
   | inr other ↦ inr (λ e. other (let same : a ≡ b = cc in same))
 ]
 
-line_as : (x y : YearLine) → given x ≡ given y → x.opening ≡ y.opening → x.turn ≡ y.turn → x ≡ y
+line_as : (x y : YearLine) → basis_of x ≡ basis_of y → x.opening ≡ y.opening → x.turn ≡ y.turn
+    → x ≡ y
 line_as x y e opening turn =
     let year : x.year ≡ y.year = ap (λ (z : ℕ × ℕ × Bool). z.0) e in
     let lookback : x.lookback.0 ≡ y.lookback.0 = ap (λ (z : ℕ × ℕ × Bool). z.1) e in
@@ -52,8 +53,8 @@ line_as x y e opening turn =
       turn = turn i;
     }
 
--- two lines of which the same was given are equal, or they are not
-lines_or_not : (x y : YearLine) → given x ≡ given y → (x ≡ y) ⊎ (x ≡ y → ⊥)
+-- two lines with the same basis are equal, or they are not
+lines_or_not : (x y : YearLine) → basis_of x ≡ basis_of y → (x ≡ y) ⊎ (x ≡ y → ⊥)
 lines_or_not x y e =
     elim (kinds x.opening y.opening) [
       | inr other ↦ inr (λ same. other (ap (λ (z : YearLine). z.opening) same))
@@ -68,7 +69,7 @@ lines_or_not x y e =
 module _ (day : ℕ) (before after : History) (changed : List YearLine)
     (change : IsChange day before after) (are : AreChanged before after changed) where
   -- a line of the history before, what was put for it, and the line of its year after
-  one_after : (x y z : YearLine) → Has before.lines x → Has after.lines z → given x ≡ given z
+  one_after : (x y z : YearLine) → Has before.lines x → Has after.lines z → basis_of x ≡ basis_of z
       → IsAfter changed x y → y ≡ z
   one_after x y z in_before in_after e (inl (other, in_changed, same_year, is)) =
       let years = change.is_after.years in
@@ -92,7 +93,7 @@ module _ (day : ℕ) (before after : History) (changed : List YearLine)
       ]
 
   all_after : (xs ys zs : List YearLine) → Pairs (IsAfter changed) xs ys
-      → map given xs ≡ map given zs
+      → map basis_of xs ≡ map basis_of zs
       → ((x : YearLine) → Has xs x → Has before.lines x)
       → ((z : YearLine) → Has zs z → Has after.lines z) → ys ≡ zs
   all_after [] [] [] pairs e in_before in_after = refl
@@ -101,8 +102,8 @@ module _ (day : ℕ) (before after : History) (changed : List YearLine)
   all_after (x ∷ xs) [] zs pairs e in_before in_after = absurd pairs
   all_after (x ∷ xs) (y ∷ ys) [] pairs e in_before in_after = absurd cc
   all_after (x ∷ xs) (y ∷ ys) (z ∷ zs) pairs e in_before in_after =
-      let first : ◌≡◌ {A = ℕ × ℕ × Bool} (given x) (given z) = cc in
-      let later : map given xs ≡ map given zs = cc in
+      let first : ◌≡◌ {A = ℕ × ℕ × Bool} (basis_of x) (basis_of z) = cc in
+      let later : map basis_of xs ≡ map basis_of zs = cc in
       let here : y ≡ z = one_after x y z (in_before x (inl refl)) (in_after z (inl refl)) first
       pairs.0 in
       let rest : ys ≡ zs = all_after xs ys zs pairs.1 later (λ l has. in_before l (inr has))
@@ -115,24 +116,24 @@ module _ (day : ℕ) (before after : History) (changed : List YearLine)
 
 -- ---- the lines of an account after a change of its runs
 
-years_same : (xs ys : List YearLine) → map given xs ≡ map given ys
+years_same : (xs ys : List YearLine) → map basis_of xs ≡ map basis_of ys
     → map year_of_line xs ≡ map year_of_line ys
 years_same [] [] e = refl
 years_same [] (y ∷ ys) e = absurd cc
 years_same (x ∷ xs) [] e = absurd cc
 years_same (x ∷ xs) (y ∷ ys) e =
-    let first : ◌≡◌ {A = ℕ × ℕ × Bool} (given x) (given y) = cc in
-    let later : map given xs ≡ map given ys = cc in
+    let first : ◌≡◌ {A = ℕ × ℕ × Bool} (basis_of x) (basis_of y) = cc in
+    let later : map basis_of xs ≡ map basis_of ys = cc in
     let year : x.year ≡ y.year = ap (λ (z : ℕ × ℕ × Bool). z.0) first in
     ap (λ n. n ∷ map year_of_line xs) year ∙ ap (λ ns. y.year ∷ ns) (years_same xs ys later)
 
-carried_same : (carried : Bool) (xs ys : List YearLine) → map given xs ≡ map given ys
+carried_same : (carried : Bool) (xs ys : List YearLine) → map basis_of xs ≡ map basis_of ys
     → AreCarried carried ys → AreCarried carried xs
 carried_same carried [] ys e are = tt
 carried_same carried (x ∷ xs) [] e are = absurd cc
 carried_same carried (x ∷ xs) (y ∷ ys) e are =
-    let first : ◌≡◌ {A = ℕ × ℕ × Bool} (given x) (given y) = cc in
-    let later : map given xs ≡ map given ys = cc in
+    let first : ◌≡◌ {A = ℕ × ℕ × Bool} (basis_of x) (basis_of y) = cc in
+    let later : map basis_of xs ≡ map basis_of ys = cc in
     (ap (λ (z : ℕ × ℕ × Bool). z.2) first ∙ are.0, carried_same false xs ys later are.1)
 
 -- other runs change no lookback total
@@ -143,7 +144,7 @@ lookback_same F941 own runs year total is = is
 lookback_same F943 own runs year total is = is
 
 pub lines_of_runs : (own : Entries) (runs : List (Entry (Voidable PayRun)))
-    (lines others : List YearLine) → AreLinesOf own lines → map given others ≡ map given lines
+    (lines others : List YearLine) → AreLinesOf own lines → map basis_of others ≡ map basis_of lines
     → AreLines (live_sums (record own { runs = runs })) others
     → AreLinesOf (record own { runs = runs }) others
 lines_of_runs own runs lines others are e schedules = record {

@@ -17,7 +17,7 @@ use Rattle.ftd_rules.specs.declared.run.Voidable.{Voidable}
 use Rattle.ftd_rules.specs.Lists.{Has}
 use Rattle.ftd_rules.specs.Liability.{liability}
 use Rattle.ftd_rules.specs.Obligations.{AreObligations}
-use Rattle.ftd_rules.specs.Years.{AreLines, given}
+use Rattle.ftd_rules.specs.Years.{AreLines, basis_of}
 use Rattle.ftd_rules.proofs.Covering.{line_is}
 use Rattle.ftd_rules.proofs.Earlier.{counterpart}
 use Rattle.ftd_rules.proofs.Opened.{lines_some}
@@ -95,7 +95,7 @@ module _ (old new : Tables) (s : State) (name : List ℕ) (day : ℕ) (rows : Li
 
   -- ---- the history before and after
 
-  pub found_after : (others : List YearLine) × (map given others ≡ map given was.lines)
+  pub found_after : (others : List YearLine) × (map basis_of others ≡ map basis_of was.lines)
       × AreLines (live_sums own_after) others
   found_after = lines_some (live_sums own_after) was.lines was.are_lines.schedules.years
 

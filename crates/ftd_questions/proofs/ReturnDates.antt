@@ -86,7 +86,7 @@ module _ (read all : List ℕ) (year : ℕ) (from_2001 : 2001 ≤ year) (to_2098
       let begins : year_start year ≤ last = subst (λ y. year_start y ≤ last) its
       (year_begins last within) in
       let month = (in_month due due_within).1 in
-      let weekday = m.is_weekday.after in
+      let weekday = m.is_weekday.not_before in
       let top = rolled_before read m.return_due (min m.return_due m.weekday) makeup
       m.is_return.business (omega arith) m.rolled in
       record {
@@ -114,9 +114,9 @@ pub weekday_one : (from d e : ℕ) → IsFirstWednesdayOrFriday from d → IsFir
     → d ≡ e
 weekday_one from d e g h =
     elim (lt_or_le d e) [
-      | inl less ↦ absurd (h.least d g.after less g.is_one)
+      | inl less ↦ absurd (h.first d g.not_before less g.holds)
       | inr some ↦ elim (lt_or_le e d) [
-        | inl more ↦ absurd (g.least e h.after more h.is_one)
+        | inl more ↦ absurd (g.first e h.not_before more h.holds)
         | inr same ↦ omega arith
       ]
     ]

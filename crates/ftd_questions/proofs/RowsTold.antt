@@ -51,9 +51,9 @@ weekday_after : (from days : ℕ) → IsWednesdayOrFriday (from + days)
 weekday_after from days is none = (
   from + days,
   record {
-    after = omega arith;
-    is_one = is;
-    least = λ e since before wednesday. (let e_is : e ≡ from + (e - from) = omega arith in
+    not_before = omega arith;
+    holds = is;
+    first = λ e since before wednesday. (let e_is : e ≡ from + (e - from) = omega arith in
         none (e - from) (omega arith) (subst IsWednesdayOrFriday e_is wednesday));
   },
 )

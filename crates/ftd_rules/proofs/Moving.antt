@@ -2,6 +2,7 @@
 use Rattle.std.proofs.Common.{◌≡◌, ◌≢◌, ℕ, zero, suc, ◌+◌, ◌-◌, ◌<◌, ◌≤◌, ◌↔◌, ◌⊎◌, inl, inr, List}
 use Rattle.std.proofs.Common.{Bool, true, false, not, ◌&&◌, ◌||◌, refl, sym, ap, ◌∙◌, arith}
 use Rattle.std.specs.Prelude.{nat_lt}
+use Rattle.std.specs.List.{AllZip}
 use Rattle.std.proofs.lemmas.Bool.{false≢true, cases_Bool}
 use Rattle.ftd_days.specs.Calendar.{weekday_of, month_of, month_start, last_day}
 use Rattle.ftd_days.specs.Private.Intervals.{interval_close}
@@ -9,11 +10,20 @@ use Rattle.ftd_days.specs.Business.{is_holiday, is_business, IsOnOrAfter, busine
 use Rattle.ftd_days.specs.Holidays.{IsWithHoliday}
 use Rattle.ftd_days.proofs.Years.{same_or_not, eq_same, eq_not}
 use Rattle.ftd_days.proofs.Business.{on_or_after_one, nth_after_one}
+use Rattle.ftd_rules.specs.declared.Form.{Form}
 use Rattle.ftd_rules.specs.declared.Rule.{Rule}
 use Rattle.ftd_rules.specs.declared.Rule.TheVariants.{Monthly, Semiweekly, NextDay}
+use Rattle.ftd_rules.specs.declared.DaySum.{DaySum}
+use Rattle.ftd_rules.specs.declared.YearLine.{YearLine}
+use Rattle.ftd_rules.specs.declared.Obligation.{Obligation}
+use Rattle.ftd_rules.specs.Laws.{IsMovedBy}
 use Rattle.ftd_rules.specs.Private.Due.{IsDueBy, IsCountedBy}
+use Rattle.ftd_rules.specs.Private.Obligations.{IsOwedPiece, AreOwedPieces}
 use Rattle.ftd_rules.proofs.Cuts.{lt_or_le}
-use Rattle.ftd_rules.proofs.Resting.{due_same, from_later}
+use Rattle.ftd_rules.proofs.DueDates.{due_some}
+use Rattle.ftd_rules.proofs.Resting.{due_same, from_later, obligation_same}
+use Rattle.ftd_rules.proofs.Rising.{paired}
+use Rattle.ftd_rules.proofs.Stated.{counted_stated}
 
 or_false : (b : Bool) → (b || false) ≡ b
 or_false true = refl
@@ -178,3 +188,58 @@ due_stays before after added rule last due with within out h =
     (eq_not added e (λ same. elim out [ inl early ↦ omega arith | inr late ↦ omega arith ]))
     ∙ or_false (is_holiday before e)))
     (omega arith) h
+
+-- ---- whole lists
+
+-- obligations that differ in their due dates alone
+moved_so : (before after : List ℕ) (added : ℕ) → IsWithHoliday before added after
+    → (o : Obligation) (due : ℕ) → IsDueBy before o.rule o.last o.due
+    → IsDueBy after o.rule o.last due → IsMovedBy before added o (record o { due = due })
+moved_so before after added with o due h k = record {
+  first = refl;
+  last = refl;
+  rule = refl;
+  amount = refl;
+  due =
+      (let moves = due_moves before after added o.rule o.last o.due due with h k in
+      let counted = counted_stated before o.rule o.last o.due added in
+      ((λ n. counted.0 (moves.0 n)), (λ d. moves.1 (counted.1 d))));
+}
+
+-- each obligation by the holidays before is one by those after, but for its due date
+moved_there : (form : Form) (lines : List YearLine) (sums : List DaySum) (before after : List ℕ)
+    (added : ℕ) → IsWithHoliday before added after
+    → (o : Obligation) → IsOwedPiece form lines sums before o
+    → (p : Obligation) × IsOwedPiece form lines sums after p × IsMovedBy before added o p
+moved_there form lines sums before after added with o is =
+    let due = due_some after o.rule o.last in
+    let p : Obligation = record o { due = due.0 } in (
+      p,
+      obligation_same form lines sums sums before after (λ day lies. refl) o p refl due.1 is,
+      moved_so before after added with o due.0 is.due due.1,
+    )
+
+moved_back : (form : Form) (lines : List YearLine) (sums : List DaySum) (before after : List ℕ)
+    (added : ℕ) → IsWithHoliday before added after
+    → (p : Obligation) → IsOwedPiece form lines sums after p
+    → (o : Obligation) × IsOwedPiece form lines sums before o × IsMovedBy before added o p
+moved_back form lines sums before after added with p is =
+    let due = due_some before p.rule p.last in
+    let o : Obligation = record p { due = due.0 } in (
+      o,
+      obligation_same form lines sums sums after before (λ day lies. refl) p o refl due.1 is,
+      moved_so before after added with o p.due due.1 is.due,
+    )
+
+pub rows_moved : (form : Form) (lines : List YearLine) (sums : List DaySum)
+    (before after : List ℕ) (added : ℕ) (rows others : List Obligation)
+    → IsWithHoliday before added after
+    → AreOwedPieces form lines sums before rows → AreOwedPieces form lines sums after others
+    → AllZip (IsMovedBy before added) rows others
+rows_moved form lines sums before after added rows others with h k =
+    paired (IsMovedBy before added) (λ o. o.first) (λ o. o.first) rows others h.by_first_day
+    k.by_first_day (λ o p moved. sym moved.first)
+    (λ o has. let its = moved_there form lines sums before after added with o ((h.all o).0 has) in
+    (its.0, (k.all its.0).1 its.1, its.2))
+    (λ p has. let its = moved_back form lines sums before after added with p ((k.all p).0 has) in
+    (its.0, (h.all its.0).1 its.1, its.2))

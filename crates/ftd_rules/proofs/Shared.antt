@@ -8,7 +8,7 @@ use Rattle.ftd_rules.specs.declared.Kind.{Kind}
 use Rattle.ftd_rules.specs.declared.Kind.TheVariants as kind
 use Rattle.ftd_rules.specs.declared.Rule.TheVariants.{Monthly, Semiweekly}
 use Rattle.ftd_rules.specs.declared.YearLine.{YearLine}
-use Rattle.ftd_rules.specs.Years.{year_last, IsOpenYear, IsDayOf, IsSemiweeklyFrom, HasStatusOn}
+use Rattle.ftd_rules.specs.Years.{year_last, MayBeOpen, IsDayOf, IsSemiweeklyFrom, HasStatusOn}
 use Rattle.ftd_rules.specs.Obligations.{rule_of}
 use Rattle.ftd_rules.specs.Periods.{SharePeriod}
 use Rattle.ftd_rules.specs.Private.Years.{semiweekly_from}
@@ -52,7 +52,7 @@ day_after_last line last monthly is =
     ]
 
 -- the days that share the period of a day of the year
-pub shared_is : (form : Form) (line : YearLine) (from day other : ℕ) → IsOpenYear line
+pub shared_is : (form : Form) (line : YearLine) (from day other : ℕ) → MayBeOpen line
     → IsSemiweeklyFrom line from → IsDayOf line day → IsDayOf line other
     → SharePeriod form line day other ↔ ((period_first form from day ≤ other)
     × (other ≤ period_last form from day))

@@ -22,7 +22,7 @@ use Rattle.ftd_rules.specs.Liability.{liability}
 use Rattle.ftd_rules.specs.Lookback.{lookback_quarters, IsLookback}
 use Rattle.ftd_rules.specs.Stops.{Rise, IsCountStart, AreStops}
 use Rattle.ftd_rules.specs.Years.{year_last, IsDayOf, IsSemiweeklyOn, HasStatusOn}
-use Rattle.ftd_rules.specs.Periods.{SameRun, SharePeriod, IsPeriod}
+use Rattle.ftd_rules.specs.Periods.{SameMonthOrInterval, SharePeriod, IsPeriod}
 use Rattle.ftd_rules.specs.Obligations.{pieces, rule_of, IsObligation, AreObligations}
 use Rattle.ftd_rules.specs.Due.{IsDue}
 use Rattle.ftd_rules.specs.Laws.{HasStatus, IsFirstCounted, IsCountedBusiness}
@@ -204,7 +204,7 @@ status_ruled lines day status = (
 -- ---- deposit periods
 
 run_is : (line : YearLine) (a b : ℕ) (status : Kind) → year_start line.year ≤ a
-    → a ≤ year_last line.year → HasStatusOn line a status → SameRun status a b
+    → a ≤ year_last line.year → HasStatusOn line a status → SameMonthOrInterval status a b
     → MatchBool (nat_lt a (semiweekly_from line)) (month_of b ≡ month_of a)
     (interval_start b ≡ interval_start a)
 run_is line a b kind.Monthly l m h same =
@@ -224,7 +224,7 @@ share_run form line a b in_a in_b h = (
   h.return_period,
   (status_is line b h.status in_b.0 in_b.1).0 h.second
       ∙ sym ((status_is line a h.status in_a.0 in_a.1).0 h.first),
-  run_is line a b h.status in_a.0 in_a.1 h.first h.run,
+  run_is line a b h.status in_a.0 in_a.1 h.first h.month_or_interval,
 )
 
 pub run_shared : (form : Form) (line : YearLine) (a b : ℕ) → IsDayOf line a → IsDayOf line b
@@ -238,7 +238,7 @@ run_shared form line a b in_a in_b h =
             status = kind.Monthly;
             first = (status_is line a kind.Monthly in_a.0 in_a.1).1 its;
             second = (status_is line b kind.Monthly in_b.0 in_b.1).1 (h.1 ∙ its);
-            run = (let k = lt-ltb a (semiweekly_from line) early in rw k at h.2);
+            month_or_interval = (let k = lt-ltb a (semiweekly_from line) early in rw k at h.2);
           }
       | inr late ↦
           let its = rule_after (semiweekly_from line) a late in
@@ -247,7 +247,8 @@ run_shared form line a b in_a in_b h =
             status = kind.Semiweekly;
             first = (status_is line a kind.Semiweekly in_a.0 in_a.1).1 its;
             second = (status_is line b kind.Semiweekly in_b.0 in_b.1).1 (h.1 ∙ its);
-            run = (let k = le-ltb a (semiweekly_from line) late in let starts = rw k at h.2 in
+            month_or_interval = (let k = le-ltb a (semiweekly_from line) late in
+                let starts = rw k at h.2 in
                 (interval_close a, close_is a, rw (← ((interval_ends a b).1 starts)) (close_is b)));
           }
     ]

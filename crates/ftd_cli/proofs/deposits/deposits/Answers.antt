@@ -12,7 +12,7 @@ assess-requires-clause-small c = whole_sum c.args.sums.now c.requires.few c.requ
 pub returns : goal.returns
 returns c =
     let (one, is, year, lookback, carried) = only_line c.in_ok-assessment.assessment.years
-    c.args.year 0 false c.in_ok-assessment.ensures.given in
+    c.args.year 0 false c.in_ok-assessment.ensures.basis in
     let lines = rw is at c.in_ok-assessment.ensures.lines in
     let rows = rw is at c.in_ok-assessment.ensures.rows in
     IfOk-weaker c.lines.result _ _ (λ text printed. record {

@@ -2,7 +2,7 @@ use Rattle.std.proofs.Common.{arith, ◌≡◌, ◌+◌, ℕ, List, refl, ◌∙
 use Rattle.std.specs.List.{sum_by}
 use Rattle.ftd_rules.specs.declared.YearLine.{YearLine}
 use Rattle.ftd_rules.specs.Liability.{cents_of}
-use Rattle.ftd_rules.specs.Years.{given}
+use Rattle.ftd_rules.specs.Years.{basis_of}
 use Rattle.ftd_buckets.specs.declared.state.Settled.{Settled}
 use Rattle.ftd_buckets.specs.declared.state.Stage.TheVariants as stage
 use Rattle.ftd_buckets.specs.declared.state.Next.{Next}
@@ -51,10 +51,10 @@ returns c =
       serves = λ day holidays before after st agree.
           let line : h.line ≡ st.old = same_line s.lines.now h.line st.old h.later st.common.later
           h.lines_are st.common.lines_are in
-          let given_is : given new ≡ given st.old = c.in_ok-new.ensures.given
-          ∙ (ap given x ∙ ap given line) in
+          let basis_is : basis_of new ≡ basis_of st.old = c.in_ok-new.ensures.basis
+          ∙ (ap basis_of x ∙ ap basis_of line) in
           serves day holidays before after
           (year_settled c.args.self.form day holidays before after s t c.args.turned sums new rows.0
-          c.end_before_2100.ensures st agree given_is
+          c.end_before_2100.ensures st agree basis_is
           c.in_ok-new.ensures.schedule rows.2 refl refl refl refl rows.1);
     }) c.after_year.ensures.holds c.after_year.ensures.serves
