@@ -250,7 +250,8 @@ stops_later failed a b c pre list more all p q r why split posts stops = record 
                 let m = length-append pre stops.passed in let n = again.ends in omega arith;
             asks =
                 subst (λ (xs : List Outcome). HandlesOrLeaves failed a c
-                (filter_map request_in xs) (filter_map answer_in xs) (posts_of ((pre ++ again.before) ++ again.list)))
+                (filter_map request_in xs) (filter_map answer_in xs)
+                (posts_of ((pre ++ again.before) ++ again.list)))
                 (sym together)
                 (subst (λ (rs : List (ℕ × Said)). HandlesOrLeaves failed a c
                 (filter_map request_in (posts.outcomes ++ (stops.outcomes ++ stops.last)))
@@ -287,7 +288,8 @@ stops_unread failed a b pre (at ∷ others) all p q split some posts = record {
 
 -- ---- the whole text
 pub stops_told : (failed : Type 0) (a b : Held) (rs : List (ℕ × Said)) (p q : Summary)
-    (why : StopCause) → IsNothing p → StopsWithin failed a b rs (λ outcomes. Counts p outcomes q) why
+    (why : StopCause) → IsNothing p
+    → StopsWithin failed a b rs (λ outcomes. Counts p outcomes q) why
     → StopsWithin failed a b rs (λ outcomes. IsSummary outcomes q) why
 stops_told failed a b rs p q why none stops = record {
   passed = stops.passed;

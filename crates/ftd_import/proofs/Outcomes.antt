@@ -181,7 +181,8 @@ faulted failed a b number run answer why handles stops fault = record {
   asks = all_one failed a b (post_of run) answer handles stops;
 }
 
-pub posts_stop : (failed : Type 0) (a b c : Held) (rs : List (ℕ × Said)) (at : ℕ × Said) (others : List (ℕ × Said))
+pub posts_stop : (failed : Type 0) (a b c : Held) (rs : List (ℕ × Said)) (at : ℕ × Said)
+    (others : List (ℕ × Said))
     (all : List (ℕ × Said)) (p q r : Summary) (why : StopCause)
     → all ≡ rs ++ at ∷ others → Posts a b rs p q → StopsAt failed b c at why → IsSame q r
     → StopsIn failed a c all p r why

@@ -62,7 +62,8 @@ module _ (text : List ℕ) (records : Records) (opens : Opens text records) (a b
     asks = posts.asks;
   }
 
-  pub text_stops : (failed : Type 0) (why : StopCause) → StopsWithin failed a b (records_left records) (λ outcomes. Counts p outcomes q) why
+  pub text_stops : (failed : Type 0) (why : StopCause)
+      → StopsWithin failed a b (records_left records) (λ outcomes. Counts p outcomes q) why
       → StopsFor failed a b text q why
   text_stops failed why stops =
       let among : StopsAmong failed a b text q why = record {

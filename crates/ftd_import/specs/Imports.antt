@@ -160,8 +160,8 @@ StopsFor failed old new text done cause.Memory =
     StopsFirst old new done ⊎ StopsAmong failed old new text done cause.Memory
 StopsFor failed old new text done cause.Store = StopsAmong failed old new text done cause.Store
 
--- the import stopped so: the posts went one after the other, or, only where the first premise holds,
--- in lists of which a commit failed
+-- the import stopped so: the posts went one after the other, or, only where the first premise
+-- holds, in lists of which a commit failed
 abbrev pub Stops : Type 0 → Held → Held → List ℕ → Stopped → Type 0
 Stops failed old new text stopped = StopsFor failed old new text stopped.done stopped.cause
 

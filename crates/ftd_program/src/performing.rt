@@ -54,8 +54,8 @@ pub fn perform<S: Alter, O: Target, E: Target, P: Progress>(
     progress: &mut P,
 ) -> Performed<O, E>
     ensures { Does O.taken O.failed E.taken E.failed out err result
-        (IsStopped desk.new) (held S.Store desk.old) (held S.Store desk.new) input.now (string_bytes task.now.db)
-        task.now.job }
+        (IsStopped desk.new) (held S.Store desk.old) (held S.Store desk.new) input.now
+        (string_bytes task.now.db) task.now.job }
 {
     match &task.job {
         Job::Import(_) => post_runs(alloc, desk, input, out, err, progress),

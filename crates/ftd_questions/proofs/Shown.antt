@@ -227,7 +227,8 @@ module _ (name : List ℕ) (quarter : ℕ) where
       → Pairs (IsRowBy of_return as_of) found rows → ShowsRows name quarter rows t
   walk_shown of_return as_of found rows t lists pairs =
       let read : List ObligationRow = map (obligation_row name) found in
-      let ordered : lists.ordered ≡ read = paired name starts ends lists.ordered found lists.pairs in
+      let ordered : lists.ordered ≡ read =
+      paired name starts ends lists.ordered found lists.pairs in
       let same : read ≡ map (row_shown name) rows = rows_are of_return as_of found rows pairs in
       let falls : KeysDoNotFall first_key read =
       subst (KeysDoNotFall first_key) ordered

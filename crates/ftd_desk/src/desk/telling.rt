@@ -20,9 +20,9 @@ impl<S: Alter> Desk<S> {
     /// Tells the account's due list of the quarter as of a day row by row: the sink is given the
     /// rows of the reply to `DueList`, one after the other, and no list of them is held. `Refused`
     /// with the refusal of `DueList`, and no row is told then; `Refused` with `Memory` or `Store`
-    /// may come at any row; `Sink` where the sink failed at a row. With Ok the rows are those of the
-    /// tables as they stand, whatever else these hold. The tables stay as they are. A desk that is
-    /// stopped answers `Refused` with `Store`, and touches nothing.
+    /// may come at any row; `Sink` where the sink failed at a row. With Ok the rows are those of
+    /// the tables as they stand, whatever else these hold. The tables stay as they are. A desk that
+    /// is stopped answers `Refused` with `Store`, and touches nothing.
     pub fn due_into<K: DueSink>(
         &mut self,
         account: &str,

@@ -63,7 +63,8 @@ returns-in-Err-clause-posts g c =
     λ records is.
     let next = next_of records c.as_slice-places.result.now i d
     (c.as_slice-places.ensures.value ∙ is.places) c.loop-place-test.true in
-    posts_stop (IsStopped c.post_record.new.desk) (held g.S.Store c.args.desk.now) (held g.S.Store c.loop-place.desk)
+    posts_stop (IsStopped c.post_record.new.desk) (held g.S.Store c.args.desk.now)
+    (held g.S.Store c.loop-place.desk)
     (held g.S.Store c.post_record.new.desk) (take i records) next.at
     (drop (i + 1) records) records
     c.args.done.now c.loop-place.done c.post_record.new.done c.in-Err.cause

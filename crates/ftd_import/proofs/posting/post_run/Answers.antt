@@ -10,7 +10,8 @@ returns-in-Some-clause-stops g c =
     let before = held g.S.Store c.args.desk.now in
     let after = held g.S.Store c.handle-answer.new.self in
     λ run is.
-    faulted (IsStopped c.handle-answer.new.self) before after c.args.number run c.handle-answer.result c.in-Some.cause
+    faulted (IsStopped c.handle-answer.new.self) before after c.args.number run
+    c.handle-answer.result c.in-Some.cause
     (subst (λ (r : Request). Handles before after r c.handle-answer.result) is
     c.handle-answer.ensures.handles) c.handle-answer.ensures.stops (sym c.in-Some.ensures)
 

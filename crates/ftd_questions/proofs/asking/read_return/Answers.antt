@@ -24,7 +24,8 @@ returns-in-Ok-asked-clause-knows g c =
     let call = c.in-Ok-asked.ensures.call in
     let same : end ≡ c.store-in-Ok-asked-1.given.0 = search rules in
     let Knows : Store g.row.S.Denot → Type 0 = λ store.
-    HasCleanDisk (seen g.S.Store store) → (t : Tables) → StandIfOpen a t → MatchResult c.in-Ok-asked.asked
+    HasCleanDisk (seen g.S.Store store) → (t : Tables) → StandIfOpen a t
+    → MatchResult c.in-Ok-asked.asked
     (λ known. KnowsAsked name c.args.quarter c.args.as_of (Ok known) t)
     (λ refusal. IsFault (Err refusal) ⊎ KnowsAsked name c.args.quarter c.args.as_of
     (Err refusal) t) in

@@ -20,7 +20,8 @@ returns-in-Ok-calendar-clause-knows g c =
     let call = c.in-Ok-calendar.ensures.call in
     let same : end ≡ c.store-in-Ok-calendar-1.given.0 = search rules in
     let Knows : Store g.row.S.Denot → Type 0 = λ store.
-    HasCleanDisk (seen g.S.Store store) → (s : State) → KeptIfOpen a s → calendar_at s year ≡ option_map days_found days in
+    HasCleanDisk (seen g.S.Store store) → (s : State) → KeptIfOpen a s
+    → calendar_at s year ≡ option_map days_found days in
     subst Knows same (λ clean s kept.
     let its = kept_in_it a b m (seen g.S.Store end) c.in-Ok.ensures.begun call.frame.crash
     c.drop-tx.ensures.crash clean s kept in

@@ -19,7 +19,8 @@ returns-in-Ok-missing_in-clause-knows g c =
     let call = c.in-Ok-missing_in.ensures.call in
     let same : end ≡ c.store-in-Ok-missing_in-1.given.0 = search rules in
     let Knows : Store g.row.S.Denot → Type 0 = λ store.
-    HasCleanDisk (seen g.S.Store store) → (s : State) → KeptIfOpen a s → c.in-Ok-missing_in.quarters.items
+    HasCleanDisk (seen g.S.Store store) → (s : State) → KeptIfOpen a s
+    → c.in-Ok-missing_in.quarters.items
     ≡ missing_from (entries_of s name) c.args.first c.args.year in
     subst Knows same (λ clean s kept.
     let its = kept_in_it a b m (seen g.S.Store end) c.in-Ok.ensures.begun call.frame.crash

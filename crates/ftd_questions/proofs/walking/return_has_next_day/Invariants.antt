@@ -13,7 +13,8 @@ abbrev pub invariant-loop-quarters : goal.invariant-loop-quarters
 invariant-loop-quarters g l = record {
   stays : Stays (seen g.S.Store l.fn.store) (seen g.S.Store l.store);
   none : HasCleanDisk (seen g.S.Store l.store) → (t : Tables)
-      → StandIfOpen (seen g.S.Store l.fn.store) t → (s : State) (stands : StandsFor t s) (quarter : ℕ) → l.first ≤ quarter
+      → StandIfOpen (seen g.S.Store l.fn.store) t
+      → (s : State) (stands : StandsFor t s) (quarter : ℕ) → l.first ≤ quarter
       → quarter < l.quarters
       → list_any is_next_day_row (begun stands l.name quarter) ≡ false;
 }
