@@ -1,7 +1,7 @@
 //! Repair of an account, and what it leaves beside a new assessment.
 
 ghost use Rattle.std.specs.Prelude.{◌≡◌, ◌≤◌};
-ghost use Rattle.ftd_buckets.specs.Standing.{held};
+ghost use Rattle.ftd_buckets.specs.Standing.{amount_held};
 
 use crate::history::{Account, LIMIT, day_at, total_of};
 use anyhow::{Context, Result, bail, ensure};
@@ -59,7 +59,7 @@ fn fed(
     windows: u32,
 ) -> Result<(Patch, u32)>
     requires asked { repair.asked ≡ window }
-    requires held { held repair ≤ before }
+    requires held { amount_held repair ≤ before }
 {
     if windows > 99 {
         bail!("too many windows");

@@ -10,7 +10,7 @@ use Rattle.ftd_buckets.specs.Histories.{History}
 use Rattle.ftd_buckets.specs.Windows.{IsNext, IsLastNeeded}
 use Rattle.ftd_buckets.specs.Patches.{AreSumsOf, IsPatch}
 use Rattle.ftd_buckets.specs.Ready.{Repairing}
-use Rattle.ftd_buckets.specs.Standing.{Stands, IfDone, IfNeed, held}
+use Rattle.ftd_buckets.specs.Standing.{Stands, IfDone, IfNeed, amount_held}
 use Rattle.ftd_buckets.specs.Private.Answered.{Answers}
 use Rattle.ftd_buckets.proofs.Needed.{fed_needed}
 
@@ -31,7 +31,8 @@ answer_form r sums (Err e) h = tt
 pub answer_held : {E : Type 0} (r : Repairing) (sums : List DaySum) (answer : Result Next E)
     → IfOk answer (Answers r sums)
     → IfOk answer
-    (λ next. IfNeed next (λ repair window. held repair ≤ held r + sum_by cents_of sums))
+    (λ next. IfNeed next (λ repair window. amount_held repair
+    ≤ amount_held r + sum_by cents_of sums))
 answer_held r sums (Ok (Done patch)) h = tt
 answer_held r sums (Ok (Need repair window)) h = h.holds.1
 answer_held r sums (Err e) h = tt

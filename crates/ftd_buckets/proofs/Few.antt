@@ -19,7 +19,7 @@ use Rattle.ftd_rules.specs.Periods.{IsPeriod, return_period_of, return_period_en
 use Rattle.ftd_rules.specs.Private.Periods.{rule_on}
 use Rattle.ftd_rules.specs.Private.Walk.{period_last}
 use Rattle.ftd_rules.proofs.Stated.{period_run, piece_owed}
-use Rattle.ftd_rules.specs.Private.Periods.{IsRun}
+use Rattle.ftd_rules.specs.Private.Periods.{IsStretch}
 use Rattle.ftd_rules.proofs.Cuts.{lt_or_le, cuts_from_stops}
 use Rattle.ftd_rules.proofs.Schedules.{year_facts, year_only, line_one, cases_turn, turn_is}
 use Rattle.ftd_rules.proofs.Schedules.{from_semiweekly, from_turn}
@@ -122,7 +122,7 @@ one_row form h holidays line first last rows is has period monthly are =
     (omega arith) (omega arith) (omega arith) in
     let one : owed.line ≡ line = line_one years.0 h.lines owed.line line years.2 owed.open_year has
     same_year in
-    let its = subst (λ (v : YearLine). IsRun form v owed.first owed.last) one owed.period in
+    let its = subst (λ (v : YearLine). IsStretch form v owed.first owed.last) one owed.period in
     let a = period_same form h.lines h.sums line o.first first last is has
     (period_run form line first last period) w1 (omega arith) in
     let b = period_same form h.lines h.sums line o.first owed.first owed.last is has its i0

@@ -107,5 +107,5 @@ pub record Stands (form : Form) (day : ℕ) (holidays : List ℕ) (before after 
   pub calendar : r.holidays ≡ holidays
 
 -- the amount of the day sums that a repair still holds
-abbrev pub held : Repairing → ℕ
-held r = sum_by cents_of r.held
+abbrev pub amount_held : Repairing → ℕ
+amount_held r = sum_by cents_of r.held

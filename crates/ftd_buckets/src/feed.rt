@@ -10,7 +10,7 @@ ghost use Rattle.ftd_rules.specs.Private.Years.{OpensBy};
 ghost use Rattle.ftd_buckets.specs.Histories.{History};
 ghost use Rattle.ftd_buckets.specs.Ready.{IsReady, repairing};
 ghost use Rattle.ftd_buckets.specs.Private.Ready.{asking};
-ghost use Rattle.ftd_buckets.specs.Standing.{Stands, held};
+ghost use Rattle.ftd_buckets.specs.Standing.{Stands, amount_held};
 ghost use Rattle.ftd_buckets.specs.Patches.{AreSumsOf};
 ghost use Rattle.ftd_buckets.specs.Private.Turned.{IsTurnNow, IsWithin};
 ghost use Rattle.ftd_buckets.specs.declared.turn.TurnNow.TheVariants as now;
@@ -156,7 +156,8 @@ impl<'a> Settled<'a> {
     ) -> Result<Next<'a>, AllocError>
         requires ready { IsReady (repairing self (stage.Rest first turn)) }
         requires rise { SumsRise self.asked.from self.asked.to sums.now }
-        requires small { held (repairing self (stage.Rest first turn)) + sum_by cents_of sums.now
+        requires small { amount_held (repairing self (stage.Rest first turn))
+            + sum_by cents_of sums.now
             < 6_000_000_000_000_000 }
         ensures { IfOk result (Answers (repairing self.entry (stage.Rest first turn)) sums.now) }
     {

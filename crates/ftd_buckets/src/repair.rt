@@ -9,7 +9,7 @@ ghost use Rattle.ftd_rules.specs.Years.{AreOpenYears};
 ghost use Rattle.ftd_buckets.specs.Histories.{History, IsChange, AreLast, BeginWith, TurnsWithin};
 ghost use Rattle.ftd_buckets.specs.Windows.{IsPeriodOf, IsNext, IsLastNeeded};
 ghost use Rattle.ftd_buckets.specs.Patches.{AreSumsOf, IsPatch};
-ghost use Rattle.ftd_buckets.specs.Standing.{Stands, IfDone, IfNeed, held};
+ghost use Rattle.ftd_buckets.specs.Standing.{Stands, IfDone, IfNeed, amount_held};
 
 use crate::Window;
 use crate::state::{Next, Repair, Settled, Stage};
@@ -36,7 +36,7 @@ impl<'a> Repair<'a> {
             × IsPeriodOf form line day result.1 }
         ensures form { result.0.form ≡ form }
         ensures asked { result.0.asked ≡ result.1 }
-        ensures held { held result.0 ≡ 0 }
+        ensures held { amount_held result.0 ≡ 0 }
         ensures stands { (before after : History) → IsChange day before after
             → AreLast before lines.now
             → Stands form day (holidays_of holidays.now) before after result.0 }
@@ -70,13 +70,14 @@ impl<'a> Repair<'a> {
     /// days rise and lie in it. `Err` says that memory ran out.
     pub fn feed(self, sums: &[DaySum]) -> Result<Next<'a>, AllocError>
         requires rise { SumsRise self.asked.from self.asked.to sums.now }
-        requires small { held self + sum_by cents_of sums.now < 6_000_000_000_000_000 }
+        requires small { amount_held self + sum_by cents_of sums.now < 6_000_000_000_000_000 }
         ensures form { IfOk result
             (λ next. IfNeed next (λ repair window. repair.form ≡ self.entry.form)) }
         ensures asked { IfOk result (λ next. IfNeed next (λ repair window. repair.asked ≡ window)) }
         ensures held { IfOk result
             (λ next. IfNeed next
-            (λ repair window. held repair ≤ held self.entry + sum_by cents_of sums.now)) }
+            (λ repair window. amount_held repair
+            ≤ amount_held self.entry + sum_by cents_of sums.now)) }
         ensures need { IfOk result
             (λ next. IfNeed next
             (λ repair window. (day : ℕ) (holidays : List ℕ) (before after : History)

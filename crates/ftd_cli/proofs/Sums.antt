@@ -30,7 +30,8 @@ use Rattle.ftd_cli.specs.declared.fault.PlainFault.{PlainFault}
 use Rattle.ftd_cli.specs.declared.fault.PlainFault.TheVariants as fault
 use Rattle.ftd_csv.specs.Records.{Run, Said, pay_run, malformed, said_of, six_of, field}
 use Rattle.ftd_csv.specs.Records.{under_first, records_of}
-use Rattle.ftd_cli.specs.Taking.{CalendarFails, IsSmall, TakesAll, Stops, run_of, runs_of, sum_of}
+use Rattle.ftd_cli.specs.Taking.{CalendarFails, IsSmall, TakesAll, StopsAtFault, run_of, runs_of}
+use Rattle.ftd_cli.specs.Taking.{sum_of}
 use Rattle.ftd_rules.specs.declared.run.PayRun.{PayRun}
 use Rattle.ftd_cli.proofs.Members.{contains_from_has, has_from_contains, has_map, map_has}
 use Rattle.ftd_cli.proofs.Members.{some_same}
@@ -281,7 +282,7 @@ text_fails csv account year holidays records.Memory short calendar h = tt
 
 -- why the runs are not taken
 pub stops_fault : (csv account : List ℕ) (year : ℕ) (holidays : List ℕ) (f : PlainFault)
-    → IsLookedAt csv year holidays → Stops account year (records_of csv) f
+    → IsLookedAt csv year holidays → StopsAtFault account year (records_of csv) f
     → PlainFails csv account year holidays f
 stops_fault csv account year holidays f at (inl memory) = rw memory tt
 stops_fault csv account year holidays f at (inr first) = record_fault csv account year holidays f at

@@ -17,7 +17,8 @@ use Rattle.ftd_rules.specs.Lists.{Has}
 use Rattle.ftd_csv.specs.Records.{Run, Said, pay_run, malformed}
 use Rattle.ftd_cli.specs.Plain.{AreCounted, AtFault, NoneAtFault, RunFault, is_taken, most_runs}
 use Rattle.ftd_cli.specs.Plain.{taken, taken_run}
-use Rattle.ftd_cli.specs.Taking.{HasTaken, RefusesRecord, RefusesRun, Stops, TakesAll, TakesRecord}
+use Rattle.ftd_cli.specs.Taking.{HasTaken, RefusesRecord, RefusesRun, StopsAtFault, TakesAll}
+use Rattle.ftd_cli.specs.Taking.{TakesRecord}
 use Rattle.ftd_cli.specs.Taking.{TakesRun, kept_of, run_of, runs_of}
 use Rattle.ftd_cli.specs.declared.fault.PlainFault.{PlainFault}
 use Rattle.ftd_cli.specs.declared.fault.PlainFault.TheVariants as fault
@@ -303,7 +304,7 @@ pub taken_stops : (account : List ℕ) (year : ℕ) (records : List Said) (said 
     (left : List Said) (number : ℕ) (entries : List (ℕ × PayRun)) (f : PlainFault)
     → IsStrictlySortedBy nat_cmp (keys_of entries)
     → HasTaken account year records (said ∷ left) number entries
-    → RefusesRecord account year number entries said f → Stops account year records f
+    → RefusesRecord account year number entries said f → StopsAtFault account year records f
 taken_stops account year records (malformed place) left number entries f sorted h refuses =
     inr (record {
       before = h.before;

@@ -103,5 +103,5 @@ CalendarFails year holidays f =
     (f ≡ fault.Memory) ⊎ ((f ≡ fault.BadCalendar) × ¬ IsCalendar year holidays)
 
 -- the taking stopped at the first record that is at fault, or for want of memory
-abbrev pub Stops : List ℕ → ℕ → List Said → PlainFault → Type 0
-Stops account year records f = (f ≡ fault.Memory) ⊎ FirstFault account year records f
+abbrev pub StopsAtFault : List ℕ → ℕ → List Said → PlainFault → Type 0
+StopsAtFault account year records f = (f ≡ fault.Memory) ⊎ FirstFault account year records f

@@ -7,7 +7,7 @@ ghost use Rattle.ftd_csv.specs.Answers.{run_view};
 ghost use Rattle.ftd_csv.specs.Places.{CanAdvance, number_of, place_of, said_left};
 ghost use Rattle.ftd_cli.specs.Plain.{is_taken, most_runs};
 ghost use Rattle.ftd_cli.specs.Taking.{TakesRun, RefusesRun, TakesRecord, RefusesRecord, TakesAll};
-ghost use Rattle.ftd_cli.specs.Taking.{Stops};
+ghost use Rattle.ftd_cli.specs.Taking.{StopsAtFault};
 
 use crate::fault::PlainFault;
 use ftd_csv::{Content, EmployerRun, Records};
@@ -85,7 +85,7 @@ pub fn take_records(
     ensures { MatchResult result
         (λ runs. IsOrdered nat_cmp runs
         × TakesAll account.now year (said_left records.old) runs.entries)
-        (λ fault. Stops account.now year (said_left records.old) fault) }
+        (λ fault. StopsAtFault account.now year (said_left records.old) fault) }
 {
     let mut runs = BTreeMap::new(alloc);
     while records.advance()? {

@@ -4,7 +4,7 @@ use Rattle.sqlite.specs.State as database
 use Rattle.sqlite.specs.Store as store
 use Rattle.ftd_schema.specs.Standing.{Tables, Stands}
 use Rattle.ftd_store.specs.declared.tx.Tx.{Tx}
-use Rattle.ftd_store.specs.Frame.{Calls, Reads, Writes, Turns}
+use Rattle.ftd_store.specs.Frame.{Calls, Reads, Writes, Rewrites}
 use Rattle.ftd_store.proofs.Going.{goes_on, then_goes}
 use Rattle.ftd_machine.specs.State.{State}
 use Rattle.ftd_machine.specs.Sound.{IsSound}
@@ -45,7 +45,7 @@ module _ {S : Type 0} (g : store.Ghosts S) (Where : Tables → Type 0) (request 
   -- next state
   pub served_turned_where : {A B : Type 0} (old mid new : Tx S) (x : A) (y : B) (answer : Answer)
       (Fact : A → Tables → Type 0) (So : B → Tables → Tables → Type 0)
-      → Reads g old mid (Ok x) Fact → Turns g mid new (Ok y) So
+      → Reads g old mid (Ok x) Fact → Rewrites g mid new (Ok y) So
       → ((t u : Tables) (s : State) → StandsFor t s → IsSound s → Where t → Fact x t → So y t u
       → (next : State) × Step s request answer next × StandsFor u next)
       → Calls g old new (Ok answer) (ServesWhere Where request)
@@ -109,7 +109,7 @@ module _ {S : Type 0} (g : store.Ghosts S) (request : Request) where
 
   pub served_turned : {A B : Type 0} (old mid new : Tx S) (x : A) (y : B) (answer : Answer)
       (Fact : A → Tables → Type 0) (So : B → Tables → Tables → Type 0)
-      → Reads g old mid (Ok x) Fact → Turns g mid new (Ok y) So
+      → Reads g old mid (Ok x) Fact → Rewrites g mid new (Ok y) So
       → ((t u : Tables) (s : State) → StandsFor t s → IsSound s → Fact x t → So y t u
       → (next : State) × Step s request answer next × StandsFor u next)
       → Calls g old new (Ok answer) (Serves request)

@@ -6,7 +6,7 @@ ghost use Rattle.ftd_days.specs.Holidays.{holidays_of};
 ghost use Rattle.ftd_rules.specs.Due.{IsDue};
 ghost use Rattle.ftd_schema.specs.declared.TableName.TheVariants.{Obligations};
 ghost use Rattle.ftd_store.specs.Changes.{with_added_holiday, with_due_date};
-ghost use Rattle.ftd_store.specs.Frame.{Turns, WritesOne};
+ghost use Rattle.ftd_store.specs.Frame.{Rewrites, WritesOne};
 ghost use Rattle.ftd_holidays.specs.Moved.{AddsHoliday, MovesDue, is_row_of};
 
 use crate::reading::holidays_with;
@@ -54,7 +54,7 @@ fn add_to_year<S: Alter>(
     obligations: &[AccountObligation],
     holidays: &Holidays,
 ) -> Result<(), StoreFault>
-    ensures call { Turns S.Store tx.old tx.new result (λ done old.
+    ensures call { Rewrites S.Store tx.old tx.new result (λ done old.
         MovesDue (holidays_of holidays.now) obligations.now (with_added_holiday day old)) }
 {
     tx.add_added(day)?;
@@ -76,7 +76,7 @@ pub(crate) fn add_and_move<S: Alter>(
     day: Day,
 ) -> Result<(), StoreFault>
     requires { year_of day ≤ 2099 }
-    ensures call { Turns S.Store tx.old tx.new result (λ done. AddsHoliday day) }
+    ensures call { Rewrites S.Store tx.old tx.new result (λ done. AddsHoliday day) }
 {
     let holidays = holidays_with(tx, alloc, day)?;
     let obligations = tx.due_over(alloc, day)?;

@@ -24,7 +24,8 @@ use Rattle.ftd_http.specs.Replying.{Responds}
 use Rattle.ftd_routes.specs.declared.ask.Asked.{Asked}
 use Rattle.ftd_http.specs.Serving.{Ends, closed, truncated, bad, asked, limit, idled}
 use Rattle.ftd_http.specs.Serving.{closes_after, refusal_text, IsAnswer, none, more, Answered}
-use Rattle.ftd_http.specs.Serving.{Broken, Serves, BreaksOff, unasked, in_answer, in_refusal}
+use Rattle.ftd_http.specs.Serving.{Broken, ServesMessages, BreaksOff, unasked, in_answer}
+use Rattle.ftd_http.specs.Serving.{in_refusal}
 use Rattle.ftd_http.specs.Serving.{Breaks, HasEnded, HasFailed, Talk}
 use Rattle.ftd_http.specs.declared.connection.End.{End}
 use Rattle.ftd_http.specs.declared.connection.End.TheVariants as end
@@ -134,7 +135,7 @@ module _ {M : Type 0} (goes : M → Request → Answer → M → Type 0) where
   pub ends_closed : (start now : M) (left left' taken taken' : Option (List ℕ)) (kept : List ℕ)
       (answered : ℕ) (is_idle : Bool)
       → Talk goes start now left left' taken taken' kept answered → kept ≡ [] → IsAtEnd left'
-      → Serves (Answered goes start now) left left' is_idle taken taken'
+      → ServesMessages (Answered goes start now) left left' is_idle taken taken'
       (record { answered = answered; end = end.Closed })
   ends_closed start now left left' taken taken' kept answered is_idle talk none_left at_end =
       let same = talk.count in
@@ -157,7 +158,7 @@ module _ {M : Type 0} (goes : M → Request → Answer → M → Type 0) where
   pub ends_idle : (start now : M) (left left' taken taken' : Option (List ℕ)) (kept : List ℕ)
       (answered : ℕ) (is_idle : Bool)
       → Talk goes start now left left' taken taken' kept answered → kept ≡ [] → is_idle ≡ true
-      → Serves (Answered goes start now) left left' is_idle taken taken'
+      → ServesMessages (Answered goes start now) left left' is_idle taken taken'
       (record { answered = answered; end = end.Idle })
   ends_idle start now left left' taken taken' kept answered is_idle talk none_left is_so =
       let same = talk.count in
@@ -179,7 +180,7 @@ module _ {M : Type 0} (goes : M → Request → Answer → M → Type 0) where
   pub ends_truncated : (start now : M) (left left' taken taken' : Option (List ℕ)) (kept : List ℕ)
       (answered : ℕ) (is_idle : Bool)
       → Talk goes start now left left' taken taken' kept answered → IsCut kept → IsAtEnd left'
-      → Serves (Answered goes start now) left left' is_idle taken taken'
+      → ServesMessages (Answered goes start now) left left' is_idle taken taken'
       (record { answered = answered; end = end.Truncated })
   ends_truncated start now left left' taken taken' kept answered is_idle talk cut at_end =
       let same = talk.count in
@@ -203,7 +204,7 @@ module _ {M : Type 0} (goes : M → Request → Answer → M → Type 0) where
       (answered : ℕ) (is_idle : Bool) (status : Status)
       → Talk goes start now left left' taken mid kept answered → IsRefused kept status
       → Appends mid taken' (refusal_text (Some status))
-      → Serves (Answered goes start now) left left' is_idle taken taken'
+      → ServesMessages (Answered goes start now) left left' is_idle taken taken'
       (record { answered = answered + 1; end = end.BadMessage })
   ends_refused start now left left' taken mid taken' kept answered is_idle status talk refused
       written =
@@ -232,7 +233,7 @@ module _ {M : Type 0} (goes : M → Request → Answer → M → Type 0) where
       → IsMessageAt buf parts message → IsAnswer goes answered now message answer later
       → Appends mid taken' answer → Ends (drop parts.end buf) (talk.messages ++ message ∷ []) None
       why_ends → HasEnded why_ends left' is_idle
-      → Serves (Answered goes start later) left left' is_idle taken taken'
+      → ServesMessages (Answered goes start later) left left' is_idle taken taken'
       (record { answered = answered + 1; end = why_ends })
   last start now later left left' taken mid taken' buf answered is_idle parts message answer why_ends
       talk at is written ends at_end =
@@ -260,7 +261,7 @@ module _ {M : Type 0} (goes : M → Request → Answer → M → Type 0) where
       → Talk goes start now left left' taken mid buf answered → IsMessageAt buf parts message
       → IsAnswer goes answered now message answer later
       → Appends mid taken' answer → parts.closes ≡ true
-      → Serves (Answered goes start later) left left' is_idle taken taken'
+      → ServesMessages (Answered goes start later) left left' is_idle taken taken'
       (record { answered = answered + 1; end = end.Asked })
   ends_asked start now later left left' taken mid taken' buf answered is_idle parts message answer
       talk at is written asks =
@@ -274,7 +275,7 @@ module _ {M : Type 0} (goes : M → Request → Answer → M → Type 0) where
       → Talk goes start now left left' taken mid buf answered → IsMessageAt buf parts message
       → IsAnswer goes answered now message answer later
       → Appends mid taken' answer → parts.closes ≡ false → answered ≡ 99
-      → Serves (Answered goes start later) left left' is_idle taken taken'
+      → ServesMessages (Answered goes start later) left left' is_idle taken taken'
       (record { answered = answered + 1; end = end.Limit })
   ends_limit start now later left left' taken mid taken' buf answered is_idle parts message answer
       talk at is written stays full =

@@ -18,7 +18,7 @@ use Rattle.ftd_routes.specs.declared.ask.Asked.TheVariants as asked
 use Rattle.ftd_http.specs.Responses.{Said}
 use Rattle.ftd_http.specs.Replying.{Responds}
 use Rattle.ftd_http.specs.Serving.{IsAnswer, Answers, none, more, Answered, Broken, BreaksOff}
-use Rattle.ftd_http.specs.Serving.{unasked, in_answer, in_refusal, Serves, Breaks}
+use Rattle.ftd_http.specs.Serving.{unasked, in_answer, in_refusal, ServesMessages, Breaks}
 use Rattle.ftd_http.specs.Tables.{Follows, AnsweredBy, BrokenBy}
 use Rattle.ftd_http.specs.declared.connection.Cause.{Cause}
 use Rattle.ftd_http.specs.declared.connection.Served.{Served}
@@ -147,8 +147,9 @@ module _ {S : Type 0} (g : store.Ghosts S) where
 
   module _ (start later : Desk S) (left left' taken taken' : Option (List ℕ)) where
     pub served_by : (is_idle : Bool) (r : Result Served ServeFault)
-        → IfOk r (Serves (Answered goes start later) left left' is_idle taken taken')
-        → IfOk r (Serves (AnsweredBy (held g start) (held g later)) left left' is_idle taken taken')
+        → IfOk r (ServesMessages (Answered goes start later) left left' is_idle taken taken')
+        → IfOk r (ServesMessages (AnsweredBy (held g start) (held g later)) left left' is_idle taken
+        taken')
     served_by is_idle (Ok served) h = record {
       read = h.read;
       messages = h.messages;

@@ -111,7 +111,7 @@ HasFailed why.Memory source_failed target_failed = Unit {0}
 
 -- A connection that was served: the bytes read are messages up to an end, and what was written are
 -- their answers, which came about so.
-pub record Serves (answered : List Message → List ℕ → Type 0)
+pub record ServesMessages (answered : List Message → List ℕ → Type 0)
     (left left' : Option (List ℕ)) (idle : Bool) (taken taken' : Option (List ℕ))
     (served : Served) : Type 0 where
   pub read : List ℕ
@@ -173,7 +173,7 @@ module _ {M : Type 0} (goes : M → Request → Answer → M → Type 0) where
     Proceeds (Ok (Some served)) =
         (start : M) (first said : Option (List ℕ))
         → Talk start now first left said taken kept answered
-        → Serves (Answered goes start later) first left' idle said taken' served
+        → ServesMessages (Answered goes start later) first left' idle said taken' served
     Proceeds (Err fault) =
         (start : M) (first said : Option (List ℕ))
         → Talk start now first left said taken kept answered

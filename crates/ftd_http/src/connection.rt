@@ -7,7 +7,7 @@ ghost use Rattle.ftd_ports.specs.Writing.{WritesPrefix};
 ghost use Rattle.ftd_messages.specs.Messages.{Message};
 ghost use Rattle.ftd_messages.specs.Looks.{IsMessageAt, ArePartsOf};
 ghost use Rattle.ftd_routes.specs.Routes.{all_routes};
-ghost use Rattle.ftd_http.specs.Serving.{Answered, Broken, Serves, Breaks, Proceeds};
+ghost use Rattle.ftd_http.specs.Serving.{Answered, Broken, ServesMessages, Breaks, Proceeds};
 ghost use Rattle.ftd_http.specs.Serving.{IsAnswer, BreaksOff, HasFailed, refusal_text};
 
 use crate::machine::Machine;
@@ -77,7 +77,7 @@ pub fn serve_machine<M: Machine, R: Peer, W: Target>(
     source: &mut R,
     target: &mut W,
 ) -> Result<Served, ServeFault>
-    ensures ok { IfOk result (Serves (Answered M.goes machine.old machine.new)
+    ensures ok { IfOk result (ServesMessages (Answered M.goes machine.old machine.new)
         (R.left source.old) (R.left source.new) (R.idle source.new)
         (W.taken target.old) (W.taken target.new)) }
     ensures err { IfErr result (Breaks (Broken M.goes machine.old machine.new)

@@ -2,7 +2,7 @@
 
 ghost use Rattle.std.specs.Prelude.{IfOk, IfErr};
 ghost use Rattle.ftd_desk.specs.Desks.{held};
-ghost use Rattle.ftd_http.specs.Serving.{Serves, Breaks};
+ghost use Rattle.ftd_http.specs.Serving.{ServesMessages, Breaks};
 ghost use Rattle.ftd_http.specs.Tables.{AnsweredBy, BrokenBy};
 
 use crate::connection::{ServeFault, Served, serve_machine};
@@ -37,7 +37,7 @@ pub fn serve<S: Alter, R: Peer, W: Target>(
     target: &mut W,
 ) -> Result<Served, ServeFault>
     ensures ok { IfOk result
-        (Serves (AnsweredBy (held S.Store desk.old) (held S.Store desk.new))
+        (ServesMessages (AnsweredBy (held S.Store desk.old) (held S.Store desk.new))
         (R.left source.old) (R.left source.new) (R.idle source.new)
         (W.taken target.old) (W.taken target.new)) }
     ensures err { IfErr result

@@ -5,7 +5,7 @@ use Rattle.sqlite.specs.Store as store
 use Rattle.ftd_schema.specs.Standing.{Tables, Stands, Becomes}
 use Rattle.ftd_store.specs.declared.tx.Tx.{Tx}
 use Rattle.ftd_store.specs.Seen.{shown}
-use Rattle.ftd_store.specs.Frame.{Calls, Reads, Turns}
+use Rattle.ftd_store.specs.Frame.{Calls, Reads, Rewrites}
 use Rattle.ftd_store.proofs.Going.{goes_on, then_goes}
 use Rattle.ftd_machine.specs.Checks.{Answer}
 use Rattle.ftd_machine.specs.Laws.{is_change}
@@ -25,7 +25,7 @@ module _ {S : Type 0} (g : store.Ghosts S) (So : Answer → Tables → Tables �
   pub becomes_turned : {A B : Type 0} (old mid new : Tx S) (x : A) (y : B) (answer : Answer)
       (Fact : A → Tables → Type 0) (Turn : B → Tables → Tables → Type 0)
       → ((t u : Tables) → Fact x t → Turn y t u → So answer t u) → Reads g old mid (Ok x) Fact
-      → Turns g mid new (Ok y) Turn → Calls g old new (Ok answer)
+      → Rewrites g mid new (Ok y) Turn → Calls g old new (Ok answer)
       (λ given before after. Becoming So given before.now after.now)
   becomes_turned old mid new x y answer Fact Turn so r w = record {
     frame = then_goes g old mid new x y answer r.frame w.frame;

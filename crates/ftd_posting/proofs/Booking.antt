@@ -25,7 +25,7 @@ use Rattle.ftd_schema.specs.declared.TableName.TheVariants.{Runs}
 use Rattle.ftd_schema.specs.Standing.{Tables, Stands}
 use Rattle.ftd_store.specs.Changes.{with_run}
 use Rattle.ftd_store.specs.Finds.{CountsRuns, FindsRun}
-use Rattle.ftd_store.specs.Frame.{Calls, Reads, Turns}
+use Rattle.ftd_store.specs.Frame.{Calls, Reads, Rewrites}
 use Rattle.ftd_store.specs.Seen.{shown}
 use Rattle.ftd_store.specs.declared.tx.Tx.{Tx}
 use Rattle.ftd_store.proofs.Going.{goes_on, then_goes}
@@ -462,7 +462,7 @@ module _ {S : Type 0} (g : store.Ghosts S) (name : List ℕ) (number : ℕ) (run
 
     -- after its number was looked up
     pub added_by : (old mid new : Tx S) → Reads g old mid (Ok kept) (FindsRun name number)
-        → Turns g mid new (Ok difference) Reposts
+        → Rewrites g mid new (Ok difference) Reposts
         → Calls g old new (Ok (Ok reply)) (PostsWhere name number run count book later)
     added_by old mid new r w = record {
       frame = then_goes g old mid new kept difference (Ok reply) r.frame w.frame;
@@ -475,7 +475,7 @@ module _ {S : Type 0} (g : store.Ghosts S) (name : List ℕ) (number : ℕ) (run
 
     -- or where it is greater than those of all the account's runs
     pub added_new : (old new : Tx S) → kept ≡ None → IsAbove (greatest_known book count) number
-        → Turns g old new (Ok difference) Reposts
+        → Rewrites g old new (Ok difference) Reposts
         → Calls g old new (Ok (Ok reply)) (PostsWhere name number run count book later)
     added_new old new free above w = record {
       frame = goes_on g old new difference (Ok reply) w.frame;

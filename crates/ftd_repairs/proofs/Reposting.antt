@@ -14,7 +14,7 @@ use Rattle.ftd_schema.specs.Orders.{YearsRise}
 use Rattle.ftd_schema.specs.Tests.{is_year_of}
 use Rattle.ftd_rows.specs.Rows.{year_row}
 use Rattle.ftd_store.specs.declared.tx.Tx.{Tx}
-use Rattle.ftd_store.specs.Frame.{Reads, Turns}
+use Rattle.ftd_store.specs.Frame.{Reads, Rewrites}
 use Rattle.ftd_repairs.specs.declared.Difference.{Difference}
 use Rattle.ftd_repairs.specs.declared.reading.KnownYears.{KnownYears}
 use Rattle.ftd_repairs.specs.Calendars.{KnowsYears}
@@ -49,14 +49,14 @@ module _ {S A : Type 0} (g : store.Ghosts S) (account : List ℕ) (form : Form) 
     (change : Tables → Tables) where
   pub reposts : (old read mid new : Tx S) (known : KnownYears) (x : A) (d : Difference)
       → ((t : Tables) → change t Years ≡ t Years)
-      → Reads g old read (Ok known) (KnowsYears account day) → Turns g read mid (Ok x)
+      → Reads g old read (Ok known) (KnowsYears account day) → Rewrites g read mid (Ok x)
       (λ y t u. u ≡ change t)
-      → Turns g mid new (Ok d) (RepairsRows account form day known)
-      → Turns g old new (Ok d) (λ e t u. IsReposted account form day t (change t) u e)
+      → Rewrites g mid new (Ok d) (RepairsRows account form day known)
+      → Rewrites g old new (Ok d) (λ e t u. IsReposted account form day t (change t) u e)
   reposts old read mid new known x d keeps p q r =
       let Changed : Tables → Tables → Type 0 = λ t u. KnowsYears account day known t
       × (u ≡ change t) in
-      let begun : Turns g old mid (Ok known) (λ k. Changed) =
+      let begun : Rewrites g old mid (Ok known) (λ k. Changed) =
       turns_then g old read mid known x known (λ k t u. KnowsYears account day k t × (u ≡ t))
       (λ y t u. u ≡ change t) (λ k. Changed)
       (λ t u v told is. (told.0, subst (λ (z : Tables). v ≡ change z) told.1 is))

@@ -4,7 +4,7 @@
 ghost use Rattle.std.specs.Prelude.{◌≡◌, IfOk, OnOk};
 ghost use Rattle.ftd_days.specs.Holidays.{holidays_of};
 ghost use Rattle.ftd_store.specs.Changes.{with_run};
-ghost use Rattle.ftd_store.specs.Frame.{Reads, Turns};
+ghost use Rattle.ftd_store.specs.Frame.{Reads, Rewrites};
 ghost use Rattle.ftd_repairs.specs.Repaired.{RepairsBy};
 ghost use Rattle.ftd_repairs.specs.Reposted.{AddsRun, IsLedger, IsRepostedBy, KnowsLedger};
 
@@ -92,7 +92,7 @@ impl Ledger {
         number: u32,
         run: PayRun,
     ) -> Result<Difference, StoreFault>
-        ensures call { Turns S.Store tx.old tx.new result (λ difference old new.
+        ensures call { Rewrites S.Store tx.old tx.new result (λ difference old new.
             IsLedger account.now self.old old
             → IsRepostedBy account.now form run.payday self.old self.new difference
             (with_run account.now number run old) new) }

@@ -11,7 +11,7 @@ ghost use Rattle.ftd_repairs.specs.Rescheduled.{PutsRows};
 ghost use Rattle.ftd_repairs.specs.Replaced.{AreBetween};
 ghost use Rattle.ftd_repairs.specs.Reposted.{Places, RepairsRows};
 ghost use Rattle.ftd_store.specs.Changes.{with_year};
-ghost use Rattle.ftd_store.specs.Frame.{Turns, Writes};
+ghost use Rattle.ftd_store.specs.Frame.{Rewrites, Writes};
 
 use crate::Difference;
 use crate::comparing::difference;
@@ -110,7 +110,7 @@ fn put_rows<S: Alter>(
     patch: &Patch,
 ) -> Result<(), StoreFault>
     requires amounts { All (λ row. IsStorable row.cents) patch.now.rows }
-    ensures call { Turns S.Store tx.old tx.new result (λ done old new.
+    ensures call { Rewrites S.Store tx.old tx.new result (λ done old new.
         AreBetween account.now patch.now.from patch.now.to gone.now old
         → PutsRows account.now patch.now old new) }
 {
@@ -148,7 +148,7 @@ fn put_patch<S: Alter>(
 ) -> Result<(), StoreFault>
     requires amounts { All (λ row. IsStorable row.cents) patch.now.rows }
     requires lookbacks { All (λ line. IsStorable line.lookback) lines.old }
-    ensures call { Turns S.Store tx.old tx.new result (λ done old new.
+    ensures call { Rewrites S.Store tx.old tx.new result (λ done old new.
         AreBetween account.now patch.now.from patch.now.to gone.now old
         → HasLines account.now lines.old old
         → PutsInto account.now lines.old patch.now lines.new old new) }
@@ -174,7 +174,7 @@ pub(crate) fn place_patch<S: Alter>(
     gone: &[Obligation],
     patch: &Patch,
 ) -> Result<Difference, StoreFault>
-    ensures call { Turns S.Store tx.old tx.new result (λ difference old new.
+    ensures call { Rewrites S.Store tx.old tx.new result (λ difference old new.
         AreBetween account.now patch.now.from patch.now.to gone.now old
         → HasLines account.now lines.old old
         → Places account.now day lines.old patch.now lines.new difference old new) }
@@ -200,7 +200,7 @@ pub(crate) fn repair_rows<S: Alter>(
     day: Day,
     known: KnownYears,
 ) -> Result<Difference, StoreFault>
-    ensures call { Turns S.Store tx.old tx.new result (RepairsRows account.now form day known) }
+    ensures call { Rewrites S.Store tx.old tx.new result (RepairsRows account.now form day known) }
 {
     let KnownYears {
         mut lines,

@@ -4,7 +4,7 @@ ghost use Rattle.std.specs.Prelude.{IsTrue};
 ghost use Rattle.ftd_rows.specs.Amounts.{HasStorableAmounts};
 ghost use Rattle.ftd_store.specs.Changes.{with_run, with_void_run};
 ghost use Rattle.ftd_repairs.specs.Reposted.{IsReposted};
-ghost use Rattle.ftd_store.specs.Frame.{Turns};
+ghost use Rattle.ftd_store.specs.Frame.{Rewrites};
 
 use crate::Difference;
 use crate::patching::{is_storable, repair_rows};
@@ -35,7 +35,7 @@ pub fn add_repaired<S: Alter>(
     number: u32,
     run: PayRun,
 ) -> Result<Difference, StoreFault>
-    ensures call { Turns S.Store tx.old tx.new result (λ difference old new.
+    ensures call { Rewrites S.Store tx.old tx.new result (λ difference old new.
         IsReposted account.now form run.payday
         old (with_run account.now number run old) new difference) }
 {
@@ -61,7 +61,7 @@ pub fn void_repaired<S: Alter>(
     number: u32,
     payday: Day,
 ) -> Result<Difference, StoreFault>
-    ensures call { Turns S.Store tx.old tx.new result (λ difference old new.
+    ensures call { Rewrites S.Store tx.old tx.new result (λ difference old new.
         IsReposted account.now form payday
         old (with_void_run account.now number old) new difference) }
 {

@@ -29,7 +29,7 @@ use Rattle.ftd_rules.specs.Laws.{HasStatus, IsFirstCounted, IsCountedBusiness}
 use Rattle.ftd_rules.specs.Private.Due.{IsDueBy, first_counted, IsCountedBy}
 use Rattle.ftd_rules.specs.Private.Stops.{counted_from, IsStops}
 use Rattle.ftd_rules.specs.Private.Years.{semiweekly_from}
-use Rattle.ftd_rules.specs.Private.Periods.{rule_on, ShareRun, IsRun, HasRule}
+use Rattle.ftd_rules.specs.Private.Periods.{rule_on, ShareRun, IsStretch, HasRule}
 use Rattle.ftd_rules.specs.Private.Obligations.{IsOwedPiece, AreOwedPieces}
 use Rattle.ftd_rules.specs.Private.Lookback.{CountTogether}
 use Rattle.ftd_rules.proofs.Cuts.{lt_or_le}
@@ -254,7 +254,7 @@ run_shared form line a b in_a in_b h =
     ]
 
 pub period_run : (form : Form) (line : YearLine) (a b : ℕ) → IsPeriod form line a b
-    → IsRun form line a b
+    → IsStretch form line a b
 period_run form line a b h =
     let some = h.0 in let from = h.1 in let to = h.2 in
     let first : IsDayOf line a = (from, omega arith) in (
@@ -267,7 +267,7 @@ period_run form line a b h =
       )),
     )
 
-pub run_period : (form : Form) (line : YearLine) (a b : ℕ) → IsRun form line a b
+pub run_period : (form : Form) (line : YearLine) (a b : ℕ) → IsStretch form line a b
     → IsPeriod form line a b
 run_period form line a b h =
     let some = h.0 in let from = h.1 in let to = h.2 in

@@ -5,7 +5,7 @@ use Rattle.std.specs.Prelude.{◌==◌}
 use Rattle.std.proofs.lemmas.Bool.Decides.{nat_tests}
 use Rattle.sqlite.specs.Effect.{Database}
 use Rattle.sqlite.specs.Table.{Table}
-use Rattle.ftd_tables.specs.Kept.{Keeps}
+use Rattle.ftd_tables.specs.Kept.{HasCells}
 use Rattle.ftd_tables.specs.Places.{Holds}
 use Rattle.ftd_tables.proofs.OneTable.{WritesOne, still, holds_now, others_stay}
 use Rattle.ftd_schema.specs.declared.TableName.{TableName}
@@ -67,7 +67,7 @@ differ n m i j two e = let same : mark (table_of m 0) ≡ mark (table_of n 0) = 
 -- one table has these rows now, and every other stays
 pub stands_now : (n : TableName) (old new : Database) (t : Tables) (rows : List (RowOf n))
     → (h : Stands old t) → (w : WritesOne old new (h n).tree)
-    → Keeps (cells_of n) (w.next (h n).tree) rows
+    → HasCells (cells_of n) (w.next (h n).tree) rows
     → Becomes old new (with_rows n rows t)
 stands_now n old new t rows h w k = (
   λ m. each m (same_or_other n m),

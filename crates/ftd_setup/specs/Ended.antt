@@ -8,8 +8,8 @@ use Rattle.ftd_setup.specs.declared.opening.Found.{Found}
 use Rattle.ftd_setup.specs.declared.opening.NotOpened.{NotOpened}
 use Rattle.ftd_setup.specs.declared.opening.OpenFault.{OpenFault}
 
-abbrev pub held : {S : Type 0} → store.Ghosts S → Found S → State
-held g it = state g it.conn
+abbrev pub seen_of : {S : Type 0} → store.Ghosts S → Found S → State
+seen_of g it = state g it.conn
 
 -- what is seen of the database then, and the outcome
 abbrev pub Ended : {S : Type 0} → store.Ghosts S → Result (Connection S) (NotOpened S)

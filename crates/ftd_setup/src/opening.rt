@@ -7,7 +7,7 @@ ghost use Rattle.ftd_schema.specs.Names.{all_names, has_any};
 ghost use Rattle.ftd_schema.specs.Making.{IsFree};
 ghost use Rattle.ftd_schema.specs.States.{CrashKeeps, ShowsAgain};
 ghost use Rattle.ftd_schema.specs.declared.texts.TheConstants.{LIST_METAS};
-ghost use Rattle.ftd_setup.specs.Ended.{held, Ended};
+ghost use Rattle.ftd_setup.specs.Ended.{seen_of, Ended};
 ghost use Rattle.ftd_setup.specs.Steps.{Steps};
 ghost use Rattle.ftd_schema.specs.Beginnings.{IsMade};
 ghost use Rattle.ftd_setup.specs.Versions.{IsNew, is_tagged, Becomes, MayBecome};
@@ -87,13 +87,14 @@ struct Found<S: Alter> {
 impl<S: Alter> Found<S> {
     // does so in one transaction
     fn carry_out(&mut self, how: Change) -> Result<(), StoreFault>
-        ensures done { HasCleanDisk (held S.Store self.new) → OnOk result
-            (Becomes how (held S.Store self.old).now (held S.Store self.new).now
-            × ((held S.Store self.new).committed ≡ (held S.Store self.new).now)) }
-        ensures kept { HasCleanDisk (held S.Store self.new) → IsTrue (held S.Store self.new).is_open
-            → OnErr result (ShowsAgain (held S.Store self.old) (held S.Store self.new)) }
-        ensures crash { Survives (held S.Store self.old) (held S.Store self.new)
-            (MayBecome how (held S.Store self.old).now) }
+        ensures done { HasCleanDisk (seen_of S.Store self.new) → OnOk result
+            (Becomes how (seen_of S.Store self.old).now (seen_of S.Store self.new).now
+            × ((seen_of S.Store self.new).committed ≡ (seen_of S.Store self.new).now)) }
+        ensures kept { HasCleanDisk (seen_of S.Store self.new)
+            → IsTrue (seen_of S.Store self.new).is_open
+            → OnErr result (ShowsAgain (seen_of S.Store self.old) (seen_of S.Store self.new)) }
+        ensures crash { Survives (seen_of S.Store self.old) (seen_of S.Store self.new)
+            (MayBecome how (seen_of S.Store self.old).now) }
     {
         if !self.conn.is_autocommit() {
             return Err(StoreFault::Failed);
@@ -109,13 +110,14 @@ impl<S: Alter> Found<S> {
 
     // the rows of ftd_meta
     fn read_tag(&mut self) -> Result<Vec<Row>, StoreFault>
-        ensures shown { HasCleanDisk (held S.Store self.new) → IfOk result
-            (λ rows. Shown LIST_METAS.now [] (held S.Store self.old)
-            (held S.Store self.old) rows.items
-            × IsUnchanged (held S.Store self.old) (held S.Store self.new)) }
-        ensures kept { HasCleanDisk (held S.Store self.new) → IsTrue (held S.Store self.new).is_open
-            → ShowsAgain (held S.Store self.old) (held S.Store self.new) }
-        ensures crash { CrashKeeps (held S.Store self.old) (held S.Store self.new) }
+        ensures shown { HasCleanDisk (seen_of S.Store self.new) → IfOk result
+            (λ rows. Shown LIST_METAS.now [] (seen_of S.Store self.old)
+            (seen_of S.Store self.old) rows.items
+            × IsUnchanged (seen_of S.Store self.old) (seen_of S.Store self.new)) }
+        ensures kept { HasCleanDisk (seen_of S.Store self.new)
+            → IsTrue (seen_of S.Store self.new).is_open
+            → ShowsAgain (seen_of S.Store self.old) (seen_of S.Store self.new) }
+        ensures crash { CrashKeeps (seen_of S.Store self.old) (seen_of S.Store self.new) }
     {
         if !self.conn.is_autocommit() {
             return Err(StoreFault::Failed);
@@ -128,12 +130,13 @@ impl<S: Alter> Found<S> {
 
     // opens a database that has a tag: version 2 as it is, version 1 by migration
     fn open_tagged(&mut self) -> Result<(), OpenFault>
-        ensures read { HasCleanDisk (held S.Store self.new)
-            → OpensByReading (held S.Store self.old) (held S.Store self.new) result }
-        ensures kept { HasCleanDisk (held S.Store self.new) → IsTrue (held S.Store self.new).is_open
-            → OnErr result (ShowsAgain (held S.Store self.old) (held S.Store self.new)) }
-        ensures crash { Survives (held S.Store self.old) (held S.Store self.new)
-            (MayBecome Change.Migrate (held S.Store self.old).now) }
+        ensures read { HasCleanDisk (seen_of S.Store self.new)
+            → OpensByReading (seen_of S.Store self.old) (seen_of S.Store self.new) result }
+        ensures kept { HasCleanDisk (seen_of S.Store self.new)
+            → IsTrue (seen_of S.Store self.new).is_open
+            → OnErr result (ShowsAgain (seen_of S.Store self.old) (seen_of S.Store self.new)) }
+        ensures crash { Survives (seen_of S.Store self.old) (seen_of S.Store self.new)
+            (MayBecome Change.Migrate (seen_of S.Store self.old).now) }
     {
         let rows = self.read_tag()?;
         match told(&rows) {
@@ -148,23 +151,24 @@ impl<S: Alter> Found<S> {
     }
 
     fn prepare(&mut self) -> Result<(), OpenFault>
-        ensures new_database { IsNew (held S.Store self.old).now.schema
-            → HasCleanDisk (held S.Store self.new)
-            → OnOk result (IsFree (held S.Store self.old).now.schema
-            → IsMade (held S.Store self.old).now (held S.Store self.new).now
-            × ((held S.Store self.new).committed ≡ (held S.Store self.new).now)) }
-        ensures never_refused { IsNew (held S.Store self.old).now.schema
+        ensures new_database { IsNew (seen_of S.Store self.old).now.schema
+            → HasCleanDisk (seen_of S.Store self.new)
+            → OnOk result (IsFree (seen_of S.Store self.old).now.schema
+            → IsMade (seen_of S.Store self.old).now (seen_of S.Store self.new).now
+            × ((seen_of S.Store self.new).committed ≡ (seen_of S.Store self.new).now)) }
+        ensures never_refused { IsNew (seen_of S.Store self.old).now.schema
             → IfErr result IsStoreFault }
-        ensures foreign { has_any all_names (held S.Store self.old).now.schema ≡ true
-            → is_tagged (held S.Store self.old).now.schema ≡ false
+        ensures foreign { has_any all_names (seen_of S.Store self.old).now.schema ≡ true
+            → is_tagged (seen_of S.Store self.old).now.schema ≡ false
             → (result ≡ Err OpenFault.NotOurs) × (self.new ≡ self.old) }
-        ensures read { is_tagged (held S.Store self.old).now.schema ≡ true
-            → HasCleanDisk (held S.Store self.new)
-            → OpensByReading (held S.Store self.old) (held S.Store self.new) result }
-        ensures kept { HasCleanDisk (held S.Store self.new) → IsTrue (held S.Store self.new).is_open
-            → OnErr result (ShowsAgain (held S.Store self.old) (held S.Store self.new)) }
-        ensures crash { Survives (held S.Store self.old) (held S.Store self.new)
-            (MayBeOpened (held S.Store self.old).now) }
+        ensures read { is_tagged (seen_of S.Store self.old).now.schema ≡ true
+            → HasCleanDisk (seen_of S.Store self.new)
+            → OpensByReading (seen_of S.Store self.old) (seen_of S.Store self.new) result }
+        ensures kept { HasCleanDisk (seen_of S.Store self.new)
+            → IsTrue (seen_of S.Store self.new).is_open
+            → OnErr result (ShowsAgain (seen_of S.Store self.old) (seen_of S.Store self.new)) }
+        ensures crash { Survives (seen_of S.Store self.old) (seen_of S.Store self.new)
+            (MayBeOpened (seen_of S.Store self.old).now) }
     {
         if is_tagged(self.conn.schema()) {
             return self.open_tagged();

@@ -8,7 +8,7 @@ use Rattle.ftd_schema.proofs.OneOfAll.{foreign_then}
 use Rattle.ftd_rows.specs.declared.faults.StoreFault.{StoreFault}
 use Rattle.ftd_store.specs.declared.tx.Tx.{Tx}
 use Rattle.ftd_store.specs.Seen.{shown}
-use Rattle.ftd_store.specs.Frame.{Frame, Calls, Reads, Writes, WritesOne, Turns}
+use Rattle.ftd_store.specs.Frame.{Frame, Calls, Reads, Writes, WritesOne, Rewrites}
 use Rattle.ftd_store.proofs.Going.{goes_on, then_goes, then_call, then_fails}
 
 module _ {S : Type 0} (g : store.Ghosts S) where
@@ -28,7 +28,7 @@ module _ {S : Type 0} (g : store.Ghosts S) where
 
   -- a reading leaves the rows
   pub reads_turn : {A : Type 0} (old new : Tx S) (x : A) (Fact : A → Tables → Type 0)
-      → Reads g old new (Ok x) Fact → Turns g old new (Ok x) (λ y t u. Fact y t × (u ≡ t))
+      → Reads g old new (Ok x) Fact → Rewrites g old new (Ok x) (λ y t u. Fact y t × (u ≡ t))
   reads_turn old new x Fact r = record {
     frame = r.frame;
     does = λ clean t stands.
@@ -46,13 +46,13 @@ module _ {S : Type 0} (g : store.Ghosts S) where
 
   -- a change makes the rows that it says
   pub writes_turn : {A : Type 0} (old new : Tx S) (x : A) (change : Tables → Tables)
-      → Writes g old new (Ok x) change → Turns g old new (Ok x) (λ y t u. u ≡ change t)
+      → Writes g old new (Ok x) change → Rewrites g old new (Ok x) (λ y t u. u ≡ change t)
   writes_turn old new x change w =
       record { frame = w.frame; does = λ clean t stands. (change t, refl, w.does clean t stands) }
 
   pub one_turns : {A X : Type 0} (old new : Tx S) (x : A) (found : Tables → List X) (change : Tables
       → Tables) → WritesOne g old new (Ok x) found change
-      → Turns g old new (Ok x) (λ y t u. u ≡ change t)
+      → Rewrites g old new (Ok x) (λ y t u. u ≡ change t)
   one_turns old new x found change w =
       record {
         frame = w.frame;
@@ -62,7 +62,7 @@ module _ {S : Type 0} (g : store.Ghosts S) where
   -- what follows of a change
   pub turns_on : {A B : Type 0} (old new : Tx S) (x : A) (y : B) (So : A → Tables → Tables → Type 0)
       (More : B → Tables → Tables → Type 0) → ((t u : Tables) → So x t u → More y t u)
-      → Turns g old new (Ok x) So → Turns g old new (Ok y) More
+      → Rewrites g old new (Ok x) So → Rewrites g old new (Ok y) More
   turns_on old new x y So More tells p = record {
     frame = goes_on g old new x y p.frame;
     does = λ clean t stands. let one = p.does clean t stands in (one.0, tells t one.0 one.1, one.2);
@@ -72,8 +72,8 @@ module _ {S : Type 0} (g : store.Ghosts S) where
   pub turns_then : {A B C : Type 0} (old mid new : Tx S) (x : A) (y : B) (z : C) (First : A → Tables
       → Tables → Type 0) (Second : B → Tables → Tables → Type 0) (Both : C → Tables → Tables
       → Type 0)
-      → ((t u v : Tables) → First x t u → Second y u v → Both z t v) → Turns g old mid (Ok x) First
-      → Turns g mid new (Ok y) Second → Turns g old new (Ok z) Both
+      → ((t u v : Tables) → First x t u → Second y u v → Both z t v) → Rewrites g old mid (Ok x) First
+      → Rewrites g mid new (Ok y) Second → Rewrites g old new (Ok z) Both
   turns_then old mid new x y z First Second Both tells p q = record {
     frame = then_goes g old mid new x y z p.frame q.frame;
     does = λ clean t stands.
@@ -93,7 +93,7 @@ module _ {S : Type 0} (g : store.Ghosts S) where
   pub read_then_turn : {A B : Type 0} (old mid new : Tx S) (x : A) (result : Result B StoreFault)
       (Fact : A → Tables → Type 0) (So All : B → Tables → Tables → Type 0)
       → ((y : B) (t u : Tables) → Fact x t → So y t u → All y t u) → Reads g old mid (Ok x) Fact
-      → Turns g mid new result So → Turns g old new result All
+      → Rewrites g mid new result So → Rewrites g old new result All
   read_then_turn old mid new x (Ok y) Fact So All tells r w =
       turns_then old mid new x y y (λ z t u. Fact z t × (u ≡ t)) So All
       (λ t u v known so. tells y t v known.0 (subst (λ (z : Tables). So y z v) known.1 so))

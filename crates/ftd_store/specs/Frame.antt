@@ -65,9 +65,9 @@ Writes g old new result change =
 
 -- a call that makes other rows of those that there are, which stand so to them, and keeps every
 -- table of another name
-abbrev pub Turns : {S A : Type 0} → store.Ghosts S → Tx S → Tx S → Result A StoreFault
+abbrev pub Rewrites : {S A : Type 0} → store.Ghosts S → Tx S → Tx S → Result A StoreFault
     → (A → Tables → Tables → Type 0) → Type 0
-Turns g old new result So =
+Rewrites g old new result So =
     Calls g old new result
     (λ x before after t. (u : Tables) × So x t u × Becomes before.now after.now u)
 

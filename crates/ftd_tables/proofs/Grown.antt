@@ -16,7 +16,7 @@ use Rattle.sqlite_schema.specs.Names.{same_name, table_named}
 use Rattle.sqlite_schema.specs.declared.schema.Column.{Column}
 use Rattle.sqlite_schema.specs.declared.schema.Reference.{Reference}
 use Rattle.ftd_tables.specs.Tables.{a_table}
-use Rattle.ftd_tables.specs.Kept.{Keeps}
+use Rattle.ftd_tables.specs.Kept.{HasCells}
 use Rattle.ftd_tables.specs.Places.{IsAt, IsSpared, Holds, HasNoAction, IsUnnamed, KeepsTables}
 use Rattle.ftd_tables.proofs.Frames.{all_at}
 use Rattle.ftd_tables.proofs.Grows.{all_below, at_new, at_kept, spared_kept, spared_new, all_last}
@@ -163,5 +163,5 @@ holds_on old new name columns key references cells xs g h =
       tree = h.tree;
       place = g.places name t h.at h.place;
       spared = λ acts. g.spared h.tree below (h.spared acts);
-      rows = subst (λ rs. Keeps cells rs xs) (sym (g.rows name t h.at h.place)) h.rows;
+      rows = subst (λ rs. HasCells cells rs xs) (sym (g.rows name t h.at h.place)) h.rows;
     }

@@ -24,7 +24,7 @@ use Rattle.sqlite_resolve.specs.Compile.{is_reserved}
 use Rattle.sqlite_schema.specs.declared.schema.Column.{Column}
 use Rattle.sqlite_schema.specs.declared.schema.Reference.{Reference}
 use Rattle.ftd_tables.specs.Tables.{a_table}
-use Rattle.ftd_tables.specs.Kept.{Keeps}
+use Rattle.ftd_tables.specs.Kept.{HasCells}
 use Rattle.ftd_tables.specs.Places.{IsAt, IsSpared, Holds, KeepsTables}
 use Rattle.ftd_tables.proofs.Frames.{all_at}
 use Rattle.ftd_tables.proofs.Steps.{went, same_value}
@@ -96,7 +96,7 @@ holds_beside old new name columns key references cells xs b h = record {
   place = at_beside old.schema new.schema name (a_table name columns key references h.tree) h.at
       b.tables h.place;
   spared = λ acts. spared_beside old.schema new.schema h.tree b.tables (h.spared acts);
-  rows = subst (λ rs. Keeps cells rs xs)
+  rows = subst (λ rs. HasCells cells rs xs)
       (sym (all_at (λ (v : Table). new.trees v.tree ≡ old.trees v.tree) old.schema.tables h.at
       (a_table name columns key references h.tree) b.rows h.place.listed)) h.rows;
 }

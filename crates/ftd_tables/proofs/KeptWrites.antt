@@ -15,7 +15,7 @@ use Rattle.sqlite.specs.Order.{Row, value_cmp}
 use Rattle.sqlite.specs.Tree.{put_row, rowid, without_rowid}
 use Rattle.sqlite.specs.Edit.{next_rowid, id_in, without_all}
 use Rattle.sqlite_value.proofs.OrderLemmas.{value_cmp-Int}
-use Rattle.ftd_tables.specs.Kept.{stored, Rise, Keeps, changed}
+use Rattle.ftd_tables.specs.Kept.{stored, Rise, HasCells, changed}
 
 -- ---- one more row
 
@@ -66,7 +66,7 @@ typed_last n x (p ∷ kept) = ap (λ xs. p.1 ∷ xs) (typed_last n x kept)
 
 -- a row whose rowid is chosen comes last
 pub keeps_more : {X : Type 0} (cells : X → Row) (rows : List Row) (xs : List X) (x : X)
-    → Keeps cells rows xs → Keeps cells (put_row (Int (next_rowid rows) ∷ cells x) rows)
+    → HasCells cells rows xs → HasCells cells (put_row (Int (next_rowid rows) ∷ cells x) rows)
     (xs ++ x ∷ [])
 keeps_more cells rows xs x k =
     let n = next_rowid (map (stored cells) k.kept) in
@@ -204,8 +204,8 @@ rise_kept {X = X} f (p ∷ kept) rise = go (f p) refl (rise_kept f kept rise.1)
 
 -- the rows that pass the test are taken out
 pub keeps_fewer : {X : Type 0} (cells : X → Row) (test : X → Bool) (rows : List Row) (xs : List X)
-    (ids : List ℤ) (k : Keeps cells rows xs)
-    → IsPermutation (ids_that test k.kept) ids → Keeps cells (without_all rows ids)
+    (ids : List ℤ) (k : HasCells cells rows xs)
+    → IsPermutation (ids_that test k.kept) ids → HasCells cells (without_all rows ids)
     (filter (λ x. not (test x)) xs)
 keeps_fewer {X = X} cells test rows xs ids k moved =
     let same = with_both {X = ℤ × X} {P = λ p. list_any (same_id p.0) (ids_that test k.kept)
@@ -299,9 +299,9 @@ rise_changed {X = X} test f (p ∷ kept) rise = (each kept rise.0, rise_changed 
 
 -- the one row that passes the test is replaced
 pub keeps_changed : {X : Type 0} (cells : X → Row) (test : X → Bool) (f : X → X) (rows : List Row)
-    (xs : List X) (k : Keeps cells rows xs) (p : ℤ × X)
+    (xs : List X) (k : HasCells cells rows xs) (p : ℤ × X)
     → filter (λ q. test q.1) k.kept ≡ p ∷ []
-    → Keeps cells (put_row (Int p.0 ∷ cells (f p.1)) (without_rowid p.0 rows))
+    → HasCells cells (put_row (Int p.0 ∷ cells (f p.1)) (without_rowid p.0 rows))
     (map (changed test f) xs)
 keeps_changed cells test f rows xs k p one = record {
   kept = map (change test f) k.kept;

@@ -21,7 +21,7 @@ use Rattle.sqlite_rules.specs.Calls.{ids_of}
 use Rattle.sqlite_schema.specs.declared.schema.Column.{Column}
 use Rattle.sqlite_schema.specs.declared.schema.Reference.{Reference}
 use Rattle.ftd_tables.specs.Tables.{a_table}
-use Rattle.ftd_tables.specs.Kept.{Keeps, stored, changed}
+use Rattle.ftd_tables.specs.Kept.{HasCells, stored, changed}
 use Rattle.ftd_tables.specs.Places.{Holds}
 use Rattle.ftd_tables.proofs.KeptLemmas.{plain_query, scan, scanned, filter_typed, answer_unordered}
 use Rattle.ftd_tables.proofs.KeptLemmas.{map_map}
@@ -37,7 +37,7 @@ Tests {X = X} cells test filters params = (p : ℤ × X)
 
 -- what the query finds, row by row
 pub found_rows : {X : Type 0} (cells : X → Row) (test : X → Bool) (filters project : List Term)
-    (params : Row) (rows : List Row) (xs : List X) (k : Keeps cells rows xs)
+    (params : Row) (rows : List Row) (xs : List X) (k : HasCells cells rows xs)
     → Tests cells test filters params
     → map (eval_all project) (scan filters params rows) ≡ map
     (λ p. eval_all project (params ∷ stored cells p ∷ [])) (filter (λ p. test p.1) k.kept)
@@ -56,7 +56,7 @@ pub takes_out : {X : Type 0} {acted : Bool} (old new : State) (name : List ℕ)
     → Writes old new None
     (Delete h.at (record { lets = []; body = plain_query h.tree filters (col 1 0 ∷ []) [] })) text
     params count
-    → (w : WritesOne old.now new.now h.tree) × Keeps cells (w.next h.tree)
+    → (w : WritesOne old.now new.now h.tree) × HasCells cells (w.next h.tree)
     (filter (λ x. not (test x)) xs)
 takes_out old new name columns key references cells xs test h acts filters text params count tested
     w =
@@ -76,7 +76,7 @@ takes_out old new name columns key references cells xs test h acts filters text 
     (IsPermutation-map (λ (r : Row). id_in (rowid r)) _ _ found) in
     let step = made.4 in (
       record { next = made.0; is = made.3; others = step.tables },
-      subst (λ rows. Keeps cells rows (filter (λ x. not (test x)) xs)) (sym step.rows)
+      subst (λ rows. HasCells cells rows (filter (λ x. not (test x)) xs)) (sym step.rows)
           (keeps_fewer cells test (old.now.trees h.tree) xs (ids_of made.1) h.rows moved),
     )
 
@@ -92,7 +92,8 @@ pub changes_row : {X : Type 0} {acted : Bool} (old new : State) (name : List ℕ
     → ((p : ℤ × X) → id_in (rowid (eval_all project (params ∷ stored cells p ∷ []))) ≡ p.0)
     → Writes old new None
     (Update h.at (record { lets = []; body = plain_query h.tree filters project [] })) text params 1
-    → (w : WritesOne old.now new.now h.tree) × Keeps cells (w.next h.tree) (map (changed test f) xs)
+    → (w : WritesOne old.now new.now h.tree)
+    × HasCells cells (w.next h.tree) (map (changed test f) xs)
     × ((x : X) × (filter test xs ≡ x ∷ []))
 changes_row {X = X} old new name columns key references cells xs test f h acts filters project text
     params tested recast same_id w =
@@ -116,7 +117,7 @@ changes_row {X = X} old new name columns key references cells xs test f h acts f
     ∙ ap (λ (n : ℤ). put_row (Int p.0 ∷ cells (f p.1)) (without_rowid n (old.now.trees h.tree)))
     (same_id p) in (
       record { next = made.0; is = made.3; others = made.5 },
-      subst (λ rs. Keeps cells rs (map (changed test f) xs)) (sym rows)
+      subst (λ rs. HasCells cells rs (map (changed test f) xs)) (sym rows)
           (keeps_changed cells test f (old.now.trees h.tree) xs h.rows p one.1),
       (
         p.1,
@@ -134,7 +135,7 @@ pub changes_none : {X : Type 0} {acted : Bool} (old new : State) (name : List �
     → Tests cells test filters params
     → Writes old new None
     (Update h.at (record { lets = []; body = plain_query h.tree filters project [] })) text params 0
-    → (w : WritesOne old.now new.now h.tree) × Keeps cells (w.next h.tree) xs
+    → (w : WritesOne old.now new.now h.tree) × HasCells cells (w.next h.tree) xs
     × (filter test xs ≡ [])
 changes_none {X = X} old new name columns key references cells xs test h acts filters project text
     params tested w =
@@ -147,7 +148,7 @@ changes_none {X = X} old new name columns key references cells xs test h acts fi
     let bare = none_permutation _ found in
     let none : filter (λ p. test p.1) h.rows.kept ≡ [] = none_of made_of _ (sym shown ∙ bare) in (
       record { next = made.0; is = made.2; others = made.4 },
-      subst (λ rs. Keeps cells rs xs) (sym made.3) h.rows,
+      subst (λ rs. HasCells cells rs xs) (sym made.3) h.rows,
       ap (filter test) (sym h.rows.typed) ∙ sym (filter_typed test h.rows.kept)
           ∙ ap (map (λ p. p.1)) none,
     )

@@ -16,7 +16,7 @@ use Rattle.sqlite.specs.State.{State, Writes}
 use Rattle.sqlite_schema.specs.declared.schema.Column.{Column}
 use Rattle.sqlite_schema.specs.declared.schema.Reference.{Reference}
 use Rattle.ftd_tables.specs.Tables.{a_table}
-use Rattle.ftd_tables.specs.Kept.{Keeps}
+use Rattle.ftd_tables.specs.Kept.{HasCells}
 use Rattle.ftd_tables.specs.Places.{IsAt, Holds}
 use Rattle.ftd_tables.proofs.KeptWrites.{keeps_more}
 use Rattle.ftd_tables.proofs.Steps.{inserted}
@@ -50,7 +50,7 @@ still {X = X} {acted = acted} old new name other columns key references cells xs
       tree = h.tree;
       place = h.place;
       spared = h.spared;
-      rows = subst (λ rows. Keeps cells rows xs) (sym same) h.rows;
+      rows = subst (λ rows. HasCells cells rows xs) (sym same) h.rows;
     })
 
 -- so does any table that is not the written one
@@ -69,7 +69,7 @@ pub holds_now : {X : Type 0} {acted : Bool} (old new : Database) (name : List �
     (columns : List Column) (key : List ℕ) (references : List Reference) (cells : X → Row)
     (xs ys : List X)
     → (h : Holds acted old name (a_table name columns key references) cells xs)
-    → (w : WritesOne old new h.tree) → Keeps cells (w.next h.tree) ys
+    → (w : WritesOne old new h.tree) → HasCells cells (w.next h.tree) ys
     → Holds acted new name (a_table name columns key references) cells ys
 holds_now {acted = acted} old new name columns key references cells xs ys h w k =
     let P : Database → Type 0 = λ d. Holds acted d name (a_table name columns key references) cells
@@ -91,12 +91,12 @@ pub adds_row : {X : Type 0} {acted : Bool} (old new : State) (name : List ℕ) (
     Chosen 0 (value_rows params width (length terms / width) terms))
     ≡ put_row (Int (next_rowid (old.now.trees h.tree)) ∷ cells x) (old.now.trees h.tree)
     → Writes old new None (Insert h.at (Values terms width)) text params count
-    → (w : WritesOne old.now new.now h.tree) × Keeps cells (w.next h.tree) (xs ++ x ∷ [])
+    → (w : WritesOne old.now new.now h.tree) × HasCells cells (w.next h.tree) (xs ++ x ∷ [])
 adds_row old new name columns key references cells xs x h width terms text params count written w =
     let made = inserted old new h.at width name columns key references h.tree terms text params
     count h.place.listed w in
     let step = made.2 in (
       record { next = made.0; is = made.1; others = step.tables },
-      subst (λ rows. Keeps cells rows (xs ++ x ∷ [])) (sym (step.rows ∙ written))
+      subst (λ rows. HasCells cells rows (xs ++ x ∷ [])) (sym (step.rows ∙ written))
           (keeps_more cells (old.now.trees h.tree) xs x h.rows),
     )

@@ -14,7 +14,7 @@ abbrev pub Rise : {X : Type 0} → List (ℤ × X) → Type 0
 Rise kept = IsAscending (λ a b. a.0 <ℤ b.0) kept
 
 -- the rows of a tree are these typed rows, in the order in which they were added
-pub record Keeps {X : Type 0} (cells : X → Row) (rows : List Row) (xs : List X) : Type 0 where
+pub record HasCells {X : Type 0} (cells : X → Row) (rows : List Row) (xs : List X) : Type 0 where
   pub kept : List (ℤ × X)
   pub rows_are : rows ≡ map (stored cells) kept
   pub typed : map (λ p. p.1) kept ≡ xs

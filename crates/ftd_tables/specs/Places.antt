@@ -11,7 +11,7 @@ use Rattle.sqlite.specs.Order.{Row}
 use Rattle.sqlite.specs.Effect.{Database}
 use Rattle.sqlite.specs.Table.{Table}
 use Rattle.sqlite.specs.Schema.{Schema}
-use Rattle.ftd_tables.specs.Kept.{Keeps}
+use Rattle.ftd_tables.specs.Kept.{HasCells}
 
 -- the table stands at this place, and is the one that its name and its tree find
 pub record IsAt (s : Schema) (name : List ℕ) (t : Table) (at : ℕ) : Type 0 where
@@ -53,4 +53,4 @@ pub record Holds {X : Type 0} (rewritten : Bool) (db : Database) (name : List �
   pub tree : ℕ
   pub place : IsAt db.schema name (make tree) at
   pub spared : IsTrue rewritten → IsSpared db.schema tree
-  pub rows : Keeps cells (db.trees tree) xs
+  pub rows : HasCells cells (db.trees tree) xs

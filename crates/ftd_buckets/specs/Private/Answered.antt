@@ -16,7 +16,7 @@ use Rattle.ftd_buckets.specs.Histories.{History, TurnsWithin}
 use Rattle.ftd_buckets.specs.Windows.{IsNext, NoneAfter}
 use Rattle.ftd_buckets.specs.Patches.{AreSumsOf, IsPatch, AreRows}
 use Rattle.ftd_buckets.specs.Ready.{Repairing}
-use Rattle.ftd_buckets.specs.Standing.{Stands, StandsIn, held}
+use Rattle.ftd_buckets.specs.Standing.{Stands, StandsIn, amount_held}
 
 -- the answer is right for the histories
 abbrev pub Serves : Form → ℕ → List ℕ → History → History → Window → Next → Type 0
@@ -29,11 +29,11 @@ Serves form day holidays before after asked (Need repair window) =
 abbrev pub Holds : Form → ℕ → Next → Type 0
 Holds form bound (Done patch) = Unit {0}
 Holds form bound (Need repair window) =
-    (repair.asked ≡ window) × (held repair ≤ bound) × (repair.form ≡ form)
+    (repair.asked ≡ window) × (amount_held repair ≤ bound) × (repair.form ≡ form)
 
 -- the answer to the day sums fed
 pub record Answers (r : Repairing) (sums : List DaySum) (next : Next) : Type 0 where
-  pub holds : Holds r.form (held r + sum_by cents_of sums) next
+  pub holds : Holds r.form (amount_held r + sum_by cents_of sums) next
   pub serves : (day : ℕ) (holidays : List ℕ) (before after : History)
       → Stands r.form day holidays before after r → AreSumsOf after r.asked sums
       → Serves r.form day holidays before after r.asked next

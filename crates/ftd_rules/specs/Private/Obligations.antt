@@ -10,7 +10,7 @@ use Rattle.ftd_rules.specs.Lists.{Has}
 use Rattle.ftd_rules.specs.Obligations.{pieces, ByFirstDay}
 use Rattle.ftd_rules.specs.Private.Stops.{IsStops}
 use Rattle.ftd_rules.specs.Private.Years.{semiweekly_from}
-use Rattle.ftd_rules.specs.Private.Periods.{rule_on, IsRun}
+use Rattle.ftd_rules.specs.Private.Periods.{rule_on, IsStretch}
 
 -- o is owed for a piece of such a run, with its liability, which is
 -- positive, and its due date
@@ -20,7 +20,7 @@ pub record IsOwedPiece (form : Form) (lines : List YearLine) (sums : List DaySum
   pub open_year : Has lines line
   pub first : ℕ
   pub last : ℕ
-  pub period : IsRun form line first last
+  pub period : IsStretch form line first last
   pub stops : List ℕ
   pub are_stops : IsStops (liability sums) first last stops
   pub piece : Has (pieces (rule_on (semiweekly_from line) first) first last stops)

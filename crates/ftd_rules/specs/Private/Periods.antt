@@ -25,8 +25,8 @@ ShareRun form from a b =
     × MatchBool (nat_lt a from) (month_of b ≡ month_of a) (interval_start b ≡ interval_start a)
 
 -- the days from a to b are a deposit period of the year
-abbrev pub IsRun : Form → YearLine → ℕ → ℕ → Type 0
-IsRun form line a b =
+abbrev pub IsStretch : Form → YearLine → ℕ → ℕ → Type 0
+IsStretch form line a b =
     (a ≤ b) × (year_start line.year ≤ a) × (b ≤ year_last line.year)
     × ((day : ℕ) → year_start line.year ≤ day → day ≤ year_last line.year
     → ShareRun form (semiweekly_from line) a day ↔ ((a ≤ day) × (day ≤ b)))

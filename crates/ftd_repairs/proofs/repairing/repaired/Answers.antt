@@ -8,7 +8,7 @@ use Rattle.ftd_rules.specs.Liability.{cents_of}
 use Rattle.ftd_buckets.specs.declared.Window.{Window}
 use Rattle.ftd_buckets.specs.declared.state.Next.TheVariants.{Need}
 use Rattle.ftd_buckets.specs.Ready.{Repairing}
-use Rattle.ftd_buckets.specs.Standing.{held}
+use Rattle.ftd_buckets.specs.Standing.{amount_held}
 use Rattle.ftd_repairs.specs.Repaired.{AreLiveIn, Repairs}
 use Rattle.ftd_repairs.proofs.Begun.{begun_reads}
 use Rattle.ftd_repairs.proofs.Fed.{Serves, Needs, Ends, needs, ends, first_needed, serves_more}
@@ -74,8 +74,9 @@ loop-preserved g c =
     let total = c.in_ok-read.ensures.total in
     let held_then = inv.held in
     let is : c.in-Ok-Need.field-0 ≡ Need next after = c.in-Ok-Need.field-0-is in
-    let held_now : held next ≤ held r + sum_by cents_of sums =
-    needs (λ q v. held q ≤ held r + sum_by cents_of sums) c.in-Ok-Need.field-0 next after is
+    let held_now : amount_held next ≤ amount_held r + sum_by cents_of sums =
+    needs (λ q v. amount_held q ≤ amount_held r + sum_by cents_of sums) c.in-Ok-Need.field-0 next
+    after is
     (rw c.deref.ensures.value at fed.held) in
     let needed : Needs r.form r sums next after = needs (Needs r.form r sums) c.in-Ok-Need.field-0
     next after is (rw c.deref.ensures.value at fed.need) in

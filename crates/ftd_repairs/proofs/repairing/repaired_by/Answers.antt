@@ -8,7 +8,7 @@ use Rattle.ftd_rules.specs.Liability.{cents_of}
 use Rattle.ftd_buckets.specs.declared.Window.{Window}
 use Rattle.ftd_buckets.specs.declared.state.Next.TheVariants.{Need}
 use Rattle.ftd_buckets.specs.Ready.{Repairing}
-use Rattle.ftd_buckets.specs.Standing.{held}
+use Rattle.ftd_buckets.specs.Standing.{amount_held}
 use Rattle.ftd_repairs.specs.Repaired.{SumsAre}
 use Rattle.ftd_repairs.proofs.Fed.{Needs, Ends, needs, ends, first_needed, told_within, more_where}
 use Rattle.ftd_repairs.proofs.Fed.{last_where}
@@ -48,8 +48,9 @@ loop-preserved c =
     let total = known.total in
     let held_then = inv.held in
     let is : c.in_ok-patch.field-0 ≡ Need next after = c.in-Need.is in
-    let held_now : held next ≤ held r + sum_by cents_of sums =
-    needs (λ q v. held q ≤ held r + sum_by cents_of sums) c.in_ok-patch.field-0 next after is
+    let held_now : amount_held next ≤ amount_held r + sum_by cents_of sums =
+    needs (λ q v. amount_held q ≤ amount_held r + sum_by cents_of sums) c.in_ok-patch.field-0 next
+    after is
     (rw c.deref.ensures.value at fed.held) in
     let needed : Needs r.form r sums next after = needs (Needs r.form r sums) c.in_ok-patch.field-0
     next after is (rw c.deref.ensures.value at fed.need) in

@@ -1,6 +1,6 @@
 use Rattle.std.proofs.Common.{◌≡◌, ◌≤◌, ◌<◌}
 use Rattle.ftd_days.specs.Holidays.{holidays_of}
-use Rattle.ftd_buckets.specs.Standing.{held}
+use Rattle.ftd_buckets.specs.Standing.{amount_held}
 use Rattle.ftd_repairs.specs.Repaired.{SumsAre}
 use Rattle.ftd_repairs.proofs.Fed.{ServesWhere}
 use Rattle.ftd_repairs.proofs.repairing.repaired_by.Given as goal
@@ -9,7 +9,7 @@ abbrev pub invariant-loop : goal.invariant-loop
 invariant-loop l = record {
   form : l.repair.form ≡ l.fn.form;
   asked : l.repair.asked ≡ l.window;
-  held : held l.repair ≤ l.total;
+  held : amount_held l.repair ≤ l.total;
   small : l.total < 6_000_000_000_000_000;
   serves : ServesWhere (SumsAre l.fn.form l.fn.day l.fn.sums) l.fn.form l.fn.day l.fn.lines
       (holidays_of l.fn.holidays) l.repair l.window;

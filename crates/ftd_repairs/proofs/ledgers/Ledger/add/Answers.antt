@@ -7,7 +7,7 @@ use Rattle.ftd_rules.specs.declared.Obligation.{Obligation}
 use Rattle.ftd_rules.specs.declared.YearLine.{YearLine}
 use Rattle.ftd_schema.specs.Standing.{Tables}
 use Rattle.ftd_store.specs.Changes.{with_run}
-use Rattle.ftd_store.specs.Frame.{Turns}
+use Rattle.ftd_store.specs.Frame.{Rewrites}
 use Rattle.ftd_store.proofs.Turning.{writes_turn, turns_then}
 use Rattle.ftd_repairs.specs.Repaired.{RepairsBy}
 use Rattle.ftd_repairs.specs.Replaced.{AreBetween}
@@ -37,7 +37,7 @@ returns-clause-call g c =
     let change : Tables → Tables = with_run name c.args.number c.args.run in
     let right : RepairsBy form day sums lines holidays patch = c.in-Ok.ensures.right in
     let since : was.since ≤ patch.from = search (rules, c.if-lt.false, c.lt.ensures) in
-    let placed : Turns g.S.Store c.add_run.new.self c.place_patch.new.tx (Ok difference)
+    let placed : Rewrites g.S.Store c.add_run.new.self c.place_patch.new.tx (Ok difference)
     (λ d t u. AreBetween name patch.from patch.to gone t → HasLines name lines t
     → Places name day lines patch after d t u) =
     rw (c.deref_mut.ensures.value, c.deref-2.ensures.value) at c.in_ok-difference.ensures.call in
