@@ -149,7 +149,15 @@ are_lines sums few = record {
   schedules = λ line has. elim has [
     | inl is ↦
         subst (λ (l : YearLine). HasSchedule years (liability sums) l) (sym is)
-        (inr (refl, opens_monthly, (λ day from to. few (month_start (month_of day)) day)))
+        (inr (
+          refl,
+          opens_monthly,
+          λ day from to reaches.
+              (let more : next_day_amount ≤ liability sums (month_start (month_of day)) day =
+              reaches in
+              let less = few (month_start (month_of day)) day in
+              omega arith),
+        ))
     | inr none ↦ absurd none
   ];
 }
