@@ -105,10 +105,21 @@ fn over_files<D: Disk + Drop>(
 
 /// Whether a task tells of a file that it made: all do but those by which a desk begins.
 fn tells_of_new_file(task: &LocalTask) -> bool {
-    !matches!(
-        task.job,
-        Job::Ask(Request::Calendar { .. }) | Job::Ask(Request::Enrol { .. })
-    )
+    match &task.job {
+        Job::Ask(Request::Calendar { .. } | Request::Enrol { .. }) => false,
+        Job::Ask(
+            Request::AddHoliday { .. }
+            | Request::Report { .. }
+            | Request::ReportYear { .. }
+            | Request::OpenYear { .. }
+            | Request::Post { .. }
+            | Request::Void { .. }
+            | Request::Pay { .. }
+            | Request::VoidPay { .. }
+            | Request::Question(_),
+        )
+        | Job::Import(_) => true,
+    }
 }
 
 /// Does the job of the task, and tells that its file was made, below what else is told.

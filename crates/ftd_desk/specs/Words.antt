@@ -11,6 +11,7 @@ use Rattle.ftd_machine.specs.Checks.{Answer}
 use Rattle.ftd_machine.specs.Step.{Step}
 use Rattle.ftd_machine.specs.Runs.{Goes, IsRun, IsFault}
 use Rattle.ftd_machine.specs.Laws.{is_change}
+use Rattle.ftd_machine.specs.Refusals.{is_failure}
 use Rattle.ftd_machine.specs.declared.replies.Refusal.TheVariants.{Memory, Store}
 use Rattle.ftd_machine.specs.declared.requests.Request.{Request}
 use Rattle.ftd_schema.specs.States.{CrashKeeps}
@@ -130,9 +131,7 @@ AreSteps s (request ∷ requests) (answer ∷ answers) end =
 -- there was no memory, or the store failed
 abbrev pub is_fault : Answer → Bool
 is_fault (Ok reply) = false
-is_fault (Err Memory) = true
-is_fault (Err Store) = true
-is_fault (Err refusal) = false
+is_fault (Err refusal) = is_failure refusal
 
 -- there is one answer for each request, none of which is a fault
 pub record AreAnswers (requests : List Request) (answers : List Answer) : Type 0 where

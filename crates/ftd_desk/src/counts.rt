@@ -6,7 +6,7 @@ ghost use Rattle.ftd_desk.specs.Kept.{Takes, kept_of};
 ghost use Rattle.ftd_desk.specs.Words.{is_fault};
 
 use crate::kept::Kept;
-use ftd_machine::{Answer, Refusal, Reply};
+use ftd_machine::{Answer, Reply};
 use std::alloc::Global;
 
 /// How many runs and how many payments the accounts have that were asked for last, voided ones too.
@@ -20,14 +20,21 @@ pub(crate) struct Counts {
 pub(crate) fn is_change(answer: &Answer) -> bool
     ensures { result ≡ is_change answer.now }
 {
-    matches!(answer, Ok(Reply::Done | Reply::Posted { .. }))
+    match answer {
+        Ok(Reply::Done | Reply::Posted { .. }) => true,
+        Ok(Reply::Already | Reply::Status { .. } | Reply::Due(_) | Reply::Days(_)) | Err(_) =>
+            false,
+    }
 }
 
 /// Whether the answer says that there was no memory, or that the store failed.
 pub(crate) fn is_fault(answer: &Answer) -> bool
     ensures { result ≡ is_fault answer.now }
 {
-    matches!(answer, Err(Refusal::Memory | Refusal::Store))
+    match answer {
+        Ok(_) => false,
+        Err(refusal) => refusal.is_failure(),
+    }
 }
 
 /// The number after one more was asked for, and answered so. None where no larger number is.
