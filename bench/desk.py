@@ -3,7 +3,9 @@
 
 It makes seeded lists of requests (several accounts on both forms, late pay runs, voids, openings, added holidays, nonsense),
 asks `ftd serve` over a new file, and compares each answer and, at the end, each row of each table, which Python's sqlite3 reads
-from the file. `bench/desk.py [PROGRAM [COUNT SEED..]]` takes the program, how many requests a list has, and the seeds.
+from the file. Then it asks with the commands `ftd agenda` and `ftd owed` what is due over all accounts, compares each text, and
+looks that each command left every row of every table. `bench/desk.py [PROGRAM [COUNT SEED..]]` takes the program, how many
+requests a list has, and the seeds.
 """
 import contextlib
 import datetime
@@ -11,6 +13,7 @@ import os
 import random
 import re
 import sqlite3
+import subprocess
 import sys
 import tempfile
 
@@ -25,6 +28,10 @@ def date(text):
 
 def money(cents):
     return f"{cents // 100}.{cents % 100:02}"
+
+
+def cents_of(amount):
+    return int(amount.replace(".", ""))
 
 
 def number(day):
@@ -460,6 +467,41 @@ class Desk:
         sums = sorted(self.liability(name).items())
         return "".join(f"{day} {money(cents)}; " for day, cents in sums if quarter_of(day) == quarter)
 
+    # ---- what is due over all accounts
+
+    def agenda(self, is_asked, as_of):
+        """The rows of all due lists whose due date is asked for, by due date, account and first day, and what is left of each."""
+        rows = []
+        for name, (_, _, form) in self.accounts.items():
+            for quarter in {quarter_of(row[0]) for row in self.obligations(name) if is_asked(row[4])}:
+                for first, last, rule, amount, due, makeup, paid, verdict in self.due_rows(name, quarter, as_of):
+                    left = max(cents_of(amount) - cents_of(paid), 0)
+                    by = makeup if verdict == "short" else self.return_due(form, quarter) if verdict == "with-return" else due
+                    if is_asked(due):
+                        rows.append((due, name, first, left, f"{form} {first} {last} {rule:10} {amount:>17} {paid:>17}", by, verdict))
+        return sorted(rows)
+
+    def agenda_text(self, head, rows):
+        lines = [f"{due} {name:20} {columns} {money(left):>17} {by} {verdict}" for due, name, _, left, columns, by, verdict in rows]
+        total = f"{'TOTAL':104} {money(sum(row[3] for row in rows)):>17}"
+        return "".join(f"{line}\n" for line in [head, *lines, total])
+
+    def within(self, *days):
+        if not all(2001 <= day.year <= 2099 for day in days):
+            refuse(3, "BadDay")
+
+    def ask_agenda(self, first, last, as_of):
+        first, last, as_of = date(first), date(last), date(as_of)
+        self.within(first, last, as_of)
+        rows = self.agenda(lambda due: first <= due <= last, as_of)
+        return self.agenda_text(f"AGENDA {first} {last} AS OF {as_of}", rows)
+
+    def ask_owed(self, as_of, until=None):
+        as_of = date(as_of)
+        until = date(until) if until else as_of + 7 * DAY
+        self.within(until, as_of)
+        rows = [row for row in self.agenda(lambda due: due <= until, as_of) if row[3]]
+        return self.agenda_text(f"OWED UNTIL {until} AS OF {as_of}", rows)
 
     # ---- tables
 
@@ -496,6 +538,8 @@ class Desk:
 
 # ---- random requests
 
+# So many questions of a seed are asked with a command, on the file that the server left.
+QUESTIONS = 10
 NAMES = ["ash", "birch", "cedar", "elm", "fir", "oak", "pine", "rye", "nobody", "Bad"]
 YEARS = range(2022, 2028)
 
@@ -536,7 +580,29 @@ def preparing(rng):
             yield f"open {name} {year}"
 
 
-def one(rng, posted, paid):
+def agenda(rng):
+    first = date(some_day(rng))
+    days = rng.choice([rng.randrange(30), rng.randrange(30), rng.randrange(400), -1, 0])
+    return f"agenda {first} {first + days * DAY} {first + rng.randrange(-60, 240) * DAY}"
+
+
+def owed(rng):
+    as_of = date(some_day(rng))
+    return f"owed {as_of} {as_of + rng.choice([7, 7, rng.randrange(-400, 60)]) * DAY}"
+
+
+def payment(rng, owed):
+    """A day, the day that it is paid for and an amount: anything, or what an obligation needs, a little less, or a cent more."""
+    if not owed or rng.random() < 0.3:
+        for_day = date(some_day(rng))
+        return f"{min(for_day + rng.randrange(60) * DAY, datetime.date(2098, 1, 1))} {for_day} {amount(rng)}"
+    first, last, _, cents, due = rng.choice(owed)
+    short = rng.choice([0, 0, 0, -1, 10_000, 10_001, cents // 50, cents // 50 + 1])
+    needed = min(max(cents - short, 1), 99_999_999_999)
+    return f"{due + rng.choice([-9, -1, 0, 0, 0, 1, 20]) * DAY} {rng.choice([first, last])} {money(needed)}"
+
+
+def one(rng, desk, posted, paid):
     name = rng.choice(NAMES[:8] * 6 + NAMES)
     kind = rng.random()
     if kind < 0.35:
@@ -549,13 +615,15 @@ def one(rng, posted, paid):
     if kind < 0.6:
         number = len(paid.get(name, [])) + 1
         paid.setdefault(name, []).append(number)
-        for_day = date(some_day(rng))
-        day = min(for_day + rng.randrange(60) * DAY, datetime.date(2098, 1, 1))
-        return f"pay {name} {number} {day} {for_day} {amount(rng)}"
+        return f"pay {name} {number} {payment(rng, desk.obligations(name))}"
     if kind < 0.63:
         return f"void-pay {name} {rng.randint(0, len(paid.get(name, [])) + 1)}"
     if kind < 0.73:
         return f"status {name} {some_day(rng)}"
+    if kind < 0.76:
+        return agenda(rng)
+    if kind < 0.77:
+        return owed(rng)
     quarter = f"{rng.choice(YEARS)}Q{rng.randint(1, 4)}"
     if kind < 0.9:
         as_of = first_of((int(quarter[:4]), int(quarter[5]))) + rng.randrange(240) * DAY
@@ -568,26 +636,51 @@ def one(rng, posted, paid):
                        f"calendar {rng.randint(2020, 2030)}", f"enrol {name} 2022-01-01"])
 
 
-def compare(program, file, seed, count):
-    """Asks the requests of a seed, and compares answers and tables. It answers how many requests there were."""
-    rng = random.Random(seed)
-    lines = list(preparing(rng))
-    posted, paid = {}, {}
-    lines += [one(rng, posted, paid) for _ in range(count)]
-    office, desk = Office(program, file, len(lines)), Desk()
-    answers = office.ask(lines)
-    office.close()
-    for place, line in enumerate(lines):
-        right = desk.ask(line)
-        if answers[place] != right:
-            raise SystemExit(f"seed {seed}, request {place}: {line}\n  the desk: {answers[place]}\n  the rules: {right}")
+def compare_tables(file, desk, where):
+    """Compares each row of each table with the reading's."""
     with contextlib.closing(sqlite3.connect(file)) as conn:
         for table, rows in desk.tables().items():
             found = conn.execute(f"SELECT * FROM {table}").fetchall()
             if sorted(found, key=repr) != sorted(rows, key=repr):
                 only = [row for row in found if row not in rows], [row for row in rows if row not in found]
-                raise SystemExit(f"seed {seed}, table {table}: too many {only[0]}, missing {only[1]}")
-    return len(lines)
+                raise SystemExit(f"{where}, table {table}: too many {only[0]}, missing {only[1]}")
+
+
+def compare_answer(where, line, found, right):
+    """Compares an answer with the reading's, line by line."""
+    if found != right:
+        lines = [*zip(found.split("\n"), right.split("\n")), (found, right)]
+        told, ruled = next(pair for pair in lines if pair[0] != pair[1])
+        raise SystemExit(f"{where}: {line}\n  the desk: {told}\n  the rules: {ruled}")
+
+
+def command_answer(program, file, line):
+    """What the command of a question prints: its text, or the line of the refusal."""
+    verb, *days = line.split(" ")
+    ran = subprocess.run([program, verb, "--db", file, *days], capture_output=True, text=True, timeout=60)
+    return ran.stdout if ran.returncode == 0 else ran.stderr.split("\n")[0]
+
+
+def compare(program, file, seed, count):
+    """Asks the requests of a seed, and compares answers and tables. It answers how many requests there were."""
+    rng = random.Random(seed)
+    lines = list(preparing(rng))
+    desk, posted, paid = Desk(), {}, {}
+    right = [desk.ask(line) for line in lines]
+    for _ in range(count):
+        lines.append(one(rng, desk, posted, paid))
+        right.append(desk.ask(lines[-1]))
+    office = Office(program, file, len(lines))
+    answers = office.ask(lines)
+    office.close()
+    for place, line in enumerate(lines):
+        compare_answer(f"seed {seed}, request {place}", line, answers[place], right[place])
+    compare_tables(file, desk, f"seed {seed}")
+    questions = [rng.choice([agenda, owed])(rng) for _ in range(QUESTIONS)] + [f"owed {some_day(rng)}" for _ in range(2)]
+    for line in questions:
+        compare_answer(f"seed {seed}, command", line, command_answer(program, file, line), desk.ask(line))
+        compare_tables(file, desk, f"seed {seed}, after ftd {line}")
+    return len(lines) + len(questions)
 
 
 def main():

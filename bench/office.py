@@ -51,6 +51,8 @@ def message_of(line):
         form = "943" if "943" in words else "941"
         method, target = "POST", "/accounts"
         body = {"account": words[1], "start": words[2], "carried": "carried" in words, "form": form}
+    elif words[0] in ("agenda", "owed"):
+        method, target, body = "GET", "/" + "/".join(words), None
     else:
         method, end, body = body_of(words)
         target = f"/accounts/{words[1]}/{end}"
@@ -77,7 +79,9 @@ def rows_of(text):
 
 
 def told(body):
-    """The answer as a line."""
+    """The answer as a line; what is due over all accounts is its text."""
+    if body.startswith(("AGENDA", "OWED")):
+        return body
     if not body.startswith("{"):
         return rows_of(body)
     answer = json.loads(body)

@@ -22,8 +22,14 @@ pub(crate) fn is_change(answer: &Answer) -> bool
 {
     match answer {
         Ok(Reply::Done | Reply::Posted { .. }) => true,
-        Ok(Reply::Already | Reply::Status { .. } | Reply::Due(_) | Reply::Days(_)) | Err(_) =>
-            false,
+        Ok(
+            Reply::Already
+            | Reply::Status { .. }
+            | Reply::Due(_)
+            | Reply::Days(_)
+            | Reply::Agenda(_),
+        )
+        | Err(_) => false,
     }
 }
 

@@ -21,3 +21,4 @@ pub mod DayCells
 pub mod YearHolidays
 pub mod OwedRows
 pub mod Ends
+pub mod ListedRows

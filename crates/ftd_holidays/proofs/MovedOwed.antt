@@ -30,10 +30,11 @@ use Rattle.ftd_rows.proofs.Found.{both}
 use Rattle.ftd_store.specs.Finds.{IsAccountObligation}
 use Rattle.ftd_store.proofs.Sifted.{filter_in, filter_out, keeps_has, both_are}
 use Rattle.ftd_machine.proofs.Adding.{same_name, own_name}
-use Rattle.ftd_machine.proofs.Members.{has_mapped, has_filtered}
+use Rattle.ftd_machine.proofs.Members.{has_mapped}
 use Rattle.ftd_entries.specs.Standing.{is_obligation_of}
 use Rattle.ftd_entries.proofs.CalendarRows.{whole}
 use Rattle.ftd_entries.proofs.DayCells.{day_le, day_lt, same_day}
+use Rattle.ftd_entries.proofs.ListedRows.{row_of, listed_passes, passing_listed}
 use Rattle.ftd_entries.proofs.OwedRows.{obligation_is}
 use Rattle.ftd_holidays.specs.Moved.{is_row_of, IsDueThen, IsAfter}
 use Rattle.ftd_holidays.proofs.DueAgain.{due_again, again}
@@ -117,29 +118,7 @@ one_of_first (x ∷ os) by o p (inr later) (inl is) same =
     let e : p.first ≡ x.first = ap (λ (q : Obligation). q.first) is in omega arith)
 one_of_first (x ∷ os) by o p (inr a) (inr b) same = one_of_first os by.1 o p a b same
 
--- ---- the rows of obligations that were listed
-
--- the row of an obligation and its account
-abbrev row_of : AccountObligation → ObligationRow
-row_of x = obligation_row (string_bytes x.account) x.obligation
-
-listed_row : (rows : List ObligationRow) (given : List AccountObligation)
-    → Pairs IsAccountObligation rows given → (x : AccountObligation) → Has given x
-    → Has rows (row_of x)
-listed_row [] [] pairs x has = absurd has
-listed_row [] (y ∷ given) pairs x has = absurd pairs
-listed_row (r ∷ rows) [] pairs x has = absurd has
-listed_row (r ∷ rows) (y ∷ given) pairs x (inl is) = inl (ap row_of is ∙ sym pairs.0)
-listed_row (r ∷ rows) (y ∷ given) pairs x (inr has) = inr (listed_row rows given pairs.1 x has)
-
-row_listed : (rows : List ObligationRow) (given : List AccountObligation)
-    → Pairs IsAccountObligation rows given → (r : ObligationRow) → Has rows r
-    → (x : AccountObligation) × Has given x × (r ≡ row_of x)
-row_listed [] given pairs r has = absurd has
-row_listed (q ∷ rows) [] pairs r has = absurd pairs
-row_listed (q ∷ rows) (y ∷ given) pairs r (inl is) = (y, inl refl, is ∙ pairs.0)
-row_listed (q ∷ rows) (y ∷ given) pairs r (inr has) = let found =
-    row_listed rows given pairs.1 r has in (found.0, inr found.1, found.2)
+-- ---- obligations that were listed
 
 row_its : (x : AccountObligation) → is_row_of x (row_of x) ≡ true
 row_its x =
@@ -205,9 +184,8 @@ module _ (day : ℕ) (read after : List ℕ) (given : List AccountObligation)
   owed_listed : (x : AccountObligation) → Has given x → string_bytes x.account ≡ name
       → Has owed x.obligation × IsOver day x.obligation
   owed_listed x has its =
-      let there = has_filtered (is_due_over (day_number day)) rows (row_of x)
-      (has_permuted (filter (is_due_over (day_number day)) rows) listed.ordered listed.same
-      (row_of x) (listed_row listed.ordered given listed.pairs x has)) in
+      let there = listed_passes AccountsRise (is_due_over (day_number day)) rows given listed x has
+      in
       let mine : own (row_of x) ≡ true = ap (λ account. bytes_eq account name) its
       ∙ own_name name in
       let found = owed_row (row_of x) there.0 mine in
@@ -252,12 +230,8 @@ module _ (day : ℕ) (read after : List ℕ) (given : List AccountObligation)
       let date : o.due ≡ due_again after o =
       elim (cases_Bool (is_due_over (day_number day) (obligation_row name o))) [
         | inl over ↦
-            (let among = keeps_has (is_due_over (day_number day)) rows r has
-            (ap (is_due_over (day_number day)) found.2 ∙ over) in
-            let item = row_listed listed.ordered given listed.pairs r
-            (has_permuted listed.ordered (filter (is_due_over (day_number day)) rows)
-            (IsPermutation-sym (filter (is_due_over (day_number day)) rows) listed.ordered
-            listed.same) r among) in
+            (let item = passing_listed AccountsRise (is_due_over (day_number day)) rows given
+            listed r has (ap (is_due_over (day_number day)) found.2 ∙ over) in
             let x = item.0 in
             let account : string_bytes x.account ≡ name =
             sym (ap (λ (q : ObligationRow). q.account) item.2)

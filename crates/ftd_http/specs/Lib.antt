@@ -11,6 +11,7 @@ pub use Rattle.ftd_machine.specs.Checks
 pub use Rattle.ftd_messages.specs.Looks
 pub use Rattle.ftd_messages.specs.Messages
 pub use Rattle.ftd_ports.specs.Writing
+pub use Rattle.ftd_reports.specs.Agendas
 pub use Rattle.ftd_reports.specs.DueLists
 pub use Rattle.ftd_reports.specs.SchedulesB
 pub use Rattle.ftd_routes.specs.Routes

@@ -7,13 +7,16 @@ use Rattle.ftd_messages.specs.declared.status.Status.TheVariants as status
 use Rattle.ftd_machine.specs.Questions.{question_of}
 use Rattle.ftd_machine.specs.declared.requests.Question.{Question}
 use Rattle.ftd_machine.specs.declared.requests.Question.TheVariants.{Status, DueList, ScheduleB}
+use Rattle.ftd_machine.specs.declared.requests.Question.TheVariants.{Agenda, Owed}
 use Rattle.ftd_machine.specs.declared.requests.Request.{Request}
 use Rattle.ftd_rules.specs.declared.Kind.{Kind}
 use Rattle.ftd_rules.specs.declared.Kind.TheVariants.{Monthly, Semiweekly}
+use Rattle.ftd_machine.specs.declared.lists.AgendaRow.{AgendaRow}
 use Rattle.ftd_machine.specs.declared.replies.Reason.{Reason}
 use Rattle.ftd_machine.specs.declared.replies.Reason.TheVariants.{Lookback, Turned, Carried}
 use Rattle.ftd_machine.specs.declared.replies.Reply.{Reply}
 use Rattle.ftd_machine.specs.declared.replies.Reply.TheVariants as reply
+use Rattle.ftd_reports.specs.Agendas.{agenda_text, owed_text}
 use Rattle.ftd_reports.specs.DueLists.{due_text}
 use Rattle.ftd_reports.specs.SchedulesB.{b_text}
 use Rattle.ftd_rules.specs.declared.DaySum.{DaySum}
@@ -52,6 +55,8 @@ scheduled (Some (Status account day)) kind reason =
     json status.Okay (schedule_text day kind reason)
 scheduled (Some (DueList account quarter as_of)) kind reason = bare status.InternalServerError
 scheduled (Some (ScheduleB account quarter)) kind reason = bare status.InternalServerError
+scheduled (Some (Agenda from to as_of)) kind reason = bare status.InternalServerError
+scheduled (Some (Owed until as_of)) kind reason = bare status.InternalServerError
 scheduled None kind reason = bare status.InternalServerError
 
 -- the response to the rows of a due list that a request asked for
@@ -60,6 +65,8 @@ listed (Some (Status account day)) rows = bare status.InternalServerError
 listed (Some (DueList account quarter as_of)) rows =
     plain (due_text account quarter as_of rows)
 listed (Some (ScheduleB account quarter)) rows = bare status.InternalServerError
+listed (Some (Agenda from to as_of)) rows = bare status.InternalServerError
+listed (Some (Owed until as_of)) rows = bare status.InternalServerError
 listed None rows = bare status.InternalServerError
 
 -- the response to the days of a Schedule B that a request asked for
@@ -67,7 +74,18 @@ abbrev pub summed : Option Question → List DaySum → Said
 summed (Some (Status account day)) sums = bare status.InternalServerError
 summed (Some (DueList account quarter as_of)) sums = bare status.InternalServerError
 summed (Some (ScheduleB account quarter)) sums = plain (b_text account quarter sums)
+summed (Some (Agenda from to as_of)) sums = bare status.InternalServerError
+summed (Some (Owed until as_of)) sums = bare status.InternalServerError
 summed None sums = bare status.InternalServerError
+
+-- the response to the rows of what is due over all accounts that a request asked for
+abbrev pub gathered : Option Question → List AgendaRow → Said
+gathered (Some (Status account day)) rows = bare status.InternalServerError
+gathered (Some (DueList account quarter as_of)) rows = bare status.InternalServerError
+gathered (Some (ScheduleB account quarter)) rows = bare status.InternalServerError
+gathered (Some (Agenda from to as_of)) rows = plain (agenda_text from to as_of rows)
+gathered (Some (Owed until as_of)) rows = plain (owed_text until as_of rows)
+gathered None rows = bare status.InternalServerError
 
 -- The response to a reply. One that does not fit its request, which the desk does not give, is a
 -- fault of the server.
@@ -79,6 +97,7 @@ replied request (reply.Posted from to removed added) =
 replied request (reply.Status kind reason) = scheduled (question_of request) kind reason
 replied request (reply.Due rows) = listed (question_of request) rows
 replied request (reply.Days sums) = summed (question_of request) sums
+replied request (reply.Agenda rows) = gathered (question_of request) rows
 
 abbrev pub answered : Request → Answer → Said
 answered request (Ok reply) = replied request reply

@@ -4,20 +4,22 @@ ghost use Rattle.std.specs.Prelude.{◌≡◌, ◌⊎◌, ◌<◌, true, IfOk, O
 ghost use Rattle.ftd_machine.specs.Questions.{question_of};
 ghost use Rattle.ftd_http.specs.Responses.{Said, said_of, json};
 ghost use Rattle.std.specs.List.{flat_map};
+ghost use Rattle.ftd_reports.specs.Agendas.{agenda_text, owed_text};
 ghost use Rattle.ftd_reports.specs.DueLists.{due_text};
 ghost use Rattle.ftd_reports.specs.SchedulesB.{b_text};
 ghost use Rattle.ftd_http.specs.Refusals.{refused};
 ghost use Rattle.ftd_http.specs.Replying.{Responds, answered, replied, scheduled, listed, summed};
-ghost use Rattle.ftd_http.specs.Replying.{schedule_text, kind_text, reason_text, posted_text};
+ghost use Rattle.ftd_http.specs.Replying.{gathered, schedule_text, kind_text, reason_text};
+ghost use Rattle.ftd_http.specs.Replying.{posted_text};
 
 use crate::machine::Machine;
 use crate::refusals::refused;
 use crate::response::{Response, add_number, bare, json, other_method, plain};
 use ftd_days::{Day, Quarter};
-use ftd_machine::{Answer, Question, Reason, Reply, Request, are_sums_bounded};
+use ftd_machine::{AgendaRow, Answer, Question, Reason, Reply, Request, are_sums_bounded};
 use ftd_messages::Status;
 use ftd_ports::Port;
-use ftd_reports::{DueText, day_bytes, schedule_b};
+use ftd_reports::{DueText, day_bytes, schedule_b, write_agenda, write_owed};
 use ftd_routes::Asked;
 use ftd_rules::{DaySum, DueRow, DueSink, Kind};
 use std::alloc::{AllocError, Global};
@@ -81,6 +83,7 @@ fn replied(alloc: Global, request: &Request, reply: &Reply) -> Result<Response, 
         Reply::Status { kind, reason } => scheduled(alloc, request, *kind, *reason),
         Reply::Due(rows) => listed(alloc, request, rows.as_slice()),
         Reply::Days(sums) => summed(alloc, request, sums.as_slice()),
+        Reply::Agenda(rows) => gathered(alloc, request, rows.as_slice()),
     }
 }
 
@@ -135,15 +138,20 @@ fn scheduled(
     kind: Kind,
     reason: Reason,
 ) -> Result<Response, AllocError>
-    ensures { IfOk result (λ response. said_of response ≡ scheduled (question_of request.now) kind reason) }
+    ensures { IfOk result
+        (λ response. said_of response ≡ scheduled (question_of request.now) kind reason) }
 {
     match request.question() {
         Some(Question::Status { day, .. }) => {
             Ok(json(Status::Okay, schedule_text(alloc, *day, kind, reason)?))
         }
-        Some(Question::DueList { .. } | Question::ScheduleB { .. }) | None => {
-            Ok(bare(alloc, Status::InternalServerError))
-        }
+        Some(
+            Question::DueList { .. }
+            | Question::ScheduleB { .. }
+            | Question::Agenda { .. }
+            | Question::Owed { .. },
+        )
+        | None => Ok(bare(alloc, Status::InternalServerError)),
     }
 }
 
@@ -188,7 +196,8 @@ fn reason_text(alloc: Global, reason: Reason) -> Result<Vec<u8>, AllocError>
 
 /// The response with a due list that a request asked for.
 fn listed(alloc: Global, request: &Request, rows: &[DueRow]) -> Result<Response, AllocError>
-    ensures { IfOk result (λ response. said_of response ≡ listed (question_of request.now) rows.now) }
+    ensures { IfOk result
+        (λ response. said_of response ≡ listed (question_of request.now) rows.now) }
 {
     match request.question() {
         Some(
@@ -198,9 +207,13 @@ fn listed(alloc: Global, request: &Request, rows: &[DueRow]) -> Result<Response,
                 as_of,
             },
         ) => Ok(plain(due_text(alloc, account.as_str(), *quarter, *as_of, rows)?)),
-        Some(Question::Status { .. } | Question::ScheduleB { .. }) | None => {
-            Ok(bare(alloc, Status::InternalServerError))
-        }
+        Some(
+            Question::Status { .. }
+            | Question::ScheduleB { .. }
+            | Question::Agenda { .. }
+            | Question::Owed { .. },
+        )
+        | None => Ok(bare(alloc, Status::InternalServerError)),
     }
 }
 
@@ -234,15 +247,20 @@ fn due_text(
 
 /// The response with the Schedule B that a request asked for.
 fn summed(alloc: Global, request: &Request, sums: &[DaySum]) -> Result<Response, AllocError>
-    ensures { IfOk result (λ response. said_of response ≡ summed (question_of request.now) sums.now) }
+    ensures { IfOk result
+        (λ response. said_of response ≡ summed (question_of request.now) sums.now) }
 {
     match request.question() {
         Some(Question::ScheduleB { account, quarter }) => {
             Ok(plain(schedule_b_text(alloc, account.as_str(), *quarter, sums)?))
         }
-        Some(Question::Status { .. } | Question::DueList { .. }) | None => {
-            Ok(bare(alloc, Status::InternalServerError))
-        }
+        Some(
+            Question::Status { .. }
+            | Question::DueList { .. }
+            | Question::Agenda { .. }
+            | Question::Owed { .. },
+        )
+        | None => Ok(bare(alloc, Status::InternalServerError)),
     }
 }
 
@@ -261,6 +279,56 @@ fn schedule_b_text(
     }
     let mut port = Port::new(Vec::new(alloc));
     match schedule_b(account, quarter, sums, &mut port) {
+        Ok(()) => Ok(port.into_inner()),
+        Err(_) => Err(AllocError),
+    }
+}
+
+/// The response with what is due over all accounts that a request asked for.
+fn gathered(alloc: Global, request: &Request, rows: &[AgendaRow]) -> Result<Response, AllocError>
+    ensures { IfOk result
+        (λ response. said_of response ≡ gathered (question_of request.now) rows.now) }
+{
+    match request.question() {
+        Some(Question::Agenda { from, to, as_of }) => {
+            Ok(plain(agenda_text(alloc, *from, *to, *as_of, rows)?))
+        }
+        Some(Question::Owed { until, as_of }) => {
+            Ok(plain(owed_text(alloc, *until, *as_of, rows)?))
+        }
+        Some(Question::Status { .. } | Question::DueList { .. } | Question::ScheduleB { .. })
+        | None => Ok(bare(alloc, Status::InternalServerError)),
+    }
+}
+
+/// The text of what is due between two days over all accounts.
+fn agenda_text(
+    alloc: Global,
+    from: Day,
+    to: Day,
+    as_of: Day,
+    rows: &[AgendaRow],
+) -> Result<Vec<u8>, AllocError>
+    ensures { IfOk result (λ text. text.items ≡ agenda_text from to as_of rows.now) }
+{
+    let mut port = Port::new(Vec::new(alloc));
+    match write_agenda(from, to, as_of, rows, &mut port) {
+        Ok(()) => Ok(port.into_inner()),
+        Err(_) => Err(AllocError),
+    }
+}
+
+/// The text of what is due until a day over all accounts and not paid.
+fn owed_text(
+    alloc: Global,
+    until: Day,
+    as_of: Day,
+    rows: &[AgendaRow],
+) -> Result<Vec<u8>, AllocError>
+    ensures { IfOk result (λ text. text.items ≡ owed_text until as_of rows.now) }
+{
+    let mut port = Port::new(Vec::new(alloc));
+    match write_owed(until, as_of, rows, &mut port) {
         Ok(()) => Ok(port.into_inner()),
         Err(_) => Err(AllocError),
     }

@@ -14,6 +14,7 @@ use Rattle.ftd_rules.specs.Accounts.{is_account_name}
 use Rattle.ftd_machine.specs.Requests.{status_checks, void_checks, is_voided}
 use Rattle.ftd_machine.specs.Checks.{Answer, first_of, meets, Decides}
 use Rattle.ftd_machine.specs.Posting.{IsPosted}
+use Rattle.ftd_machine.specs.Agenda.{IsDueBetween, IsLeftBy}
 use Rattle.ftd_machine.specs.Questions.{question_checks, Tells}
 use Rattle.ftd_machine.specs.Step.{Step, OpensNext, may_open, with_entry, with_voided, taken}
 use Rattle.ftd_machine.specs.declared.replies.Reply.TheVariants.{Done}
@@ -22,6 +23,7 @@ use Rattle.ftd_machine.specs.declared.replies.Refusal.TheVariants.{UnknownAccoun
 use Rattle.ftd_machine.specs.declared.replies.Refusal.TheVariants.{UnknownRun}
 use Rattle.ftd_machine.specs.declared.requests.Question.{Question as Questions}
 use Rattle.ftd_machine.specs.declared.requests.Question.TheVariants.{Status, DueList, ScheduleB}
+use Rattle.ftd_machine.specs.declared.requests.Question.TheVariants.{Agenda, Owed}
 use Rattle.ftd_machine.specs.declared.requests.Request.{Request}
 use Rattle.ftd_machine.specs.declared.requests.Request.TheVariants.{Enrol, Calendar, AddHoliday}
 use Rattle.ftd_machine.specs.declared.requests.Request.TheVariants.{Report, ReportYear, OpenYear}
@@ -34,6 +36,9 @@ use Rattle.ftd_machine.proofs.Lined.{lines_of_sound}
 use Rattle.ftd_machine.proofs.PostedSome.{posted_some}
 use Rattle.ftd_machine.proofs.ToldSome.{total_or, status_some, schedule_some}
 use Rattle.ftd_machine.proofs.DueSome.{due_list_some}
+use Rattle.ftd_machine.proofs.AgendaSome.{agenda_some, between_or, left_or}
+use Rattle.ftd_machine.proofs.Single.{IsOnce}
+use Rattle.ftd_machine.proofs.Soundness.{sound_once}
 
 module _ (s : State) where
   -- the checks decide, or there is an answer where they pass
@@ -68,27 +73,33 @@ known_of_void name number account known e =
 
 -- where each account has lines and the checks pass, something is told
 tells_some : (s : State) (question : Questions)
+    → ((name : List ℕ) → IsOnce (entries_of s name))
     → ((name : List ℕ) → (lines : List YearLine) × AreLinesOf (entries_of s name) lines)
     → first_of (question_checks s question) ≡ None
     → (answer : Answer) × Tells s question answer
-tells_some s (Status name day) lines e =
+tells_some s (Status name day) once lines e =
     let own = entries_of s name in
     status_some own (lines name).0 day (lines name).1
     (open_of_status name day own.account (is_open own (year_of day)) e)
-tells_some s (DueList name quarter as_of) lines e =
+tells_some s (DueList name quarter as_of) once lines e =
     due_list_some (holidays s) (entries_of s name) (lines name).0 quarter as_of (lines name).1
-tells_some s (ScheduleB name quarter) lines e = schedule_some (entries_of s name) quarter
+tells_some s (ScheduleB name quarter) once lines e = schedule_some (entries_of s name) quarter
+tells_some s (Agenda from to as_of) once lines e =
+    agenda_some s as_of once lines (IsDueBetween from to) (between_or from to)
+tells_some s (Owed until as_of) once lines e =
+    agenda_some s as_of once lines (IsLeftBy until) (left_or until)
 
 -- where each account has lines, each request has an answer and a next state
 lines_answer : (s : State) (request : Request)
+    → ((name : List ℕ) → IsOnce (entries_of s name))
     → ((name : List ℕ) → (lines : List YearLine) × AreLinesOf (entries_of s name) lines)
     → (answer : Answer) × (next : State) × Step s request answer next
-lines_answer s (Enrol name start carried form) lines = done s _ _
-lines_answer s (Calendar year days) lines = done s _ _
-lines_answer s (AddHoliday day) lines = done s _ _
-lines_answer s (Report name quarter cents) lines = done s _ _
-lines_answer s (ReportYear name year cents) lines = done s _ _
-lines_answer s (OpenYear name year) lines =
+lines_answer s (Enrol name start carried form) once lines = done s _ _
+lines_answer s (Calendar year days) once lines = done s _ _
+lines_answer s (AddHoliday day) once lines = done s _ _
+lines_answer s (Report name quarter cents) once lines = done s _ _
+lines_answer s (ReportYear name year cents) once lines = done s _ _
+lines_answer s (OpenYear name year) once lines =
     let own = entries_of s name in
     decides s _ (λ a n. OpensNext s a n name year)
     (λ e. elim (total_or (form_of own.account) own year) [
@@ -97,7 +108,7 @@ lines_answer s (OpenYear name year) lines =
           (record s { open_years = with_entry s.open_years name year tt }) in
           (d.0, d.1, inr (total.0, total.1, d.2)))
     ])
-lines_answer s (Post name number payday fit ss medicare) lines =
+lines_answer s (Post name number payday fit ss medicare) once lines =
     let own = entries_of s name in
     let run : PayRun = record { payday = payday; fit = fit; ss = ss; medicare = medicare } in
     let after = record s { runs = with_entry s.runs name number (taken run) } in
@@ -106,7 +117,7 @@ lines_answer s (Post name number payday fit ss medicare) lines =
     (record { account = refl; reported = refl; reported_years = refl; open_years = refl })
     (lines name).1 in
     (p.0, after, (refl, p.1))))
-lines_answer s (Void name number) lines =
+lines_answer s (Void name number) once lines =
     let own = entries_of s name in
     let known = kept_at number own.runs in
     let after = record s { runs = with_voided s.runs name number } in
@@ -117,14 +128,14 @@ lines_answer s (Void name number) lines =
     (record { account = refl; reported = refl; reported_years = refl; open_years = refl })
     (lines name).1 in
     (p.0, after, (run.0, run.1, refl, p.1))))
-lines_answer s (Pay name number paid for_day cents) lines = done s _ _
-lines_answer s (VoidPay name number) lines = done s _ _
-lines_answer s (Question question) lines =
+lines_answer s (Pay name number paid for_day cents) once lines = done s _ _
+lines_answer s (VoidPay name number) once lines = done s _ _
+lines_answer s (Question question) once lines =
     decides s _ (λ a n. (n ≡ s) × Tells s question a) (λ e.
-    (let p = tells_some s question lines e in (p.0, s, (refl, p.1))))
+    (let p = tells_some s question once lines e in (p.0, s, (refl, p.1))))
 
 -- in each sound state, each request has an answer and a next state
 pub each_request_is_answered : (s : State) (request : Request) → IsSound s
     → (answer : Answer) × (next : State) × Step s request answer next
 each_request_is_answered s request sound =
-    lines_answer s request (λ name. lines_of_sound s name sound)
+    lines_answer s request (sound_once s sound) (λ name. lines_of_sound s name sound)

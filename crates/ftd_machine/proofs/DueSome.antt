@@ -36,17 +36,17 @@ use Rattle.ftd_machine.specs.declared.replies.Reply.TheVariants.{Due}
 use Rattle.ftd_machine.proofs.Lined.{owed_some}
 use Rattle.ftd_machine.proofs.ToldSome.{flag_or}
 
-abbrev Or : Type 0 → Type 0
+abbrev pub Or : Type 0 → Type 0
 Or P = P ⊎ (P → ⊥)
 
 truth : {P : Type 0} → Or P → (b : Bool) × (IsTrue b ↔ P)
 truth (inl p) = (true, ((λ h. p), (λ h. refl)))
 truth (inr n) = (false, ((λ h. absurd (false≢true h)), (λ p. absurd (n p))))
 
-le_or : (a b : ℕ) → Or (a ≤ b)
+pub le_or : (a b : ℕ) → Or (a ≤ b)
 le_or a b = elim (lt_or_le b a) [ inl less ↦ inr (λ h. omega arith) | inr is ↦ inl is ]
 
-both_or : {P Q : Type 0} → Or P → Or Q → Or (P × Q)
+pub both_or : {P Q : Type 0} → Or P → Or Q → Or (P × Q)
 both_or (inl p) (inl q) = inl (p, q)
 both_or (inl p) (inr n) = inr (λ h. n h.1)
 both_or (inr n) q = inr (λ h. n h.0)
@@ -271,7 +271,7 @@ case_some holidays own rows quarter as_of row =
       },
     )
 
-row_some : (holidays : List ℕ) (own : Entries) (rows : List Obligation) (quarter as_of : ℕ)
+pub row_some : (holidays : List ℕ) (own : Entries) (rows : List Obligation) (quarter as_of : ℕ)
     (o : Obligation)
     → Has rows o → quarter_of o.first ≡ quarter
     → (row : DueRow) × (row.obligation ≡ o) × IsDueRow holidays own rows quarter as_of row

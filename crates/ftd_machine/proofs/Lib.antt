@@ -7,6 +7,7 @@ pub mod Heads
 pub mod Keeping
 pub mod Again
 pub mod Single
+pub mod Ordered
 pub mod Questions
 pub mod Repeats
 pub mod Answered
@@ -20,6 +21,10 @@ pub mod Lined
 pub mod PostedSome
 pub mod ToldSome
 pub mod DueSome
+pub mod AgendaOrder
+pub mod OneTold
+pub mod AgendaSome
+pub mod Agendas
 pub mod AnswerSome
 pub mod Small
 pub mod Stretches

@@ -10,6 +10,7 @@ use Rattle.ftd_machine.specs.Sound.{IsSound}
 use Rattle.ftd_machine.specs.declared.replies.Reply.{Reply}
 use Rattle.ftd_machine.specs.declared.requests.Question.{Question as Questions}
 use Rattle.ftd_machine.specs.declared.requests.Question.TheVariants.{Status, DueList, ScheduleB}
+use Rattle.ftd_machine.specs.declared.requests.Question.TheVariants.{Agenda, Owed}
 use Rattle.ftd_machine.specs.declared.requests.Request.{Request}
 use Rattle.ftd_machine.specs.declared.requests.Request.TheVariants.{Enrol, Calendar, AddHoliday}
 use Rattle.ftd_machine.specs.declared.requests.Request.TheVariants.{Report, ReportYear, OpenYear}
@@ -32,6 +33,8 @@ question_brief s (DueList name quarter as_of) =
 question_brief s (ScheduleB name quarter) =
     brief_needs _ _ _
     (brief_needs _ _ _ (brief_finds _ _ _ (brief_needs _ _ _ (brief_needs _ _ [] brief_none))))
+question_brief s (Agenda from to as_of) = brief_needs _ _ _ (brief_needs _ _ [] brief_none)
+question_brief s (Owed until as_of) = brief_needs _ _ _ (brief_needs _ _ [] brief_none)
 
 tells_bounded : (s : State) (question : Questions) (answer : Answer) → IsSound s
     → Tells s question answer → AnswersBounded answer
@@ -40,6 +43,8 @@ tells_bounded s (DueList name quarter as_of) answer sound told =
     subst AnswersBounded (sym told.told) (due_list_small s name sound quarter as_of answer told)
 tells_bounded s (ScheduleB name quarter) answer sound told =
     subst AnswersBounded (sym told.told) (days_small s name sound quarter answer told)
+tells_bounded s (Agenda from to as_of) answer sound told = subst AnswersBounded (sym told.told) tt
+tells_bounded s (Owed until as_of) answer sound told = subst AnswersBounded (sym told.told) tt
 
 -- ---- requests
 

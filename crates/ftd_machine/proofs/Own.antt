@@ -25,6 +25,7 @@ use Rattle.ftd_machine.specs.Laws.{Names, AgreeOn}
 use Rattle.ftd_machine.specs.declared.replies.Reply.TheVariants.{Done}
 use Rattle.ftd_machine.specs.declared.requests.Question.{Question as Questions}
 use Rattle.ftd_machine.specs.declared.requests.Question.TheVariants.{Status, DueList, ScheduleB}
+use Rattle.ftd_machine.specs.declared.requests.Question.TheVariants.{Agenda, Owed}
 use Rattle.ftd_machine.specs.declared.requests.Request.{Request}
 use Rattle.ftd_machine.specs.declared.requests.Request.TheVariants.{Enrol, Calendar, AddHoliday}
 use Rattle.ftd_machine.specs.declared.requests.Request.TheVariants.{Report, ReportYear, OpenYear}
@@ -306,6 +307,8 @@ same_checks s t (ScheduleB own quarter) name named agree =
     let agrees : AgreeOn own s t = subst (λ x. AgreeOn x s t) (sym named) agree in
     ap (λ (e : Entries). first_of (schedule_b_checks own quarter e.account
     (is_open e (quarter_year quarter)))) agrees.own
+same_checks s t (Agenda from to as_of) name named agree = absurd named
+same_checks s t (Owed until as_of) name named agree = absurd named
 
 -- and the same is told
 same_told : (s t : State) (question : Questions) (name : List ℕ) → AsksOf question name
@@ -321,6 +324,8 @@ same_told s t (DueList own quarter as_of) name named agree answer told =
 same_told s t (ScheduleB own quarter) name named agree answer told =
     let agrees : AgreeOn own s t = subst (λ x. AgreeOn x s t) (sym named) agree in
     subst (λ e. IsScheduleB e quarter answer) (sym agrees.own) told
+same_told s t (Agenda from to as_of) name named agree answer told = absurd named
+same_told s t (Owed until as_of) name named agree answer told = absurd named
 
 -- ---- requests
 

@@ -1,17 +1,17 @@
 -- What each question's checks and answers have in common, one clause a question.
-use Rattle.std.proofs.Common.{◌≡◌, ap, ℕ, List, [], Some, false}
+use Rattle.std.proofs.Common.{◌≡◌, ap, [], Some, false}
 use Rattle.std.specs.Prelude.{unwrap_or}
-use Rattle.ftd_machine.specs.State.{State, entries_of, holidays}
+use Rattle.ftd_machine.specs.State.{State}
 use Rattle.ftd_machine.specs.Checks.{Answer}
 use Rattle.ftd_machine.specs.Laws.{is_change}
 use Rattle.ftd_machine.specs.Questions.{question_checks, question_of, Tells}
 use Rattle.ftd_machine.specs.declared.requests.Question.{Question}
 use Rattle.ftd_machine.specs.declared.requests.Question.TheVariants.{Status, DueList, ScheduleB}
+use Rattle.ftd_machine.specs.declared.requests.Question.TheVariants.{Agenda, Owed}
 use Rattle.ftd_machine.specs.declared.requests.Request.{Request}
 use Rattle.ftd_machine.specs.declared.requests.Request.TheVariants as request
 use Rattle.ftd_machine.proofs.Heads.{Quiet, quiet_none, quiet_needs, quiet_finds}
 use Rattle.ftd_machine.proofs.Heads.{Firm, firm_none, firm_needs, firm_finds}
-use Rattle.ftd_machine.proofs.Single.{IsOnce, status_one, due_list_one, schedule_one}
 
 -- the checks of a question answer no change
 pub question_quiet : (s : State) (question : Question) → Quiet (question_checks s question)
@@ -23,6 +23,8 @@ question_quiet s (DueList name quarter as_of) =
 question_quiet s (ScheduleB name quarter) =
     quiet_needs _ _ _
     (quiet_needs _ _ _ (quiet_finds _ _ _ (quiet_needs _ _ _ (quiet_needs _ _ [] quiet_none))))
+question_quiet s (Agenda from to as_of) = quiet_needs _ _ _ (quiet_needs _ _ [] quiet_none)
+question_quiet s (Owed until as_of) = quiet_needs _ _ _ (quiet_needs _ _ [] quiet_none)
 
 -- nor that something was done before
 pub question_firm : (s : State) (question : Question) → Firm (question_checks s question)
@@ -34,6 +36,8 @@ question_firm s (DueList name quarter as_of) =
 question_firm s (ScheduleB name quarter) =
     firm_needs _ _ _
     (firm_needs _ _ _ (firm_finds _ _ _ (firm_needs _ _ _ (firm_needs _ _ [] firm_none))))
+question_firm s (Agenda from to as_of) = firm_needs _ _ _ (firm_needs _ _ [] firm_none)
+question_firm s (Owed until as_of) = firm_needs _ _ _ (firm_needs _ _ [] firm_none)
 
 -- what is told is no change
 pub told_is : (s : State) (question : Question) (answer : Answer) → Tells s question answer
@@ -41,17 +45,8 @@ pub told_is : (s : State) (question : Question) (answer : Answer) → Tells s qu
 told_is s (Status name day) answer told = ap is_change told.told
 told_is s (DueList name quarter as_of) answer told = ap is_change told.told
 told_is s (ScheduleB name quarter) answer told = ap is_change told.told
-
--- one thing is told
-pub tells_one : (s : State) (question : Question) (a b : Answer)
-    → ((name : List ℕ) → IsOnce (entries_of s name))
-    → Tells s question a → Tells s question b → a ≡ b
-tells_one s (Status name day) a b once g h =
-    status_one (entries_of s name) day a b (once name) g h
-tells_one s (DueList name quarter as_of) a b once g h =
-    due_list_one (holidays s) (entries_of s name) quarter as_of a b (once name) g h
-tells_one s (ScheduleB name quarter) a b once g h =
-    schedule_one (entries_of s name) quarter a b g h
+told_is s (Agenda from to as_of) answer told = ap is_change told.told
+told_is s (Owed until as_of) answer told = ap is_change told.told
 
 -- a request that is a question is this one
 pub question_is : (asked : Request) (question : Question) → question_of asked ≡ Some question

@@ -6,6 +6,7 @@ pub mod Checks
 pub mod Requests
 pub mod Posting
 pub mod Asking
+pub mod Agenda
 pub mod Questions
 pub mod Step
 pub mod Runs

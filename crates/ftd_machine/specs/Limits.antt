@@ -8,7 +8,7 @@ use Rattle.ftd_rules.specs.Verdicts.{amount_of}
 use Rattle.ftd_rules.specs.declared.run.PayRun.{PayRun}
 use Rattle.ftd_machine.specs.declared.replies.Reply.{Reply}
 use Rattle.ftd_machine.specs.declared.replies.Reply.TheVariants.{Done, Already, Posted, Status}
-use Rattle.ftd_machine.specs.declared.replies.Reply.TheVariants.{Due, Days}
+use Rattle.ftd_machine.specs.declared.replies.Reply.TheVariants.{Due, Days, Agenda}
 
 -- the year is one of these
 abbrev pub is_between : ℕ → ℕ → ℕ → Bool
@@ -49,7 +49,8 @@ most_entries = 20_000
 abbrev pub amounts_end : ℕ
 amounts_end = 6_000_000_000_000_000
 
--- the amounts of a list that is answered are together below it
+-- the amounts of a list of one account that is answered are together below it; what is due over all
+-- accounts has no such limit
 abbrev pub IsBounded : Reply → Type 0
 IsBounded (Due rows) = sum_by amount_of rows < amounts_end
 IsBounded (Days sums) = sum_by cents_of sums < amounts_end
@@ -57,3 +58,4 @@ IsBounded Done = ⊤
 IsBounded Already = ⊤
 IsBounded (Posted from to removed added) = ⊤
 IsBounded (Status kind reason) = ⊤
+IsBounded (Agenda rows) = ⊤

@@ -4,9 +4,12 @@ use Rattle.ftd_days.specs.Calendar.{year_of, quarter_year}
 use Rattle.ftd_machine.specs.State.{State, entries_of, holidays, is_open}
 use Rattle.ftd_machine.specs.Checks.{Answer}
 use Rattle.ftd_machine.specs.Requests.{status_checks, due_list_checks, schedule_b_checks}
+use Rattle.ftd_machine.specs.Requests.{agenda_checks, owed_checks}
 use Rattle.ftd_machine.specs.Asking.{IsStatus, IsDueList, IsScheduleB}
+use Rattle.ftd_machine.specs.Agenda.{IsDueBetween, IsLeftBy, IsAgenda}
 use Rattle.ftd_machine.specs.declared.requests.Question.{Question}
 use Rattle.ftd_machine.specs.declared.requests.Question.TheVariants.{Status, DueList, ScheduleB}
+use Rattle.ftd_machine.specs.declared.requests.Question.TheVariants.{Agenda, Owed}
 use Rattle.ftd_machine.specs.declared.requests.Request.{Request}
 use Rattle.ftd_machine.specs.declared.requests.Request.TheVariants as request
 
@@ -21,20 +24,26 @@ question_checks s (DueList name quarter as_of) =
 question_checks s (ScheduleB name quarter) =
     let own = entries_of s name in
     schedule_b_checks name quarter own.account (is_open own (quarter_year quarter))
+question_checks s (Agenda from to as_of) = agenda_checks from to as_of
+question_checks s (Owed until as_of) = owed_checks until as_of
 
--- where they pass, this is the answer: the deposit schedule of a day, the due list of a quarter, or
--- its liability by day
+-- where they pass, this is the answer: the deposit schedule of a day, the due list of a quarter,
+-- its liability by day, what is due between two days over all accounts, or what of it is not paid
 abbrev pub Tells : State → Question → Answer → Type 0
 Tells s (Status name day) answer = IsStatus (entries_of s name) day answer
 Tells s (DueList name quarter as_of) answer =
     IsDueList (holidays s) (entries_of s name) quarter as_of answer
 Tells s (ScheduleB name quarter) answer = IsScheduleB (entries_of s name) quarter answer
+Tells s (Agenda from to as_of) answer = IsAgenda s (IsDueBetween from to) as_of answer
+Tells s (Owed until as_of) answer = IsAgenda s (IsLeftBy until) as_of answer
 
--- the question names the account
+-- the question names the account; what is due over all accounts names none
 abbrev pub AsksOf : Question → List ℕ → Type 0
 AsksOf (Status name day) account = name ≡ account
 AsksOf (DueList name quarter as_of) account = name ≡ account
 AsksOf (ScheduleB name quarter) account = name ≡ account
+AsksOf (Agenda from to as_of) account = ⊥
+AsksOf (Owed until as_of) account = ⊥
 
 -- the question that a request is, if it is one
 abbrev pub question_of : Request → Option Question

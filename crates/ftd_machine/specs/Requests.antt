@@ -245,3 +245,17 @@ schedule_b_checks name quarter account there =
     ∷ needs (meets (is_on F941) account) WrongForm
     ∷ needs there (YearNotOpen (quarter_year quarter))
     ∷ []
+
+-- Agenda: two days of 2001 to 2099, and an as-of day of these years
+abbrev pub agenda_checks : ℕ → ℕ → ℕ → List (Option Answer)
+agenda_checks from to as_of =
+    needs (is_between 2001 2099 (year_of from) && is_between 2001 2099 (year_of to)) BadDay
+    ∷ needs (is_between 2001 2099 (year_of as_of)) BadDay
+    ∷ []
+
+-- Owed: a day of 2001 to 2099, and an as-of day of these years
+abbrev pub owed_checks : ℕ → ℕ → List (Option Answer)
+owed_checks until as_of =
+    needs (is_between 2001 2099 (year_of until)) BadDay
+    ∷ needs (is_between 2001 2099 (year_of as_of)) BadDay
+    ∷ []

@@ -8,7 +8,7 @@ ghost use Rattle.ftd_machine.specs.Requests.{enrol_checks, calendar_checks, add_
 ghost use Rattle.ftd_machine.specs.Requests.{report_checks, report_year_checks, open_year_checks};
 ghost use Rattle.ftd_machine.specs.Requests.{post_checks, void_checks, pay_checks};
 ghost use Rattle.ftd_machine.specs.Requests.{void_payment_checks, status_checks, due_list_checks};
-ghost use Rattle.ftd_machine.specs.Requests.{schedule_b_checks};
+ghost use Rattle.ftd_machine.specs.Requests.{schedule_b_checks, agenda_checks, owed_checks};
 
 use crate::entries::Account;
 use crate::limits::{
@@ -444,6 +444,32 @@ pub fn schedule_b_check(
     }
     if !is_open {
         return Some(Err(Refusal::YearNotOpen(quarter.year())));
+    }
+    None
+}
+
+/// The checks of two days between which what is due over all accounts is asked for, as of a day.
+pub fn agenda_check(from: Day, to: Day, as_of: Day) -> Option<Answer>
+    ensures { result ≡ first_of (agenda_checks from to as_of) }
+{
+    if !is_between(2001, 2099, from.year()) || !is_between(2001, 2099, to.year()) {
+        return Some(Err(Refusal::BadDay));
+    }
+    if !is_between(2001, 2099, as_of.year()) {
+        return Some(Err(Refusal::BadDay));
+    }
+    None
+}
+
+/// The checks of a day until which what is due and not paid is asked for, as of a day.
+pub fn owed_check(until: Day, as_of: Day) -> Option<Answer>
+    ensures { result ≡ first_of (owed_checks until as_of) }
+{
+    if !is_between(2001, 2099, until.year()) {
+        return Some(Err(Refusal::BadDay));
+    }
+    if !is_between(2001, 2099, as_of.year()) {
+        return Some(Err(Refusal::BadDay));
     }
     None
 }

@@ -1,8 +1,12 @@
 //! What follows from the definitions alone: each function's contract is a law, its body is empty.
 
-ghost use Rattle.std.specs.Prelude.{◌≡◌, ◌<◌, ℕ, ◌∷◌, ◌++◌, length, List, true, false};
-ghost use Rattle.ftd_machine.specs.State.{State, entries_of};
+ghost use Rattle.std.specs.Prelude.{◌≡◌, ◌≤◌, ◌<◌, ◌↔◌, ℕ, ◌∷◌, ◌++◌, length, List, Some, Ok};
+ghost use Rattle.std.specs.Prelude.{true, false};
+ghost use Rattle.ftd_machine.specs.State.{State, entries_of, holidays};
+ghost use Rattle.ftd_days.specs.Calendar.{quarter_of};
 ghost use Rattle.ftd_days.specs.declared.cents.Cents.{Cents};
+ghost use Rattle.ftd_rules.specs.declared.verdict.DueRow.{DueRow};
+ghost use Rattle.ftd_rules.specs.Lists.{Has};
 ghost use Rattle.ftd_rules.specs.Liability.{liability};
 ghost use Rattle.ftd_rules.specs.Payments.{paid_by};
 ghost use Rattle.ftd_machine.specs.Limits.{amounts_end, IsBounded};
@@ -12,8 +16,14 @@ ghost use Rattle.ftd_machine.specs.Step.{Step};
 ghost use Rattle.ftd_machine.specs.Runs.{IsRun, IsReached};
 ghost use Rattle.ftd_machine.specs.Sound.{IsSound};
 ghost use Rattle.ftd_machine.specs.Laws.{is_change, Names, AgreeOn, IsRepeat};
+ghost use Rattle.ftd_machine.specs.Agenda.{due_date_of, first_day_of, left_of, IsCutOf};
+ghost use Rattle.ftd_machine.specs.declared.entries.Account.{Account};
+ghost use Rattle.ftd_machine.specs.declared.lists.AgendaRow.{AgendaRow};
 ghost use Rattle.ftd_machine.specs.declared.replies.Reply.{Reply};
+ghost use Rattle.ftd_machine.specs.declared.replies.Reply.TheVariants as reply;
 ghost use Rattle.ftd_machine.specs.declared.requests.Request.{Request};
+ghost use Rattle.ftd_machine.specs.declared.requests.Request.TheVariants.{Question};
+ghost use Rattle.ftd_machine.specs.declared.requests.Question.TheVariants.{DueList, Agenda, Owed};
 
 /// A refusal, the answer that a request was done before, and the answer to a question leave
 /// everything as it was.
@@ -103,4 +113,28 @@ pub fn a_repeat_changes_nothing()
         → IsRepeat again
         × IsRun s (before ++ request ∷ between ++ after)
         (answers_before ++ answer ∷ answers_between ++ answers_after) end }
+{}
+
+/// What is due over all accounts is all due lists, cut by due date: a row of an account that is
+/// enrolled is one of the agenda exactly where the account's due list of the quarter in which it
+/// begins, as of the day, has it, and it is due on one of the days.
+pub fn an_agenda_is_all_due_lists()
+    ensures { (s after then : State) (from to as_of : ℕ) (rows : List AgendaRow) (x : AgendaRow)
+        (account : Account) (due : List DueRow) → IsSound s
+        → Step s (Question (Agenda from to as_of)) (Ok (reply.Agenda rows)) after
+        → (entries_of s x.account).account ≡ Some account
+        → Step s (Question (DueList x.account (quarter_of (first_day_of x)) as_of))
+        (Ok (reply.Due due)) then
+        → Has rows x ↔ IsCutOf (holidays s) from to account due x }
+{}
+
+/// What is owed is what is left of the agenda: from any day on, the rows that are owed until a day
+/// are those of the agenda until it of which something is left to pay.
+#[tactic(auto, using(crate::proofs::Agendas::owed_is_left))]
+pub fn what_is_owed_is_left_of_the_agenda()
+    ensures { (s after then : State) (from until as_of : ℕ) (rows owed : List AgendaRow)
+        (x : AgendaRow)
+        → Step s (Question (Agenda from until as_of)) (Ok (reply.Agenda rows)) after
+        → Step s (Question (Owed until as_of)) (Ok (reply.Agenda owed)) then
+        → (Has owed x × (from ≤ due_date_of x)) ↔ (Has rows x × (0 < left_of x.row)) }
 {}

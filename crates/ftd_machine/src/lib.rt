@@ -14,12 +14,12 @@ mod replies;
 mod requests;
 
 pub use crate::checks::{
-    Answer, add_holiday_check, calendar_check, due_list_check, enrol_check, open_year_check,
-    pay_check, post_check, report_check, report_year_check, schedule_b_check, status_check,
-    void_check, void_payment_check,
+    Answer, add_holiday_check, agenda_check, calendar_check, due_list_check, enrol_check,
+    open_year_check, owed_check, pay_check, post_check, report_check, report_year_check,
+    schedule_b_check, status_check, void_check, void_payment_check,
 };
 pub use crate::entries::Account;
 pub use crate::limits::{MOST_ENTRIES, MOST_HOLIDAYS, are_sums_bounded, is_bounded};
-pub use crate::lists::{AccountName, DaySums, Days, DueRows};
+pub use crate::lists::{AccountName, AgendaRow, AgendaRows, DaySums, Days, DueRows};
 pub use crate::replies::{Named, Reason, Refusal, Reply};
 pub use crate::requests::{Question, Request};

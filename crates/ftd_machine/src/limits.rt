@@ -76,15 +76,20 @@ pub(crate) fn is_before_end(day: Day, quarter: Quarter) -> bool
     day <= quarter.last()
 }
 
-/// Whether the amounts of a list that is answered are together below 6,000,000,000,000,000 cents,
-/// as those of an account are.
+/// Whether the amounts of a list of one account that is answered are together below
+/// 6,000,000,000,000,000 cents, as those of an account are. What is due over all accounts has no
+/// such limit: each of its amounts is below it.
 pub fn is_bounded(reply: &Reply) -> bool
     ensures { IsTrue result ↔ IsBounded reply.now }
 {
     match reply {
         Reply::Due(rows) => are_rows_bounded(rows.as_slice()),
         Reply::Days(sums) => are_sums_bounded(sums.as_slice()),
-        Reply::Done | Reply::Already | Reply::Posted { .. } | Reply::Status { .. } => true,
+        Reply::Done
+        | Reply::Already
+        | Reply::Posted { .. }
+        | Reply::Status { .. }
+        | Reply::Agenda(_) => true,
     }
 }
 

@@ -4,7 +4,7 @@ ghost use Rattle.std.specs.Prelude.{◌≡◌};
 ghost use Rattle.std.specs.String.{string_bytes};
 
 use ftd_days::Day;
-use ftd_rules::{DaySum, DueRow};
+use ftd_rules::{DaySum, DueRow, Form};
 use std::marker::Model;
 
 /// The name of an account, as it was given.
@@ -152,6 +152,58 @@ impl DueRows {
 
     /// The rows.
     pub fn as_slice(&self) -> &[DueRow]
+        ensures { result.now ≡ self.now }
+    {
+        &self.rows
+    }
+}
+
+/// A row of what is due over all accounts.
+#[derive(Drop)]
+pub struct AgendaRow {
+    /// The account that owes it.
+    pub account: AccountName,
+    /// The form that the account files.
+    pub form: Form,
+    /// The row of the account's due list of the quarter in which the obligation begins.
+    pub row: DueRow,
+    /// The day by which to pay what is left: the makeup date where the verdict is short, the due
+    /// date of the return where it is with-return, the obligation's due date otherwise.
+    pub pay_by: Day,
+}
+
+/// What is due over all accounts, made from a vector and given back as one without taking memory.
+#[derive(Drop)]
+pub struct AgendaRows {
+    rows: Vec<AgendaRow>,
+}
+
+impl Model for AgendaRows {
+    ghost use Rattle.std.specs.Prelude.{List};
+    ghost use Rattle.ftd_machine.specs.declared.lists.AgendaRow.{AgendaRow};
+
+    ghost Value = { List AgendaRow };
+
+    ghost view = { λ a. a.rows.items };
+}
+
+impl AgendaRows {
+    /// The rows of a vector, in its order.
+    pub fn from_vec(rows: Vec<AgendaRow>) -> AgendaRows
+        ensures { result ≡ rows.items }
+    {
+        AgendaRows { rows }
+    }
+
+    /// The rows as a vector.
+    pub fn into_vec(self) -> Vec<AgendaRow>
+        ensures { result.items ≡ self }
+    {
+        self.rows
+    }
+
+    /// The rows.
+    pub fn as_slice(&self) -> &[AgendaRow]
         ensures { result.now ≡ self.now }
     {
         &self.rows

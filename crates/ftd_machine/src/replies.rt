@@ -2,7 +2,7 @@
 
 ghost use Rattle.std.specs.Prelude.{◌≡◌};
 
-use crate::lists::{DaySums, DueRows};
+use crate::lists::{AgendaRows, DaySums, DueRows};
 use ftd_days::{Day, Quarter};
 use ftd_rules::Kind;
 use thiserror::Error;
@@ -42,6 +42,8 @@ pub enum Reply {
     Due(DueRows),
     /// The days of a quarter that have liability, by day.
     Days(DaySums),
+    /// What is due over all accounts, by due date, then by account, then by first day.
+    Agenda(AgendaRows),
 }
 
 /// Why the desk refuses a request. It prints with its number, and 16, 17, 18 and 25 with what they

@@ -116,4 +116,16 @@ pub enum Question {
         account: AccountName,
         quarter: Quarter,
     },
+    /// What is due between two days, both included, over all accounts, and how does each deposit
+    /// stand as of a day?
+    Agenda {
+        from: Day,
+        to: Day,
+        as_of: Day,
+    },
+    /// What is due until a day, over all accounts, and not paid as of a day?
+    Owed {
+        until: Day,
+        as_of: Day,
+    },
 }

@@ -14,6 +14,7 @@ use Rattle.ftd_machine.specs.declared.requests.Request.{Request}
 use Rattle.ftd_machine.specs.Questions.{question_of}
 use Rattle.ftd_machine.specs.declared.requests.Question.{Question as Questions}
 use Rattle.ftd_machine.specs.declared.requests.Question.TheVariants.{Status, DueList, ScheduleB}
+use Rattle.ftd_machine.specs.declared.requests.Question.TheVariants.{Agenda, Owed}
 use Rattle.ftd_machine.specs.declared.requests.Request.TheVariants.{Question}
 use Rattle.ftd_questions.specs.Shown.{ShowsRows}
 use Rattle.ftd_questions.specs.Telling.{Replies, Refuses}
@@ -173,6 +174,8 @@ module _ {O E : Type 0} (o_taken : O → Option (List ℕ)) (o_failed : O → Bo
   AsksBy old new db request (Some (DueList account quarter as_of)) =
       PerformsDue old new db account quarter as_of
   AsksBy old new db request (Some (ScheduleB account quarter)) = Performs old new db request
+  AsksBy old new db request (Some (Agenda from to as_of)) = Performs old new db request
+  AsksBy old new db request (Some (Owed until as_of)) = Performs old new db request
 
   abbrev pub Asks : Held → Held → List ℕ → Request → Type 0
   Asks old new db request = AsksBy old new db request (question_of request)

@@ -91,9 +91,13 @@ fn ask<S: Alter, O: Target, E: Target>(
             out,
             err,
         ),
-        Some(Question::Status { .. } | Question::ScheduleB { .. }) | None => {
-            answer(desk, db, request, out, err)
-        }
+        Some(
+            Question::Status { .. }
+            | Question::ScheduleB { .. }
+            | Question::Agenda { .. }
+            | Question::Owed { .. },
+        )
+        | None => answer(desk, db, request, out, err),
     }
 }
 

@@ -39,7 +39,7 @@ use Rattle.ftd_machine.proofs.Members.{has_filtered}
 use Rattle.ftd_entries.specs.Standing.{StandsFor, IsSettled}
 use Rattle.ftd_entries.proofs.YearHolidays.{holiday_read}
 use Rattle.ftd_questions.specs.Returns.{KnowsPeriod}
-use Rattle.ftd_questions.specs.DueRows.{begins_in, IsReturnBy, IsRowBy}
+use Rattle.ftd_questions.specs.DueRows.{begins_in, IsReturnBy, IsRowBy, KnowsReturnDue}
 use Rattle.ftd_questions.specs.Walks.{begun}
 use Rattle.ftd_questions.specs.declared.return_periods.ReturnPeriod.{ReturnPeriod}
 use Rattle.ftd_questions.specs.declared.due_rows.QuarterReturn.{QuarterReturn}
@@ -51,7 +51,7 @@ use Rattle.ftd_store.proofs.Sifted.{keeps_has}
 
 -- ---- lists that go pair by pair
 
-paired_from : {X Y : Type 0} (R : X → Y → Type 0) (xs : List X) (ys : List Y) (y : Y)
+pub paired_from : {X Y : Type 0} (R : X → Y → Type 0) (xs : List X) (ys : List Y) (y : Y)
     → Pairs R xs ys → Has ys y → (x : X) × Has xs x × R x y
 paired_from R [] [] y pairs has = absurd has
 paired_from R [] (z ∷ ys) y pairs has = absurd pairs
@@ -60,8 +60,8 @@ paired_from R (x ∷ xs) (z ∷ ys) y pairs (inl is) = (x, inl refl, subst (R x)
 paired_from R (x ∷ xs) (z ∷ ys) y pairs (inr has) = let rest = paired_from R xs ys y pairs.1 has in
     (rest.0, inr rest.1, rest.2)
 
-paired_to : {X Y : Type 0} (R : X → Y → Type 0) (xs : List X) (ys : List Y) (x : X) → Pairs R xs ys
-    → Has xs x → (y : Y) × Has ys y × R x y
+pub paired_to : {X Y : Type 0} (R : X → Y → Type 0) (xs : List X) (ys : List Y) (x : X)
+    → Pairs R xs ys → Has xs x → (y : Y) × Has ys y × R x y
 paired_to R [] [] x pairs has = absurd has
 paired_to R [] (y ∷ ys) x pairs has = absurd has
 paired_to R (z ∷ xs) [] x pairs has = absurd pairs
@@ -101,6 +101,32 @@ pub same_return : (form : Form) (a b : ℕ) → quarter_of a ≡ quarter_of b
 same_return F941 a b e = e
 same_return F943 a b e = omega arith
 
+-- ---- the holidays of two years
+
+-- those that were read agree with all in the year and the next
+years_agree : (read : List ℕ) (year : ℕ) → 2001 ≤ year → year ≤ 2098 → (t : Tables) (s : State)
+    → StandsFor t s → IsSound s → HasYears year (year + 1) read t → AgreeIn year read (holidays s)
+years_agree read year from_2001 to_2098 t s stands sound years day low high =
+    elim (lt_or_le day (year_start (year + 1))) [
+      | inl this ↦ holiday_read t s stands sound read year day
+          (years year (omega arith) (omega arith))
+          (year_is year day (omega arith) (omega arith) low this)
+      | inr next ↦ holiday_read t s stands sound read (year + 1) day
+          (years (year + 1) (omega arith) (omega arith))
+          (year_is (year + 1) day (omega arith) (omega arith) next high)
+    ]
+
+-- so the return is due on the day by all of them
+pub return_known : (form : Form) (quarter : ℕ) (read : List ℕ) (day : ℕ)
+    → 2001 ≤ quarter_year quarter → quarter_year quarter ≤ 2098
+    → IsReturnDue form read quarter day → (t : Tables)
+    → HasYears (quarter_year quarter) (quarter_year quarter + 1) read t
+    → KnowsReturnDue form quarter day t
+return_known form quarter read day from_2001 to_2098 is t years s stands sound =
+    (return_same read (holidays s) (quarter_year quarter) from_2001 to_2098 sound.few
+    (years_agree read (quarter_year quarter) from_2001 to_2098 t s stands sound years) form quarter
+    day refl is).0
+
 -- ---- the list
 
 module _ (name : List ℕ) (quarter as_of : ℕ) (given : List YearDays) (period : ReturnPeriod)
@@ -139,15 +165,7 @@ module _ (name : List ℕ) (quarter as_of : ℕ) (given : List YearDays) (period
   number = return_period form quarter
 
   agree : AgreeIn year read all
-  agree day low high =
-      elim (lt_or_le day (year_start (year + 1))) [
-        | inl this ↦ holiday_read t s stands sound read year day
-            (years year (omega arith) (omega arith))
-            (year_is year day (omega arith) (omega arith) low this)
-        | inr next ↦ holiday_read t s stands sound read (year + 1) day
-            (years (year + 1) (omega arith) (omega arith))
-            (year_is (year + 1) day (omega arith) (omega arith) next high)
-      ]
+  agree = years_agree read year from_2001 to_2098 t s stands sound years
 
   -- ---- the account's obligations
 

@@ -22,3 +22,7 @@ mod Dropped
 mod RowsTold
 mod Unreported
 mod Shown
+mod AgendaRows
+mod ByDueDate
+mod TableOrder
+mod AgendaTold

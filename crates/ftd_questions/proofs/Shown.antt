@@ -2,13 +2,12 @@
 use Rattle.std.proofs.Common.{◌≡◌, ℕ, ◌+◌, ◌-◌, ◌*◌, ◌/◌, ◌≤◌, ◌<◌, inl, inr, List, [], ◌∷◌, map}
 use Rattle.std.proofs.Common.{Bool, true, false, Option, Some, None, Ok}
 use Rattle.sqlite.specs.Store as store
-use Rattle.std.proofs.Common.{◌&&◌, ◌==◌, Vec, refl, sym, ap, ◌∙◌, subst, arith}
+use Rattle.std.proofs.Common.{◌&&◌, refl, sym, ap, ◌∙◌, subst, arith}
 use Rattle.std.specs.Prelude.{filter, nat_le, int_le, bytes_eq}
 use Rattle.std.proofs.lemmas.Int.{ints}
 use Rattle.std.specs.List.Sorted.{IsPermutation}
 use Rattle.std.proofs.lemmas.Bool.{cases_Bool, true≢false, leb-true, le-leb}
 use Rattle.std.proofs.lemmas.Bool.Decides.{eqb_tells}
-use Rattle.std.proofs.lemmas.List.Sorted.{IsPermutation-trans, IsPermutation-sym}
 use Rattle.ftd_days.specs.Calendar.{last_day, month_of, month_start, quarter_of, quarter_start}
 use Rattle.ftd_days.specs.Calendar.{quarter_year}
 use Rattle.ftd_days.proofs.Months.{month_start-end, month_start-mono, month_start_grows}
@@ -22,7 +21,6 @@ use Rattle.ftd_rules.proofs.Rising.{has_permuted, next_do_not_fall}
 use Rattle.ftd_rules.proofs.Status.{quarter_is, quarter_only}
 use Rattle.ftd_schema.specs.Rows.{ObligationRow}
 use Rattle.ftd_schema.specs.Orders.{ObligationsRise}
-use Rattle.ftd_schema.specs.Tests.{is_obligation_between}
 use Rattle.ftd_schema.specs.Standing.{Tables}
 use Rattle.ftd_schema.specs.declared.TableName.TheVariants.{Obligations}
 use Rattle.ftd_rows.specs.Cells.{day_number}

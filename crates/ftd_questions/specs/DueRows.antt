@@ -78,3 +78,8 @@ abbrev pub KnowsDueList : List ℕ → Form → ℕ → ℕ → List DueRow → 
 KnowsDueList name form quarter as_of rows t =
     (s : State) → StandsFor t s → IsSound s → form_of (entries_of s name).account ≡ form
     → IsDueList (holidays s) (entries_of s name) quarter as_of (Ok (Due rows))
+
+-- the return of the quarter is due on the day, in each sound state for which the tables stand
+abbrev pub KnowsReturnDue : Form → ℕ → ℕ → Tables → Type 0
+KnowsReturnDue form quarter day t =
+    (s : State) → StandsFor t s → IsSound s → IsReturnDue form (holidays s) quarter day

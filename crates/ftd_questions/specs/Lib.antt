@@ -26,3 +26,4 @@ pub use Rattle.ftd_store.specs.Ends
 pub use Rattle.ftd_store.specs.Frame
 pub use Rattle.ftd_store.specs.Seen
 pub use Rattle.ftd_store.specs.Walking
+pub mod Agendas

@@ -11,9 +11,11 @@ use Rattle.ftd_store.specs.Walking.{rows_in}
 use Rattle.ftd_machine.specs.Asking.{first_of_row}
 use Rattle.ftd_machine.specs.Checks.{Answer}
 use Rattle.ftd_machine.specs.declared.replies.Reply.TheVariants.{Due}
-use Rattle.ftd_questions.specs.DueRows.{KnowsDueList}
+use Rattle.ftd_questions.specs.DueRows.{KnowsDueList, KnowsReturnDue}
+use Rattle.ftd_questions.specs.declared.due.QuarterRows.{QuarterRows}
 use Rattle.ftd_machine.specs.declared.requests.Question.{Question}
 use Rattle.ftd_machine.specs.declared.requests.Question.TheVariants.{Status, DueList, ScheduleB}
+use Rattle.ftd_machine.specs.declared.requests.Question.TheVariants.{Agenda, Owed}
 
 -- the account's obligation of a row, as it stands in the tables
 abbrev pub row_shown : List ℕ → DueRow → ObligationRow
@@ -32,9 +34,18 @@ abbrev pub KnowsRowsOf : List ℕ → Form → ℕ → ℕ → List DueRow → T
 KnowsRowsOf name form quarter as_of rows t =
     KnowsDueList name form quarter as_of rows t × ShowsRows name quarter rows t
 
+-- so are these, and the return of the quarter is due on this day in each sound state for which the
+-- tables stand
+abbrev pub KnowsQuarter : List ℕ → Form → ℕ → ℕ → QuarterRows → Tables → Type 0
+KnowsQuarter name form quarter as_of found t =
+    KnowsRowsOf name form quarter as_of found.rows.items t
+    × KnowsReturnDue form quarter found.return_due t
+
 -- a due list that is answered shows the tables' rows as they stand
 abbrev pub Shows : Question → Answer → Tables → Type 0
 Shows (Status name day) answer t = ⊤
 Shows (DueList name quarter as_of) answer t =
     (rows : List DueRow) → answer ≡ Ok (Due rows) → ShowsRows name quarter rows t
 Shows (ScheduleB name quarter) answer t = ⊤
+Shows (Agenda from to as_of) answer t = ⊤
+Shows (Owed until as_of) answer t = ⊤

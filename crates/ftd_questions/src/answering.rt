@@ -5,6 +5,7 @@ ghost use Rattle.ftd_machine.specs.declared.requests.Request.TheVariants as requ
 ghost use Rattle.ftd_entries.specs.Words.{Serves};
 ghost use Rattle.ftd_questions.specs.Shown.{Shows};
 
+use crate::agendas::{agenda, owed};
 use crate::due::due_list;
 use crate::liable::schedule_b;
 use crate::schedules::status;
@@ -34,5 +35,7 @@ pub fn ask<S: Alter>(
         Question::ScheduleB { account, quarter } => {
             schedule_b(tx, alloc, account.as_str(), *quarter)
         }
+        Question::Agenda { from, to, as_of } => agenda(tx, alloc, *from, *to, *as_of),
+        Question::Owed { until, as_of } => owed(tx, alloc, *until, *as_of),
     }
 }

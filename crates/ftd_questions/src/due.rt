@@ -7,7 +7,7 @@ ghost use Rattle.ftd_machine.specs.declared.requests.Question.TheVariants.{DueLi
 ghost use Rattle.ftd_machine.specs.declared.requests.Request.TheVariants.{Question};
 ghost use Rattle.ftd_entries.specs.Words.{Serves};
 ghost use Rattle.ftd_questions.specs.DueRows.{KnowsForDue};
-ghost use Rattle.ftd_questions.specs.Shown.{KnowsRowsOf, Shows};
+ghost use Rattle.ftd_questions.specs.Shown.{KnowsQuarter, Shows};
 
 use crate::due_rows::{due_rows, has_next_day, quarter_return};
 use crate::return_periods::return_period;
@@ -28,6 +28,15 @@ pub(crate) struct KnownForDue {
     pub is_open: bool,
 }
 
+/// The rows of an account's due list of a quarter, and when the return of the quarter is due.
+#[derive(Drop)]
+pub(crate) struct QuarterRows {
+    /// The due date of the return.
+    pub return_due: Day,
+    /// The rows.
+    pub rows: Vec<DueRow>,
+}
+
 /// What is known of an account before its due list of the quarter is told.
 pub(crate) fn known_for_due<S: Alter>(
     tx: &mut Tx<'_, S>,
@@ -42,20 +51,19 @@ pub(crate) fn known_for_due<S: Alter>(
     Ok(KnownForDue { account, is_open })
 }
 
-/// The rows of the account's due list, by what the tables have. `Failed` also where they are not
-/// those of a desk.
-fn rows_of_quarter<S: Alter>(
+/// The rows of the account's due list, and when the return is due, by what the tables have.
+/// `Failed` also where they are not those of a desk.
+pub(crate) fn rows_of_quarter<S: Alter>(
     tx: &mut Tx<'_, S>,
     alloc: Global,
     name: &str,
     form: Form,
     quarter: Quarter,
     as_of: Day,
-) -> Result<Vec<DueRow>, StoreFault>
+) -> Result<QuarterRows, StoreFault>
     requires from { 2001 ≤ quarter_year quarter }
     requires to { quarter_year quarter ≤ 2098 }
-    ensures call { Reads S.Store tx.old tx.new result
-        (λ rows. KnowsRowsOf name.now form quarter as_of rows.items) }
+    ensures call { Reads S.Store tx.old tx.new result (KnowsQuarter name.now form quarter as_of) }
 {
     let year = quarter.year();
     let holidays = tx.holidays(alloc, year, year + 1)?;
@@ -64,7 +72,10 @@ fn rows_of_quarter<S: Alter>(
     let next_day = has_next_day(&obligations);
     let of_return = quarter_return(form, quarter, next_day, period, holidays);
     match due_rows(alloc, quarter, as_of, &of_return, &obligations) {
-        Ok(rows) => Ok(rows),
+        Ok(rows) => Ok(QuarterRows {
+            return_due: of_return.due,
+            rows,
+        }),
         Err(fault) => tx.give_up(fault),
     }
 }
@@ -91,6 +102,6 @@ pub(crate) fn due_list<S: Alter>(
     let Some(account) = &before.account else {
         return Ok(Err(Refusal::UnknownAccount));
     };
-    let rows = rows_of_quarter(tx, alloc, name, account.form, quarter, as_of)?;
-    Ok(Ok(Reply::Due(DueRows::from_vec(rows))))
+    let found = rows_of_quarter(tx, alloc, name, account.form, quarter, as_of)?;
+    Ok(Ok(Reply::Due(DueRows::from_vec(found.rows))))
 }

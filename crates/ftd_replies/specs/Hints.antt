@@ -37,11 +37,13 @@ abbrev pub command_of : List ℕ → List ℕ → List ℕ → List ℕ → List
 command_of before db account word after =
     concat (before ∷ file_text db ∷ codes " " ∷ account ∷ codes " " ∷ word ∷ after ∷ [])
 
--- the account that a question names
+-- the account that a question names; the empty text where it names none
 abbrev pub account_asked : Question → List ℕ
 account_asked (question.Status account day) = account
 account_asked (question.DueList account quarter as_of) = account
 account_asked (question.ScheduleB account quarter) = account
+account_asked (question.Agenda from to as_of) = []
+account_asked (question.Owed until as_of) = []
 
 -- the account that a request names, and the number of its run or payment
 abbrev pub account_in : Request → List ℕ
@@ -94,11 +96,16 @@ years_text (request.Question question) = paydays_years
 abbrev paydays_days : List ℕ
 paydays_days = codes "hint: the days of paydays are those of 2001 to 2098\n"
 
+abbrev agenda_days : List ℕ
+agenda_days = codes "hint: an agenda is of days of 2001 to 2099\n"
+
 abbrev pub days_asked : Question → List ℕ
 days_asked (question.Status account day) = paydays_days
 days_asked (question.DueList account quarter as_of) =
     codes "hint: a due list is as of a day of 2001 to 2099\n"
 days_asked (question.ScheduleB account quarter) = paydays_days
+days_asked (question.Agenda from to as_of) = agenda_days
+days_asked (question.Owed until as_of) = agenda_days
 
 abbrev pub days_text : Request → List ℕ
 days_text (request.Enrol account start carried form) =

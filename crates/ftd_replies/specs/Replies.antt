@@ -6,6 +6,7 @@ use Rattle.ftd_days.specs.Text.{day_text}
 use Rattle.ftd_rules.specs.declared.DaySum.{DaySum}
 use Rattle.ftd_rules.specs.declared.Kind.{Kind}
 use Rattle.ftd_rules.specs.declared.Kind.TheVariants.{Monthly, Semiweekly}
+use Rattle.ftd_machine.specs.declared.lists.AgendaRow.{AgendaRow}
 use Rattle.ftd_machine.specs.declared.replies.Reason.{Reason}
 use Rattle.ftd_machine.specs.declared.replies.Reason.TheVariants.{Lookback, Turned, Carried}
 use Rattle.ftd_machine.specs.declared.replies.Reply.{Reply}
@@ -14,6 +15,8 @@ use Rattle.ftd_machine.specs.declared.requests.Request.{Request}
 use Rattle.ftd_machine.specs.Questions.{question_of}
 use Rattle.ftd_machine.specs.declared.requests.Question.{Question}
 use Rattle.ftd_machine.specs.declared.requests.Question.TheVariants.{Status, DueList, ScheduleB}
+use Rattle.ftd_machine.specs.declared.requests.Question.TheVariants.{Agenda, Owed}
+use Rattle.ftd_reports.specs.Agendas.{agenda_text, owed_text}
 use Rattle.ftd_reports.specs.SchedulesB.{b_text}
 
 -- `posted 2024-05-01 2024-05-31 removed 0 added 1`
@@ -40,13 +43,25 @@ abbrev pub status_told : Option Question → Kind → Reason → List ℕ
 status_told (Some (Status account day)) kind reason = status_text day kind reason
 status_told (Some (DueList account quarter as_of)) kind reason = []
 status_told (Some (ScheduleB account quarter)) kind reason = []
+status_told (Some (Agenda from to as_of)) kind reason = []
+status_told (Some (Owed until as_of)) kind reason = []
 status_told None kind reason = []
 
 abbrev pub days_told : Option Question → List DaySum → List ℕ
 days_told (Some (Status account day)) sums = []
 days_told (Some (DueList account quarter as_of)) sums = []
 days_told (Some (ScheduleB account quarter)) sums = b_text account quarter sums
+days_told (Some (Agenda from to as_of)) sums = []
+days_told (Some (Owed until as_of)) sums = []
 days_told None sums = []
+
+abbrev pub agenda_told : Option Question → List AgendaRow → List ℕ
+agenda_told (Some (Status account day)) rows = []
+agenda_told (Some (DueList account quarter as_of)) rows = []
+agenda_told (Some (ScheduleB account quarter)) rows = []
+agenda_told (Some (Agenda from to as_of)) rows = agenda_text from to as_of rows
+agenda_told (Some (Owed until as_of)) rows = owed_text until as_of rows
+agenda_told None rows = []
 
 -- the text of the reply to a request. A due list has none here: it is printed row by row, and
 -- `PrintsDue` says of what text.
@@ -57,3 +72,4 @@ reply_text request (reply.Posted from to removed added) = posted_text from to re
 reply_text request (reply.Status kind reason) = status_told (question_of request) kind reason
 reply_text request (reply.Due rows) = []
 reply_text request (reply.Days sums) = days_told (question_of request) sums
+reply_text request (reply.Agenda rows) = agenda_told (question_of request) rows

@@ -101,7 +101,7 @@ fn file_bytes(db: &str) -> &[u8]
     }
 }
 
-/// The account that the question names.
+/// The account that the question names. The empty text where it names none.
 fn account_asked(question: &Question) -> &str
     ensures { result.now ≡ account_asked question.now }
 {
@@ -109,6 +109,7 @@ fn account_asked(question: &Question) -> &str
         Question::Status { account, .. } => account.as_str(),
         Question::DueList { account, .. } => account.as_str(),
         Question::ScheduleB { account, .. } => account.as_str(),
+        Question::Agenda { .. } | Question::Owed { .. } => "",
     }
 }
 
@@ -193,6 +194,9 @@ fn days_asked(question: &Question) -> &'static [u8]
 {
     match question {
         Question::DueList { .. } => b"hint: a due list is as of a day of 2001 to 2099\n",
+        Question::Agenda { .. } | Question::Owed { .. } => {
+            b"hint: an agenda is of days of 2001 to 2099\n"
+        }
         Question::Status { .. } | Question::ScheduleB { .. } => {
             b"hint: the days of paydays are those of 2001 to 2098\n"
         }

@@ -7,13 +7,13 @@ ghost use Rattle.ftd_ports.specs.Writing.{WritesPrefix};
 ghost use Rattle.ftd_rules.specs.Liability.{cents_of};
 ghost use Rattle.ftd_machine.specs.Limits.{IsBounded, amounts_end};
 ghost use Rattle.ftd_machine.specs.Questions.{question_of};
-ghost use Rattle.ftd_replies.specs.Replies.{days_told, kind_text, posted_text, reply_text};
-ghost use Rattle.ftd_replies.specs.Replies.{status_told, status_text};
+ghost use Rattle.ftd_replies.specs.Replies.{agenda_told, days_told, kind_text, posted_text};
+ghost use Rattle.ftd_replies.specs.Replies.{reply_text, status_told, status_text};
 
 use ftd_days::Day;
-use ftd_machine::{Question, Reason, Reply, Request};
+use ftd_machine::{AgendaRow, Question, Reason, Reply, Request};
 use ftd_ports::{Target, WriteFault, write_all, write_pieces};
-use ftd_reports::{day_bytes, schedule_b};
+use ftd_reports::{day_bytes, schedule_b, write_agenda, write_owed};
 use ftd_rules::{DaySum, Kind};
 use itoa::Buffer;
 
@@ -43,6 +43,7 @@ pub fn write_reply<W: Target>(
         Reply::Status { kind, reason } => write_status(request, *kind, *reason, target),
         Reply::Due(_) => write_all(target, b""),
         Reply::Days(sums) => write_days(request, sums.as_slice(), target),
+        Reply::Agenda(rows) => write_rows(request, rows.as_slice(), target),
     }
 }
 
@@ -108,9 +109,13 @@ fn write_status<W: Target>(
 {
     match request.question() {
         Some(Question::Status { day, .. }) => write_schedule(*day, kind, reason, target),
-        Some(Question::DueList { .. } | Question::ScheduleB { .. }) | None => {
-            write_all(target, b"")
-        }
+        Some(
+            Question::DueList { .. }
+            | Question::ScheduleB { .. }
+            | Question::Agenda { .. }
+            | Question::Owed { .. },
+        )
+        | None => write_all(target, b""),
     }
 }
 
@@ -156,8 +161,36 @@ fn write_days<W: Target>(
         Some(Question::ScheduleB { account, quarter }) => {
             schedule_b(account.as_str(), *quarter, sums, target)
         }
-        Some(Question::Status { .. } | Question::DueList { .. }) | None => {
-            write_all(target, b"")
+        Some(
+            Question::Status { .. }
+            | Question::DueList { .. }
+            | Question::Agenda { .. }
+            | Question::Owed { .. },
+        )
+        | None => write_all(target, b""),
+    }
+}
+
+/// Writes what is due over all accounts, as it was asked for.
+fn write_rows<W: Target>(
+    request: &Request,
+    rows: &[AgendaRow],
+    target: &mut W,
+) -> Result<(), WriteFault>
+    ensures ok { OnOk result
+        (Appends (W.taken target.old) (W.taken target.new)
+        (agenda_told (question_of request.now) rows.now)) }
+    ensures err { OnErr result
+        (WritesPrefix (W.taken target.old) (W.taken target.new)
+        (agenda_told (question_of request.now) rows.now)) }
+    ensures fault { OnErr result (W.failed target.new ≡ true) }
+{
+    match request.question() {
+        Some(Question::Agenda { from, to, as_of }) => {
+            write_agenda(*from, *to, *as_of, rows, target)
         }
+        Some(Question::Owed { until, as_of }) => write_owed(*until, *as_of, rows, target),
+        Some(Question::Status { .. } | Question::DueList { .. } | Question::ScheduleB { .. })
+        | None => write_all(target, b""),
     }
 }

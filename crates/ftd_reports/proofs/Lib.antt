@@ -2,3 +2,4 @@ pub mod LineFacts
 pub mod MonthFacts
 pub mod RowFacts
 pub mod LateFacts
+pub mod AgendaFacts

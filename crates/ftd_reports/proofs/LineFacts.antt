@@ -10,10 +10,7 @@ use Rattle.std.proofs.lemmas.List.Sums.{sum_by-cons}
 use Rattle.ftd_days.specs.Digits.{digit}
 use Rattle.ftd_days.specs.Text.{cents_text}
 use Rattle.ftd_days.proofs.Numerals.{two_same}
-use Rattle.ftd_rules.specs.declared.verdict.DueRow.{DueRow}
 use Rattle.ftd_reports.specs.Columns.{amount_in}
-use Rattle.ftd_rules.specs.Verdicts.{amount_of}
-use Rattle.ftd_reports.specs.DueLists.{due_line, total_line}
 
 -- spaces, dollars, and the point with the cents are an amount in its column
 pub amount_parts : (amount width : ℕ) (spaces : List ℕ)
@@ -27,13 +24,13 @@ amount_parts amount width spaces w s =
     rw (s, cents, long) (append_assoc (replicate width 32) (decimal (amount / 100)) _)
 
 -- a column, a space and what follows to the end of the line
-column : (a others end line : List ℕ) → others ++ end ≡ line → (a ++ (32 ∷ others)) ++ end ≡ a
+pub column : (a others end line : List ℕ) → others ++ end ≡ line → (a ++ (32 ∷ others)) ++ end ≡ a
     ++ ((32 ∷ []) ++ line)
 column a others end line e = append_assoc a (32 ∷ others) end ∙ ap (λ z. a ++ (32 ∷ z)) e
 
 -- a column of three pieces
-three : (s d c others end line : List ℕ) → others ++ end ≡ line → ((s ++ d ++ c) ++ (32 ∷ others))
-    ++ end ≡ s ++ (d ++ (c ++ ((32 ∷ []) ++ line)))
+pub three : (s d c others end line : List ℕ) → others ++ end ≡ line
+    → ((s ++ d ++ c) ++ (32 ∷ others)) ++ end ≡ s ++ (d ++ (c ++ ((32 ∷ []) ++ line)))
 three s d c others end line e = column (s ++ d ++ c) others end line e
     ∙ (append_assoc (s ++ d) c (32 ∷ line) ∙ append_assoc s d (c ++ (32 ∷ line)))
 
@@ -48,32 +45,32 @@ row_parts a b r s d c u m t e f v =
     (column r _ _ _ (three s d c _ _ _ (column u _ _ _ (column m _ _ _ (three t e f _ _ _ refl))))))
 
 -- the rows from one on are it and those after it
-row_on : (rows : List DueRow) (i : ℕ) (row : DueRow) → i < length rows → row ≡ get_or rows i row
+row_on : {X : Type 0} (rows : List X) (i : ℕ) (row : X) → i < length rows → row ≡ get_or rows i row
     → drop i rows ≡ row ∷ drop (i + 1) rows
-row_on rows i row h is = rw add-one (drop-cons rows i row h
-    ∙ ap (λ (z : DueRow). z ∷ drop (suc i) rows) (sym is))
+row_on {X} rows i row h is = rw add-one (drop-cons rows i row h
+    ∙ ap (λ (z : X). z ∷ drop (suc i) rows) (sym is))
 
 -- so are their lines, and their amounts
-pub rows_at : (rows : List DueRow) (i : ℕ) (row : DueRow) (last : List ℕ) → i < length rows
-    → row ≡ get_or rows i row
-    → flat_map due_line (drop i rows) ++ last ≡ due_line row
-    ++ (flat_map due_line (drop (i + 1) rows) ++ last)
-rows_at rows i row last h is =
-    ap (λ (z : List DueRow). flat_map due_line z ++ last) (row_on rows i row h is)
-    ∙ append_assoc (due_line row) (flat_map due_line (drop (i + 1) rows)) last
+pub rows_at : {X : Type 0} (line : X → List ℕ) (rows : List X) (i : ℕ) (row : X) (last : List ℕ)
+    → i < length rows → row ≡ get_or rows i row
+    → flat_map line (drop i rows) ++ last ≡ line row ++ (flat_map line (drop (i + 1) rows) ++ last)
+rows_at {X} line rows i row last h is =
+    ap (λ (z : List X). flat_map line z ++ last) (row_on rows i row h is)
+    ∙ append_assoc (line row) (flat_map line (drop (i + 1) rows)) last
 
-pub amounts_at : (rows : List DueRow) (i : ℕ) (row : DueRow) → i < length rows
+pub amounts_at : {X : Type 0} (amount : X → ℕ) (rows : List X) (i : ℕ) (row : X) → i < length rows
     → row ≡ get_or rows i row
-    → sum_by amount_of (drop i rows) ≡ amount_of row + sum_by amount_of (drop (i + 1) rows)
-amounts_at rows i row h is =
-    ap (λ (z : List DueRow). sum_by amount_of z) (row_on rows i row h is)
-    ∙ sum_by-cons amount_of row (drop (i + 1) rows)
+    → sum_by amount (drop i rows) ≡ amount row + sum_by amount (drop (i + 1) rows)
+amounts_at {X} amount rows i row h is =
+    ap (λ (z : List X). sum_by amount z) (row_on rows i row h is)
+    ∙ sum_by-cons amount row (drop (i + 1) rows)
 
 -- after the last row the last line is left, of the whole total
-pub rows_end : (rows : List DueRow) (i total : ℕ) → length rows ≤ i → total + sum_by amount_of
-    (drop i rows) ≡ sum_by amount_of rows
-    → flat_map due_line (drop i rows) ++ total_line (sum_by amount_of rows) ≡ total_line total
-rows_end rows i total h e =
+pub rows_end : {X : Type 0} (line : X → List ℕ) (amount : X → ℕ) (last_line : ℕ → List ℕ)
+    (rows : List X) (i total : ℕ) → length rows ≤ i → total + sum_by amount (drop i rows) ≡ sum_by
+    amount rows
+    → flat_map line (drop i rows) ++ last_line (sum_by amount rows) ≡ last_line total
+rows_end line amount last_line rows i total h e =
     let none = drop_all i rows h in
-    let whole : total ≡ sum_by amount_of rows = let f = rw none at e in omega arith in
-    rw none (ap (λ z. total_line z) (sym whole))
+    let whole : total ≡ sum_by amount rows = let f = rw none at e in omega arith in
+    rw none (ap (λ z. last_line z) (sym whole))

@@ -3,6 +3,7 @@ pub mod DueLists
 pub mod DueTexts
 pub mod SchedulesB
 pub mod LateTexts
+pub mod Agendas
 pub use Rattle.ftd_days.specs.Digits
 pub use Rattle.ftd_days.specs.Text
 pub use Rattle.ftd_ports.specs.Writing

@@ -27,8 +27,15 @@ pub struct AmountColumn<'a> {
 pub fn amount_column(amount: Cents, buffer: &mut Buffer) -> AmountColumn<'_>
     ensures { result.spaces.now ++ result.dollars.now ++ result.cents ≡ amount_in amount.0 }
 {
-    let dollars = buffer.format(amount.0 / 100).as_bytes();
-    let cents = (amount.0 % 100) as u32;
+    total_column(u128::from(amount.0), buffer)
+}
+
+/// A sum of amounts in cents, at the right of 17 bytes, its dollars written into the buffer.
+pub fn total_column(total: u128, buffer: &mut Buffer) -> AmountColumn<'_>
+    ensures { result.spaces.now ++ result.dollars.now ++ result.cents ≡ amount_in total }
+{
+    let dollars = buffer.format(total / 100).as_bytes();
+    let cents = (total % 100) as u32;
     AmountColumn {
         spaces: &SPACES[..14usize.saturating_sub(dollars.len())],
         dollars,

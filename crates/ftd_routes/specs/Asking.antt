@@ -32,6 +32,8 @@ method_of ask.VoidPay = Delete
 method_of ask.Status = Get
 method_of ask.DueList = Get
 method_of ask.ScheduleB = Get
+method_of ask.Agenda = Get
+method_of ask.Owed = Get
 
 -- what a message of the right method asks
 abbrev pub formed : Option Request → Asked

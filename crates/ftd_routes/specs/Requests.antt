@@ -1,6 +1,5 @@
 -- The requests of the routes, by the parts of the target and the members of the body.
 use Rattle.std.specs.Prelude.{ℕ, List, Option, Some, option_and_then, codes}
-use Rattle.serde_json.specs.Data.{Data}
 use Rattle.serde_json.specs.Find.{get}
 use Rattle.ftd_days.specs.Spelling.{day_of, spelled_quarter}
 use Rattle.ftd_machine.specs.declared.requests.Question.TheVariants as question
@@ -22,44 +21,51 @@ abbrev pub account_in : List ℕ → List ℕ
 account_in target = part 2 target
 
 -- the requests with a body
-unfoldable pub enrol_in : Data → Option Request
-enrol_in d = do
+unfoldable pub enrol_in : List ℕ → Option Request
+enrol_in body = do
+  d ← json_of body
   account ← text_at (codes "account") d
   start ← day_at (codes "start") d
   carried ← flag_or_false (get (codes "carried") d)
   form ← form_or_941 (get (codes "form") d)
   Some (request.Enrol account start carried form)
 
-unfoldable pub calendar_in : Data → Option Request
-calendar_in d = do
+unfoldable pub calendar_in : List ℕ → Option Request
+calendar_in body = do
+  d ← json_of body
   year ← whole_at (codes "year") d
   days ← days_at (codes "days") d
   Some (request.Calendar year days)
 
-unfoldable pub add_holiday_in : Data → Option Request
-add_holiday_in d = do
+unfoldable pub add_holiday_in : List ℕ → Option Request
+add_holiday_in body = do
+  d ← json_of body
   day ← day_at (codes "day") d
   Some (request.AddHoliday day)
 
-unfoldable pub report_in : List ℕ → Data → Option Request
-report_in target d = do
+unfoldable pub report_in : List ℕ → List ℕ → Option Request
+report_in target body = do
+  d ← json_of body
   quarter ← quarter_at (codes "quarter") d
   cents ← amount_at (codes "amount") d
   Some (request.Report (account_in target) quarter cents)
 
-unfoldable pub report_year_in : List ℕ → Data → Option Request
-report_year_in target d = do
+unfoldable pub report_year_in : List ℕ → List ℕ → Option Request
+report_year_in target body = do
+  d ← json_of body
   year ← whole_at (codes "year") d
   cents ← amount_at (codes "amount") d
   Some (request.ReportYear (account_in target) year cents)
 
-unfoldable pub open_year_in : List ℕ → Data → Option Request
-open_year_in target d = do
+unfoldable pub open_year_in : List ℕ → List ℕ → Option Request
+open_year_in target body = do
+  d ← json_of body
   year ← whole_at (codes "year") d
   Some (request.OpenYear (account_in target) year)
 
-unfoldable pub post_in : List ℕ → Data → Option Request
-post_in target d = do
+unfoldable pub post_in : List ℕ → List ℕ → Option Request
+post_in target body = do
+  d ← json_of body
   run ← whole_at (codes "run") d
   payday ← day_at (codes "payday") d
   fit ← amount_at (codes "fit") d
@@ -67,8 +73,9 @@ post_in target d = do
   medicare ← amount_at (codes "medicare") d
   Some (request.Post (account_in target) run payday fit ss medicare)
 
-unfoldable pub pay_in : List ℕ → Data → Option Request
-pay_in target d = do
+unfoldable pub pay_in : List ℕ → List ℕ → Option Request
+pay_in target body = do
+  d ← json_of body
   payment ← whole_at (codes "payment") d
   paid ← day_at (codes "paid") d
   for_day ← day_at (codes "for") d
@@ -102,18 +109,33 @@ schedule_b_in target = do
   quarter ← spelled_quarter (part 4 target)
   Some (request.Question (question.ScheduleB (account_in target) quarter))
 
+unfoldable pub agenda_in : List ℕ → Option Request
+agenda_in target = do
+  from ← day_of (part 2 target)
+  to ← day_of (part 3 target)
+  as_of ← day_of (part 4 target)
+  Some (request.Question (question.Agenda from to as_of))
+
+unfoldable pub owed_in : List ℕ → Option Request
+owed_in target = do
+  as_of ← day_of (part 2 target)
+  until ← day_of (part 3 target)
+  Some (request.Question (question.Owed until as_of))
+
 -- the request of a route
 abbrev pub request_of : Ask → List ℕ → List ℕ → Option Request
-request_of ask.Enrol target body = json_of body >>= enrol_in
-request_of ask.Calendar target body = json_of body >>= calendar_in
-request_of ask.AddHoliday target body = json_of body >>= add_holiday_in
-request_of ask.Report target body = json_of body >>= report_in target
-request_of ask.ReportYear target body = json_of body >>= report_year_in target
-request_of ask.OpenYear target body = json_of body >>= open_year_in target
-request_of ask.Post target body = json_of body >>= post_in target
+request_of ask.Enrol target body = enrol_in body
+request_of ask.Calendar target body = calendar_in body
+request_of ask.AddHoliday target body = add_holiday_in body
+request_of ask.Report target body = report_in target body
+request_of ask.ReportYear target body = report_year_in target body
+request_of ask.OpenYear target body = open_year_in target body
+request_of ask.Post target body = post_in target body
 request_of ask.Void target body = void_in target
-request_of ask.Pay target body = json_of body >>= pay_in target
+request_of ask.Pay target body = pay_in target body
 request_of ask.VoidPay target body = void_payment_in target
 request_of ask.Status target body = status_in target
 request_of ask.DueList target body = due_list_in target
 request_of ask.ScheduleB target body = schedule_b_in target
+request_of ask.Agenda target body = agenda_in target
+request_of ask.Owed target body = owed_in target

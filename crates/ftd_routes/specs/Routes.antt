@@ -38,6 +38,8 @@ table =
     ∷ (codes "/accounts/{account}/status/{day}", ask.Status)
     ∷ (codes "/accounts/{account}/due/{quarter}/{asof}", ask.DueList)
     ∷ (codes "/accounts/{account}/schedule-b/{quarter}", ask.ScheduleB)
+    ∷ (codes "/agenda/{from}/{to}/{asof}", ask.Agenda)
+    ∷ (codes "/owed/{asof}/{until}", ask.Owed)
     ∷ []
 
 unfoldable pub all_routes : RowsOf (RouteOf Ask)

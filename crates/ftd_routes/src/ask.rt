@@ -52,7 +52,7 @@ fn method_of(route: Ask) -> Method
 {
     match route {
         Ask::Void | Ask::VoidPay => Method::Delete,
-        Ask::Status | Ask::DueList | Ask::ScheduleB => Method::Get,
+        Ask::Status | Ask::DueList | Ask::ScheduleB | Ask::Agenda | Ask::Owed => Method::Get,
         Ask::Enrol
         | Ask::Calendar
         | Ask::AddHoliday

@@ -1,11 +1,10 @@
 //! The requests of the routes.
 
 ghost use Rattle.std.specs.Prelude.{◌≡◌, IfOk};
-ghost use Rattle.serde_json.specs.View.{view};
 ghost use Rattle.ftd_routes.specs.Requests.{enrol_in, calendar_in, add_holiday_in, report_in};
 ghost use Rattle.ftd_routes.specs.Requests.{report_year_in, open_year_in, post_in, pay_in, void_in};
 ghost use Rattle.ftd_routes.specs.Requests.{void_payment_in, status_in, due_list_in, schedule_b_in};
-ghost use Rattle.ftd_routes.specs.Requests.{request_of};
+ghost use Rattle.ftd_routes.specs.Requests.{agenda_in, owed_in, request_of};
 
 use crate::Ask;
 use crate::body::{
@@ -15,7 +14,6 @@ use crate::path::part;
 use crate::values::{name, path_number};
 use ftd_days::{Day, Quarter};
 use ftd_machine::{Days, Question, Request};
-use serde_json::Value;
 use std::alloc::{AllocError, Global};
 
 /// The request of a route, by its target and its body.
@@ -33,56 +31,37 @@ pub fn make_request(
         Ask::Status => status(alloc, target),
         Ask::DueList => due_list(alloc, target),
         Ask::ScheduleB => schedule_b(alloc, target),
-        Ask::Enrol => match json(alloc, body)? {
-            None => Ok(None),
-            Some(value) => enrol(alloc, &value),
-        },
-        Ask::Calendar => match json(alloc, body)? {
-            None => Ok(None),
-            Some(value) => calendar(alloc, &value),
-        },
-        Ask::AddHoliday => match json(alloc, body)? {
-            None => Ok(None),
-            Some(value) => Ok(add_holiday(&value)),
-        },
-        Ask::Report => match json(alloc, body)? {
-            None => Ok(None),
-            Some(value) => report(alloc, target, &value),
-        },
-        Ask::ReportYear => match json(alloc, body)? {
-            None => Ok(None),
-            Some(value) => report_year(alloc, target, &value),
-        },
-        Ask::OpenYear => match json(alloc, body)? {
-            None => Ok(None),
-            Some(value) => open_year(alloc, target, &value),
-        },
-        Ask::Post => match json(alloc, body)? {
-            None => Ok(None),
-            Some(value) => post(alloc, target, &value),
-        },
-        Ask::Pay => match json(alloc, body)? {
-            None => Ok(None),
-            Some(value) => pay(alloc, target, &value),
-        },
+        Ask::Agenda => Ok(agenda(target)),
+        Ask::Owed => Ok(owed(target)),
+        Ask::Enrol => enrol(alloc, body),
+        Ask::Calendar => calendar(alloc, body),
+        Ask::AddHoliday => add_holiday(alloc, body),
+        Ask::Report => report(alloc, target, body),
+        Ask::ReportYear => report_year(alloc, target, body),
+        Ask::OpenYear => open_year(alloc, target, body),
+        Ask::Post => post(alloc, target, body),
+        Ask::Pay => pay(alloc, target, body),
     }
 }
 
 /// A new account.
 #[tactic(auto, unfolding(crate::specs::Requests::enrol_in))]
-fn enrol(alloc: Global, value: &Value) -> Result<Option<Request>, AllocError>
-    ensures { IfOk result (λ request. request ≡ enrol_in (view value.now)) }
+fn enrol(alloc: Global, body: &[u8]) -> Result<Option<Request>, AllocError>
+    ensures { IfOk result (λ request. request ≡ enrol_in body.now) }
 {
-    let Some(account) = text_at(value, "account") else {
+    let Some(value) = json(alloc, body)? else {
         return Ok(None);
     };
-    let Some(start) = day_at(value, "start") else {
+    let Some(account) = text_at(&value, "account") else {
         return Ok(None);
     };
-    let Some(carried) = flag_at(value, "carried") else {
+    let Some(start) = day_at(&value, "start") else {
         return Ok(None);
     };
-    let Some(form) = form_at(value, "form") else {
+    let Some(carried) = flag_at(&value, "carried") else {
+        return Ok(None);
+    };
+    let Some(form) = form_at(&value, "form") else {
         return Ok(None);
     };
     let account = name(alloc, account)?;
@@ -96,13 +75,16 @@ fn enrol(alloc: Global, value: &Value) -> Result<Option<Request>, AllocError>
 
 /// The holidays of a year.
 #[tactic(auto, unfolding(crate::specs::Requests::calendar_in))]
-fn calendar(alloc: Global, value: &Value) -> Result<Option<Request>, AllocError>
-    ensures { IfOk result (λ request. request ≡ calendar_in (view value.now)) }
+fn calendar(alloc: Global, body: &[u8]) -> Result<Option<Request>, AllocError>
+    ensures { IfOk result (λ request. request ≡ calendar_in body.now) }
 {
-    let Some(year) = whole_at(value, "year") else {
+    let Some(value) = json(alloc, body)? else {
         return Ok(None);
     };
-    let Some(days) = days_at(alloc, value, "days")? else {
+    let Some(year) = whole_at(&value, "year") else {
+        return Ok(None);
+    };
+    let Some(days) = days_at(alloc, &value, "days")? else {
         return Ok(None);
     };
     Ok(Some(Request::Calendar {
@@ -113,22 +95,30 @@ fn calendar(alloc: Global, value: &Value) -> Result<Option<Request>, AllocError>
 
 /// A holiday that is added.
 #[tactic(auto, unfolding(crate::specs::Requests::add_holiday_in))]
-fn add_holiday(value: &Value) -> Option<Request>
-    ensures { result ≡ add_holiday_in (view value.now) }
+fn add_holiday(alloc: Global, body: &[u8]) -> Result<Option<Request>, AllocError>
+    ensures { IfOk result (λ request. request ≡ add_holiday_in body.now) }
 {
-    let day = day_at(value, "day")?;
-    Some(Request::AddHoliday { day })
+    let Some(value) = json(alloc, body)? else {
+        return Ok(None);
+    };
+    let Some(day) = day_at(&value, "day") else {
+        return Ok(None);
+    };
+    Ok(Some(Request::AddHoliday { day }))
 }
 
 /// A reported quarter.
 #[tactic(auto, unfolding(crate::specs::Requests::report_in))]
-fn report(alloc: Global, target: &str, value: &Value) -> Result<Option<Request>, AllocError>
-    ensures { IfOk result (λ request. request ≡ report_in target.now (view value.now)) }
+fn report(alloc: Global, target: &str, body: &[u8]) -> Result<Option<Request>, AllocError>
+    ensures { IfOk result (λ request. request ≡ report_in target.now body.now) }
 {
-    let Some(quarter) = quarter_at(value, "quarter") else {
+    let Some(value) = json(alloc, body)? else {
         return Ok(None);
     };
-    let Some(cents) = amount_at(value, "amount") else {
+    let Some(quarter) = quarter_at(&value, "quarter") else {
+        return Ok(None);
+    };
+    let Some(cents) = amount_at(&value, "amount") else {
         return Ok(None);
     };
     let account = name(alloc, part(target, 2))?;
@@ -141,13 +131,16 @@ fn report(alloc: Global, target: &str, value: &Value) -> Result<Option<Request>,
 
 /// A reported year.
 #[tactic(auto, unfolding(crate::specs::Requests::report_year_in))]
-fn report_year(alloc: Global, target: &str, value: &Value) -> Result<Option<Request>, AllocError>
-    ensures { IfOk result (λ request. request ≡ report_year_in target.now (view value.now)) }
+fn report_year(alloc: Global, target: &str, body: &[u8]) -> Result<Option<Request>, AllocError>
+    ensures { IfOk result (λ request. request ≡ report_year_in target.now body.now) }
 {
-    let Some(year) = whole_at(value, "year") else {
+    let Some(value) = json(alloc, body)? else {
         return Ok(None);
     };
-    let Some(cents) = amount_at(value, "amount") else {
+    let Some(year) = whole_at(&value, "year") else {
+        return Ok(None);
+    };
+    let Some(cents) = amount_at(&value, "amount") else {
         return Ok(None);
     };
     let account = name(alloc, part(target, 2))?;
@@ -160,10 +153,13 @@ fn report_year(alloc: Global, target: &str, value: &Value) -> Result<Option<Requ
 
 /// A year that is opened.
 #[tactic(auto, unfolding(crate::specs::Requests::open_year_in))]
-fn open_year(alloc: Global, target: &str, value: &Value) -> Result<Option<Request>, AllocError>
-    ensures { IfOk result (λ request. request ≡ open_year_in target.now (view value.now)) }
+fn open_year(alloc: Global, target: &str, body: &[u8]) -> Result<Option<Request>, AllocError>
+    ensures { IfOk result (λ request. request ≡ open_year_in target.now body.now) }
 {
-    let Some(year) = whole_at(value, "year") else {
+    let Some(value) = json(alloc, body)? else {
+        return Ok(None);
+    };
+    let Some(year) = whole_at(&value, "year") else {
         return Ok(None);
     };
     let account = name(alloc, part(target, 2))?;
@@ -172,22 +168,25 @@ fn open_year(alloc: Global, target: &str, value: &Value) -> Result<Option<Reques
 
 /// A pay run.
 #[tactic(auto, unfolding(crate::specs::Requests::post_in))]
-fn post(alloc: Global, target: &str, value: &Value) -> Result<Option<Request>, AllocError>
-    ensures { IfOk result (λ request. request ≡ post_in target.now (view value.now)) }
+fn post(alloc: Global, target: &str, body: &[u8]) -> Result<Option<Request>, AllocError>
+    ensures { IfOk result (λ request. request ≡ post_in target.now body.now) }
 {
-    let Some(run) = whole_at(value, "run") else {
+    let Some(value) = json(alloc, body)? else {
         return Ok(None);
     };
-    let Some(payday) = day_at(value, "payday") else {
+    let Some(run) = whole_at(&value, "run") else {
         return Ok(None);
     };
-    let Some(fit) = amount_at(value, "fit") else {
+    let Some(payday) = day_at(&value, "payday") else {
         return Ok(None);
     };
-    let Some(ss) = amount_at(value, "ss") else {
+    let Some(fit) = amount_at(&value, "fit") else {
         return Ok(None);
     };
-    let Some(medicare) = amount_at(value, "medicare") else {
+    let Some(ss) = amount_at(&value, "ss") else {
+        return Ok(None);
+    };
+    let Some(medicare) = amount_at(&value, "medicare") else {
         return Ok(None);
     };
     let account = name(alloc, part(target, 2))?;
@@ -203,19 +202,22 @@ fn post(alloc: Global, target: &str, value: &Value) -> Result<Option<Request>, A
 
 /// A payment.
 #[tactic(auto, unfolding(crate::specs::Requests::pay_in))]
-fn pay(alloc: Global, target: &str, value: &Value) -> Result<Option<Request>, AllocError>
-    ensures { IfOk result (λ request. request ≡ pay_in target.now (view value.now)) }
+fn pay(alloc: Global, target: &str, body: &[u8]) -> Result<Option<Request>, AllocError>
+    ensures { IfOk result (λ request. request ≡ pay_in target.now body.now) }
 {
-    let Some(payment) = whole_at(value, "payment") else {
+    let Some(value) = json(alloc, body)? else {
         return Ok(None);
     };
-    let Some(paid) = day_at(value, "paid") else {
+    let Some(payment) = whole_at(&value, "payment") else {
         return Ok(None);
     };
-    let Some(for_day) = day_at(value, "for") else {
+    let Some(paid) = day_at(&value, "paid") else {
         return Ok(None);
     };
-    let Some(cents) = amount_at(value, "amount") else {
+    let Some(for_day) = day_at(&value, "for") else {
+        return Ok(None);
+    };
+    let Some(cents) = amount_at(&value, "amount") else {
         return Ok(None);
     };
     let account = name(alloc, part(target, 2))?;
@@ -293,4 +295,25 @@ fn schedule_b(alloc: Global, target: &str) -> Result<Option<Request>, AllocError
     };
     let account = name(alloc, part(target, 2))?;
     Ok(Some(Request::Question(Question::ScheduleB { account, quarter })))
+}
+
+/// What is due between two days.
+#[tactic(auto, unfolding(crate::specs::Requests::agenda_in))]
+fn agenda(target: &str) -> Option<Request>
+    ensures { result ≡ agenda_in target.now }
+{
+    let from = Day::read(part(target, 2).as_bytes())?;
+    let to = Day::read(part(target, 3).as_bytes())?;
+    let as_of = Day::read(part(target, 4).as_bytes())?;
+    Some(Request::Question(Question::Agenda { from, to, as_of }))
+}
+
+/// What is due until a day and not paid.
+#[tactic(auto, unfolding(crate::specs::Requests::owed_in))]
+fn owed(target: &str) -> Option<Request>
+    ensures { result ≡ owed_in target.now }
+{
+    let as_of = Day::read(part(target, 2).as_bytes())?;
+    let until = Day::read(part(target, 3).as_bytes())?;
+    Some(Request::Question(Question::Owed { until, as_of }))
 }

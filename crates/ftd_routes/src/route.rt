@@ -36,6 +36,10 @@ pub enum Ask {
     DueList,
     /// The liability of a quarter by day.
     ScheduleB,
+    /// What is due between two days.
+    Agenda,
+    /// What is due until a day and not paid.
+    Owed,
 }
 
 /// Puts in one more route.
@@ -47,7 +51,7 @@ fn put(router: &mut Router<Ask>, route: &str, ask: Ask) -> Result<(), InsertErro
 }
 
 /// The routes and what they ask.
-const ROUTES: [(&str, Ask); 13] = [
+const ROUTES: [(&str, Ask); 15] = [
     ("/accounts", Ask::Enrol),
     ("/calendars", Ask::Calendar),
     ("/holidays", Ask::AddHoliday),
@@ -61,6 +65,8 @@ const ROUTES: [(&str, Ask); 13] = [
     ("/accounts/{account}/status/{day}", Ask::Status),
     ("/accounts/{account}/due/{quarter}/{asof}", Ask::DueList),
     ("/accounts/{account}/schedule-b/{quarter}", Ask::ScheduleB),
+    ("/agenda/{from}/{to}/{asof}", Ask::Agenda),
+    ("/owed/{asof}/{until}", Ask::Owed),
 ];
 
 /// Puts in these routes more.

@@ -11,6 +11,7 @@ use Rattle.ftd_schema.specs.declared.texts.TheConstants.{READ_CALENDAR_YEAR, LIS
 use Rattle.ftd_schema.specs.declared.texts.TheConstants.{LIST_ADDED_HOLIDAYS, LIST_YEARS, READ_RUN}
 use Rattle.ftd_schema.specs.declared.texts.TheConstants.{LIST_RUNS, READ_PAYMENT, LIST_PAYMENTS}
 use Rattle.ftd_schema.specs.declared.texts.TheConstants.{LIST_OBLIGATIONS, LIST_DUE_OVER, COUNT_RUNS}
+use Rattle.ftd_schema.specs.declared.texts.TheConstants.{LIST_DUE_BETWEEN}
 use Rattle.ftd_schema.specs.declared.texts.TheConstants.{COUNT_PAYMENTS}
 use Rattle.ftd_schema.proofs.Shapes.{place, test_on, Value, Zero, Is, IsBelow, IsAtMost, IsAtLeast}
 use Rattle.ftd_schema.proofs.Reading.{Asks, Counts}
@@ -452,6 +453,35 @@ pub lists_due_over : Asks Obligations LIST_DUE_OVER.now
     (place (codes "account") 1 ∷ place (codes "first_day") 2 ∷ [])
 unfolding everything
 lists_due_over = record {
+  reads = record { read = _; is = refl; said = refl; untimed = refl; whole = refl };
+  opens = record { whole = refl; first = refl };
+  resolves = λ tree. record {
+    filters = _;
+    grouped = false;
+    keys = _;
+    after_columns = _;
+    after_test = _;
+    after_order = _;
+    known_columns = refl;
+    known_test = refl;
+    known_order = refl;
+    columns_are = refl;
+    filters_are = refl;
+    is_grouped = refl;
+    keys_are = refl;
+    draft_is = λ at. refl;
+  };
+  accepted = λ tree. (refl, refl);
+  is_query = λ tree. refl;
+}
+
+pub lists_due_between : Asks Obligations LIST_DUE_BETWEEN.now
+    (place (codes "account") 1 ∷ place (codes "first_day") 2 ∷ place (codes "last_day") 3 ∷ place
+    (codes "rule") 4 ∷ place (codes "cents") 5 ∷ place (codes "due") 6 ∷ [])
+    (test_on (codes "due") 6 IsAtLeast (Value 1) ∷ test_on (codes "due") 6 IsAtMost (Value 2) ∷ [])
+    (place (codes "account") 1 ∷ place (codes "first_day") 2 ∷ [])
+unfolding everything
+lists_due_between = record {
   reads = record { read = _; is = refl; said = refl; untimed = refl; whole = refl };
   opens = record { whole = refl; first = refl };
   resolves = λ tree. record {

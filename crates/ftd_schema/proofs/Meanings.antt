@@ -28,10 +28,12 @@ use Rattle.ftd_schema.specs.declared.texts.TheConstants.{READ_CALENDAR_YEAR, REA
 use Rattle.ftd_schema.specs.declared.texts.TheConstants.{LIST_HOLIDAYS, LIST_ADDED_HOLIDAYS}
 use Rattle.ftd_schema.specs.declared.texts.TheConstants.{LIST_YEARS, LIST_RUNS, LIST_PAYMENTS}
 use Rattle.ftd_schema.specs.declared.texts.TheConstants.{LIST_OBLIGATIONS, LIST_DUE_OVER, COUNT_RUNS}
+use Rattle.ftd_schema.specs.declared.texts.TheConstants.{LIST_DUE_BETWEEN}
 use Rattle.ftd_schema.specs.declared.texts.TheConstants.{COUNT_PAYMENTS, SET_VERSION, SET_YEAR}
 use Rattle.ftd_schema.specs.declared.texts.TheConstants.{VOID_RUN, VOID_PAYMENT, SET_OBLIGATION}
 use Rattle.ftd_schema.specs.declared.texts.TheConstants.{SET_DUE, REMOVE_OBLIGATIONS}
 use Rattle.ftd_schema.specs.Given.{name_given, number_given, key_given, pair_given}
+use Rattle.ftd_schema.specs.Given.{days_given}
 use Rattle.ftd_schema.specs.Answers.{meta_shown, account_shown, name_shown, form_shown, reported_shown}
 use Rattle.ftd_schema.specs.Answers.{reported_year_shown, calendar_year_shown, holiday_shown}
 use Rattle.ftd_schema.specs.Answers.{year_shown, run_shown, live_run_shown, payment_shown}
@@ -41,7 +43,7 @@ use Rattle.ftd_schema.specs.Tests.{is_calendar_year, is_holiday_of, is_year, is_
 use Rattle.ftd_schema.specs.Tests.{is_run_of, is_live_run_between, is_payment, is_payment_of}
 use Rattle.ftd_schema.specs.Tests.{is_live_payment_between, is_obligation_between, is_obligation}
 use Rattle.ftd_schema.specs.Tests.{is_due_over, voided_run, voided_payment, with_figures, with_terms}
-use Rattle.ftd_schema.specs.Tests.{with_due, with_version}
+use Rattle.ftd_schema.specs.Tests.{is_due_between, with_due, with_version}
 use Rattle.ftd_schema.specs.Orders.{HolidaysRise, YearsRise, RunsRise, PaymentsRise, ObligationsRise}
 use Rattle.ftd_schema.specs.Orders.{AccountsRise}
 use Rattle.ftd_tables.proofs.Passing.{whole_is, below_is, at_least_is, at_most_is, one_rises}
@@ -52,7 +54,8 @@ use Rattle.ftd_schema.proofs.Asking.{lists_metas, reads_account, lists_accounts,
 use Rattle.ftd_schema.proofs.Asking.{reads_reported, reads_reported_year, reads_calendar_year}
 use Rattle.ftd_schema.proofs.Asking.{reads_run, reads_payment, lists_holidays, lists_added_holidays}
 use Rattle.ftd_schema.proofs.Asking.{lists_years, lists_runs, lists_payments, lists_obligations}
-use Rattle.ftd_schema.proofs.Asking.{lists_due_over, counts_runs, counts_payments}
+use Rattle.ftd_schema.proofs.Asking.{lists_due_over, lists_due_between, counts_runs}
+use Rattle.ftd_schema.proofs.Asking.{counts_payments}
 use Rattle.ftd_schema.proofs.Changing.{sets_version, sets_year, voids_run, voids_payment}
 use Rattle.ftd_schema.proofs.Changing.{sets_obligation, sets_due, removes_obligations}
 
@@ -243,6 +246,16 @@ due_over_in_order day old new rows t stands h =
     lists Obligations LIST_DUE_OVER.now _ _ _ lists_due_over (number_given day)
     (is_due_over day) account_obligation_shown (λ p. two_pass _ _ _ _ (below_is p.1.first day)
     (at_least_is p.1.due day)) (λ p. refl) old new rows (t Obligations) (stands Obligations) h
+    AccountsRise (λ tree a b i j h. text_then_number a.account b.account a.first b.first h)
+
+pub due_between_in_order : (from to : ℤ) → ListsTested Obligations LIST_DUE_BETWEEN.now
+    (days_given from to) (is_due_between from to) account_obligation_shown AccountsRise
+unfolding everything
+due_between_in_order from to old new rows t stands h =
+    lists Obligations LIST_DUE_BETWEEN.now _ _ _ lists_due_between (days_given from to)
+    (is_due_between from to) account_obligation_shown (λ p. two_pass _ _ _ _
+    (at_least_is p.1.due from) (at_most_is p.1.due to)) (λ p. refl) old new rows (t Obligations)
+    (stands Obligations) h
     AccountsRise (λ tree a b i j h. text_then_number a.account b.account a.first b.first h)
 
 -- ---- counted

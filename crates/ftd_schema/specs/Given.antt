@@ -16,3 +16,7 @@ key_given account number = Text account ∷ Int number ∷ []
 
 abbrev pub pair_given : List ℕ → ℤ → ℤ → Row
 pair_given account one other = Text account ∷ Int one ∷ Int other ∷ []
+
+-- two days
+abbrev pub days_given : ℤ → ℤ → Row
+days_given from to = Int from ∷ Int to ∷ []

@@ -80,6 +80,10 @@ is_obligation account first o = bytes_eq o.account account && int_eq o.first fir
 abbrev pub is_due_over : ℤ → ObligationRow → Bool
 is_due_over day o = int_lt o.first day && int_le day o.due
 
+-- an obligation, of whatever account, that is due between two days
+abbrev pub is_due_between : ℤ → ℤ → ObligationRow → Bool
+is_due_between from to o = int_le from o.due && int_le o.due to
+
 -- ---- changes of a row
 
 abbrev pub voided_run : RunRow → RunRow

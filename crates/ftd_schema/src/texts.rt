@@ -114,6 +114,9 @@ pub const REMOVE_OBLIGATIONS: &str =
 /// and first day.
 pub const LIST_DUE_OVER: &str =
     "SELECT account, first_day, last_day, rule, cents, due FROM bucket WHERE first_day < ?1 AND due >= ?1 ORDER BY account, first_day";
+/// The obligations of all accounts that are due between two days, by account and first day.
+pub const LIST_DUE_BETWEEN: &str =
+    "SELECT account, first_day, last_day, rule, cents, due FROM bucket WHERE due >= ?1 AND due <= ?2 ORDER BY account, first_day";
 /// Gives the obligation of an account and a first day its other cells anew, given as its row is.
 pub const SET_OBLIGATION: &str =
     "UPDATE bucket SET last_day = ?3, rule = ?4, cents = ?5, due = ?6 WHERE account = ?1 AND first_day = ?2";

@@ -12,7 +12,6 @@ use Rattle.ftd_schema.specs.Answers.{account_obligation_shown}
 use Rattle.ftd_schema.specs.Tests.{is_account, is_form_of, is_reported, is_reported_year}
 use Rattle.ftd_schema.specs.Tests.{is_calendar_year, is_holiday_of, is_run, is_live_run_between}
 use Rattle.ftd_schema.specs.Tests.{is_payment, is_live_payment_between, is_obligation_between}
-use Rattle.ftd_schema.specs.Tests.{is_due_over}
 use Rattle.ftd_days.specs.Calendar.{quarter_year, quarter_number}
 use Rattle.ftd_days.specs.declared.cents.Cents.{Cents}
 use Rattle.ftd_rules.specs.declared.Form.{Form}
@@ -168,10 +167,9 @@ obligation_is account from to x o passes h =
     let due : x.due ≡ day_number o.due = cc in
     rw (who, first, last, rule, cents, due) refl
 
-pub account_obligation_is : (day : ℤ) (x : ObligationRow) (o : AccountObligation)
-    → is_due_over day x ≡ true → account_obligation_shown x ≡ account_obligation_cells o
-    → IsAccountObligation x o
-account_obligation_is day x o passes h =
+pub account_obligation_is : (x : ObligationRow) (o : AccountObligation)
+    → account_obligation_shown x ≡ account_obligation_cells o → IsAccountObligation x o
+account_obligation_is x o h =
     let who : x.account ≡ string_bytes o.account = cc in
     let first : x.first ≡ day_number o.obligation.first = cc in
     let last : x.last ≡ day_number o.obligation.last = cc in

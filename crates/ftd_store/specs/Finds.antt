@@ -12,6 +12,7 @@ use Rattle.ftd_schema.specs.Tests.{is_account, is_form_of, is_reported, is_repor
 use Rattle.ftd_schema.specs.Tests.{is_calendar_year, is_holiday_of, is_year_of, is_run, is_run_of}
 use Rattle.ftd_schema.specs.Tests.{is_live_run_between, is_payment, is_payment_of}
 use Rattle.ftd_schema.specs.Tests.{is_live_payment_between, is_obligation_between, is_due_over}
+use Rattle.ftd_schema.specs.Tests.{is_due_between}
 use Rattle.ftd_schema.specs.Orders.{HolidaysRise, YearsRise, RunsRise, PaymentsRise, ObligationsRise}
 use Rattle.ftd_schema.specs.Orders.{AccountsRise}
 use Rattle.ftd_days.specs.Calendar.{quarter_year, quarter_number}
@@ -155,3 +156,9 @@ abbrev pub ListsDueOver : {A : Type 0} → ℕ → Vec AccountObligation A → T
 ListsDueOver day listed t =
     Lists AccountsRise IsAccountObligation
     (filter (is_due_over (day_number day)) (t Obligations)) listed.items
+
+-- the obligations of all accounts that are due between two days, by account and first day
+abbrev pub ListsDueBetween : {A : Type 0} → ℕ → ℕ → Vec AccountObligation A → Tables → Type 0
+ListsDueBetween from to listed t =
+    Lists AccountsRise IsAccountObligation
+    (filter (is_due_between (day_number from) (day_number to)) (t Obligations)) listed.items

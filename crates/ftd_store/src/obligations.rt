@@ -8,7 +8,7 @@ ghost use Rattle.ftd_rows.specs.Cells.{day_number};
 ghost use Rattle.ftd_rows.specs.Rows.{obligation_row};
 ghost use Rattle.ftd_store.specs.Changes.{adding, without_obligations, with_obligations};
 ghost use Rattle.ftd_store.specs.Changes.{with_obligation, with_due_date};
-ghost use Rattle.ftd_store.specs.Finds.{ListsObligations, ListsDueOver};
+ghost use Rattle.ftd_store.specs.Finds.{ListsObligations, ListsDueOver, ListsDueBetween};
 ghost use Rattle.ftd_store.specs.Frame.{Reads, Writes, WritesOne};
 
 use crate::tx::Tx;
@@ -121,6 +121,23 @@ impl<'store, S: Alter> Tx<'store, S> {
         ensures call { Reads S.Store self.old self.new result (ListsDueOver day) }
     {
         self.read_all(alloc, texts::LIST_DUE_OVER, params![StoredDay(day)])
+    }
+
+    /// The obligations of all accounts that are due from `from` to `to`, by account and first day.
+    /// None where `from` is after `to`.
+    pub fn due_between(
+        &mut self,
+        alloc: Global,
+        from: Day,
+        to: Day,
+    ) -> Result<Vec<AccountObligation>, StoreFault>
+        ensures call { Reads S.Store self.old self.new result (ListsDueBetween from to) }
+    {
+        self.read_all(
+            alloc,
+            texts::LIST_DUE_BETWEEN,
+            params![StoredDay(from), StoredDay(to)],
+        )
     }
 
     /// Gives the account's obligation of the first day another due date. `Failed` where there is

@@ -18,6 +18,7 @@ seconds_or least default rule =
 -- what a word takes, as `clap` says it
 abbrev pub taking : Takes → Rule → Rule
 taking takes.Text rule = record rule { required = true }
+taking takes.Optional rule = rule
 taking (takes.Number low high) rule =
     record rule { required = true; parser = Some (parser.Signed low high) }
 taking takes.Texts rule = record rule { action = Some Append }

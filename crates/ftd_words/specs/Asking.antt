@@ -1,6 +1,8 @@
 -- What the values of a subcommand ask.
-use Rattle.std.specs.Prelude.{ℕ, ◌≡◌, ◌||◌, nat_lt, List, Result, Ok, Err, if◌then◌else◌, ⊤}
+use Rattle.std.specs.Prelude.{ℕ, ◌≡◌, ◌+◌, ◌||◌, min, nat_lt, List, Result, Ok, Err, ⊤}
+use Rattle.std.specs.Prelude.{if◌then◌else◌}
 use Rattle.clap.specs.Words.{Row, Text}
+use Rattle.ftd_days.specs.Calendar.{last_day}
 use Rattle.ftd_machine.specs.declared.requests.Question.TheVariants as question
 use Rattle.ftd_machine.specs.declared.requests.Request.{Request}
 use Rattle.ftd_machine.specs.declared.requests.Request.TheVariants as request
@@ -10,7 +12,7 @@ use Rattle.ftd_words.specs.declared.fault.WordFault.TheVariants as fault
 use Rattle.ftd_words.specs.declared.table.Name.{Name}
 use Rattle.ftd_words.specs.declared.table.Name.TheVariants as name
 use Rattle.ftd_words.specs.declared.table.Word.TheVariants as word
-use Rattle.ftd_words.specs.Values.{cents_in, day_in, days_in, form_in, is_given, port_in}
+use Rattle.ftd_words.specs.Values.{cents_in, day_in, day_or, days_in, form_in, is_given, port_in}
 use Rattle.ftd_words.specs.Values.{quarter_in, text_in, whole_in}
 
 -- what follows from a value, or its fault
@@ -113,6 +115,24 @@ due_of rows =
     then_with (day_in word.AsOf rows) (λ as_of.
     Ok (request.Question (question.DueList account quarter as_of)))))
 
+unfoldable pub agenda_of : List Row → Result Request WordFault
+agenda_of rows =
+    then_with (day_in word.From rows) (λ from.
+    then_with (day_in word.To rows) (λ to.
+    then_with (day_in word.AsOf rows) (λ as_of.
+    Ok (request.Question (question.Agenda from to as_of)))))
+
+-- `owed` asks until a week after its as-of day where it is told no other day, or until the last day
+-- where there is no such day
+abbrev pub week_after : ℕ → ℕ
+week_after day = min (day + 7) last_day
+
+unfoldable pub owed_of : List Row → Result Request WordFault
+owed_of rows =
+    then_with (day_in word.AsOf rows) (λ as_of.
+    then_with (day_or (week_after as_of) word.Until rows) (λ until.
+    Ok (request.Question (question.Owed until as_of))))
+
 unfoldable pub schedule_b_of : List Row → Result Request WordFault
 schedule_b_of rows =
     then_with (text_in word.Account rows) (λ account.
@@ -188,4 +208,6 @@ wanted_of name.Pay rows = then_with (pay_of rows) (asked rows)
 wanted_of name.VoidPay rows = then_with (void_pay_of rows) (asked rows)
 wanted_of name.Status rows = then_with (status_of rows) (asked rows)
 wanted_of name.Due rows = then_with (due_of rows) (asked rows)
+wanted_of name.Agenda rows = then_with (agenda_of rows) (asked rows)
+wanted_of name.Owed rows = then_with (owed_of rows) (asked rows)
 wanted_of name.ScheduleB rows = then_with (schedule_b_of rows) (asked rows)

@@ -24,6 +24,8 @@ name_text name.Pay = codes "pay"
 name_text name.VoidPay = codes "void-pay"
 name_text name.Status = codes "status"
 name_text name.Due = codes "due"
+name_text name.Agenda = codes "agenda"
+name_text name.Owed = codes "owed"
 name_text name.ScheduleB = codes "schedule-b"
 name_text name.AddHoliday = codes "add-holiday"
 
@@ -49,6 +51,8 @@ words_of name.Pay =
 words_of name.VoidPay = word.Db ∷ word.Wait ∷ word.Account ∷ word.Payment ∷ []
 words_of name.Status = word.Db ∷ word.Wait ∷ word.Account ∷ word.Day ∷ []
 words_of name.Due = word.Db ∷ word.Wait ∷ word.Account ∷ word.Quarter ∷ word.AsOf ∷ []
+words_of name.Agenda = word.Db ∷ word.Wait ∷ word.From ∷ word.To ∷ word.AsOf ∷ []
+words_of name.Owed = word.Db ∷ word.Wait ∷ word.AsOf ∷ word.Until ∷ []
 words_of name.ScheduleB = word.Db ∷ word.Wait ∷ word.Account ∷ word.Quarter ∷ []
 words_of name.AddHoliday = word.Db ∷ word.Wait ∷ word.Day ∷ []
 
@@ -81,6 +85,9 @@ word_text word.Paid = codes "PAID"
 word_text word.For = codes "FOR"
 word_text word.Day = codes "DAY"
 word_text word.AsOf = codes "ASOF"
+word_text word.From = codes "FROM"
+word_text word.To = codes "TO"
+word_text word.Until = codes "UNTIL"
 
 -- a word that stands behind two hyphens
 abbrev pub is_option : Word → Bool
@@ -111,6 +118,9 @@ is_option word.Paid = false
 is_option word.For = false
 is_option word.Day = false
 is_option word.AsOf = false
+is_option word.From = false
+is_option word.To = false
+is_option word.Until = false
 
 -- what the word takes
 abbrev pub takes_of : Word → Takes
@@ -141,6 +151,9 @@ takes_of word.Paid = takes.Text
 takes_of word.For = takes.Text
 takes_of word.Day = takes.Text
 takes_of word.AsOf = takes.Text
+takes_of word.From = takes.Text
+takes_of word.To = takes.Text
+takes_of word.Until = takes.Optional
 
 -- what takes any number of values
 abbrev pub takes_many : Takes → Bool
@@ -152,5 +165,5 @@ abbrev pub all_names : List Name
 all_names =
     name.Calendar ∷ name.Enrol ∷ name.Report ∷ name.ReportYear ∷ name.OpenYear ∷ name.Post
     ∷ name.Import ∷ name.Due
-    ∷ name.Pay ∷ name.Status ∷ name.ScheduleB ∷ name.Void ∷ name.VoidPay ∷ name.AddHoliday
-    ∷ name.Plain ∷ name.Serve ∷ []
+    ∷ name.Agenda ∷ name.Owed ∷ name.Pay ∷ name.Status ∷ name.ScheduleB ∷ name.Void
+    ∷ name.VoidPay ∷ name.AddHoliday ∷ name.Plain ∷ name.Serve ∷ []

@@ -36,6 +36,11 @@ spelled_in value word rows = needed word (option_and_then value (first_of (word_
 abbrev pub day_in : Word → List Row → Result ℕ WordFault
 day_in word rows = spelled_in day_of word rows
 
+-- the day that the value of a word spells, or this one where the word is left out
+abbrev pub day_or : ℕ → Word → List Row → Result ℕ WordFault
+day_or default word rows =
+    option_map_or (λ text. needed word (day_of text)) (first_of (word_text word) rows) (Ok default)
+
 abbrev pub quarter_in : Word → List Row → Result ℕ WordFault
 quarter_in word rows = spelled_in spelled_quarter word rows
 

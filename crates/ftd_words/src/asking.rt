@@ -1,20 +1,26 @@
 //! What the values of a subcommand ask of the desk. Each function reads them in their order, and
 //! answers the first word that has none of its kind.
 
+ghost use Rattle.std.specs.Prelude.{◌≡◌};
 ghost use Rattle.clap.specs.Words.{found_of, rows_of};
 ghost use Rattle.ftd_words.specs.Asking.{Tells, enrol_of, calendar_of, add_holiday_of, report_of};
 ghost use Rattle.ftd_words.specs.Asking.{report_year_of, open_year_of, post_of, void_of, pay_of};
-ghost use Rattle.ftd_words.specs.Asking.{void_pay_of, status_of, due_of, schedule_b_of};
+ghost use Rattle.ftd_words.specs.Asking.{void_pay_of, status_of, due_of, agenda_of, week_after};
+ghost use Rattle.ftd_words.specs.Asking.{owed_of, schedule_b_of};
 ghost use Rattle.ftd_words.specs.Values.{text_in};
 
 use crate::fault::WordFault;
 use crate::reading::{
-    cents_at, day_at, days_at, form_at, is_given, owned_text, quarter_at, whole_at,
+    cents_at, day_at, day_or, days_at, form_at, is_given, owned_text, quarter_at, whole_at,
 };
 use crate::table::Word;
 use clap::ArgMatches;
+use ftd_days::Day;
 use ftd_machine::{AccountName, Question, Request};
 use std::alloc::Global;
+
+/// The number of the last day, 31 December 2199, in days since 1970-01-01.
+const LAST_NUMBER: i32 = 84_005;
 
 /// The account.
 pub fn account_at(alloc: Global, inner: &ArgMatches<'_>) -> Result<AccountName, WordFault>
@@ -182,6 +188,35 @@ pub fn due(alloc: Global, inner: &ArgMatches<'_>) -> Result<Request, WordFault>
         quarter,
         as_of,
     }))
+}
+
+/// What `agenda` asks.
+#[tactic(auto, unfolding(crate::specs::Asking::agenda_of))]
+pub fn agenda(inner: &ArgMatches<'_>) -> Result<Request, WordFault>
+    ensures { Tells result (agenda_of (rows_of (found_of inner.now))) }
+{
+    let from = day_at(inner, Word::From)?;
+    let to = day_at(inner, Word::To)?;
+    let as_of = day_at(inner, Word::AsOf)?;
+    Ok(Request::Question(Question::Agenda { from, to, as_of }))
+}
+
+/// The day a week later, or the last day where there is no such day.
+fn week_after(day: Day) -> Day
+    ensures { result ≡ week_after day }
+{
+    let left = (LAST_NUMBER - day.number()).unsigned_abs();
+    day.plus(left.min(7))
+}
+
+/// What `owed` asks.
+#[tactic(auto, unfolding(crate::specs::Asking::owed_of))]
+pub fn owed(inner: &ArgMatches<'_>) -> Result<Request, WordFault>
+    ensures { Tells result (owed_of (rows_of (found_of inner.now))) }
+{
+    let as_of = day_at(inner, Word::AsOf)?;
+    let until = day_or(week_after(as_of), inner, Word::Until)?;
+    Ok(Request::Question(Question::Owed { until, as_of }))
 }
 
 /// What `schedule-b` asks.

@@ -18,7 +18,8 @@ period and by which day (IRS Publication 15, section 11)";
 /// What an employer does first.
 const FIRST_STEPS: &str = "\
 Give the holidays of the year and the next, enrol the account, report its lookback period,
-open the year, and post or import pay runs. `due` then lists what to deposit, and by when.
+open the year, and post or import pay runs. `due` then lists what to deposit, and by when;
+`owed` what is to be paid within a week, over all accounts.
 ftd help COMMAND tells the words of a command, with an example.";
 
 /// An argument that takes a whole number of seconds, at least so many and at most 3,600; so many if
@@ -46,6 +47,7 @@ fn arg_of<'a>(alloc: Global, word: Word) -> Arg<'a>
     };
     match word.takes() {
         Takes::Text => arg.required(true),
+        Takes::Optional => arg,
         Takes::Number(low, high) => arg
             .required(true)
             .value_parser(ValueParser::Signed(low, high)),

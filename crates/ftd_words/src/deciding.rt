@@ -13,8 +13,8 @@ ghost use Rattle.ftd_words.specs.Tasks.{Fails, Gives, IsUsage, Refused, ShowsVal
 ghost use Rattle.ftd_words.specs.Tasks.{rows_in, task_of, task_view, value, wanted_in, words};
 
 use crate::asking::{
-    account_at, add_holiday, calendar, due, enrol, open_year, pay, post, report, report_year,
-    schedule_b, status, void, void_pay,
+    account_at, add_holiday, agenda, calendar, due, enrol, open_year, owed, pay, post, report,
+    report_year, schedule_b, status, void, void_pay,
 };
 use crate::escape::{escaped, escaped_word};
 use crate::fault::WordFault;
@@ -152,6 +152,8 @@ fn task_for(alloc: Global, name: Name, inner: &ArgMatches<'_>) -> Result<Task, W
         Name::VoidPay => local(alloc, inner, void_pay(alloc, inner)?),
         Name::Status => local(alloc, inner, status(alloc, inner)?),
         Name::Due => local(alloc, inner, due(alloc, inner)?),
+        Name::Agenda => local(alloc, inner, agenda(inner)?),
+        Name::Owed => local(alloc, inner, owed(inner)?),
         Name::ScheduleB => local(alloc, inner, schedule_b(alloc, inner)?),
     }
 }

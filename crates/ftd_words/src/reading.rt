@@ -5,7 +5,8 @@ ghost use Rattle.std.specs.String.{string_bytes};
 ghost use Rattle.clap.specs.Words.{all_of, first_of, found_of, rows_of};
 ghost use Rattle.ftd_days.specs.Spelling.{days_of};
 ghost use Rattle.ftd_words.specs.Table.{word_text};
-ghost use Rattle.ftd_words.specs.Values.{bad_value, cents_in, day_in, days_in, first_no_day};
+ghost use Rattle.ftd_words.specs.Values.{bad_value, cents_in, day_in, day_or, days_in};
+ghost use Rattle.ftd_words.specs.Values.{first_no_day};
 ghost use Rattle.ftd_words.specs.Values.{form_in, is_given, needed, port_in, quarter_in, text_in};
 ghost use Rattle.ftd_words.specs.Values.{whole_in};
 ghost use Rattle.ftd_words.specs.Asking.{Tells, TellsAs};
@@ -53,6 +54,16 @@ pub fn day_at(inner: &ArgMatches<'_>, word: Word) -> Result<Day, WordFault>
         return Err(WordFault::BadWord(word));
     };
     Day::read(text.as_bytes()).ok_or(WordFault::BadWord(word))
+}
+
+/// The day that the value of a word spells, or this one where the word is left out.
+pub fn day_or(default: Day, inner: &ArgMatches<'_>, word: Word) -> Result<Day, WordFault>
+    ensures { result ≡ day_or default word (rows_of (found_of inner.now)) }
+{
+    match text_at(inner, word) {
+        Some(text) => Day::read(text.as_bytes()).ok_or(WordFault::BadWord(word)),
+        None => Ok(default),
+    }
 }
 
 /// The quarter that the value of a word spells.

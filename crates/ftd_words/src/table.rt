@@ -6,8 +6,8 @@ ghost use Rattle.ftd_words.specs.Table.{words_of};
 
 use Word::{
     Account, Amount, AsOf, Carried, Connections, CsvFile, Day, Days, Db, Duration, Fit, For, Form,
-    Holidays, Idle, Medicare, Paid, Payday, Payment, Port, Quarter, Run, Silence, Ss, Start, Wait,
-    Year,
+    From, Holidays, Idle, Medicare, Paid, Payday, Payment, Port, Quarter, Run, Silence, Ss, Start,
+    To, Until, Wait, Year,
 };
 
 /// What a word takes.
@@ -15,6 +15,8 @@ use Word::{
 pub enum Takes {
     /// One text, which must be there.
     Text,
+    /// One text, which may be left out.
+    Optional,
     /// One whole number between these, which must be there.
     Number(i64, i64),
     /// Any number of texts.
@@ -50,6 +52,8 @@ pub enum Name {
     VoidPay,
     Status,
     Due,
+    Agenda,
+    Owed,
     ScheduleB,
     AddHoliday,
 }
@@ -84,6 +88,9 @@ pub enum Word {
     For,
     Day,
     AsOf,
+    From,
+    To,
+    Until,
 }
 
 impl Name {
@@ -106,6 +113,8 @@ impl Name {
             Name::VoidPay => "void-pay",
             Name::Status => "status",
             Name::Due => "due",
+            Name::Agenda => "agenda",
+            Name::Owed => "owed",
             Name::ScheduleB => "schedule-b",
             Name::AddHoliday => "add-holiday",
         }
@@ -130,6 +139,8 @@ impl Name {
             Name::VoidPay => &[Db, Wait, Account, Payment],
             Name::Status => &[Db, Wait, Account, Day],
             Name::Due => &[Db, Wait, Account, Quarter, AsOf],
+            Name::Agenda => &[Db, Wait, From, To, AsOf],
+            Name::Owed => &[Db, Wait, AsOf, Until],
             Name::ScheduleB => &[Db, Wait, Account, Quarter],
             Name::AddHoliday => &[Db, Wait, Day],
         }
@@ -152,6 +163,8 @@ impl Name {
             Name::VoidPay => "Void a recorded deposit",
             Name::Status => "Say whether an account is a monthly or a semiweekly depositor",
             Name::Due => "List the deposits of a quarter: how much, by which day, paid or not",
+            Name::Agenda => "List what is due between two days, over all accounts",
+            Name::Owed => "List what is due and not paid, over all accounts",
             Name::ScheduleB => "List the liability of a quarter by day, as for Schedule B",
             Name::AddHoliday => "Add a legal holiday to a year that was given",
         }
@@ -176,6 +189,10 @@ impl Name {
             Name::VoidPay => "Example: ftd void-pay --db office.db elm 1",
             Name::Status => "Example: ftd status --db office.db elm 2024-05-08",
             Name::Due => "Example: ftd due --db office.db elm 2024Q2 2024-06-30",
+            Name::Agenda => {
+                "Example: ftd agenda --db office.db 2024-06-10 2024-06-17 2024-06-10"
+            }
+            Name::Owed => "Example: ftd owed --db office.db 2024-06-10 2024-06-17",
             Name::ScheduleB => "Example: ftd schedule-b --db office.db elm 2024Q2",
             Name::AddHoliday => "Example: ftd add-holiday --db office.db 2024-06-17",
         }
@@ -215,6 +232,9 @@ impl Word {
             Word::For => "FOR",
             Word::Day => "DAY",
             Word::AsOf => "ASOF",
+            Word::From => "FROM",
+            Word::To => "TO",
+            Word::Until => "UNTIL",
         }
     }
 
@@ -268,6 +288,9 @@ impl Word {
             Word::For => Takes::Text,
             Word::Day => Takes::Text,
             Word::AsOf => Takes::Text,
+            Word::From => Takes::Text,
+            Word::To => Takes::Text,
+            Word::Until => Takes::Optional,
         }
     }
 
@@ -322,12 +345,15 @@ impl Word {
             Word::For => "A day of the period that it is paid for, YYYY-MM-DD",
             Word::Day => "The day, YYYY-MM-DD",
             Word::AsOf => "Deposits paid up to this day count, YYYY-MM-DD",
+            Word::From => "The first due date, YYYY-MM-DD",
+            Word::To => "The last due date, YYYY-MM-DD",
+            Word::Until => "The last due date, YYYY-MM-DD; a week after ASOF if it is left out",
         }
     }
 }
 
 /// The subcommands, as help lists them: in the order in which an employer needs them.
-pub const NAMES: [Name; 16] = [
+pub const NAMES: [Name; 18] = [
     Name::Calendar,
     Name::Enrol,
     Name::Report,
@@ -336,6 +362,8 @@ pub const NAMES: [Name; 16] = [
     Name::Post,
     Name::Import,
     Name::Due,
+    Name::Agenda,
+    Name::Owed,
     Name::Pay,
     Name::Status,
     Name::ScheduleB,

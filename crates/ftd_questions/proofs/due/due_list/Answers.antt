@@ -5,7 +5,7 @@ use Rattle.ftd_machine.specs.declared.requests.Request.TheVariants.{Question}
 use Rattle.ftd_machine.specs.declared.replies.Reply.TheVariants.{Due}
 use Rattle.ftd_entries.proofs.Serving.{served_looked}
 use Rattle.ftd_questions.specs.DueRows.{KnowsForDue}
-use Rattle.ftd_questions.specs.Shown.{KnowsRowsOf}
+use Rattle.ftd_questions.specs.Shown.{KnowsQuarter}
 use Rattle.ftd_questions.proofs.DueTold.{checks, due_decided, due_told}
 use Rattle.ftd_questions.proofs.Shown.{due_list_refuses, shown_by, told_rows}
 use Rattle.ftd_questions.proofs.due.due_list.Goals as goal
@@ -34,23 +34,23 @@ returns g c =
     let as_of = c.args.as_of in
     let known = c.in_ok-before.before in
     let account = c.in-Some-account.account in
-    let rows = c.in_ok-rows.rows in
+    let found = c.in_ok-found.found in
+    let rows = found.rows in
     let passed : checks name quarter as_of known ≡ None = search rules in
     let read = then_reads g.S.Store c.args.tx.now c.known_for_due.new.tx c.rows_of_quarter.new.tx
-    known rows rows (KnowsForDue name quarter)
-    (λ rs. KnowsRowsOf name account.form quarter as_of rs.items)
-    (λ rs t. KnowsForDue name quarter known t × KnowsRowsOf name account.form quarter as_of
-    rs.items t) (λ t knows lists. (knows, lists)) c.in_ok-before.ensures.call
-    c.in_ok-rows.ensures.call in
+    known found found (KnowsForDue name quarter) (KnowsQuarter name account.form quarter as_of)
+    (λ q t. KnowsForDue name quarter known t × KnowsQuarter name account.form quarter as_of q t)
+    (λ t knows lists. (knows, lists)) c.in_ok-before.ensures.call
+    c.in_ok-found.ensures.call in
     record {
       call = served_looked g.S.Store (Question (DueList name quarter as_of)) c.args.tx.now
-          c.rows_of_quarter.new.tx rows (Ok (Due c.from_vec.result)) _ read
+          c.rows_of_quarter.new.tx found (Ok (Due c.from_vec.result)) _ read
           (λ t s stands sound knows.
           rw (sym c.from_vec.ensures) at
           (due_told name quarter as_of known account rows.items c.in-Some-account.is passed t s
-          stands sound (knows.0, knows.1.0)));
-      shows = shown_by g.S.Store c.args.tx.now c.rows_of_quarter.new.tx rows
+          stands sound (knows.0, knows.1.0.0)));
+      shows = shown_by g.S.Store c.args.tx.now c.rows_of_quarter.new.tx found
           (Ok (Due c.from_vec.result)) (DueList name quarter as_of) _ read
           (λ t knows others is. rw (sym c.from_vec.ensures ∙ told_rows c.from_vec.result others is) at
-          knows.1.1);
+          knows.1.0.1);
     }

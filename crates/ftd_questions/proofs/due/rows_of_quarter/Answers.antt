@@ -11,7 +11,8 @@ use Rattle.ftd_store.proofs.Telling.{then_reads}
 use Rattle.ftd_store.proofs.Turning.{gave_up_after}
 use Rattle.ftd_questions.specs.Returns.{KnowsPeriod}
 use Rattle.ftd_questions.specs.DueRows.{IsRowBy, begins_in, is_next_day_row}
-use Rattle.ftd_questions.specs.Shown.{KnowsRowsOf}
+use Rattle.ftd_questions.specs.Shown.{KnowsQuarter}
+use Rattle.ftd_questions.proofs.DueListed.{return_known}
 use Rattle.ftd_questions.proofs.DueTold.{due_known}
 use Rattle.ftd_questions.proofs.OwedRows.{obligations_known}
 use Rattle.ftd_questions.proofs.Shown.{rows_shown}
@@ -43,19 +44,25 @@ returns-in-Ok g c =
     c.in_ok-holidays.ensures.call c.in_ok-period.ensures.call in
     record {
       call = then_reads g.S.Store c.args.tx.now c.return_period.new.tx c.obligations.new.self period
-          found rows (λ p t. HasYears c.year-year.result (c.year-year.result + 1)
+          found _ (λ p t. HasYears c.year-year.result (c.year-year.result + 1)
           (holidays_of given) t × KnowsPeriod name form quarter p t)
           (ListsObligations name period.first period.last)
-          (λ rs. KnowsRowsOf name form quarter as_of rs.items)
-          (λ t knows lists. (
-            due_known name form quarter as_of given period
-                c.has_next_day-next_day.result found.items of_return rows.items c.requires.from
-                c.requires.to c.quarter_return-of_return.ensures.stands next_day are_rows t
-                (subst (λ year. HasYears year (year + 1) (holidays_of given) t) c.year-year.ensures
-                knows.0) knows.1 (obligations_known name period.first period.last found t lists),
-            rows_shown name quarter form period.first period.last as_of found.items of_return
-                rows.items t c.requires.from c.requires.to knows.1.first knows.1.last lists are_rows,
-          ))
+          (KnowsQuarter name form quarter as_of)
+          (λ t knows lists.
+          (let years = subst (λ year. HasYears year (year + 1) (holidays_of given) t)
+          c.year-year.ensures knows.0 in (
+            (
+              due_known name form quarter as_of given period c.has_next_day-next_day.result
+                  found.items of_return rows.items c.requires.from c.requires.to
+                  c.quarter_return-of_return.ensures.stands next_day are_rows t years knows.1
+                  (obligations_known name period.first period.last found t lists),
+              rows_shown name quarter form period.first period.last as_of found.items of_return
+                  rows.items t c.requires.from c.requires.to knows.1.first knows.1.last lists
+                  are_rows,
+            ),
+            return_known form quarter (holidays_of given) of_return.due c.requires.from
+                c.requires.to c.quarter_return-of_return.ensures.stands.due t years,
+          )))
           read
           c.in_ok-obligations.ensures.call;
     }

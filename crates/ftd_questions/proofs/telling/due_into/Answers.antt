@@ -1,4 +1,4 @@
-use Rattle.std.proofs.Common.{true, inl, inr, refl, sym, ◌∙◌, subst}
+use Rattle.std.proofs.Common.{inl, inr, refl, sym, ◌∙◌, subst}
 use Rattle.std.proofs.lemmas.Bool.{cases_Bool, true≢false}
 use Rattle.sqlite.specs.Held.{Held, state}
 use Rattle.ftd_store.specs.Seen.{seen}

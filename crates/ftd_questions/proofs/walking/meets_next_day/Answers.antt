@@ -2,7 +2,7 @@ use Rattle.std.proofs.Common.{◌++◌, ◌∷◌, [], ◌∙◌, sym, ap}
 use Rattle.std.specs.List.{list_any}
 use Rattle.ftd_store.specs.Walking.{walked}
 use Rattle.ftd_questions.specs.DueRows.{is_next_day_row}
-use Rattle.ftd_questions.proofs.Walked.{stays_same, stays_then, walks_none, walks_more}
+use Rattle.ftd_questions.proofs.Walked.{stays_same, stays_then, walks_more}
 use Rattle.ftd_questions.proofs.Walked.{all_known, all_listed}
 use Rattle.ftd_questions.proofs.Walked.{any_more, none_more}
 use Rattle.ftd_questions.proofs.walking.meets_next_day.Goals as goal

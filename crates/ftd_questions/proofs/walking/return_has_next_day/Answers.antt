@@ -7,7 +7,6 @@ use Rattle.ftd_rules.proofs.Cuts.{lt_or_le}
 use Rattle.ftd_questions.specs.DueRows.{is_next_day_row}
 use Rattle.ftd_questions.specs.Walks.{Stays, StandIfOpen, begun}
 use Rattle.sqlite.specs.State.{HasCleanDisk}
-use Rattle.ftd_schema.specs.Standing.{Tables}
 use Rattle.ftd_questions.proofs.NextDays.{some_begins, none_begins}
 use Rattle.ftd_questions.proofs.Walked.{clean_before, stays_then, stand_still}
 use Rattle.ftd_questions.proofs.walking.return_has_next_day.Goals as goal

@@ -20,6 +20,6 @@ returns g c = record {
   call = lists g.S.Store c.args.self.now c.read_all.new.self c.read_all.result
       (λ xs. xs.items) Obligations LIST_DUE_OVER.now _ _ account_obligation_shown
       account_obligation_cells AccountsRise (IsAccountObligation)
-      (due_over_in_order (day_number c.args.day)) (account_obligation_is (day_number c.args.day))
+      (due_over_in_order (day_number c.args.day)) (λ x o passes. account_obligation_is x o)
       (rw c.params-to_sql.ensures at c.read_all.ensures.call);
 }

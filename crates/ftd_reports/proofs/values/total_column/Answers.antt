@@ -1,7 +1,7 @@
 use Rattle.std.proofs.Common.{◌≤◌, ◌-◌, ℕ, List, length, ap, ◌∙◌, arith}
 use Rattle.std.proofs.lemmas.List.{take-replicate}
 use Rattle.ftd_reports.proofs.LineFacts.{amount_parts}
-use Rattle.ftd_reports.proofs.values.amount_column.Goals as goal
+use Rattle.ftd_reports.proofs.values.total_column.Goals as goal
 
 pub returns : goal.returns
 returns c =
@@ -14,5 +14,5 @@ returns c =
       c.as_bytes-dollars.ensures.value,
       c.format.ensures.text,
     )
-    (amount_parts c.args.amount.0 c.saturating_sub.result _ width
+    (amount_parts c.args.total c.saturating_sub.result _ width
     (take-replicate c.saturating_sub.result 14 32 within))

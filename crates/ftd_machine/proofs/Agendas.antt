@@ -1,0 +1,144 @@
+-- What is due over all accounts against the due lists, and what is owed against what is due.
+use Rattle.std.proofs.Common.{◌≡◌, ◌∙◌, inl, inr, sym, subst, ℕ, ◌<◌, ◌≤◌, Bool, true, false}
+use Rattle.std.proofs.Common.{List, [], ◌∷◌, Option, None, Some, Ok}
+use Rattle.std.specs.Prelude.{◌↔◌}
+use Rattle.ftd_days.specs.Calendar.{quarter_of}
+use Rattle.ftd_rules.specs.declared.verdict.DueRow.{DueRow}
+use Rattle.ftd_rules.specs.Lists.{Has}
+use Rattle.ftd_machine.specs.State.{State, entries_of, holidays}
+use Rattle.ftd_machine.specs.Sound.{IsSound}
+use Rattle.ftd_machine.specs.Checks.{Answer, first_of, needs, finds}
+use Rattle.ftd_machine.specs.Asking.{IsDueRow, IsDueList}
+use Rattle.ftd_machine.specs.Agenda.{due_date_of, first_day_of, left_of, IsAgendaRow, IsAgenda}
+use Rattle.ftd_machine.specs.Agenda.{IsDueBetween, IsLeftBy, IsCutOf}
+use Rattle.ftd_machine.specs.Questions.{question_checks, Tells}
+use Rattle.ftd_machine.specs.Step.{Step}
+use Rattle.ftd_machine.specs.declared.entries.Account.{Account}
+use Rattle.ftd_machine.specs.declared.lists.AgendaRow.{AgendaRow}
+use Rattle.ftd_machine.specs.declared.replies.Refusal.{Refusal}
+use Rattle.ftd_machine.specs.declared.replies.Reply.{Reply}
+use Rattle.ftd_machine.specs.declared.replies.Reply.TheVariants as reply
+use Rattle.ftd_machine.specs.declared.requests.Question.{Question as Questions}
+use Rattle.ftd_machine.specs.declared.requests.Question.TheVariants.{DueList, Agenda, Owed}
+use Rattle.ftd_machine.specs.declared.requests.Request.TheVariants.{Question}
+use Rattle.ftd_machine.proofs.Deciding.{either}
+use Rattle.ftd_machine.proofs.Single.{owed_one}
+use Rattle.ftd_machine.proofs.Soundness.{sound_once}
+use Rattle.ftd_machine.proofs.AgendaOrder.{inside}
+
+-- ---- checks that refuse, or pass
+
+record Refuses (P : List (Option Answer)) : Type 0 where
+  pub never : (r : Reply) → first_of P ≡ Some (Ok r) → ⊥
+
+refuses_none : Refuses []
+refuses_none = record { never = λ r e. absurd cc }
+
+refuses_needs : (holds : Bool) (refusal : Refusal) (Q : List (Option Answer)) → Refuses Q
+    → Refuses (needs holds refusal ∷ Q)
+refuses_needs true refusal Q q = record { never = λ r e. q.never r e }
+refuses_needs false refusal Q q = record { never = λ r e. absurd cc }
+
+refuses_finds : {X : Type 0} (o : Option X) (refusal : Refusal) (Q : List (Option Answer))
+    → Refuses Q → Refuses (finds o refusal ∷ Q)
+refuses_finds (Some x) refusal Q q = record { never = λ r e. q.never r e }
+refuses_finds None refusal Q q = record { never = λ r e. absurd cc }
+
+-- what a question is answered with a reply has passed the checks
+told_by : (s : State) (question : Questions) (r : Reply) (after : State)
+    → Refuses (question_checks s question) → Step s (Question question) (Ok r) after
+    → Tells s question (Ok r)
+told_by s question r after refuses step =
+    elim (either (first_of (question_checks s question)) s (Ok r) after
+    ((after ≡ s) × Tells s question (Ok r)) step) [
+      | inl same ↦ absurd (refuses.never r same.0)
+      | inr told ↦ told.1.1
+    ]
+
+two_days : (a b : Bool) (one other : Refusal)
+    → Refuses (needs a one ∷ needs b other ∷ [])
+two_days a b one other = refuses_needs a one _ (refuses_needs b other [] refuses_none)
+
+-- ---- the laws
+
+abbrev agenda_of : List AgendaRow → Answer
+agenda_of rows = Ok (reply.Agenda rows)
+
+abbrev list_of : List DueRow → Answer
+list_of rows = Ok (reply.Due rows)
+
+agenda_is : (rows listed : List AgendaRow) → agenda_of rows ≡ agenda_of listed → rows ≡ listed
+agenda_is rows listed e = cc
+
+list_is : (due listed : List DueRow) → list_of due ≡ list_of listed → due ≡ listed
+list_is due listed e = cc
+
+pub agenda_cuts : (s after then : State) (from to as_of : ℕ) (rows : List AgendaRow)
+    (x : AgendaRow) (account : Account) (due : List DueRow) → IsSound s
+    → Step s (Question (Agenda from to as_of)) (Ok (reply.Agenda rows)) after
+    → (entries_of s x.account).account ≡ Some account
+    → Step s (Question (DueList x.account (quarter_of (first_day_of x)) as_of))
+    (Ok (reply.Due due)) then
+    → Has rows x ↔ IsCutOf (holidays s) from to account due x
+agenda_cuts s after then from to as_of rows x account due sound asked enrolled listing =
+    let own = entries_of s x.account in
+    let quarter = quarter_of (first_day_of x) in
+    let g : IsAgenda s (IsDueBetween from to) as_of (Ok (reply.Agenda rows)) =
+    told_by s (Agenda from to as_of) (reply.Agenda rows) after (two_days _ _ _ _) asked in
+    let d : IsDueList (holidays s) own quarter as_of (Ok (reply.Due due)) =
+    told_by s (DueList x.account quarter as_of) (reply.Due due) then
+    (refuses_needs _ _ _
+    (refuses_needs _ _ _
+    (refuses_needs _ _ _ (refuses_finds _ _ _ (refuses_needs _ _ [] refuses_none))))) listing in
+    let rows_are : rows ≡ g.listed = agenda_is rows g.listed g.told in
+    let due_are : due ≡ d.listed = list_is due d.listed d.told in (
+      (λ has.
+          (let h = (g.all x).0 (subst (λ xs. Has xs x) rows_are has) in
+          let r : IsAgendaRow s as_of x = h.0 in
+          let same : r.account ≡ account = inside r.account account (sym r.enrolled ∙ enrolled) in
+          let owed : r.owed ≡ d.rows = owed_one (holidays s) own r.owed d.rows
+          (sound_once s sound x.account) r.are_owed d.owed in
+          let is_row : IsDueRow (holidays s) own d.rows quarter as_of x.row =
+          subst (λ os. IsDueRow (holidays s) own os quarter as_of x.row) owed r.is_row in
+          record {
+            form_is = subst (λ (a : Account). x.form ≡ a.form) same r.form_is;
+            listed = subst (λ xs. Has xs x.row) (sym due_are) ((d.all x.row).1 is_row);
+            pay_by = r.pay_by;
+            between = h.1;
+          })),
+      (λ c.
+          (let r : IsAgendaRow s as_of x = record {
+            account = account;
+            enrolled = enrolled;
+            form_is = c.form_is;
+            owed = d.rows;
+            are_owed = d.owed;
+            is_row = (d.all x.row).0 (subst (λ xs. Has xs x.row) due_are c.listed);
+            pay_by = c.pay_by;
+          } in
+          subst (λ xs. Has xs x) (sym rows_are) ((g.all x).1 (r, c.between)))),
+    )
+
+pub owed_is_left : (s after then : State) (from until as_of : ℕ) (rows owed : List AgendaRow)
+    (x : AgendaRow)
+    → Step s (Question (Agenda from until as_of)) (Ok (reply.Agenda rows)) after
+    → Step s (Question (Owed until as_of)) (Ok (reply.Agenda owed)) then
+    → (Has owed x × (from ≤ due_date_of x)) ↔ (Has rows x × (0 < left_of x.row))
+owed_is_left s after then from until as_of rows owed x asked also =
+    let g : IsAgenda s (IsDueBetween from until) as_of (Ok (reply.Agenda rows)) =
+    told_by s (Agenda from until as_of) (reply.Agenda rows) after (two_days _ _ _ _) asked in
+    let d : IsAgenda s (IsLeftBy until) as_of (Ok (reply.Agenda owed)) =
+    told_by s (Owed until as_of) (reply.Agenda owed) then (two_days _ _ _ _) also in
+    let rows_are : rows ≡ g.listed = agenda_is rows g.listed g.told in
+    let owed_are : owed ≡ d.listed = agenda_is owed d.listed d.told in (
+      (λ h.
+          (let k = (d.all x).0 (subst (λ xs. Has xs x) owed_are h.0) in (
+            subst (λ xs. Has xs x) (sym rows_are) ((g.all x).1 (k.0, (h.1, k.1.0))),
+            k.1.1,
+          ))),
+      (λ h.
+          (let k = (g.all x).0 (subst (λ xs. Has xs x) rows_are h.0) in (
+            subst (λ xs. Has xs x) (sym owed_are) ((d.all x).1 (k.0, (k.1.1, h.1))),
+            k.1.0,
+          ))),
+    )

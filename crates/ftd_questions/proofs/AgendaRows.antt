@@ -1,0 +1,128 @@
+-- The rows of an agenda, one by one.
+use Rattle.std.proofs.Common.{◌≡◌, ◌∙◌, sym, ap, subst, ℕ, ◌+◌, ◌<◌, List, [], ◌∷◌, ◌++◌}
+use Rattle.std.proofs.Common.{length, take, get_or, Option, None, Some, Ok}
+use Rattle.std.specs.Prelude.{filter, string_bytes}
+use Rattle.ftd_days.specs.Calendar.{quarter_of}
+use Rattle.ftd_rules.specs.declared.Form.{Form}
+use Rattle.ftd_rules.specs.declared.verdict.DueRow.{DueRow}
+use Rattle.ftd_rules.specs.declared.verdict.Verdict.{Verdict}
+use Rattle.ftd_rules.specs.declared.verdict.Verdict.TheVariants.{Met, WithReturn, Open, MadeUp}
+use Rattle.ftd_rules.specs.declared.verdict.Verdict.TheVariants.{Short, Late}
+use Rattle.ftd_rules.specs.Lists.{Has}
+use Rattle.ftd_rules.specs.Returns.{IsReturnDue}
+use Rattle.ftd_schema.specs.Orders.{AccountsRise}
+use Rattle.ftd_schema.specs.Standing.{Tables}
+use Rattle.ftd_schema.specs.Tests.{is_due_between}
+use Rattle.ftd_schema.specs.declared.TableName.TheVariants.{Obligations}
+use Rattle.ftd_rows.specs.Cells.{day_number}
+use Rattle.ftd_rows.specs.Lists.{Lists, Pairs}
+use Rattle.ftd_rows.specs.declared.obligations.AccountObligation.{AccountObligation}
+use Rattle.ftd_store.specs.Finds.{IsAccountObligation}
+use Rattle.ftd_store.proofs.Items.{taken, pairs_more}
+use Rattle.ftd_machine.specs.State.{State, entries_of, holidays}
+use Rattle.ftd_machine.specs.History.{AreOwed}
+use Rattle.ftd_machine.specs.Asking.{IsDueRow}
+use Rattle.ftd_machine.specs.Agenda.{first_day_of, IsDayFor, IsAgendaRow}
+use Rattle.ftd_machine.specs.Checks.{Answer}
+use Rattle.ftd_machine.specs.declared.lists.AgendaRow.{AgendaRow}
+use Rattle.ftd_machine.specs.declared.replies.Reply.TheVariants.{Due}
+use Rattle.ftd_questions.specs.Agendas.{IsListOf, KnowsList, KnowsLast, IsLast, day_for, IsRowOf}
+use Rattle.ftd_questions.specs.Agendas.{AddsRow, KnowsRow}
+use Rattle.ftd_questions.specs.declared.agenda_rows.AccountList.{AccountList}
+use Rattle.ftd_questions.specs.declared.agenda_rows.QuarterList.{QuarterList}
+
+-- the day by which to pay is the one that the return's due date makes it
+pays_by : (form : Form) (hs : List ℕ) (row : DueRow) (return_due : ℕ)
+    → IsReturnDue form hs (quarter_of row.obligation.first) return_due
+    → (verdict : Verdict) (day : ℕ) → day ≡ day_for verdict row return_due
+    → IsDayFor form hs row verdict day
+pays_by form hs row return_due is Met day e = e
+pays_by form hs row return_due is WithReturn day e =
+    subst (IsReturnDue form hs (quarter_of row.obligation.first)) (sym e) is
+pays_by form hs row return_due is Open day e = e
+pays_by form hs row return_due is MadeUp day e = e
+pays_by form hs row return_due is Short day e = e
+pays_by form hs row return_due is Late day e = e
+
+abbrev due_list_of : List DueRow → Answer
+due_list_of rows = Ok (Due rows)
+
+list_is : (rows listed : List DueRow) → due_list_of rows ≡ due_list_of listed → rows ≡ listed
+list_is rows listed e = cc
+
+-- a row of the account's due list is one of an agenda
+row_is : (s : State) (as_of : ℕ) (owed : AccountObligation) (list : AccountList) (x : AgendaRow)
+    → IsListOf s (string_bytes owed.account) (quarter_of owed.obligation.first) as_of list
+    → IsRowOf owed list x → IsAgendaRow s as_of x
+row_is s as_of owed list x l r =
+    let name = string_bytes owed.account in
+    let rows : list.rows.items ≡ l.due_list.listed =
+    list_is list.rows.items l.due_list.listed l.due_list.told in
+    let first : quarter_of owed.obligation.first ≡ quarter_of (first_day_of x) =
+    ap quarter_of (sym r.first) in
+    let is_row : IsDueRow (holidays s) (entries_of s name) l.due_list.rows
+    (quarter_of owed.obligation.first) as_of x.row =
+    (l.due_list.all x.row).0 (subst (λ rs. Has rs x.row) rows r.listed) in
+    let there : IsDueRow (holidays s) (entries_of s name) l.due_list.rows
+    (quarter_of (first_day_of x)) as_of x.row =
+    subst (λ q. IsDueRow (holidays s) (entries_of s name) l.due_list.rows q as_of x.row) first
+    is_row in
+    let return_due : IsReturnDue x.form (holidays s) (quarter_of (first_day_of x)) list.return_due =
+    subst (λ f. IsReturnDue f (holidays s) (quarter_of (first_day_of x)) list.return_due)
+    (sym r.form_is)
+    (subst (λ q. IsReturnDue list.form (holidays s) q list.return_due) first l.return_due) in
+    record {
+      account = l.account;
+      enrolled = subst (λ n. (entries_of s n).account ≡ Some l.account) (sym r.account) l.enrolled;
+      form_is = r.form_is ∙ l.form_is;
+      owed = l.due_list.rows;
+      are_owed = subst (λ n. AreOwed (holidays s) (entries_of s n) l.due_list.rows) (sym r.account)
+          l.due_list.owed;
+      is_row = subst (λ n. IsDueRow (holidays s) (entries_of s n) l.due_list.rows
+          (quarter_of (first_day_of x)) as_of x.row) (sym r.account) there;
+      pay_by = pays_by x.form (holidays s) x.row list.return_due return_due x.row.verdict x.pay_by
+          r.pay_by;
+    }
+
+pub row_known : (as_of : ℕ) (t : Tables) (owed : AccountObligation) (name : List ℕ) (quarter : ℕ)
+    (list : AccountList) (x : AgendaRow) → name ≡ string_bytes owed.account
+    → quarter ≡ quarter_of owed.obligation.first → KnowsList name quarter as_of list t
+    → IsRowOf owed list x → KnowsRow as_of t owed x
+row_known as_of t owed name quarter list x named its knows r = record {
+  account = r.account;
+  first = r.first;
+  is_row = λ s stands sound. row_is s as_of owed list x
+      (subst (λ n. IsListOf s n (quarter_of owed.obligation.first) as_of list) named
+      (subst (λ q. IsListOf s name q as_of list) its (knows s stands sound))) r;
+}
+
+-- ---- row after row
+
+-- of the obligations that were listed, these have their rows, and the due list that was read last
+-- is known
+pub record SoFar (from to as_of : ℕ) (listed done : List AccountObligation) (rows : List AgendaRow)
+    (last : Option QuarterList) (t : Tables) : Type 0 where
+  pub lists : Lists AccountsRise IsAccountObligation
+      (filter (is_due_between (day_number from) (day_number to)) (t Obligations)) listed
+  pub are_rows : Pairs (KnowsRow as_of t) done rows
+  pub last_is : KnowsLast as_of last t
+
+module _ (from to as_of : ℕ) (listed : List AccountObligation) where
+  -- with the row of one obligation more
+  pub so_far_more : (i : ℕ) (x : AccountObligation) (rows after : List AgendaRow)
+      (last new : Option QuarterList) (t : Tables) → i < length listed → x ≡ get_or listed i x
+      → IsLast x new → AddsRow x new rows after
+      → SoFar from to as_of listed (take i listed) rows last t → KnowsLast as_of new t
+      → SoFar from to as_of listed (take (i + 1) listed) after new t
+  so_far_more i x rows after last None t some is its adds so_far knows = absurd its
+  so_far_more i x rows after last (Some new) t some is its adds so_far knows =
+      let row = adds.0 in
+      let known = row_known as_of t x (string_bytes new.account) new.quarter new.list row its.0
+      its.1 knows adds.1 in
+      record {
+        lists = so_far.lists;
+        are_rows = subst (λ os. Pairs (KnowsRow as_of t) os after) (sym (taken listed i x some is))
+            (subst (Pairs (KnowsRow as_of t) (take i listed ++ x ∷ [])) (sym adds.2)
+            (pairs_more (KnowsRow as_of t) (take i listed) rows x row so_far.are_rows known));
+        last_is = knows;
+      }

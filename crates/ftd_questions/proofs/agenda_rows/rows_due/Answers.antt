@@ -1,0 +1,103 @@
+use Rattle.std.proofs.Common.{◌<◌, ℕ, List, [], take, length, None, Ok, rules, sym, subst}
+use Rattle.std.proofs.Common.{arith}
+use Rattle.std.specs.Prelude.{filter}
+use Rattle.ftd_schema.specs.Orders.{AccountsRise}
+use Rattle.ftd_schema.specs.Tests.{is_due_between}
+use Rattle.ftd_schema.specs.declared.TableName.TheVariants.{Obligations}
+use Rattle.ftd_rows.specs.Cells.{day_number}
+use Rattle.ftd_rows.specs.Lists.{Lists, Pairs}
+use Rattle.ftd_rows.specs.declared.obligations.AccountObligation.{AccountObligation}
+use Rattle.ftd_store.specs.Finds.{IsAccountObligation, ListsDueBetween}
+use Rattle.ftd_store.specs.Frame.{Frame}
+use Rattle.ftd_store.proofs.Going.{then_goes}
+use Rattle.ftd_store.proofs.Replaced.{all_taken}
+use Rattle.ftd_store.proofs.Telling.{reads_on, then_reads}
+use Rattle.ftd_store.proofs.Turning.{gave_up_after}
+use Rattle.ftd_questions.specs.Agendas.{KnowsLast, IsLast, KnowsRow, KnowsRowsDue}
+use Rattle.ftd_questions.proofs.AgendaRows.{SoFar, so_far_more}
+use Rattle.ftd_questions.proofs.agenda_rows.rows_due.Goals.{then-not-is_last+in_ok-last}
+use Rattle.ftd_questions.proofs.agenda_rows.rows_due.Goals.{else-not-is_last}
+use Rattle.ftd_questions.proofs.agenda_rows.rows_due.Goals as goal
+
+pub loop-owed-init : goal.loop-owed-init
+loop-owed-init g c =
+    let from = c.args.from in
+    let to = c.args.to in
+    let items : List AccountObligation = c.deref-owed-items.result.now in
+    rw c.new-rows.ensures.items
+    (reads_on g.S.Store c.args.tx.now c.due_between.new.self c.in_ok-listed.listed tt
+    (ListsDueBetween from to) (λ done. SoFar from to c.args.as_of items [] [] None)
+    (λ t lists. record {
+      lists = subst (Lists AccountsRise IsAccountObligation
+          (filter (is_due_between (day_number from) (day_number to)) (t Obligations)))
+          (sym c.deref-owed-items.ensures.value) lists;
+      are_rows = tt;
+      last_is = tt;
+    }) c.in_ok-listed.ensures.call)
+
+pub returns-in-Err : goal.returns-in-Err
+returns-in-Err g c =
+    let frame : Frame g.S.Store c.args.tx.now c.if-not-is_last.tx (Ok (tt {0})) =
+    elim c.if-not-is_last.branch [
+      | then-not-is_last+in_ok-last w ↦
+          rw w.tx-is (then_goes g.S.Store c.args.tx.now c.loop-owed.tx w.its_list.new.tx tt _ tt
+          c.loop-owed.invariant.frame w.in_ok-last.ensures.call.frame)
+      | else-not-is_last w ↦ rw w.tx-is c.loop-owed.invariant.frame
+    ] in
+    record {
+      call = gave_up_after g.S.Store c.args.tx.now c.if-not-is_last.tx c.give_up.new.self tt
+          c.give_up.result _ frame c.give_up.ensures.frame c.give_up.ensures.fails;
+    }
+
+pub loop-owed-preserved : goal.loop-owed-preserved
+loop-owed-preserved g c =
+    let from = c.args.from in
+    let to = c.args.to in
+    let as_of = c.args.as_of in
+    let items : List AccountObligation = c.deref-owed-items.result.now in
+    let i : ℕ = c.loop-owed.owed-index in
+    let x : AccountObligation = c.owed-item.result in
+    let some : i < length items = c.loop-owed-test.true in
+    let before = c.loop-owed.rows.items in
+    let last = c.loop-owed.last in
+    let new = c.if-not-is_last.last in
+    elim c.if-not-is_last.branch [
+      | then-not-is_last+in_ok-last w ↦
+          (let its : IsLast x new = subst (IsLast x) (sym w.last-is) w.in_ok-last.ensures.is in
+          rw w.tx-is (then_reads g.S.Store c.args.tx.now c.loop-owed.tx w.its_list.new.tx tt _ tt
+          (λ done. SoFar from to as_of items (take i items) before last) (KnowsLast as_of) _
+          (λ t so_far knows. so_far_more from to as_of items i x before _ last new t some
+          c.owed-item.is its c.in_default.ensures so_far
+          (subst (λ l. KnowsLast as_of l t) (sym w.last-is) knows))
+          c.loop-owed.invariant w.in_ok-last.ensures.call))
+      | else-not-is_last w ↦
+          (let its : IsLast x new = subst (IsLast x) (sym w.last-is)
+          (c.is_last.ensures (search (rules, w.if-not-is_last.false))) in
+          rw w.tx-is (reads_on g.S.Store c.args.tx.now c.loop-owed.tx tt tt
+          (λ done. SoFar from to as_of items (take i items) before last) _
+          (λ t so_far. so_far_more from to as_of items i x before _ last new t some
+          c.owed-item.is its c.in_default.ensures so_far
+          (subst (λ l. KnowsLast as_of l t) (sym w.last-is) so_far.last_is))
+          c.loop-owed.invariant))
+    ]
+
+pub returns : goal.returns
+returns g c =
+    let from = c.args.from in
+    let to = c.args.to in
+    let as_of = c.args.as_of in
+    let items : List AccountObligation = c.deref-owed-items.result.now in
+    let i : ℕ = c.loop-owed.owed-index in
+    let end = c.loop-owed-test.false in
+    let all = all_taken items i (omega arith) in
+    record {
+      call = reads_on g.S.Store c.args.tx.now c.loop-owed.tx tt c.loop-owed.rows
+          (λ done. SoFar from to as_of items (take i items) c.loop-owed.rows.items c.loop-owed.last)
+          (λ rows. KnowsRowsDue from to as_of rows.items)
+          (λ t so_far. record {
+            owed = items;
+            listed = so_far.lists;
+            are_rows = subst (λ os. Pairs (KnowsRow as_of t) os c.loop-owed.rows.items) all
+                so_far.are_rows;
+          }) c.loop-owed.invariant;
+    }

@@ -1,0 +1,44 @@
+use Rattle.std.proofs.Common.{Ok, rules, sym}
+use Rattle.ftd_store.proofs.Turning.{gave_up_after}
+use Rattle.ftd_machine.specs.declared.requests.Question.TheVariants as asked
+use Rattle.ftd_machine.specs.declared.requests.Request.TheVariants.{Question}
+use Rattle.ftd_machine.specs.declared.replies.Reply.TheVariants.{Agenda}
+use Rattle.ftd_entries.proofs.Serving.{served_looked}
+use Rattle.ftd_questions.specs.Agendas.{KnowsRowsDue}
+use Rattle.ftd_questions.proofs.AgendaTold.{agenda_answered, agenda_refused}
+use Rattle.ftd_questions.proofs.agendas.agenda.Goals as goal
+
+pub returns-in-Some : goal.returns-in-Some
+returns-in-Some g c =
+    let from = c.args.from in
+    let to = c.args.to in
+    let as_of = c.args.as_of in
+    record {
+      call = served_looked g.S.Store (Question (asked.Agenda from to as_of)) c.args.tx.now
+          c.rows_due.new.tx c.in_ok-rows.rows c.in-Some.answer
+          (λ rows. KnowsRowsDue from to as_of rows.items) c.in_ok-rows.ensures.call
+          (λ t s stands sound knows. agenda_refused from to as_of c.in-Some.answer (search rules)
+          s);
+    }
+
+pub returns-in-Ok : goal.returns-in-Ok
+returns-in-Ok g c =
+    let from = c.args.from in
+    let to = c.args.to in
+    let as_of = c.args.as_of in
+    let rows = c.in_ok-rows.rows in
+    record {
+      call = served_looked g.S.Store (Question (asked.Agenda from to as_of)) c.args.tx.now
+          c.rows_due.new.tx rows (Ok (Agenda c.from_vec.result))
+          (λ rs. KnowsRowsDue from to as_of rs.items) c.in_ok-rows.ensures.call
+          (λ t s stands sound knows. rw (sym c.from_vec.ensures) at
+          (agenda_answered from to as_of rows.items t s stands sound knows (search rules)
+          c.in-Ok.rows.items c.in-Ok.ensures.same c.in-Ok.ensures.in_order));
+    }
+
+pub returns-in-Err : goal.returns-in-Err
+returns-in-Err g c = record {
+  call = gave_up_after g.S.Store c.args.tx.now c.rows_due.new.tx c.give_up.new.self
+      c.in_ok-rows.rows c.give_up.result _ c.in_ok-rows.ensures.call.frame c.give_up.ensures.frame
+      c.give_up.ensures.fails;
+}

@@ -1,0 +1,45 @@
+use Rattle.std.proofs.Common.{◌≡◌, ◌∙◌, Ok, rules, sym}
+use Rattle.ftd_store.proofs.Turning.{gave_up_after}
+use Rattle.ftd_machine.specs.declared.requests.Question.TheVariants.{Owed}
+use Rattle.ftd_machine.specs.declared.requests.Request.TheVariants.{Question}
+use Rattle.ftd_machine.specs.declared.replies.Reply.TheVariants.{Agenda}
+use Rattle.ftd_entries.proofs.Serving.{served_looked}
+use Rattle.ftd_questions.specs.Agendas.{KnowsRowsDue}
+use Rattle.ftd_questions.proofs.AgendaTold.{first_month, owed_answered, owed_refused}
+use Rattle.ftd_questions.proofs.agendas.owed.Goals as goal
+
+pub returns-in-Some : goal.returns-in-Some
+returns-in-Some g c =
+    let until = c.args.until in
+    let as_of = c.args.as_of in
+    record {
+      call = served_looked g.S.Store (Question (Owed until as_of)) c.args.tx.now
+          c.rows_due.new.tx c.in_ok-rows.rows c.in-Some.answer
+          (λ rows. KnowsRowsDue c.first_of_month.result until as_of rows.items)
+          c.in_ok-rows.ensures.call
+          (λ t s stands sound knows. owed_refused until as_of c.in-Some.answer (search rules) s);
+    }
+
+pub returns-in-Ok : goal.returns-in-Ok
+returns-in-Ok g c =
+    let until = c.args.until in
+    let as_of = c.args.as_of in
+    let rows = c.in_ok-rows.rows in
+    let first : c.first_of_month.result ≡ 0 = c.first_of_month.ensures.value ∙ first_month in
+    record {
+      call = served_looked g.S.Store (Question (Owed until as_of)) c.args.tx.now
+          c.rows_due.new.tx rows (Ok (Agenda c.from_vec.result))
+          (λ rs. KnowsRowsDue c.first_of_month.result until as_of rs.items)
+          c.in_ok-rows.ensures.call
+          (λ t s stands sound knows. rw (sym c.from_vec.ensures) at
+          (owed_answered c.first_of_month.result until as_of rows.items t s stands sound knows first
+          (search rules) c.left_rows.result.items c.in-Ok.rows.items c.left_rows.ensures
+          c.in-Ok.ensures.same c.in-Ok.ensures.in_order));
+    }
+
+pub returns-in-Err : goal.returns-in-Err
+returns-in-Err g c = record {
+  call = gave_up_after g.S.Store c.args.tx.now c.rows_due.new.tx c.give_up.new.self
+      c.in_ok-rows.rows c.give_up.result _ c.in_ok-rows.ensures.call.frame c.give_up.ensures.frame
+      c.give_up.ensures.fails;
+}

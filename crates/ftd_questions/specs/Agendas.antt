@@ -1,0 +1,106 @@
+-- What is known of the rows of an agenda, by what the tables have.
+use Rattle.std.specs.Prelude.{◌≡◌, ◌++◌, ℕ, Bool, nat_lt, List, [], ◌∷◌, Option, None, Some, Ok, ⊤}
+use Rattle.std.specs.Prelude.{filter, string_bytes}
+use Rattle.ftd_days.specs.Calendar.{quarter_of}
+use Rattle.ftd_rules.specs.declared.verdict.DueRow.{DueRow}
+use Rattle.ftd_rules.specs.declared.verdict.Verdict.{Verdict}
+use Rattle.ftd_rules.specs.declared.verdict.Verdict.TheVariants.{Met, WithReturn, Open, MadeUp}
+use Rattle.ftd_rules.specs.declared.verdict.Verdict.TheVariants.{Short, Late}
+use Rattle.ftd_rules.specs.Lists.{Has}
+use Rattle.ftd_rules.specs.Returns.{IsReturnDue}
+use Rattle.ftd_schema.specs.Orders.{AccountsRise}
+use Rattle.ftd_schema.specs.Standing.{Tables}
+use Rattle.ftd_schema.specs.Tests.{is_due_between}
+use Rattle.ftd_schema.specs.declared.TableName.TheVariants.{Obligations}
+use Rattle.ftd_rows.specs.Cells.{day_number}
+use Rattle.ftd_rows.specs.Lists.{Lists, Pairs}
+use Rattle.ftd_rows.specs.declared.obligations.AccountObligation.{AccountObligation}
+use Rattle.ftd_store.specs.Finds.{IsAccountObligation}
+use Rattle.ftd_machine.specs.State.{State, entries_of, holidays}
+use Rattle.ftd_machine.specs.Sound.{IsSound}
+use Rattle.ftd_machine.specs.Asking.{IsDueList}
+use Rattle.ftd_machine.specs.Agenda.{IsAgendaRow}
+use Rattle.ftd_machine.specs.declared.entries.Account.{Account}
+use Rattle.ftd_machine.specs.declared.lists.AgendaRow.{AgendaRow}
+use Rattle.ftd_machine.specs.declared.replies.Reply.TheVariants.{Due}
+use Rattle.ftd_entries.specs.Standing.{StandsFor}
+use Rattle.ftd_questions.specs.declared.agenda_rows.AccountList.{AccountList}
+use Rattle.ftd_questions.specs.declared.agenda_rows.QuarterList.{QuarterList}
+
+-- ---- a due list
+
+-- the account is enrolled on the form, the rows are its due list of the quarter, and the quarter's
+-- return is due on the day
+pub record IsListOf (s : State) (name : List ℕ) (quarter as_of : ℕ) (list : AccountList)
+    : Type 0 where
+  pub account : Account
+  pub enrolled : (entries_of s name).account ≡ Some account
+  pub form_is : list.form ≡ account.form
+  pub due_list : IsDueList (holidays s) (entries_of s name) quarter as_of
+      (Ok (Due list.rows.items))
+  pub return_due : IsReturnDue list.form (holidays s) quarter list.return_due
+
+-- so in each sound state for which the tables stand
+abbrev pub KnowsList : List ℕ → ℕ → ℕ → AccountList → Tables → Type 0
+KnowsList name quarter as_of list t =
+    (s : State) → StandsFor t s → IsSound s → IsListOf s name quarter as_of list
+
+abbrev pub KnowsLast : ℕ → Option QuarterList → Tables → Type 0
+KnowsLast as_of None t = ⊤
+KnowsLast as_of (Some last) t = KnowsList (string_bytes last.account) last.quarter as_of last.list t
+
+-- the obligation of an account is on the list
+abbrev pub IsLast : AccountObligation → Option QuarterList → Type 0
+IsLast owed None = ⊥
+IsLast owed (Some last) =
+    (string_bytes last.account ≡ string_bytes owed.account)
+    × (last.quarter ≡ quarter_of owed.obligation.first)
+
+-- ---- a row
+
+-- the day by which to pay what is left of a row with the verdict, where the return is due on this
+-- day
+abbrev pub day_for : Verdict → DueRow → ℕ → ℕ
+day_for Met row return_due = row.obligation.due
+day_for WithReturn row return_due = return_due
+day_for Open row return_due = row.obligation.due
+day_for MadeUp row return_due = row.obligation.due
+day_for Short row return_due = row.makeup
+day_for Late row return_due = row.obligation.due
+
+-- it is the row of the obligation of an account on the list
+pub record IsRowOf (owed : AccountObligation) (list : AccountList) (x : AgendaRow)
+    : Type 0 where
+  pub account : x.account ≡ string_bytes owed.account
+  pub form_is : x.form ≡ list.form
+  pub listed : Has list.rows.items x.row
+  pub first : x.row.obligation.first ≡ owed.obligation.first
+  pub pay_by : x.pay_by ≡ day_for x.row.verdict x.row list.return_due
+
+-- it was added to the rows
+abbrev pub AddsRow : AccountObligation → Option QuarterList → List AgendaRow → List AgendaRow
+    → Type 0
+AddsRow owed None before after = ⊥
+AddsRow owed (Some last) before after =
+    (x : AgendaRow) × IsRowOf owed last.list x × (after ≡ before ++ x ∷ [])
+
+-- it is the row of the obligation's account and first day, in each sound state for which the tables
+-- stand
+pub record KnowsRow (as_of : ℕ) (t : Tables) (owed : AccountObligation) (x : AgendaRow)
+    : Type 0 where
+  pub account : x.account ≡ string_bytes owed.account
+  pub first : x.row.obligation.first ≡ owed.obligation.first
+  pub is_row : (s : State) → StandsFor t s → IsSound s → IsAgendaRow s as_of x
+
+-- something is left to pay of it
+abbrev pub is_left : AgendaRow → Bool
+is_left x = nat_lt x.row.paid.0 x.row.obligation.cents.0
+
+-- ---- the rows
+
+-- these are the rows of the obligations that are due on one of the days, by account and first day
+pub record KnowsRowsDue (from to as_of : ℕ) (rows : List AgendaRow) (t : Tables) : Type 0 where
+  pub owed : List AccountObligation
+  pub listed : Lists AccountsRise IsAccountObligation
+      (filter (is_due_between (day_number from) (day_number to)) (t Obligations)) owed
+  pub are_rows : Pairs (KnowsRow as_of t) owed rows

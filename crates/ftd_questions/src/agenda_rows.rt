@@ -1,0 +1,189 @@
+//! What is due between two days, over all accounts, by what the tables have: the rows, by account
+//! and first day.
+
+ghost use Rattle.std.specs.Prelude.{◌≡◌, IfOk, IfSome, IsTrue, OnOk};
+ghost use Rattle.std.specs.Prelude.{string_bytes};
+ghost use Rattle.ftd_days.specs.Calendar.{quarter_of};
+ghost use Rattle.ftd_rules.specs.Lists.{Has};
+ghost use Rattle.ftd_store.specs.Frame.{Reads};
+ghost use Rattle.ftd_questions.specs.Agendas.{day_for, KnowsList, KnowsLast, IsLast, IsRowOf};
+ghost use Rattle.ftd_questions.specs.Agendas.{AddsRow, KnowsRowsDue};
+
+use crate::due::{QuarterRows, rows_of_quarter};
+use ftd_days::{Day, Quarter};
+use ftd_entries::known;
+use ftd_machine::{AccountName, AgendaRow};
+use ftd_rows::AccountObligation;
+use ftd_rules::{DueRow, Form, Verdict};
+use ftd_store::{StoreFault, Tx};
+use sqlite::Alter;
+use std::alloc::Global;
+
+/// An account's due list of a quarter, with what a row of an agenda has besides.
+#[derive(Drop)]
+pub(crate) struct AccountList {
+    /// The account's form.
+    pub form: Form,
+    /// The due date of the quarter's return.
+    pub return_due: Day,
+    /// The rows of the due list.
+    pub rows: Vec<DueRow>,
+}
+
+/// A due list, and whose it is.
+#[derive(Drop)]
+pub(crate) struct QuarterList {
+    /// The account.
+    pub account: String,
+    /// The quarter.
+    pub quarter: Quarter,
+    /// Its due list.
+    pub list: AccountList,
+}
+
+/// The row of the obligation with this first day.
+fn row_from(rows: &[DueRow], first: Day) -> Option<DueRow>
+    ensures { IfSome result (λ row. Has rows.now row × (row.obligation.first ≡ first)) }
+{
+    for row in rows {
+        if row.obligation.first == first {
+            return Some(*row);
+        }
+    }
+    None
+}
+
+/// The day by which to pay what is left of a row, where its quarter's return is due on this day.
+fn day_to_pay(row: &DueRow, return_due: Day) -> Day
+    ensures { result ≡ day_for row.now.verdict row.now return_due }
+{
+    match row.verdict {
+        Verdict::Met | Verdict::Open | Verdict::MadeUp | Verdict::Late => row.obligation.due,
+        Verdict::WithReturn => return_due,
+        Verdict::Short => row.makeup,
+    }
+}
+
+/// The account's due list of the quarter. `Failed` also where the account is not enrolled, and
+/// where the quarter is not one of 2001 to 2098.
+fn list_of<S: Alter>(
+    tx: &mut Tx<'_, S>,
+    alloc: Global,
+    name: &str,
+    quarter: Quarter,
+    as_of: Day,
+) -> Result<AccountList, StoreFault>
+    ensures call { Reads S.Store tx.old tx.new result (KnowsList name.now quarter as_of) }
+{
+    let Some(account) = known(tx, name)? else {
+        return tx.give_up(StoreFault::Failed);
+    };
+    if quarter.year() < 2001 || quarter.year() > 2098 {
+        return tx.give_up(StoreFault::Failed);
+    }
+    let form = account.form;
+    let QuarterRows { return_due, rows } = rows_of_quarter(tx, alloc, name, form, quarter, as_of)?;
+    Ok(AccountList {
+        form,
+        return_due,
+        rows,
+    })
+}
+
+/// The due list that the obligation of an account is on. `Failed` also where there is none.
+fn its_list<S: Alter>(
+    tx: &mut Tx<'_, S>,
+    alloc: Global,
+    owed: &AccountObligation,
+    as_of: Day,
+) -> Result<Option<QuarterList>, StoreFault>
+    ensures call { Reads S.Store tx.old tx.new result (KnowsLast as_of) }
+    ensures is { IfOk result (λ last. IsLast owed.now last) }
+{
+    let account: &str = &owed.account;
+    let quarter = owed.obligation.first.quarter();
+    let list = list_of(tx, alloc, account, quarter, as_of)?;
+    match String::from_str(alloc, account) {
+        Ok(account) => Ok(Some(QuarterList {
+            account,
+            quarter,
+            list,
+        })),
+        Err(_) => tx.give_up(StoreFault::Memory),
+    }
+}
+
+/// Whether the list is the one that the obligation of an account is on.
+fn is_last(last: &Option<QuarterList>, owed: &AccountObligation) -> bool
+    ensures { IsTrue result → IsLast owed.now last.now }
+{
+    match last {
+        Some(last) => {
+            last.account == owed.account && last.quarter == owed.obligation.first.quarter()
+        }
+        None => false,
+    }
+}
+
+/// The row of the obligation of an account on the list. `Failed` where it has none, and `Memory`
+/// where there was no memory.
+fn agenda_row(
+    alloc: Global,
+    owed: &AccountObligation,
+    list: &AccountList,
+) -> Result<AgendaRow, StoreFault>
+    ensures { IfOk result (λ row. IsRowOf owed.now list.now row) }
+{
+    let Some(row) = row_from(&list.rows, owed.obligation.first) else {
+        return Err(StoreFault::Failed);
+    };
+    let account = String::from_str(alloc, &owed.account)?;
+    Ok(AgendaRow {
+        account: AccountName::from_string(account),
+        form: list.form,
+        row,
+        pay_by: day_to_pay(&row, list.return_due),
+    })
+}
+
+/// Adds the row of the obligation of an account on the list. The faults are those of `agenda_row`;
+/// then the rows are as they were.
+fn add_row(
+    alloc: Global,
+    owed: &AccountObligation,
+    last: &Option<QuarterList>,
+    rows: &mut Vec<AgendaRow>,
+) -> Result<(), StoreFault>
+    ensures { OnOk result (AddsRow owed.now last.now rows.old.items rows.new.items) }
+{
+    let Some(last) = last else {
+        return Err(StoreFault::Failed);
+    };
+    rows.push(agenda_row(alloc, owed, &last.list)?)?;
+    Ok(())
+}
+
+/// The rows of what is due between the days, both included, as of a day, by account and first day.
+pub(crate) fn rows_due<S: Alter>(
+    tx: &mut Tx<'_, S>,
+    alloc: Global,
+    from: Day,
+    to: Day,
+    as_of: Day,
+) -> Result<Vec<AgendaRow>, StoreFault>
+    ensures call { Reads S.Store tx.old tx.new result
+        (λ rows. KnowsRowsDue from to as_of rows.items) }
+{
+    let listed = tx.due_between(alloc, from, to)?;
+    let mut rows: Vec<AgendaRow> = Vec::new(alloc);
+    let mut last: Option<QuarterList> = None;
+    for owed in &listed {
+        if !is_last(&last, owed) {
+            last = its_list(tx, alloc, owed, as_of)?;
+        }
+        if let Err(fault) = add_row(alloc, owed, &last, &mut rows) {
+            return tx.give_up(fault);
+        }
+    }
+    Ok(rows)
+}

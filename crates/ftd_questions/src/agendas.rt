@@ -1,0 +1,84 @@
+//! What is due over all accounts, and what of it is not paid.
+
+ghost use Rattle.std.specs.Prelude.{◌≡◌, filter, IfOk};
+ghost use Rattle.std.specs.List.Sorted.{IsPermutation};
+ghost use Rattle.ftd_store.specs.Frame.{Calls};
+ghost use Rattle.ftd_machine.specs.Agenda.{EachToLater, IsOwnBefore, ComesBefore};
+ghost use Rattle.ftd_machine.specs.declared.requests.Question.TheVariants.{Agenda, Owed};
+ghost use Rattle.ftd_machine.specs.declared.requests.Request.TheVariants.{Question};
+ghost use Rattle.ftd_entries.specs.Words.{Serves};
+ghost use Rattle.ftd_questions.specs.Agendas.{is_left};
+
+use crate::agenda_rows::rows_due;
+use ftd_days::Day;
+use ftd_machine::{AgendaRow, AgendaRows, Answer, Reply, agenda_check, owed_check};
+use ftd_store::{StoreFault, Tx};
+use sqlite::Alter;
+use std::alloc::{AllocError, Global};
+
+/// The rows by due date, where they are given by account and first day.
+fn by_due_date(rows: Vec<AgendaRow>) -> Result<Vec<AgendaRow>, AllocError>
+    ensures same { IfOk result (λ sorted. IsPermutation rows.items sorted.items) }
+    ensures in_order { IfOk result (λ sorted. EachToLater IsOwnBefore rows.items
+        → EachToLater ComesBefore sorted.items) }
+{
+    let mut rows = rows;
+    rows.sort_by_key(|row| row.row.obligation.due)?;
+    Ok(rows)
+}
+
+/// Whether something is left to pay of a row.
+fn is_left(row: &AgendaRow) -> bool
+    ensures { result ≡ is_left row.now }
+{
+    row.row.paid < row.row.obligation.cents
+}
+
+/// The rows of which something is left to pay.
+fn left_rows(rows: Vec<AgendaRow>) -> Vec<AgendaRow>
+    ensures { result.items ≡ filter is_left rows.items }
+{
+    let mut rows = rows;
+    rows.retain(|row| is_left(row));
+    rows
+}
+
+/// Tells what is due between the days, both included, over all accounts, as of a day. The rows are
+/// read before the days are checked, as what is known of an account is for the other questions.
+pub(crate) fn agenda<S: Alter>(
+    tx: &mut Tx<'_, S>,
+    alloc: Global,
+    from: Day,
+    to: Day,
+    as_of: Day,
+) -> Result<Answer, StoreFault>
+    ensures call { Calls S.Store tx.old tx.new result (Serves (Question (Agenda from to as_of))) }
+{
+    let rows = rows_due(tx, alloc, from, to, as_of)?;
+    if let Some(answer) = agenda_check(from, to, as_of) {
+        return Ok(answer);
+    }
+    match by_due_date(rows) {
+        Ok(rows) => Ok(Ok(Reply::Agenda(AgendaRows::from_vec(rows)))),
+        Err(_) => tx.give_up(StoreFault::Memory),
+    }
+}
+
+/// Tells what is due until the day, over all accounts, and not paid as of a day.
+pub(crate) fn owed<S: Alter>(
+    tx: &mut Tx<'_, S>,
+    alloc: Global,
+    until: Day,
+    as_of: Day,
+) -> Result<Answer, StoreFault>
+    ensures call { Calls S.Store tx.old tx.new result (Serves (Question (Owed until as_of))) }
+{
+    let rows = rows_due(tx, alloc, Day::first_of_month(0), until, as_of)?;
+    if let Some(answer) = owed_check(until, as_of) {
+        return Ok(answer);
+    }
+    match by_due_date(left_rows(rows)) {
+        Ok(rows) => Ok(Ok(Reply::Agenda(AgendaRows::from_vec(rows)))),
+        Err(_) => tx.give_up(StoreFault::Memory),
+    }
+}
