@@ -1,20 +1,15 @@
 //! The federal tax deposit desk.
 #![tactic(auto)]
 
-mod faults;
-mod files;
-mod hints;
-mod input;
 mod progress;
-mod server;
 
-use crate::faults::ProgramFault;
-use crate::files::{closed, desk_of, is_new, opened, tell_made};
-use crate::hints::tell_fault;
-use crate::input::{import_input, standard_input, words};
 use crate::progress::ProgressLine;
-use crate::server::serve;
 use ftd_desk::Desk;
+use ftd_files::{
+    ProgramFault, closed, desk_of, import_input, is_new, opened, standard_input, tell_fault,
+    tell_made, words,
+};
+use ftd_http::serve_file;
 use ftd_machine::Request;
 use ftd_ports::Port;
 use ftd_program::{perform, print_plain, tell};
@@ -66,7 +61,7 @@ fn done(rt: &HostRuntime, task: &Task) -> u8 {
             Ok(status) => status,
             Err(fault) => told(rt, fault, &task.db, input_of(task)),
         },
-        Task::Serve(task) => match serve(rt, task) {
+        Task::Serve(task) => match serve_file(rt, task) {
             Ok(status) => status,
             Err(fault) => told(rt, fault, &task.db, ""),
         },

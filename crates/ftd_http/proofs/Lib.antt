@@ -1,4 +1,1 @@
-pub mod EndFacts
-pub mod ServeFacts
 pub mod TableFacts
-pub mod ListeningFacts

@@ -15,14 +15,15 @@ use Rattle.ftd_messages.specs.Messages.{Message}
 use Rattle.ftd_routes.specs.Asking.{asked_of}
 use Rattle.ftd_routes.specs.declared.ask.Asked.{Asked}
 use Rattle.ftd_routes.specs.declared.ask.Asked.TheVariants as asked
-use Rattle.ftd_http.specs.Responses.{Said}
-use Rattle.ftd_http.specs.Replying.{Responds}
-use Rattle.ftd_http.specs.Serving.{IsAnswer, Answers, none, more, Answered, Broken, BreaksOff}
-use Rattle.ftd_http.specs.Serving.{unasked, in_answer, in_refusal, ServesMessages, Breaks}
+use Rattle.ftd_connections.specs.Responses.{Said}
+use Rattle.ftd_connections.specs.Replying.{Responds}
+use Rattle.ftd_connections.specs.Serving.{IsAnswer, Answers, none, more, Answered, Broken}
+use Rattle.ftd_connections.specs.Serving.{BreaksOff, unasked, in_answer, in_refusal}
+use Rattle.ftd_connections.specs.Serving.{ServesMessages, Breaks}
 use Rattle.ftd_http.specs.Tables.{Follows, AnsweredBy, BrokenBy}
-use Rattle.ftd_http.specs.declared.connection.Cause.{Cause}
-use Rattle.ftd_http.specs.declared.connection.Served.{Served}
-use Rattle.ftd_http.specs.declared.connection.ServeFault.{ServeFault}
+use Rattle.ftd_connections.specs.declared.connection.Cause.{Cause}
+use Rattle.ftd_connections.specs.declared.connection.Served.{Served}
+use Rattle.ftd_connections.specs.declared.connection.ServeFault.{ServeFault}
 
 -- a desk that stays as it was
 same_desk : (old new : Held) (so : State → State → Type 0) → new ≡ old → ((s : State) → so s s)

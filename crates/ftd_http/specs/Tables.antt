@@ -5,8 +5,8 @@ use Rattle.ftd_machine.specs.State.{State}
 use Rattle.ftd_machine.specs.Runs.{Goes}
 use Rattle.ftd_desk.specs.Desks.{Held, Keeps}
 use Rattle.ftd_messages.specs.Messages.{Message}
-use Rattle.ftd_http.specs.Serving.{Answered, Broken}
-use Rattle.ftd_http.specs.declared.connection.Cause.{Cause}
+use Rattle.ftd_connections.specs.Serving.{Answered, Broken}
+use Rattle.ftd_connections.specs.declared.connection.Cause.{Cause}
 
 -- a desk that stood for a state stands for one that follows from it so while the connection is open
 pub record Follows (old new : Held) (so : State → State → Type 0) : Type 0 where

@@ -1,23 +1,12 @@
-//! Connections: requests of HTTP, and the desk's answers to them; and those of a listener, taken one
-//! after the other.
+//! Connections over the desk; those of a listener, taken one after the other; and the server over a
+//! database file.
 #![tactic(auto)]
 
-mod closing;
-mod connection;
-pub mod laws;
-mod lines;
-mod machine;
 mod office;
-mod outcome;
-mod refusals;
-mod respond;
-mod response;
+mod server;
 mod serving;
-mod stop;
-mod timed;
-mod wire;
 
-pub use crate::connection::{Cause, End, ServeFault, Served};
 pub use crate::office::serve;
-pub use crate::serving::{Limits, announce, serve_on};
-pub use crate::stop::Stop;
+pub use crate::server::serve_file;
+pub use crate::serving::{Limits, serve_on};
+pub use ftd_connections::{Cause, End, ServeFault, Served, Stop, announce};

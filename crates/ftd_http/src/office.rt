@@ -2,11 +2,10 @@
 
 ghost use Rattle.std.specs.Prelude.{IfOk, IfErr};
 ghost use Rattle.ftd_desk.specs.Desks.{held};
-ghost use Rattle.ftd_http.specs.Serving.{ServesMessages, Breaks};
+ghost use Rattle.ftd_connections.specs.Serving.{ServesMessages, Breaks};
 ghost use Rattle.ftd_http.specs.Tables.{AnsweredBy, BrokenBy};
 
-use crate::connection::{ServeFault, Served, serve_machine};
-use crate::machine::Machine;
+use ftd_connections::{Machine, ServeFault, Served, serve_machine};
 use ftd_desk::Desk;
 use ftd_machine::{Answer, Request};
 use ftd_messages::Peer;
@@ -14,7 +13,10 @@ use ftd_ports::Target;
 use sqlite::Alter;
 use std::alloc::Global;
 
-impl<S: Alter> Machine for Desk<S> {
+/// The way in which a desk answers: by its tables.
+pub struct ByTables;
+
+impl<S: Alter> Machine<ByTables> for Desk<S> {
     ghost use Rattle.ftd_desk.specs.Desks.{held};
     ghost use Rattle.ftd_desk.specs.Words.{Handles};
 

@@ -3,17 +3,11 @@
 ghost use Rattle.std.specs.Prelude.{◌<◌, ◌≤◌, Result};
 ghost use Rattle.ftd_desk.specs.Desks.{held};
 ghost use Rattle.ftd_ports.specs.declared.writing.WriteFault.{WriteFault};
-ghost use Rattle.ftd_http.specs.Listening.{HasTaken, IsAnnounced, IsServed, IsTold, IsTurn};
-ghost use Rattle.ftd_http.specs.Listening.{asks, outcome_of, serves, stop_line, stop_of};
+ghost use Rattle.ftd_connections.specs.Listening.{HasTaken, IsTurn, outcome_of};
+ghost use Rattle.ftd_http.specs.Turns.{IsServed, asks, serves};
 
-use crate::closing::end;
-use crate::connection::{Cause, End, Served};
-use crate::lines::{tell_listening, tell_outcome, tell_stop};
 use crate::office::serve;
-use crate::outcome::{Outcome, Turn};
-use crate::stop::Stop;
-use crate::timed::{Timed, Timer};
-use crate::wire::Wire;
+use ftd_connections::{Cause, End, Outcome, Served, Timed, Timer, Turn, Wire, end, tell_outcome};
 use ftd_days::Day;
 use ftd_desk::Desk;
 use ftd_machine::{AccountName, Question, Refusal, Request};
@@ -78,38 +72,6 @@ fn serve_one<S: Alter, R: Clock + AllocGlobal>(
 /// Whether the server ends a connection after an answer, and the peer may still send.
 fn is_ended_here(served: Served) -> bool {
     matches!(served.end, End::Asked | End::Limit | End::BadMessage)
-}
-
-/// Tells on `out` at which port of 127.0.0.1 the listener listens. Where it has none, or `out`
-/// fails, why is told on `err`.
-pub fn announce<Out: Target, Err: Target>(
-    listener: &TcpListener,
-    out: &mut Out,
-    err: &mut Err,
-) -> Result<(), Stop>
-    ensures port { IsAnnounced result (Out.taken out.old) (Out.taken out.new) (Out.failed out.new) }
-    ensures stop { (told : Result (Unit {0}) WriteFault)
-        × IsTold told (Err.taken err.old) (Err.taken err.new) (Err.failed err.new)
-        (stop_line (stop_of result)) }
-{
-    let announced = announce_port(listener, out);
-    if let Err(stop) = announced {
-        let _ = tell_stop(stop, err);
-    }
-    announced
-}
-
-/// Tells at which port the listener listens.
-fn announce_port<Out: Target>(listener: &TcpListener, out: &mut Out) -> Result<(), Stop>
-    ensures { IsAnnounced result (Out.taken out.old) (Out.taken out.new) (Out.failed out.new) }
-{
-    let Ok(address) = listener.local_addr() else {
-        return Err(Stop::Net);
-    };
-    match tell_listening(address.port(), out) {
-        Ok(()) => Ok(()),
-        Err(_) => Err(Stop::Output),
-    }
 }
 
 /// Takes a connection, and serves it. After an error of the listener it waits for a tenth of a

@@ -1,6 +1,6 @@
 use Rattle.std.proofs.Common.{arith}
-use Rattle.ftd_http.specs.Listening.{asks, serves}
-use Rattle.ftd_http.proofs.ListeningFacts.{goes_more, takes_all, takes_more, takes_none}
+use Rattle.ftd_http.specs.Turns.{asks, serves}
+use Rattle.ftd_connections.proofs.ListeningFacts.{goes_more, takes_all, takes_more, takes_none}
 use Rattle.ftd_http.proofs.serving.serve_on.Goals as goal
 
 pub loop-number-init : goal.loop-number-init

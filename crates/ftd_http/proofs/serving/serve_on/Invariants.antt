@@ -1,5 +1,5 @@
-use Rattle.ftd_http.specs.Listening.{asks, serves}
-use Rattle.ftd_http.proofs.ListeningFacts.{Going}
+use Rattle.ftd_http.specs.Turns.{asks, serves}
+use Rattle.ftd_connections.proofs.ListeningFacts.{Going}
 use Rattle.ftd_http.proofs.serving.serve_on.Given as goal
 
 abbrev pub invariant-loop-number : goal.invariant-loop-number

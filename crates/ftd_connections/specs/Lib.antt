@@ -1,0 +1,14 @@
+pub mod Responses
+pub mod Refusals
+pub mod Replying
+pub mod Serving
+pub mod Wires
+pub mod Listening
+pub use Rattle.ftd_machine.specs.Checks
+pub use Rattle.ftd_messages.specs.Looks
+pub use Rattle.ftd_messages.specs.Messages
+pub use Rattle.ftd_ports.specs.Writing
+pub use Rattle.ftd_reports.specs.Agendas
+pub use Rattle.ftd_reports.specs.DueLists
+pub use Rattle.ftd_reports.specs.SchedulesB
+pub use Rattle.ftd_routes.specs.Routes

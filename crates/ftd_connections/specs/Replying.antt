@@ -1,0 +1,114 @@
+-- The response to what is asked.
+use Rattle.std.specs.Prelude.{◌≡◌, ℕ, ◌++◌, List, [], ◌∷◌, codes, Option, Some, None, Ok, Err}
+use Rattle.std.specs.List.{concat}
+use Rattle.std.specs.Fmt.{decimal}
+use Rattle.ftd_days.specs.Text.{day_text}
+use Rattle.ftd_messages.specs.declared.status.Status.TheVariants as status
+use Rattle.ftd_machine.specs.Questions.{question_of}
+use Rattle.ftd_machine.specs.declared.requests.Question.{Question}
+use Rattle.ftd_machine.specs.declared.requests.Question.TheVariants.{Status, DueList, ScheduleB}
+use Rattle.ftd_machine.specs.declared.requests.Question.TheVariants.{Agenda, Owed}
+use Rattle.ftd_machine.specs.declared.requests.Request.{Request}
+use Rattle.ftd_rules.specs.declared.Kind.{Kind}
+use Rattle.ftd_rules.specs.declared.Kind.TheVariants.{Monthly, Semiweekly}
+use Rattle.ftd_machine.specs.declared.lists.AgendaRow.{AgendaRow}
+use Rattle.ftd_machine.specs.declared.replies.Reason.{Reason}
+use Rattle.ftd_machine.specs.declared.replies.Reason.TheVariants.{Lookback, Turned, Carried}
+use Rattle.ftd_machine.specs.declared.replies.Reply.{Reply}
+use Rattle.ftd_machine.specs.declared.replies.Reply.TheVariants as reply
+use Rattle.ftd_reports.specs.Agendas.{agenda_text, owed_text}
+use Rattle.ftd_reports.specs.DueLists.{due_text}
+use Rattle.ftd_reports.specs.SchedulesB.{b_text}
+use Rattle.ftd_rules.specs.declared.DaySum.{DaySum}
+use Rattle.ftd_rules.specs.declared.verdict.DueRow.{DueRow}
+use Rattle.ftd_machine.specs.Checks.{Answer}
+use Rattle.ftd_connections.specs.Responses.{Said, bare, json, plain, other_method}
+use Rattle.ftd_connections.specs.Refusals.{refused}
+use Rattle.ftd_routes.specs.declared.ask.Asked.{Asked}
+use Rattle.ftd_routes.specs.declared.ask.Asked.TheVariants as asked
+
+-- the obligations that went and came, as JSON
+abbrev pub posted_text : ℕ → ℕ → ℕ → ℕ → List ℕ
+posted_text from to removed added =
+    codes "{\"added\":" ++ decimal added
+    ++ codes ",\"from\":\"" ++ day_text from ++ codes "\",\"removed\":" ++ decimal removed
+    ++ codes ",\"reply\":\"posted\",\"to\":\"" ++ day_text to ++ codes "\"}"
+
+-- the schedule on a day, as JSON
+abbrev pub kind_text : Kind → List ℕ
+kind_text Monthly = codes "monthly"
+kind_text Semiweekly = codes "semiweekly"
+
+abbrev pub reason_text : Reason → List ℕ
+reason_text Lookback = codes "lookback\"}"
+reason_text Carried = codes "carried\"}"
+reason_text (Turned day) = concat (codes "turned\",\"turn\":\"" ∷ day_text day ∷ codes "\"}" ∷ [])
+
+abbrev pub schedule_text : ℕ → Kind → Reason → List ℕ
+schedule_text day kind reason =
+    concat (codes "{\"day\":\"" ∷ day_text day ∷ codes "\",\"kind\":\"" ∷ kind_text kind
+    ∷ codes "\",\"reason\":\"" ∷ reason_text reason ∷ [])
+
+-- the response to a schedule that a request asked for
+abbrev pub scheduled : Option Question → Kind → Reason → Said
+scheduled (Some (Status account day)) kind reason =
+    json status.Okay (schedule_text day kind reason)
+scheduled (Some (DueList account quarter as_of)) kind reason = bare status.InternalServerError
+scheduled (Some (ScheduleB account quarter)) kind reason = bare status.InternalServerError
+scheduled (Some (Agenda from to as_of)) kind reason = bare status.InternalServerError
+scheduled (Some (Owed until as_of)) kind reason = bare status.InternalServerError
+scheduled None kind reason = bare status.InternalServerError
+
+-- the response to the rows of a due list that a request asked for
+abbrev pub listed : Option Question → List DueRow → Said
+listed (Some (Status account day)) rows = bare status.InternalServerError
+listed (Some (DueList account quarter as_of)) rows =
+    plain (due_text account quarter as_of rows)
+listed (Some (ScheduleB account quarter)) rows = bare status.InternalServerError
+listed (Some (Agenda from to as_of)) rows = bare status.InternalServerError
+listed (Some (Owed until as_of)) rows = bare status.InternalServerError
+listed None rows = bare status.InternalServerError
+
+-- the response to the days of a Schedule B that a request asked for
+abbrev pub summed : Option Question → List DaySum → Said
+summed (Some (Status account day)) sums = bare status.InternalServerError
+summed (Some (DueList account quarter as_of)) sums = bare status.InternalServerError
+summed (Some (ScheduleB account quarter)) sums = plain (b_text account quarter sums)
+summed (Some (Agenda from to as_of)) sums = bare status.InternalServerError
+summed (Some (Owed until as_of)) sums = bare status.InternalServerError
+summed None sums = bare status.InternalServerError
+
+-- the response to the rows of what is due over all accounts that a request asked for
+abbrev pub gathered : Option Question → List AgendaRow → Said
+gathered (Some (Status account day)) rows = bare status.InternalServerError
+gathered (Some (DueList account quarter as_of)) rows = bare status.InternalServerError
+gathered (Some (ScheduleB account quarter)) rows = bare status.InternalServerError
+gathered (Some (Agenda from to as_of)) rows = plain (agenda_text from to as_of rows)
+gathered (Some (Owed until as_of)) rows = plain (owed_text until as_of rows)
+gathered None rows = bare status.InternalServerError
+
+-- The response to a reply. One that does not fit its request, which the desk does not give, is a
+-- fault of the server.
+abbrev pub replied : Request → Reply → Said
+replied request reply.Done = json status.Okay (codes "{\"reply\":\"done\"}")
+replied request reply.Already = json status.Okay (codes "{\"reply\":\"already\"}")
+replied request (reply.Posted from to removed added) =
+    json status.Okay (posted_text from to removed added)
+replied request (reply.Status kind reason) = scheduled (question_of request) kind reason
+replied request (reply.Due rows) = listed (question_of request) rows
+replied request (reply.Days sums) = summed (question_of request) sums
+replied request (reply.Agenda rows) = gathered (question_of request) rows
+
+abbrev pub answered : Request → Answer → Said
+answered request (Ok reply) = replied request reply
+answered request (Err refusal) = refused refusal
+
+-- The response to what is asked of a machine: where nothing is asked of it, it stays as it is.
+-- `goes` has the machine, a request, its answer, and the machine after it.
+module _ {M : Type 0} (goes : M → Request → Answer → M → Type 0) where
+  abbrev pub Responds : M → Asked → Said → M → Type 0
+  Responds now asked.NoRoute said later = (later ≡ now) × (said ≡ bare status.NotFound)
+  Responds now (asked.OtherMethod allow) said later = (later ≡ now) × (said ≡ other_method allow)
+  Responds now asked.BadForm said later = (later ≡ now) × (said ≡ bare status.BadRequest)
+  Responds now (asked.Asks request) said later =
+      (answer : Answer) × goes now request answer later × (said ≡ answered request answer)
