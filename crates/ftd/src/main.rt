@@ -36,7 +36,7 @@ fn told(rt: &HostRuntime, fault: ProgramFault, db: &str, input: &str) -> u8 {
 fn input_of(task: &LocalTask) -> &str {
     match &task.job {
         Job::Import(file) => file,
-        Job::Ask(_) => "",
+        Job::Ask { .. } => "",
     }
 }
 
@@ -98,22 +98,27 @@ fn over_files<D: Disk + Drop>(
     Ok(status)
 }
 
+/// Whether a request tells of a file that was made for it.
+fn tells_after(request: &Request) -> bool {
+    match request {
+        Request::Calendar { .. } | Request::Enrol { .. } => false,
+        Request::AddHoliday { .. }
+        | Request::Report { .. }
+        | Request::ReportYear { .. }
+        | Request::OpenYear { .. }
+        | Request::Post { .. }
+        | Request::Void { .. }
+        | Request::Pay { .. }
+        | Request::VoidPay { .. }
+        | Request::Question(_) => true,
+    }
+}
+
 /// Whether a task tells of a file that it made: all do but those by which a desk begins.
 fn tells_of_new_file(task: &LocalTask) -> bool {
     match &task.job {
-        Job::Ask(Request::Calendar { .. } | Request::Enrol { .. }) => false,
-        Job::Ask(
-            Request::AddHoliday { .. }
-            | Request::Report { .. }
-            | Request::ReportYear { .. }
-            | Request::OpenYear { .. }
-            | Request::Post { .. }
-            | Request::Void { .. }
-            | Request::Pay { .. }
-            | Request::VoidPay { .. }
-            | Request::Question(_),
-        )
-        | Job::Import(_) => true,
+        Job::Ask { request, .. } => tells_after(request),
+        Job::Import(_) => true,
     }
 }
 
@@ -121,7 +126,7 @@ fn tells_of_new_file(task: &LocalTask) -> bool {
 fn local(rt: &HostRuntime, task: &LocalTask) -> Result<u8, ProgramFault> {
     let input = match &task.job {
         Job::Import(file) => import_input(rt, file)?,
-        Job::Ask(_) => Vec::new(rt.alloc()),
+        Job::Ask { .. } => Vec::new(rt.alloc()),
     };
     let is_new = is_new(rt, &task.db)?;
     let conn = opened(rt, &task.db, task.wait)?;

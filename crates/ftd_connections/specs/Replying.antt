@@ -16,13 +16,15 @@ use Rattle.ftd_machine.specs.declared.replies.Reason.{Reason}
 use Rattle.ftd_machine.specs.declared.replies.Reason.TheVariants.{Lookback, Turned, Carried}
 use Rattle.ftd_machine.specs.declared.replies.Reply.{Reply}
 use Rattle.ftd_machine.specs.declared.replies.Reply.TheVariants as reply
-use Rattle.ftd_reports.specs.Agendas.{agenda_text, owed_text}
+use Rattle.ftd_reports.specs.Formats.{agenda_as, owed_as}
+use Rattle.ftd_reports.specs.declared.formats.Format.{Format}
 use Rattle.ftd_reports.specs.DueLists.{due_text}
 use Rattle.ftd_reports.specs.SchedulesB.{b_text}
 use Rattle.ftd_rules.specs.declared.DaySum.{DaySum}
 use Rattle.ftd_rules.specs.declared.verdict.DueRow.{DueRow}
 use Rattle.ftd_machine.specs.Checks.{Answer}
-use Rattle.ftd_connections.specs.Responses.{Said, bare, json, plain, other_method}
+use Rattle.ftd_connections.specs.Responses.{Said, bare, json, plain, formatted}
+use Rattle.ftd_connections.specs.Responses.{other_method}
 use Rattle.ftd_connections.specs.Refusals.{refused}
 use Rattle.ftd_routes.specs.declared.ask.Asked.{Asked}
 use Rattle.ftd_routes.specs.declared.ask.Asked.TheVariants as asked
@@ -78,30 +80,32 @@ summed (Some (Agenda from to as_of)) sums = bare status.InternalServerError
 summed (Some (Owed until as_of)) sums = bare status.InternalServerError
 summed None sums = bare status.InternalServerError
 
--- the response to the rows of what is due over all accounts that a request asked for
-abbrev pub gathered : Option Question → List AgendaRow → Said
-gathered (Some (Status account day)) rows = bare status.InternalServerError
-gathered (Some (DueList account quarter as_of)) rows = bare status.InternalServerError
-gathered (Some (ScheduleB account quarter)) rows = bare status.InternalServerError
-gathered (Some (Agenda from to as_of)) rows = plain (agenda_text from to as_of rows)
-gathered (Some (Owed until as_of)) rows = plain (owed_text until as_of rows)
-gathered None rows = bare status.InternalServerError
+-- the response to the rows of what is due over all accounts that a request asked for, in a format
+abbrev pub gathered : Format → Option Question → List AgendaRow → Said
+gathered format (Some (Status account day)) rows = bare status.InternalServerError
+gathered format (Some (DueList account quarter as_of)) rows = bare status.InternalServerError
+gathered format (Some (ScheduleB account quarter)) rows = bare status.InternalServerError
+gathered format (Some (Agenda from to as_of)) rows =
+    formatted format (agenda_as format from to as_of rows)
+gathered format (Some (Owed until as_of)) rows =
+    formatted format (owed_as format until as_of rows)
+gathered format None rows = bare status.InternalServerError
 
--- The response to a reply. One that does not fit its request, which the desk does not give, is a
+-- The response to a reply, in a format where it tells of all accounts. One that does not fit its request, which the desk does not give, is a
 -- fault of the server.
-abbrev pub replied : Request → Reply → Said
-replied request reply.Done = json status.Okay (codes "{\"reply\":\"done\"}")
-replied request reply.Already = json status.Okay (codes "{\"reply\":\"already\"}")
-replied request (reply.Posted from to removed added) =
+abbrev pub replied : Format → Request → Reply → Said
+replied format request reply.Done = json status.Okay (codes "{\"reply\":\"done\"}")
+replied format request reply.Already = json status.Okay (codes "{\"reply\":\"already\"}")
+replied format request (reply.Posted from to removed added) =
     json status.Okay (posted_text from to removed added)
-replied request (reply.Status kind reason) = scheduled (question_of request) kind reason
-replied request (reply.Due rows) = listed (question_of request) rows
-replied request (reply.Days sums) = summed (question_of request) sums
-replied request (reply.Agenda rows) = gathered (question_of request) rows
+replied format request (reply.Status kind reason) = scheduled (question_of request) kind reason
+replied format request (reply.Due rows) = listed (question_of request) rows
+replied format request (reply.Days sums) = summed (question_of request) sums
+replied format request (reply.Agenda rows) = gathered format (question_of request) rows
 
-abbrev pub answered : Request → Answer → Said
-answered request (Ok reply) = replied request reply
-answered request (Err refusal) = refused refusal
+abbrev pub answered : Format → Request → Answer → Said
+answered format request (Ok reply) = replied format request reply
+answered format request (Err refusal) = refused refusal
 
 -- The response to what is asked of a machine: where nothing is asked of it, it stays as it is.
 -- `goes` has the machine, a request, its answer, and the machine after it.
@@ -110,5 +114,5 @@ module _ {M : Type 0} (goes : M → Request → Answer → M → Type 0) where
   Responds now asked.NoRoute said later = (later ≡ now) × (said ≡ bare status.NotFound)
   Responds now (asked.OtherMethod allow) said later = (later ≡ now) × (said ≡ other_method allow)
   Responds now asked.BadForm said later = (later ≡ now) × (said ≡ bare status.BadRequest)
-  Responds now (asked.Asks request) said later =
-      (answer : Answer) × goes now request answer later × (said ≡ answered request answer)
+  Responds now (asked.Asks format request) said later =
+      (answer : Answer) × goes now request answer later × (said ≡ answered format request answer)

@@ -5,6 +5,8 @@ use Rattle.std.specs.List.{concat}
 use Rattle.std.specs.Fmt.{decimal}
 use Rattle.ftd_messages.specs.declared.status.Status.{Status}
 use Rattle.ftd_messages.specs.declared.status.Status.TheVariants as status
+use Rattle.ftd_reports.specs.declared.formats.Format.{Format}
+use Rattle.ftd_reports.specs.declared.formats.Format.TheVariants as format
 use Rattle.ftd_routes.specs.declared.ask.Method.{Method}
 use Rattle.ftd_routes.specs.Asking.{method_text}
 use Rattle.ftd_connections.specs.declared.response.Content.{Content}
@@ -38,6 +40,17 @@ json status body = record { status = status; allow = None; content = content.Jso
 abbrev pub plain : List ℕ → Said
 plain body = record { status = status.Okay; allow = None; content = content.Text; body = body }
 
+-- a response with the text of a report in a format
+abbrev pub content_of : Format → Content
+content_of format.Text = content.Text
+content_of format.Csv = content.Csv
+content_of format.Json = content.Json
+content_of format.Calendar = content.Calendar
+
+abbrev pub formatted : Format → List ℕ → Said
+formatted format body =
+    record { status = status.Okay; allow = None; content = content_of format; body = body }
+
 -- the end of a line
 abbrev pub line_end : List ℕ
 line_end = 13 ∷ 10 ∷ []
@@ -64,6 +77,8 @@ abbrev pub content_line : Content → List ℕ
 content_line content.Nothing = []
 content_line content.Json = codes "Content-Type: application/json" ++ line_end
 content_line content.Text = codes "Content-Type: text/plain" ++ line_end
+content_line content.Csv = codes "Content-Type: text/csv" ++ line_end
+content_line content.Calendar = codes "Content-Type: text/calendar" ++ line_end
 
 abbrev pub connection_line : Bool → List ℕ
 connection_line false = []

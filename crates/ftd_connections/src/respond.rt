@@ -4,7 +4,7 @@ ghost use Rattle.std.specs.Prelude.{◌≡◌, ◌⊎◌, ◌<◌, true, IfOk, O
 ghost use Rattle.ftd_machine.specs.Questions.{question_of};
 ghost use Rattle.ftd_connections.specs.Responses.{Said, said_of, json};
 ghost use Rattle.std.specs.List.{flat_map};
-ghost use Rattle.ftd_reports.specs.Agendas.{agenda_text, owed_text};
+ghost use Rattle.ftd_reports.specs.Formats.{agenda_as, owed_as};
 ghost use Rattle.ftd_reports.specs.DueLists.{due_text};
 ghost use Rattle.ftd_reports.specs.SchedulesB.{b_text};
 ghost use Rattle.ftd_connections.specs.Refusals.{refused};
@@ -14,12 +14,12 @@ ghost use Rattle.ftd_connections.specs.Replying.{reason_text, posted_text};
 
 use crate::machine::Machine;
 use crate::refusals::refused;
-use crate::response::{Response, add_number, bare, json, other_method, plain};
+use crate::response::{Response, add_number, bare, formatted, json, other_method, plain};
 use ftd_days::{Day, Quarter};
 use ftd_machine::{AgendaRow, Answer, Question, Reason, Reply, Request, are_sums_bounded};
 use ftd_messages::Status;
 use ftd_ports::Port;
-use ftd_reports::{DueText, day_bytes, schedule_b, write_agenda, write_owed};
+use ftd_reports::{DueText, Format, day_bytes, schedule_b, write_agenda_as, write_owed_as};
 use ftd_routes::Asked;
 use ftd_rules::{DaySum, DueRow, DueSink, Kind};
 use std::alloc::{AllocError, Global};
@@ -39,9 +39,9 @@ pub fn respond<By, M: Machine<By>>(
         Asked::NoRoute => Ok(bare(alloc, Status::NotFound)),
         Asked::OtherMethod(allow) => Ok(other_method(alloc, *allow)),
         Asked::BadForm => Ok(bare(alloc, Status::BadRequest)),
-        Asked::Asks(request) => {
+        Asked::Asks { format, request } => {
             let answer = machine.answer(request);
-            answered(alloc, request, &answer)
+            answered(alloc, *format, request, &answer)
         }
     }
 }
@@ -58,18 +58,28 @@ fn joined(alloc: Global, pieces: &[&[u8]]) -> Result<Vec<u8>, AllocError>
 }
 
 /// The response to an answer.
-fn answered(alloc: Global, request: &Request, answer: &Answer) -> Result<Response, AllocError>
-    ensures { IfOk result (λ response. said_of response ≡ answered request.now answer.now) }
+fn answered(
+    alloc: Global,
+    format: Format,
+    request: &Request,
+    answer: &Answer,
+) -> Result<Response, AllocError>
+    ensures { IfOk result (λ response. said_of response ≡ answered format request.now answer.now) }
 {
     match answer {
-        Ok(reply) => replied(alloc, request, reply),
+        Ok(reply) => replied(alloc, format, request, reply),
         Err(refusal) => refused(alloc, refusal),
     }
 }
 
 /// The response to a reply.
-fn replied(alloc: Global, request: &Request, reply: &Reply) -> Result<Response, AllocError>
-    ensures { IfOk result (λ response. said_of response ≡ replied request.now reply.now) }
+fn replied(
+    alloc: Global,
+    format: Format,
+    request: &Request,
+    reply: &Reply,
+) -> Result<Response, AllocError>
+    ensures { IfOk result (λ response. said_of response ≡ replied format request.now reply.now) }
 {
     match reply {
         Reply::Done => done(alloc, b"{\"reply\":\"done\"}"),
@@ -83,7 +93,7 @@ fn replied(alloc: Global, request: &Request, reply: &Reply) -> Result<Response, 
         Reply::Status { kind, reason } => scheduled(alloc, request, *kind, *reason),
         Reply::Due(rows) => listed(alloc, request, rows.as_slice()),
         Reply::Days(sums) => summed(alloc, request, sums.as_slice()),
-        Reply::Agenda(rows) => gathered(alloc, request, rows.as_slice()),
+        Reply::Agenda(rows) => gathered(alloc, format, request, rows.as_slice()),
     }
 }
 
@@ -284,51 +294,60 @@ fn schedule_b_text(
     }
 }
 
-/// The response with what is due over all accounts that a request asked for.
-fn gathered(alloc: Global, request: &Request, rows: &[AgendaRow]) -> Result<Response, AllocError>
+/// The response with what is due over all accounts that a request asked for, in a format.
+fn gathered(
+    alloc: Global,
+    format: Format,
+    request: &Request,
+    rows: &[AgendaRow],
+) -> Result<Response, AllocError>
     ensures { IfOk result
-        (λ response. said_of response ≡ gathered (question_of request.now) rows.now) }
+        (λ response. said_of response ≡ gathered format (question_of request.now) rows.now) }
 {
     match request.question() {
         Some(Question::Agenda { from, to, as_of }) => {
-            Ok(plain(agenda_text(alloc, *from, *to, *as_of, rows)?))
+            let text = agenda_text(alloc, format, *from, *to, *as_of, rows)?;
+            Ok(formatted(format, text))
         }
         Some(Question::Owed { until, as_of }) => {
-            Ok(plain(owed_text(alloc, *until, *as_of, rows)?))
+            let text = owed_text(alloc, format, *until, *as_of, rows)?;
+            Ok(formatted(format, text))
         }
         Some(Question::Status { .. } | Question::DueList { .. } | Question::ScheduleB { .. })
         | None => Ok(bare(alloc, Status::InternalServerError)),
     }
 }
 
-/// The text of what is due between two days over all accounts.
+/// The text of what is due between two days over all accounts, in a format.
 fn agenda_text(
     alloc: Global,
+    format: Format,
     from: Day,
     to: Day,
     as_of: Day,
     rows: &[AgendaRow],
 ) -> Result<Vec<u8>, AllocError>
-    ensures { IfOk result (λ text. text.items ≡ agenda_text from to as_of rows.now) }
+    ensures { IfOk result (λ text. text.items ≡ agenda_as format from to as_of rows.now) }
 {
     let mut port = Port::new(Vec::new(alloc));
-    match write_agenda(from, to, as_of, rows, &mut port) {
+    match write_agenda_as(format, from, to, as_of, rows, &mut port) {
         Ok(()) => Ok(port.into_inner()),
         Err(_) => Err(AllocError),
     }
 }
 
-/// The text of what is due until a day over all accounts and not paid.
+/// The text of what is due until a day over all accounts and not paid, in a format.
 fn owed_text(
     alloc: Global,
+    format: Format,
     until: Day,
     as_of: Day,
     rows: &[AgendaRow],
 ) -> Result<Vec<u8>, AllocError>
-    ensures { IfOk result (λ text. text.items ≡ owed_text until as_of rows.now) }
+    ensures { IfOk result (λ text. text.items ≡ owed_as format until as_of rows.now) }
 {
     let mut port = Port::new(Vec::new(alloc));
-    match write_owed(until, as_of, rows, &mut port) {
+    match write_owed_as(format, until, as_of, rows, &mut port) {
         Ok(()) => Ok(port.into_inner()),
         Err(_) => Err(AllocError),
     }

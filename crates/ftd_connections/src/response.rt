@@ -4,12 +4,14 @@ ghost use Rattle.std.specs.Prelude.{◌≡◌, ◌++◌, true, Some, IfOk, OnOk,
 ghost use Rattle.std.specs.Fmt.{decimal};
 ghost use Rattle.std.specs.Io.KnownBytes.{Appends};
 ghost use Rattle.ftd_ports.specs.Writing.{WritesPrefix};
-ghost use Rattle.ftd_connections.specs.Responses.{said_of, bare, json, plain, other_method};
+ghost use Rattle.ftd_connections.specs.Responses.{said_of, bare, json, plain, formatted};
+ghost use Rattle.ftd_connections.specs.Responses.{content_of, other_method};
 ghost use Rattle.ftd_connections.specs.Responses.{status_text, allow_line, content_line};
 ghost use Rattle.ftd_connections.specs.Responses.{connection_line, head_text, response_text};
 
 use ftd_messages::Status;
 use ftd_ports::{Port, Target, WriteFault, write_all, write_pieces};
+use ftd_reports::Format;
 use ftd_routes::Method;
 use itoa::Buffer;
 use std::alloc::{AllocError, Global};
@@ -23,6 +25,10 @@ pub enum Content {
     Json,
     /// The text of a report.
     Text,
+    /// A list as CSV.
+    Csv,
+    /// A calendar.
+    Calendar,
 }
 
 /// A response.
@@ -82,6 +88,30 @@ pub fn plain(body: Vec<u8>) -> Response
         status: Status::Okay,
         allow: None,
         content: Content::Text,
+        body,
+    }
+}
+
+/// What a body in a format is.
+fn content_of(format: Format) -> Content
+    ensures { result ≡ content_of format }
+{
+    match format {
+        Format::Text => Content::Text,
+        Format::Csv => Content::Csv,
+        Format::Json => Content::Json,
+        Format::Calendar => Content::Calendar,
+    }
+}
+
+/// A response with the text of a report in a format.
+pub fn formatted(format: Format, body: Vec<u8>) -> Response
+    ensures { said_of result ≡ formatted format body.items }
+{
+    Response {
+        status: Status::Okay,
+        allow: None,
+        content: content_of(format),
         body,
     }
 }
@@ -211,6 +241,8 @@ fn content_line(content: Content) -> &'static [u8]
         Content::Nothing => b"",
         Content::Json => b"Content-Type: application/json\r\n",
         Content::Text => b"Content-Type: text/plain\r\n",
+        Content::Csv => b"Content-Type: text/csv\r\n",
+        Content::Calendar => b"Content-Type: text/calendar\r\n",
     }
 }
 

@@ -87,7 +87,7 @@ module _ {S : Type 0} (g : store.Ghosts S) where
       same_desk _ _ _ (held_same now later same) (λ s. (refl, is))
   responds now later asked.BadForm said (same, is) = same_desk _ _ _ (held_same now later same)
       (λ s. (refl, is))
-  responds now later (asked.Asks request) said (answer, handles, is) =
+  responds now later (asked.Asks format request) said (answer, handles, is) =
       record {
         honest = handles.honest;
         opens = handles.opens;

@@ -34,6 +34,7 @@ use Rattle.ftd_replies.specs.Hints.{told_text}
 use Rattle.ftd_replies.specs.Putting.{IsPut}
 use Rattle.ftd_replies.specs.Refusals.{refusal_status}
 use Rattle.ftd_replies.specs.Replies.{reply_text}
+use Rattle.ftd_reports.specs.declared.formats.Format.{Format}
 use Rattle.ftd_replies.specs.declared.hints.Known.{Known}
 use Rattle.ftd_replies.specs.declared.hints.Known.TheVariants.{Nothing}
 use Rattle.ftd_program.specs.Mending.{KnowsAfter, KnowsOf, or_nothing}
@@ -101,18 +102,19 @@ module _ {O E : Type 0} (o_taken : O → Option (List ℕ)) (o_failed : O → Bo
         (λ end. Stops stopped old new text end)
     pub prints : MatchResult import (PrintsSummary text) (PrintsStop text)
 
-  -- the text of the reply, or the lines of the refusal
-  abbrev pub Prints : List ℕ → Request → Known → Answer → Type 0
-  Prints db request known (Ok reply) = PrintsReply (reply_text request reply)
-  Prints db request known (Err refusal) = PrintsRefusal db request known refusal
+  -- the text of the reply in a format, or the lines of the refusal
+  abbrev pub Prints : List ℕ → Format → Request → Known → Answer → Type 0
+  Prints db format request known (Ok reply) = PrintsReply (reply_text format request reply)
+  Prints db format request known (Err refusal) = PrintsRefusal db request known refusal
 
   -- the request was asked of the desk, and its answer printed
-  pub record Performs (old new : Held) (db : List ℕ) (request : Request) : Type 0 where
+  pub record Performs (old new : Held) (db : List ℕ) (format : Format) (request : Request)
+      : Type 0 where
     pub answer : Answer
     pub handles : Handles old new request answer
     pub known : Result Known Refusal
     pub knows : KnowsAfter old new request answer known
-    pub prints : Prints db request (or_nothing known) answer
+    pub prints : Prints db format request (or_nothing known) answer
 
   -- a prefix of the due list was printed: there was no memory, or the store failed, in the middle
   -- of it
@@ -168,19 +170,20 @@ module _ {O E : Type 0} (o_taken : O → Option (List ℕ)) (o_failed : O → Bo
         → ShowsDue account quarter as_of t
 
   -- a due list is printed row by row, and every other reply when it is there
-  abbrev pub AsksBy : Held → Held → List ℕ → Request → Option Questions → Type 0
-  AsksBy old new db request None = Performs old new db request
-  AsksBy old new db request (Some (Status account day)) = Performs old new db request
-  AsksBy old new db request (Some (DueList account quarter as_of)) =
+  abbrev pub AsksBy : Held → Held → List ℕ → Format → Request → Option Questions → Type 0
+  AsksBy old new db format request None = Performs old new db format request
+  AsksBy old new db format request (Some (Status account day)) = Performs old new db format request
+  AsksBy old new db format request (Some (DueList account quarter as_of)) =
       PerformsDue old new db account quarter as_of
-  AsksBy old new db request (Some (ScheduleB account quarter)) = Performs old new db request
-  AsksBy old new db request (Some (Agenda from to as_of)) = Performs old new db request
-  AsksBy old new db request (Some (Owed until as_of)) = Performs old new db request
+  AsksBy old new db format request (Some (ScheduleB account quarter)) = Performs old new db format request
+  AsksBy old new db format request (Some (Agenda from to as_of)) = Performs old new db format request
+  AsksBy old new db format request (Some (Owed until as_of)) = Performs old new db format request
 
-  abbrev pub Asks : Held → Held → List ℕ → Request → Type 0
-  Asks old new db request = AsksBy old new db request (question_of request)
+  abbrev pub Asks : Held → Held → List ℕ → Format → Request → Type 0
+  Asks old new db format request = AsksBy old new db format request (question_of request)
 
   -- the job of a task was done, with the desk of this file
   abbrev pub Does : Type 0 → Held → Held → List ℕ → List ℕ → Job → Type 0
   Does stopped old new input db (job.Import file) = PerformsImport stopped old new input
-  Does stopped old new input db (job.Ask request) = Asks old new db request
+  Does stopped old new input db (job.Ask format request) =
+      Asks old new db format request

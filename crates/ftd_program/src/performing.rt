@@ -24,7 +24,7 @@ use ftd_import::{Progress, StopCause, Stopped, Summary, import};
 use ftd_machine::{Question, Refusal, Reply, Request};
 use ftd_ports::Target;
 use ftd_replies::{Known, put, status_of, write_reply, write_told};
-use ftd_reports::{LateDueText, Unwritten};
+use ftd_reports::{Format, LateDueText, Unwritten};
 use ftd_words::{Job, LocalTask};
 use sqlite::Alter;
 use std::alloc::Global;
@@ -59,20 +59,22 @@ pub fn perform<S: Alter, O: Target, E: Target, P: Progress>(
 {
     match &task.job {
         Job::Import(_) => post_runs(alloc, desk, input, out, err, progress),
-        Job::Ask(request) => ask(desk, &task.db, request, out, err),
+        Job::Ask { format, request } => ask(desk, &task.db, *format, request, out, err),
     }
 }
 
-/// Asks the request of the desk. A due list is printed row by row, as it comes.
+/// Asks the request of the desk. A due list is printed row by row, as it comes, and what is due over
+/// all accounts in a format.
 fn ask<S: Alter, O: Target, E: Target>(
     desk: &mut Desk<S>,
     db: &str,
+    format: Format,
     request: &Request,
     out: O,
     err: E,
 ) -> Performed<O, E>
     ensures { Asks O.taken O.failed E.taken E.failed out err result
-        (held S.Store desk.old) (held S.Store desk.new) db.now request.now }
+        (held S.Store desk.old) (held S.Store desk.new) db.now format request.now }
 {
     match request.question() {
         Some(
@@ -97,7 +99,7 @@ fn ask<S: Alter, O: Target, E: Target>(
             | Question::Agenda { .. }
             | Question::Owed { .. },
         )
-        | None => answer(desk, db, request, out, err),
+        | None => answer(desk, db, format, request, out, err),
     }
 }
 
@@ -106,16 +108,17 @@ fn ask<S: Alter, O: Target, E: Target>(
 fn answer<S: Alter, O: Target, E: Target>(
     desk: &mut Desk<S>,
     db: &str,
+    format: Format,
     request: &Request,
     out: O,
     err: E,
 ) -> Performed<O, E>
     ensures { Performs O.taken O.failed E.taken E.failed out err result
-        (held S.Store desk.old) (held S.Store desk.new) db.now request.now }
+        (held S.Store desk.old) (held S.Store desk.new) db.now format request.now }
 {
     let answer = desk.handle(request);
     match &answer {
-        Ok(reply) => print_reply(request, reply, out, err),
+        Ok(reply) => print_reply(format, request, reply, out, err),
         Err(refusal) => {
             let known = or_nothing(known_for(desk, request, *refusal));
             print_refusal(db, request, refusal, &known, out, err)
@@ -276,8 +279,9 @@ fn print_line<O, E: Target>(status: u8, line: &[u8], out: O, err: E) -> Performe
     Performed { status, out, err }
 }
 
-/// Prints the text of a reply.
+/// Prints the text of a reply, in a format where it tells of all accounts.
 fn print_reply<O: Target, E: Target>(
+    format: Format,
     request: &Request,
     reply: &Reply,
     out: O,
@@ -285,10 +289,10 @@ fn print_reply<O: Target, E: Target>(
 ) -> Performed<O, E>
     requires bounded { IsBounded reply.now }
     ensures { PrintsReply O.taken O.failed E.taken E.failed out err result
-        (reply_text request.now reply.now) }
+        (reply_text format request.now reply.now) }
 {
     let mut out = out;
-    match write_reply(request, reply, &mut out) {
+    match write_reply(format, request, reply, &mut out) {
         Ok(()) => Performed {
             status: 0,
             out,

@@ -16,7 +16,8 @@ use Rattle.ftd_machine.specs.Questions.{question_of}
 use Rattle.ftd_machine.specs.declared.requests.Question.{Question}
 use Rattle.ftd_machine.specs.declared.requests.Question.TheVariants.{Status, DueList, ScheduleB}
 use Rattle.ftd_machine.specs.declared.requests.Question.TheVariants.{Agenda, Owed}
-use Rattle.ftd_reports.specs.Agendas.{agenda_text, owed_text}
+use Rattle.ftd_reports.specs.Formats.{agenda_as, owed_as}
+use Rattle.ftd_reports.specs.declared.formats.Format.{Format}
 use Rattle.ftd_reports.specs.SchedulesB.{b_text}
 
 -- `posted 2024-05-01 2024-05-31 removed 0 added 1`
@@ -55,21 +56,23 @@ days_told (Some (Agenda from to as_of)) sums = []
 days_told (Some (Owed until as_of)) sums = []
 days_told None sums = []
 
-abbrev pub agenda_told : Option Question → List AgendaRow → List ℕ
-agenda_told (Some (Status account day)) rows = []
-agenda_told (Some (DueList account quarter as_of)) rows = []
-agenda_told (Some (ScheduleB account quarter)) rows = []
-agenda_told (Some (Agenda from to as_of)) rows = agenda_text from to as_of rows
-agenda_told (Some (Owed until as_of)) rows = owed_text until as_of rows
-agenda_told None rows = []
+-- what is due over all accounts, in a format
+abbrev pub agenda_told : Format → Option Question → List AgendaRow → List ℕ
+agenda_told format (Some (Status account day)) rows = []
+agenda_told format (Some (DueList account quarter as_of)) rows = []
+agenda_told format (Some (ScheduleB account quarter)) rows = []
+agenda_told format (Some (Agenda from to as_of)) rows = agenda_as format from to as_of rows
+agenda_told format (Some (Owed until as_of)) rows = owed_as format until as_of rows
+agenda_told format None rows = []
 
--- the text of the reply to a request. A due list has none here: it is printed row by row, and
+-- the text of the reply to a request, in a format where it tells of all accounts. A due list has none here: it is printed row by row, and
 -- `PrintsDue` says of what text.
-abbrev pub reply_text : Request → Reply → List ℕ
-reply_text request reply.Done = concat (codes "done" ∷ (10 ∷ []) ∷ [])
-reply_text request reply.Already = concat (codes "already" ∷ (10 ∷ []) ∷ [])
-reply_text request (reply.Posted from to removed added) = posted_text from to removed added
-reply_text request (reply.Status kind reason) = status_told (question_of request) kind reason
-reply_text request (reply.Due rows) = []
-reply_text request (reply.Days sums) = days_told (question_of request) sums
-reply_text request (reply.Agenda rows) = agenda_told (question_of request) rows
+abbrev pub reply_text : Format → Request → Reply → List ℕ
+reply_text format request reply.Done = concat (codes "done" ∷ (10 ∷ []) ∷ [])
+reply_text format request reply.Already = concat (codes "already" ∷ (10 ∷ []) ∷ [])
+reply_text format request (reply.Posted from to removed added) = posted_text from to removed added
+reply_text format request (reply.Status kind reason) = status_told (question_of request) kind reason
+reply_text format request (reply.Due rows) = []
+reply_text format request (reply.Days sums) = days_told (question_of request) sums
+reply_text format request (reply.Agenda rows) =
+    agenda_told format (question_of request) rows

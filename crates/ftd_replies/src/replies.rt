@@ -13,22 +13,24 @@ ghost use Rattle.ftd_replies.specs.Replies.{reply_text, status_told, status_text
 use ftd_days::Day;
 use ftd_machine::{AgendaRow, Question, Reason, Reply, Request};
 use ftd_ports::{Target, WriteFault, write_all, write_pieces};
-use ftd_reports::{day_bytes, schedule_b, write_agenda, write_owed};
+use ftd_reports::{Format, day_bytes, schedule_b, write_agenda_as, write_owed_as};
 use ftd_rules::{DaySum, Kind};
 use itoa::Buffer;
 
-/// Writes the text of the reply to a request. A due list has none here: it is printed row by row.
+/// Writes the text of the reply to a request, in a format where it tells of all accounts. A due
+/// list has none here: it is printed row by row.
 pub fn write_reply<W: Target>(
+    format: Format,
     request: &Request,
     reply: &Reply,
     target: &mut W,
 ) -> Result<(), WriteFault>
     requires bounded { IsBounded reply.now }
     ensures ok { OnOk result
-        (Appends (W.taken target.old) (W.taken target.new) (reply_text request.now reply.now)) }
+        (Appends (W.taken target.old) (W.taken target.new) (reply_text format request.now reply.now)) }
     ensures err { OnErr result
         (WritesPrefix (W.taken target.old) (W.taken target.new)
-        (reply_text request.now reply.now)) }
+        (reply_text format request.now reply.now)) }
     ensures fault { OnErr result (W.failed target.new ≡ true) }
 {
     match reply {
@@ -43,7 +45,7 @@ pub fn write_reply<W: Target>(
         Reply::Status { kind, reason } => write_status(request, *kind, *reason, target),
         Reply::Due(_) => write_all(target, b""),
         Reply::Days(sums) => write_days(request, sums.as_slice(), target),
-        Reply::Agenda(rows) => write_rows(request, rows.as_slice(), target),
+        Reply::Agenda(rows) => write_rows(format, request, rows.as_slice(), target),
     }
 }
 
@@ -171,25 +173,28 @@ fn write_days<W: Target>(
     }
 }
 
-/// Writes what is due over all accounts, as it was asked for.
+/// Writes what is due over all accounts, as it was asked for, in a format.
 fn write_rows<W: Target>(
+    format: Format,
     request: &Request,
     rows: &[AgendaRow],
     target: &mut W,
 ) -> Result<(), WriteFault>
     ensures ok { OnOk result
         (Appends (W.taken target.old) (W.taken target.new)
-        (agenda_told (question_of request.now) rows.now)) }
+        (agenda_told format (question_of request.now) rows.now)) }
     ensures err { OnErr result
         (WritesPrefix (W.taken target.old) (W.taken target.new)
-        (agenda_told (question_of request.now) rows.now)) }
+        (agenda_told format (question_of request.now) rows.now)) }
     ensures fault { OnErr result (W.failed target.new ≡ true) }
 {
     match request.question() {
         Some(Question::Agenda { from, to, as_of }) => {
-            write_agenda(*from, *to, *as_of, rows, target)
+            write_agenda_as(format, *from, *to, *as_of, rows, target)
         }
-        Some(Question::Owed { until, as_of }) => write_owed(*until, *as_of, rows, target),
+        Some(Question::Owed { until, as_of }) => write_owed_as(
+            format, *until, *as_of, rows, target,
+        ),
         Some(Question::Status { .. } | Question::DueList { .. } | Question::ScheduleB { .. })
         | None => write_all(target, b""),
     }

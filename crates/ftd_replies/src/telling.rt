@@ -62,6 +62,7 @@ fn asked_bytes(word: Word) -> &'static [u8]
         Word::Run | Word::Payment => b"a number of 1 to 999999999",
         Word::Port => b"a port of 0 to 65535",
         Word::Wait => b"a number of seconds of 0 to 3600",
+        Word::Format => b"a format: text, csv, json or ics",
         _ => b"a value that is taken here",
     }
 }

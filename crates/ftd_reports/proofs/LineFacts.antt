@@ -1,5 +1,5 @@
 -- The pieces of a line, joined.
-use Rattle.std.proofs.Common.{◌≡◌, ℕ, ◌+◌, ◌-◌, ◌/◌, ◌%◌, ◌<◌, ◌≤◌, List, [], ◌∷◌, ◌++◌, length}
+use Rattle.std.proofs.Common.{◌≡◌, ℕ, ◌+◌, ◌-◌, ◌/◌, ◌<◌, ◌≤◌, List, [], ◌∷◌, ◌++◌, length}
 use Rattle.std.proofs.Common.{drop, get_or, suc, add-one, drop-cons, refl, sym, ap, ◌∙◌, arith}
 use Rattle.std.proofs.Common.{append_assoc, length-append}
 use Rattle.std.specs.Prelude.{replicate}
@@ -7,21 +7,18 @@ use Rattle.std.specs.List.{join_with_byte, concat, flat_map, sum_by}
 use Rattle.std.specs.Fmt.{decimal}
 use Rattle.std.proofs.lemmas.List.{drop_all}
 use Rattle.std.proofs.lemmas.List.Sums.{sum_by-cons}
-use Rattle.ftd_days.specs.Digits.{digit}
-use Rattle.ftd_days.specs.Text.{cents_text}
-use Rattle.ftd_days.proofs.Numerals.{two_same}
+use Rattle.ftd_days.specs.Digits.{two_digits}
+use Rattle.ftd_days.specs.Text.{point, cents_text}
 use Rattle.ftd_reports.specs.Columns.{amount_in}
 
 -- spaces, dollars, and the point with the cents are an amount in its column
 pub amount_parts : (amount width : ℕ) (spaces : List ℕ)
     → width ≡ 14 - length (decimal (amount / 100)) → spaces ≡ replicate width 32
-    → spaces ++ decimal (amount / 100) ++ (46 ∷ digit (amount % 100 / 10) ∷ digit (amount % 100)
-    ∷ []) ≡ amount_in amount
+    → spaces ++ decimal (amount / 100) ++ (point ∷ two_digits amount) ≡ amount_in amount
 unfolding amount_in
 amount_parts amount width spaces w s =
-    let cents = two_same amount in
     let long : 17 - length (cents_text amount) ≡ width = simp length-append (omega arith) in
-    rw (s, cents, long) (append_assoc (replicate width 32) (decimal (amount / 100)) _)
+    rw (s, long) (append_assoc (replicate width 32) (decimal (amount / 100)) _)
 
 -- a column, a space and what follows to the end of the line
 pub column : (a others end line : List ℕ) → others ++ end ≡ line → (a ++ (32 ∷ others)) ++ end ≡ a
@@ -45,7 +42,7 @@ row_parts a b r s d c u m t e f v =
     (column r _ _ _ (three s d c _ _ _ (column u _ _ _ (column m _ _ _ (three t e f _ _ _ refl))))))
 
 -- the rows from one on are it and those after it
-row_on : {X : Type 0} (rows : List X) (i : ℕ) (row : X) → i < length rows → row ≡ get_or rows i row
+pub row_on : {X : Type 0} (rows : List X) (i : ℕ) (row : X) → i < length rows → row ≡ get_or rows i row
     → drop i rows ≡ row ∷ drop (i + 1) rows
 row_on {X} rows i row h is = rw add-one (drop-cons rows i row h
     ∙ ap (λ (z : X). z ∷ drop (suc i) rows) (sym is))
@@ -74,3 +71,13 @@ rows_end line amount last_line rows i total h e =
     let none = drop_all i rows h in
     let whole : total ≡ sum_by amount rows = let f = rw none at e in omega arith in
     rw none (ap (λ z. last_line z) (sym whole))
+
+-- no line is left after the last row, and the total is the whole
+pub lines_end : {X : Type 0} (line : X → List ℕ) (rows : List X) (i : ℕ) → length rows ≤ i
+    → (last : List ℕ) → flat_map line (drop i rows) ++ last ≡ last
+lines_end line rows i h last = let none = drop_all i rows h in rw none refl
+
+pub amounts_end : {X : Type 0} (amount : X → ℕ) (rows : List X) (i total : ℕ) → length rows ≤ i
+    → total + sum_by amount (drop i rows) ≡ sum_by amount rows → total ≡ sum_by amount rows
+amounts_end amount rows i total h e =
+    let none = drop_all i rows h in let f = rw none at e in omega arith

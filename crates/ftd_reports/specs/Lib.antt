@@ -4,6 +4,8 @@ pub mod DueTexts
 pub mod SchedulesB
 pub mod LateTexts
 pub mod Agendas
+pub mod AgendaForms
+pub mod Formats
 pub use Rattle.ftd_days.specs.Digits
 pub use Rattle.ftd_days.specs.Text
 pub use Rattle.ftd_ports.specs.Writing

@@ -1,12 +1,13 @@
 //! The text of what is due over all accounts.
 
 ghost use Rattle.std.specs.Prelude.{◌≡◌, ◌++◌, true, OnOk, OnErr};
+ghost use Rattle.std.specs.List.{sum_by};
 ghost use Rattle.std.specs.Io.KnownBytes.{Appends};
 ghost use Rattle.ftd_ports.specs.Writing.{WritesPrefix};
 ghost use Rattle.ftd_machine.specs.Agenda.{left_of};
 ghost use Rattle.ftd_reports.specs.Columns.{left_in};
 ghost use Rattle.ftd_reports.specs.Agendas.{agenda_head, owed_head, form_number, agenda_line};
-ghost use Rattle.ftd_reports.specs.Agendas.{owner_text, deposit_text, left_line, lines_text};
+ghost use Rattle.ftd_reports.specs.Agendas.{owner_text, deposit_text, left_line, left_cents, lines_text};
 ghost use Rattle.ftd_reports.specs.Agendas.{agenda_text, owed_text};
 
 use crate::values::{amount_column, day_bytes, rule_column, total_column, verdict_name};
@@ -105,16 +106,25 @@ fn write_lines<W: Target>(rows: &[AgendaRow], target: &mut W) -> Result<(), Writ
         (WritesPrefix (W.taken target.old) (W.taken target.new) (lines_text rows.now)) }
     ensures fault { OnErr result (W.failed target.new ≡ true) }
 {
-    let mut total = 0;
     for row in rows {
         write_row(row, target)?;
+    }
+    write_total(total_left(rows), target)
+}
+
+/// What is left to pay of the rows together, in cents.
+pub fn total_left(rows: &[AgendaRow]) -> u128
+    ensures { result ≡ sum_by left_cents rows.now }
+{
+    let mut total = 0;
+    for row in rows {
         total += u128::from(left_of(&row.row).0);
     }
-    write_total(total, target)
+    total
 }
 
 /// What is left to pay of a row: its amount less what was paid, or nothing.
-fn left_of(row: &DueRow) -> Cents
+pub fn left_of(row: &DueRow) -> Cents
     ensures { result.0 ≡ left_of row.now }
 {
     Cents(row.obligation.cents.0.saturating_sub(row.paid.0))
@@ -128,7 +138,7 @@ fn spaces_after(account: &str) -> &[u8]
 }
 
 /// The number of a form.
-fn form_bytes(form: Form) -> [u8; 3]
+pub fn form_bytes(form: Form) -> [u8; 3]
     ensures { result ≡ form_number form }
 {
     match form {

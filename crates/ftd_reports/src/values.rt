@@ -1,10 +1,12 @@
 //! Values as bytes of a fixed number, which take no memory.
 
-ghost use Rattle.std.specs.Prelude.{◌≡◌, ◌<◌, ◌≤◌, ◌++◌, length};
-ghost use Rattle.ftd_days.specs.Text.{day_text, quarter_text};
-ghost use Rattle.ftd_days.specs.Digits.{digit};
+ghost use Rattle.std.specs.Prelude.{◌≡◌, ◌<◌, ◌≤◌, ◌/◌, ◌∷◌, ◌++◌, length};
+ghost use Rattle.std.specs.Fmt.{decimal};
+ghost use Rattle.ftd_days.specs.Text.{day_text, point, quarter_text};
+ghost use Rattle.ftd_days.specs.Digits.{digit, two_digits};
 ghost use Rattle.ftd_rules.specs.Text.{rule_text};
 ghost use Rattle.ftd_rules.specs.Verdicts.{verdict_text};
+ghost use Rattle.ftd_reports.specs.AgendaForms.{plain_day};
 ghost use Rattle.ftd_reports.specs.Columns.{left_in, amount_in};
 ghost use Rattle.ftd_reports.specs.SchedulesB.{month_text};
 
@@ -14,6 +16,26 @@ use itoa::Buffer;
 
 /// Spaces to the left of dollars.
 const SPACES: &[u8; 14] = b"              ";
+
+/// The bytes of an amount: dollars, and the point with the cents.
+#[derive(Drop)]
+pub struct AmountText<'a> {
+    pub dollars: &'a [u8],
+    pub cents: [u8; 3],
+}
+
+/// An amount in cents, its dollars written into the buffer.
+pub fn amount_text(amount: u128, buffer: &mut Buffer) -> AmountText<'_>
+    ensures dollars { result.dollars.now ≡ decimal (amount / 100) }
+    ensures cents { result.cents ≡ point ∷ two_digits amount }
+{
+    let dollars = buffer.format(amount / 100).as_bytes();
+    let cents = (amount % 100) as u32;
+    AmountText {
+        dollars,
+        cents: [b'.', last_digit(cents / 10), last_digit(cents)],
+    }
+}
 
 /// The bytes of an amount at the right of 17: spaces, dollars, and the point with the cents.
 #[derive(Drop)]
@@ -34,12 +56,11 @@ pub fn amount_column(amount: Cents, buffer: &mut Buffer) -> AmountColumn<'_>
 pub fn total_column(total: u128, buffer: &mut Buffer) -> AmountColumn<'_>
     ensures { result.spaces.now ++ result.dollars.now ++ result.cents ≡ amount_in total }
 {
-    let dollars = buffer.format(total / 100).as_bytes();
-    let cents = (total % 100) as u32;
+    let amount = amount_text(total, buffer);
     AmountColumn {
-        spaces: &SPACES[..14usize.saturating_sub(dollars.len())],
-        dollars,
-        cents: [b'.', last_digit(cents / 10), last_digit(cents)],
+        spaces: &SPACES[..14usize.saturating_sub(amount.dollars.len())],
+        dollars: amount.dollars,
+        cents: amount.cents,
     }
 }
 
@@ -64,6 +85,23 @@ pub fn day_bytes(day: Day) -> [u8; 10]
         last_digit(month / 10),
         last_digit(month),
         b'-',
+        last_digit(of_month / 10),
+        last_digit(of_month),
+    ]
+}
+
+/// A day as YYYYMMDD.
+pub fn plain_day(day: Day) -> [u8; 8]
+    ensures { result ≡ plain_day day }
+{
+    let (year, month, of_month) = (day.year(), day.month(), day.day_of_month());
+    [
+        last_digit(year / 1000),
+        last_digit(year / 100),
+        last_digit(year / 10),
+        last_digit(year),
+        last_digit(month / 10),
+        last_digit(month),
         last_digit(of_month / 10),
         last_digit(of_month),
     ]
@@ -119,6 +157,17 @@ pub fn rule_column(rule: Rule) -> &'static [u8]
         Rule::Monthly => b"monthly   ",
         Rule::Semiweekly => b"semiweekly",
         Rule::NextDay => b"next-day  ",
+    }
+}
+
+/// The name of a rule.
+pub fn rule_name(rule: Rule) -> &'static [u8]
+    ensures { result.now ≡ rule_text rule }
+{
+    match rule {
+        Rule::Monthly => b"monthly",
+        Rule::Semiweekly => b"semiweekly",
+        Rule::NextDay => b"next-day",
     }
 }
 

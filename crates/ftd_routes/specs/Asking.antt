@@ -2,6 +2,8 @@
 use Rattle.std.specs.Prelude.{List, ℕ, Option, Some, None, codes, if◌then◌else◌}
 use Rattle.std.specs.Str.{is_utf8, bytes_eq}
 use Rattle.ftd_machine.specs.declared.requests.Request.{Request}
+use Rattle.ftd_reports.specs.declared.formats.Format.{Format}
+use Rattle.ftd_reports.specs.declared.formats.Format.TheVariants as format
 use Rattle.ftd_routes.specs.Routes.{route_of}
 use Rattle.ftd_routes.specs.Requests.{request_of}
 use Rattle.ftd_routes.specs.declared.route.Ask.{Ask}
@@ -32,19 +34,38 @@ method_of ask.VoidPay = Delete
 method_of ask.Status = Get
 method_of ask.DueList = Get
 method_of ask.ScheduleB = Get
-method_of ask.Agenda = Get
-method_of ask.Owed = Get
+method_of (ask.Agenda format) = Get
+method_of (ask.Owed format) = Get
+
+-- the format in which a route tells of all accounts
+abbrev pub format_of : Ask → Format
+format_of ask.Enrol = format.Text
+format_of ask.Calendar = format.Text
+format_of ask.AddHoliday = format.Text
+format_of ask.Report = format.Text
+format_of ask.ReportYear = format.Text
+format_of ask.OpenYear = format.Text
+format_of ask.Post = format.Text
+format_of ask.Void = format.Text
+format_of ask.Pay = format.Text
+format_of ask.VoidPay = format.Text
+format_of ask.Status = format.Text
+format_of ask.DueList = format.Text
+format_of ask.ScheduleB = format.Text
+format_of (ask.Agenda asked) = asked
+format_of (ask.Owed asked) = asked
 
 -- what a message of the right method asks
-abbrev pub formed : Option Request → Asked
-formed None = asked.BadForm
-formed (Some request) = asked.Asks request
+abbrev pub formed : Format → Option Request → Asked
+formed format None = asked.BadForm
+formed format (Some request) = asked.Asks format request
 
 -- what a message asks that has this route
 abbrev pub routed : List ℕ → List ℕ → List ℕ → Option Ask → Asked
 routed method target body None = asked.NoRoute
 routed method target body (Some route) =
-    if bytes_eq method (method_text (method_of route)) then formed (request_of route target body)
+    if bytes_eq method (method_text (method_of route))
+    then formed (format_of route) (request_of route target body)
     else asked.OtherMethod (method_of route)
 
 -- what a message of this method, this target and this body asks; a target that is no UTF-8 has no

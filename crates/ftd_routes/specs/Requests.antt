@@ -137,5 +137,5 @@ request_of ask.VoidPay target body = void_payment_in target
 request_of ask.Status target body = status_in target
 request_of ask.DueList target body = due_list_in target
 request_of ask.ScheduleB target body = schedule_b_in target
-request_of ask.Agenda target body = agenda_in target
-request_of ask.Owed target body = owed_in target
+request_of (ask.Agenda format) target body = agenda_in target
+request_of (ask.Owed format) target body = owed_in target

@@ -6,6 +6,7 @@ use Rattle.matchit.specs.Route.{Scan, parse_route}
 use Rattle.matchit.specs.Order.{placed}
 use Rattle.matchit.specs.Seek.{first}
 use Rattle.matchit.specs.declared.error.InsertError.{InsertError}
+use Rattle.ftd_reports.specs.declared.formats.Format.TheVariants as format
 use Rattle.ftd_routes.specs.declared.route.Ask.{Ask}
 use Rattle.ftd_routes.specs.declared.route.Ask.TheVariants as ask
 
@@ -38,8 +39,14 @@ table =
     ∷ (codes "/accounts/{account}/status/{day}", ask.Status)
     ∷ (codes "/accounts/{account}/due/{quarter}/{asof}", ask.DueList)
     ∷ (codes "/accounts/{account}/schedule-b/{quarter}", ask.ScheduleB)
-    ∷ (codes "/agenda/{from}/{to}/{asof}", ask.Agenda)
-    ∷ (codes "/owed/{asof}/{until}", ask.Owed)
+    ∷ (codes "/agenda/{from}/{to}/{asof}", ask.Agenda format.Text)
+    ∷ (codes "/agenda/{from}/{to}/{asof}/csv", ask.Agenda format.Csv)
+    ∷ (codes "/agenda/{from}/{to}/{asof}/json", ask.Agenda format.Json)
+    ∷ (codes "/agenda/{from}/{to}/{asof}/ics", ask.Agenda format.Calendar)
+    ∷ (codes "/owed/{asof}/{until}", ask.Owed format.Text)
+    ∷ (codes "/owed/{asof}/{until}/csv", ask.Owed format.Csv)
+    ∷ (codes "/owed/{asof}/{until}/json", ask.Owed format.Json)
+    ∷ (codes "/owed/{asof}/{until}/ics", ask.Owed format.Calendar)
     ∷ []
 
 unfoldable pub all_routes : RowsOf (RouteOf Ask)

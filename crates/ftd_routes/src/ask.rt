@@ -3,11 +3,12 @@
 ghost use Rattle.std.specs.Prelude.{◌≡◌, IfOk};
 ghost use Rattle.std.specs.Str.{bytes_eq};
 ghost use Rattle.ftd_routes.specs.Routes.{all_routes};
-ghost use Rattle.ftd_routes.specs.Asking.{method_text, method_of, formed, asked_of};
+ghost use Rattle.ftd_routes.specs.Asking.{method_text, method_of, format_of, formed, asked_of};
 
 use crate::request::make_request;
 use crate::route::{Ask, look_up};
 use ftd_machine::Request;
+use ftd_reports::Format;
 use matchit::Router;
 use std::alloc::{AllocError, Global};
 
@@ -31,8 +32,8 @@ pub enum Asked {
     OtherMethod(Method),
     /// A part of the path, or the body, is not of the route's form.
     BadForm,
-    /// A request to the desk.
-    Asks(Request),
+    /// A request to the desk. What its reply tells over all accounts is told in this format.
+    Asks { format: Format, request: Request },
 }
 
 /// The text of a method.
@@ -52,7 +53,7 @@ fn method_of(route: Ask) -> Method
 {
     match route {
         Ask::Void | Ask::VoidPay => Method::Delete,
-        Ask::Status | Ask::DueList | Ask::ScheduleB | Ask::Agenda | Ask::Owed => Method::Get,
+        Ask::Status | Ask::DueList | Ask::ScheduleB | Ask::Agenda(_) | Ask::Owed(_) => Method::Get,
         Ask::Enrol
         | Ask::Calendar
         | Ask::AddHoliday
@@ -61,6 +62,28 @@ fn method_of(route: Ask) -> Method
         | Ask::OpenYear
         | Ask::Post
         | Ask::Pay => Method::Post,
+    }
+}
+
+/// The format in which a route tells of all accounts.
+fn format_of(route: Ask) -> Format
+    ensures { result ≡ format_of route }
+{
+    match route {
+        Ask::Agenda(format) | Ask::Owed(format) => format,
+        Ask::Enrol
+        | Ask::Calendar
+        | Ask::AddHoliday
+        | Ask::Report
+        | Ask::ReportYear
+        | Ask::OpenYear
+        | Ask::Post
+        | Ask::Void
+        | Ask::Pay
+        | Ask::VoidPay
+        | Ask::Status
+        | Ask::DueList
+        | Ask::ScheduleB => Format::Text,
     }
 }
 
@@ -86,7 +109,7 @@ pub fn what_is_asked(
         return Ok(Asked::OtherMethod(method_of(route)));
     }
     let request = make_request(alloc, route, target, body)?;
-    Ok(formed(request))
+    Ok(formed(format_of(route), request))
 }
 
 /// Whether the text is this method.
@@ -97,11 +120,11 @@ fn is_method(text: &[u8], method: Method) -> bool
 }
 
 /// What a message of the right method asks.
-fn formed(request: Option<Request>) -> Asked
-    ensures { result ≡ formed request }
+fn formed(format: Format, request: Option<Request>) -> Asked
+    ensures { result ≡ formed format request }
 {
     match request {
         None => Asked::BadForm,
-        Some(request) => Asked::Asks(request),
+        Some(request) => Asked::Asks { format, request },
     }
 }

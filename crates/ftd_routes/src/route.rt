@@ -4,6 +4,7 @@ ghost use Rattle.std.specs.Prelude.{◌≡◌, IfOk, OnOk, map, option_map};
 ghost use Rattle.matchit.specs.Seek.{first};
 ghost use Rattle.ftd_routes.specs.Routes.{all_routes, with_route, with_routes};
 
+use ftd_reports::Format;
 use matchit::{InsertError, Router};
 use std::alloc::Global;
 
@@ -36,10 +37,10 @@ pub enum Ask {
     DueList,
     /// The liability of a quarter by day.
     ScheduleB,
-    /// What is due between two days.
-    Agenda,
-    /// What is due until a day and not paid.
-    Owed,
+    /// What is due between two days, in this format.
+    Agenda(Format),
+    /// What is due until a day and not paid, in this format.
+    Owed(Format),
 }
 
 /// Puts in one more route.
@@ -51,7 +52,7 @@ fn put(router: &mut Router<Ask>, route: &str, ask: Ask) -> Result<(), InsertErro
 }
 
 /// The routes and what they ask.
-const ROUTES: [(&str, Ask); 15] = [
+const ROUTES: [(&str, Ask); 21] = [
     ("/accounts", Ask::Enrol),
     ("/calendars", Ask::Calendar),
     ("/holidays", Ask::AddHoliday),
@@ -65,8 +66,17 @@ const ROUTES: [(&str, Ask); 15] = [
     ("/accounts/{account}/status/{day}", Ask::Status),
     ("/accounts/{account}/due/{quarter}/{asof}", Ask::DueList),
     ("/accounts/{account}/schedule-b/{quarter}", Ask::ScheduleB),
-    ("/agenda/{from}/{to}/{asof}", Ask::Agenda),
-    ("/owed/{asof}/{until}", Ask::Owed),
+    ("/agenda/{from}/{to}/{asof}", Ask::Agenda(Format::Text)),
+    ("/agenda/{from}/{to}/{asof}/csv", Ask::Agenda(Format::Csv)),
+    ("/agenda/{from}/{to}/{asof}/json", Ask::Agenda(Format::Json)),
+    (
+        "/agenda/{from}/{to}/{asof}/ics",
+        Ask::Agenda(Format::Calendar),
+    ),
+    ("/owed/{asof}/{until}", Ask::Owed(Format::Text)),
+    ("/owed/{asof}/{until}/csv", Ask::Owed(Format::Csv)),
+    ("/owed/{asof}/{until}/json", Ask::Owed(Format::Json)),
+    ("/owed/{asof}/{until}/ics", Ask::Owed(Format::Calendar)),
 ];
 
 /// Puts in these routes more.

@@ -6,6 +6,8 @@ use Rattle.ftd_days.specs.Calendar.{last_day}
 use Rattle.ftd_machine.specs.declared.requests.Question.TheVariants as question
 use Rattle.ftd_machine.specs.declared.requests.Request.{Request}
 use Rattle.ftd_machine.specs.declared.requests.Request.TheVariants as request
+use Rattle.ftd_reports.specs.declared.formats.Format.{Format}
+use Rattle.ftd_reports.specs.declared.formats.Format.TheVariants as formats
 use Rattle.ftd_rules.specs.Accounts.{is_account_name}
 use Rattle.ftd_words.specs.declared.fault.WordFault.{WordFault}
 use Rattle.ftd_words.specs.declared.fault.WordFault.TheVariants as fault
@@ -13,6 +15,7 @@ use Rattle.ftd_words.specs.declared.table.Name.{Name}
 use Rattle.ftd_words.specs.declared.table.Name.TheVariants as name
 use Rattle.ftd_words.specs.declared.table.Word.TheVariants as word
 use Rattle.ftd_words.specs.Values.{cents_in, day_in, day_or, days_in, form_in, is_given, port_in}
+use Rattle.ftd_words.specs.Values.{format_in}
 use Rattle.ftd_words.specs.Values.{quarter_in, text_in, whole_in}
 
 -- what follows from a value, or its fault
@@ -145,7 +148,7 @@ pub data Wanted : Type 0 where
   plain : (account : Text) (year : ℕ) (holidays : List ℕ) → Wanted
   serve : (db : Text) (wait port connections idle silence duration : ℕ) → Wanted
   import : (db : Text) (wait : ℕ) (file : Text) → Wanted
-  ask : (db : Text) (wait : ℕ) (request : Request) → Wanted
+  ask : (db : Text) (wait : ℕ) (format : Format) (request : Request) → Wanted
 
 -- `plain` wants an account name, and a year of 2001 to 2098
 abbrev pub account_in : List Row → Result Text WordFault
@@ -184,12 +187,20 @@ import_of rows =
     then_with (text_in word.CsvFile rows) (λ file.
     Ok (import db wait file))))
 
--- a request, to the desk in the database
-abbrev pub asked : List Row → Request → Result Wanted WordFault
-asked rows request =
+-- a request, to the desk in the database, whose reply is told in a format
+abbrev pub asked_as : List Row → Format → Request → Result Wanted WordFault
+asked_as rows format request =
     then_with (text_in word.Db rows) (λ db.
     then_with (whole_in word.Wait rows) (λ wait.
-    Ok (ask db wait request)))
+    Ok (ask db wait format request)))
+
+-- told as text, or in the format that is asked for
+abbrev pub asked : List Row → Request → Result Wanted WordFault
+asked rows request = asked_as rows formats.Text request
+
+abbrev pub formatted : List Row → Request → Result Wanted WordFault
+formatted rows request =
+    then_with (format_in rows) (λ format. asked_as rows format request)
 
 -- what the subcommand asks with these values
 unfoldable pub wanted_of : Name → List Row → Result Wanted WordFault
@@ -208,6 +219,6 @@ wanted_of name.Pay rows = then_with (pay_of rows) (asked rows)
 wanted_of name.VoidPay rows = then_with (void_pay_of rows) (asked rows)
 wanted_of name.Status rows = then_with (status_of rows) (asked rows)
 wanted_of name.Due rows = then_with (due_of rows) (asked rows)
-wanted_of name.Agenda rows = then_with (agenda_of rows) (asked rows)
-wanted_of name.Owed rows = then_with (owed_of rows) (asked rows)
+wanted_of name.Agenda rows = then_with (agenda_of rows) (formatted rows)
+wanted_of name.Owed rows = then_with (owed_of rows) (formatted rows)
 wanted_of name.ScheduleB rows = then_with (schedule_b_of rows) (asked rows)

@@ -51,8 +51,9 @@ words_of name.Pay =
 words_of name.VoidPay = word.Db ∷ word.Wait ∷ word.Account ∷ word.Payment ∷ []
 words_of name.Status = word.Db ∷ word.Wait ∷ word.Account ∷ word.Day ∷ []
 words_of name.Due = word.Db ∷ word.Wait ∷ word.Account ∷ word.Quarter ∷ word.AsOf ∷ []
-words_of name.Agenda = word.Db ∷ word.Wait ∷ word.From ∷ word.To ∷ word.AsOf ∷ []
-words_of name.Owed = word.Db ∷ word.Wait ∷ word.AsOf ∷ word.Until ∷ []
+words_of name.Agenda =
+    word.Db ∷ word.Wait ∷ word.Format ∷ word.From ∷ word.To ∷ word.AsOf ∷ []
+words_of name.Owed = word.Db ∷ word.Wait ∷ word.Format ∷ word.AsOf ∷ word.Until ∷ []
 words_of name.ScheduleB = word.Db ∷ word.Wait ∷ word.Account ∷ word.Quarter ∷ []
 words_of name.AddHoliday = word.Db ∷ word.Wait ∷ word.Day ∷ []
 
@@ -88,6 +89,7 @@ word_text word.AsOf = codes "ASOF"
 word_text word.From = codes "FROM"
 word_text word.To = codes "TO"
 word_text word.Until = codes "UNTIL"
+word_text word.Format = codes "format"
 
 -- a word that stands behind two hyphens
 abbrev pub is_option : Word → Bool
@@ -121,6 +123,7 @@ is_option word.AsOf = false
 is_option word.From = false
 is_option word.To = false
 is_option word.Until = false
+is_option word.Format = true
 
 -- what the word takes
 abbrev pub takes_of : Word → Takes
@@ -154,6 +157,7 @@ takes_of word.AsOf = takes.Text
 takes_of word.From = takes.Text
 takes_of word.To = takes.Text
 takes_of word.Until = takes.Optional
+takes_of word.Format = takes.Format
 
 -- what takes any number of values
 abbrev pub takes_many : Takes → Bool

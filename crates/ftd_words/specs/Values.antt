@@ -9,6 +9,8 @@ use Rattle.ftd_days.specs.Spelling.{cents_of, day_of, days_of, spelled_quarter, 
 use Rattle.ftd_days.specs.declared.cents.Cents.{Cents}
 use Rattle.ftd_rules.specs.declared.Form.{Form}
 use Rattle.ftd_rules.specs.declared.Form.TheVariants.{F941, F943}
+use Rattle.ftd_reports.specs.declared.formats.Format.{Format}
+use Rattle.ftd_reports.specs.declared.formats.Format.TheVariants as format
 use Rattle.ftd_words.specs.declared.fault.WordFault.{WordFault}
 use Rattle.ftd_words.specs.declared.fault.WordFault.TheVariants as fault
 use Rattle.ftd_words.specs.declared.table.Word.{Word}
@@ -82,6 +84,18 @@ bad_value word rows =
     unwrap_or
     (if takes_many (takes_of word) then first_no_day (texts_of (all_of (word_text word) rows))
     else first_of (word_text word) rows) []
+
+-- the format that is named so
+abbrev pub format_of : Text → Option Format
+format_of text =
+    if bytes_eq text (codes "text") then Some format.Text
+    else if bytes_eq text (codes "csv") then Some format.Csv
+    else if bytes_eq text (codes "json") then Some format.Json
+    else if bytes_eq text (codes "ics") then Some format.Calendar
+    else None
+
+abbrev pub format_in : List Row → Result Format WordFault
+format_in rows = spelled_in format_of word.Format rows
 
 -- the form of an account
 abbrev pub form_of : Option Text → Result Form WordFault

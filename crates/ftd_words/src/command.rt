@@ -54,6 +54,7 @@ fn arg_of<'a>(alloc: Global, word: Word) -> Arg<'a>
         Takes::Texts => arg.action(ArgAction::Append),
         Takes::Nothing => arg.action(ArgAction::SetTrue),
         Takes::Form => arg.default_value("941"),
+        Takes::Format => arg.default_value("text"),
         Takes::Wait => seconds_or(arg, 0, "0"),
         Takes::Idle => seconds_or(arg, 1, "1"),
         Takes::Silence => seconds_or(arg, 1, "10"),

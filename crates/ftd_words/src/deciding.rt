@@ -7,8 +7,8 @@ ghost use Rattle.clap.specs.Words.{subcommand_rows_of};
 ghost use Rattle.ftd_words.specs.declared.fault.WordFault.TheVariants.{BadWord};
 ghost use Rattle.ftd_words.specs.Apps.{ftd_app};
 ghost use Rattle.ftd_words.specs.Values.{bad_value};
-ghost use Rattle.ftd_words.specs.Asking.{Tells, TellsAs, Wanted, account_in, asked, import_of};
-ghost use Rattle.ftd_words.specs.Asking.{plain_of, serve_of, wanted_of, year_in};
+ghost use Rattle.ftd_words.specs.Asking.{Tells, TellsAs, Wanted, account_in, asked, asked_as};
+ghost use Rattle.ftd_words.specs.Asking.{formatted, import_of, plain_of, serve_of, wanted_of, year_in};
 ghost use Rattle.ftd_words.specs.Tasks.{Fails, Gives, IsUsage, Refused, ShowsValue, command_named};
 ghost use Rattle.ftd_words.specs.Tasks.{rows_in, task_of, task_view, value, wanted_in, words};
 
@@ -19,12 +19,13 @@ use crate::asking::{
 use crate::escape::{escaped, escaped_word};
 use crate::fault::WordFault;
 use crate::parse::{ParseFault, parsed};
-use crate::reading::{bad_value, days_at, owned_text, port_at, whole_at};
+use crate::reading::{bad_value, days_at, format_at, owned_text, port_at, whole_at};
 use crate::table::{NAMES, Name, Word};
 use crate::tasks::{CliFault, Job, LocalTask, PlainTask, ServeTask, Task};
 use clap::error::ErrorKind;
 use clap::{ArgMatches, Error};
 use ftd_machine::{AccountName, Request};
+use ftd_reports::Format;
 use ftd_rules::is_account_name;
 use std::alloc::Global;
 
@@ -118,17 +119,37 @@ fn import(alloc: Global, inner: &ArgMatches<'_>) -> Result<Task, WordFault>
     }))
 }
 
-/// The request, to the desk in the database.
-fn local(alloc: Global, inner: &ArgMatches<'_>, request: Request) -> Result<Task, WordFault>
-    ensures { TellsAs task_view result (asked (rows_of (found_of inner.now)) request) }
+/// The request, to the desk in the database, whose reply is told in a format.
+fn local_as(
+    alloc: Global,
+    inner: &ArgMatches<'_>,
+    format: Format,
+    request: Request,
+) -> Result<Task, WordFault>
+    ensures { TellsAs task_view result (asked_as (rows_of (found_of inner.now)) format request) }
 {
     let db = owned_text(alloc, inner, Word::Db)?;
     let wait = whole_at(inner, Word::Wait)?;
     Ok(Task::Local(LocalTask {
         db,
         wait,
-        job: Job::Ask(request),
+        job: Job::Ask { format, request },
     }))
+}
+
+/// The request, to the desk in the database, whose reply is told as text.
+fn local(alloc: Global, inner: &ArgMatches<'_>, request: Request) -> Result<Task, WordFault>
+    ensures { TellsAs task_view result (asked (rows_of (found_of inner.now)) request) }
+{
+    local_as(alloc, inner, Format::Text, request)
+}
+
+/// The request, to the desk in the database, whose reply is told in the format that is asked for.
+fn formatted(alloc: Global, inner: &ArgMatches<'_>, request: Request) -> Result<Task, WordFault>
+    ensures { TellsAs task_view result (formatted (rows_of (found_of inner.now)) request) }
+{
+    let format = format_at(inner)?;
+    local_as(alloc, inner, format, request)
 }
 
 /// What the subcommand asks.
@@ -152,8 +173,8 @@ fn task_for(alloc: Global, name: Name, inner: &ArgMatches<'_>) -> Result<Task, W
         Name::VoidPay => local(alloc, inner, void_pay(alloc, inner)?),
         Name::Status => local(alloc, inner, status(alloc, inner)?),
         Name::Due => local(alloc, inner, due(alloc, inner)?),
-        Name::Agenda => local(alloc, inner, agenda(inner)?),
-        Name::Owed => local(alloc, inner, owed(inner)?),
+        Name::Agenda => formatted(alloc, inner, agenda(inner)?),
+        Name::Owed => formatted(alloc, inner, owed(inner)?),
         Name::ScheduleB => local(alloc, inner, schedule_b(alloc, inner)?),
     }
 }

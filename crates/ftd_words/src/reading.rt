@@ -7,7 +7,8 @@ ghost use Rattle.ftd_days.specs.Spelling.{days_of};
 ghost use Rattle.ftd_words.specs.Table.{word_text};
 ghost use Rattle.ftd_words.specs.Values.{bad_value, cents_in, day_in, day_or, days_in};
 ghost use Rattle.ftd_words.specs.Values.{first_no_day};
-ghost use Rattle.ftd_words.specs.Values.{form_in, is_given, needed, port_in, quarter_in, text_in};
+ghost use Rattle.ftd_words.specs.Values.{form_in, format_in, format_of, is_given, needed};
+ghost use Rattle.ftd_words.specs.Values.{port_in, quarter_in, text_in};
 ghost use Rattle.ftd_words.specs.Values.{whole_in};
 ghost use Rattle.ftd_words.specs.Asking.{Tells, TellsAs};
 
@@ -17,6 +18,7 @@ use clap::ArgMatches;
 use ftd_days::digits::whole_number;
 use ftd_days::{Cents, Day, Quarter};
 use ftd_machine::Days;
+use ftd_reports::Format;
 use ftd_rules::Form;
 use std::alloc::Global;
 
@@ -107,6 +109,33 @@ pub fn port_at(inner: &ArgMatches<'_>, word: Word) -> Result<u16, WordFault>
         return Err(WordFault::BadWord(word));
     };
     u16::try_from(number).or(Err(WordFault::BadWord(word)))
+}
+
+/// The format that is named so.
+fn format_named(text: &str) -> Option<Format>
+    ensures { result ≡ format_of text.now }
+{
+    if text == "text" {
+        Some(Format::Text)
+    } else if text == "csv" {
+        Some(Format::Csv)
+    } else if text == "json" {
+        Some(Format::Json)
+    } else if text == "ics" {
+        Some(Format::Calendar)
+    } else {
+        None
+    }
+}
+
+/// The format that is asked for.
+pub fn format_at(inner: &ArgMatches<'_>) -> Result<Format, WordFault>
+    ensures { result ≡ format_in (rows_of (found_of inner.now)) }
+{
+    let Some(text) = text_at(inner, Word::Format) else {
+        return Err(WordFault::BadWord(Word::Format));
+    };
+    format_named(text).ok_or(WordFault::BadWord(Word::Format))
 }
 
 /// The form of an account.

@@ -6,8 +6,8 @@ ghost use Rattle.ftd_words.specs.Table.{words_of};
 
 use Word::{
     Account, Amount, AsOf, Carried, Connections, CsvFile, Day, Days, Db, Duration, Fit, For, Form,
-    From, Holidays, Idle, Medicare, Paid, Payday, Payment, Port, Quarter, Run, Silence, Ss, Start,
-    To, Until, Wait, Year,
+    Format, From, Holidays, Idle, Medicare, Paid, Payday, Payment, Port, Quarter, Run, Silence, Ss,
+    Start, To, Until, Wait, Year,
 };
 
 /// What a word takes.
@@ -25,6 +25,8 @@ pub enum Takes {
     Nothing,
     /// A text, 941 if it is not there.
     Form,
+    /// A text, `text` if it is not there.
+    Format,
     /// A whole number of seconds from 1 to 3,600, 1 if it is not there.
     Idle,
     /// A whole number of seconds from 1 to 3,600, 10 if it is not there.
@@ -91,6 +93,7 @@ pub enum Word {
     From,
     To,
     Until,
+    Format,
 }
 
 impl Name {
@@ -139,8 +142,8 @@ impl Name {
             Name::VoidPay => &[Db, Wait, Account, Payment],
             Name::Status => &[Db, Wait, Account, Day],
             Name::Due => &[Db, Wait, Account, Quarter, AsOf],
-            Name::Agenda => &[Db, Wait, From, To, AsOf],
-            Name::Owed => &[Db, Wait, AsOf, Until],
+            Name::Agenda => &[Db, Wait, Format, From, To, AsOf],
+            Name::Owed => &[Db, Wait, Format, AsOf, Until],
             Name::ScheduleB => &[Db, Wait, Account, Quarter],
             Name::AddHoliday => &[Db, Wait, Day],
         }
@@ -235,6 +238,7 @@ impl Word {
             Word::From => "FROM",
             Word::To => "TO",
             Word::Until => "UNTIL",
+            Word::Format => "format",
         }
     }
 
@@ -253,6 +257,7 @@ impl Word {
                 | Word::Duration
                 | Word::Carried
                 | Word::Form
+                | Word::Format
         )
     }
 
@@ -291,6 +296,7 @@ impl Word {
             Word::From => Takes::Text,
             Word::To => Takes::Text,
             Word::Until => Takes::Optional,
+            Word::Format => Takes::Format,
         }
     }
 
@@ -306,6 +312,7 @@ impl Word {
         match self {
             Word::Db => "FILE",
             Word::Form => "FORM",
+            Word::Format => "FORMAT",
             Word::Port | Word::Connections => "N",
             Word::Wait | Word::Idle | Word::Silence | Word::Duration => "SECONDS",
             word => word.text(),
@@ -348,6 +355,7 @@ impl Word {
             Word::From => "The first due date, YYYY-MM-DD",
             Word::To => "The last due date, YYYY-MM-DD",
             Word::Until => "The last due date, YYYY-MM-DD; a week after ASOF if it is left out",
+            Word::Format => "The format of the list: text, csv, json or ics",
         }
     }
 }

@@ -4,6 +4,7 @@ ghost use Rattle.std.specs.Prelude.{◌≤◌};
 
 use crate::table::Word;
 use ftd_machine::{AccountName, Days, Request};
+use ftd_reports::Format;
 
 /// The deposits of an account in a year, from pay runs on standard input.
 #[derive(Drop)]
@@ -23,8 +24,8 @@ pub struct PlainTask {
 pub enum Job {
     /// The pay runs of this CSV file are posted; `-` is standard input.
     Import(String),
-    /// A request.
-    Ask(Request),
+    /// A request. What its reply tells over all accounts is told in this format.
+    Ask { format: Format, request: Request },
 }
 
 /// A job, and the file of the desk's database.

@@ -7,6 +7,6 @@ pub returns-in-Asks-clause-err : goal.returns-in-Asks-clause-err
 returns-in-Asks-clause-err g c =
     on_err c.answered.result
     (inr (
-      answered c.in-Asks.request c.answer-answer.result,
+      answered c.in-Asks.format c.in-Asks.request c.answer-answer.result,
       rw c.in-Asks.is (c.answer-answer.result, c.answer-answer.ensures, refl),
     ))

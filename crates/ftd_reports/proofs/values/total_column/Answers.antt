@@ -7,12 +7,7 @@ pub returns : goal.returns
 returns c =
     let within : c.saturating_sub.result ≤ 14 = omega arith in
     let width = c.saturating_sub.ensures ∙ ap (λ (z : List ℕ). 14 - length z)
-    (c.as_bytes-dollars.ensures.value ∙ c.format.ensures.text) in
-    rw (
-      c.last_digit.ensures,
-      c.last_digit-2.ensures,
-      c.as_bytes-dollars.ensures.value,
-      c.format.ensures.text,
-    )
+    c.amount_text-amount.ensures.dollars in
+    rw (c.amount_text-amount.ensures.dollars, c.amount_text-amount.ensures.cents)
     (amount_parts c.args.total c.saturating_sub.result _ width
     (take-replicate c.saturating_sub.result 14 32 within))

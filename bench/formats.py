@@ -1,0 +1,124 @@
+#!/usr/bin/env python3
+"""What is due over all accounts as a calendar, as CSV and as JSON, read by other programs' readers, beside the rows of the text.
+
+    python3 bench/formats.py [PROGRAM]
+
+PROGRAM is the path of `ftd`, or that of the build of this repository. It makes a desk with 40 accounts and random pay runs and payments, asks
+`agenda` and `owed` for each week of a quarter in each format, reads the calendar with `icalendar` (Debian's python3-icalendar) and the
+other two with Python's own `csv` and `json`, and compares each row with that of the text. It ends with status 1 at the first that differs.
+"""
+
+import csv
+import datetime
+import decimal
+import io
+import json
+import os
+import random
+import subprocess
+import sys
+import tempfile
+
+import icalendar
+
+TOP = os.path.dirname(os.path.dirname(os.path.abspath(__file__)))
+FTD = os.path.join(TOP, "crates", "ftd", "out", "ftd")
+FIELDS = ["due", "account", "form", "first", "last", "rule", "amount", "paid", "left", "pay_by", "verdict"]
+HOLIDAYS = {
+    "2024": ["2024-01-01", "2024-01-15", "2024-02-19", "2024-04-16", "2024-05-27", "2024-06-19", "2024-07-04", "2024-09-02"]
+    + ["2024-10-14", "2024-11-11", "2024-11-28", "2024-12-25"],
+    "2025": ["2025-01-01"],
+}
+
+
+def ask(program, db, *words):
+    """The bytes that a command prints."""
+    done = subprocess.run([program, words[0], "--db", db, *words[1:]], capture_output=True, check=False)
+    if done.returncode != 0:
+        sys.exit(f"{' '.join(words)}: {done.stderr.decode()}")
+    return done.stdout
+
+
+def fill(program, db, chance):
+    """Makes the desk."""
+    for year, days in HOLIDAYS.items():
+        ask(program, db, "calendar", year, *days)
+    for number in range(40):
+        name = f"office-{number}" if number else "a-name-of-20-bytes--"
+        form = "943" if number % 5 == 4 else "941"
+        ask(program, db, "enrol", "--form", form, name, "2024-01-01")
+        ask(program, db, "open-year", name, "2024")
+        payday = datetime.date(2024, 4, 1)
+        for run in range(1, 7):
+            payday += datetime.timedelta(chance.randint(3, 14))
+            amount = f"{chance.choice([9, 300, 4000, 60000, 250000])}.{chance.randint(0, 99):02}"
+            ask(program, db, "post", name, str(run), str(payday), amount, "0.00", "0.00")
+            if chance.random() < 0.5:
+                ask(program, db, "pay", name, str(run), str(payday), str(payday), amount)
+
+
+def text_rows(text):
+    """The rows of a text, and the sum of its last line."""
+    lines = text.decode().splitlines()
+    return [line.split() for line in lines[1:-1]], lines[-1].split()[1]
+
+
+def same(what, found, wanted):
+    """Ends where they differ."""
+    if found != wanted:
+        sys.exit(f"{what}: {found} in place of {wanted}")
+
+
+def event_of(row, as_of):
+    """What an event says of a row."""
+    due, account, form, first, last, rule, _, _, left, pay_by, verdict = row
+    return {
+        "UID": f"{account}-{form}-{first}@ftd",
+        "DTSTAMP": datetime.datetime.fromisoformat(f"{as_of}T00:00:00+00:00"),
+        "DTSTART": datetime.date.fromisoformat(due),
+        "SUMMARY": f"{account} {form} {rule} {left}",
+        "DESCRIPTION": f"{first} to {last}, pay by {pay_by}, {verdict}",
+    }
+
+
+def read_event(event):
+    """What the reader finds in an event."""
+    texts = {name: str(event[name]) for name in ("UID", "SUMMARY", "DESCRIPTION")}
+    return {**texts, "DTSTAMP": event["DTSTAMP"].dt, "DTSTART": event["DTSTART"].dt}
+
+
+def compare(program, db, words, as_of):
+    """Compares the formats of an answer with its text, and gives the number of its rows."""
+    rows, total = text_rows(ask(program, db, *words))
+    name = " ".join(words)
+    found = list(csv.reader(io.StringIO(ask(program, db, *words, "--format", "csv").decode(), newline="")))
+    same(name, found, [FIELDS, *rows])
+    found = json.loads(ask(program, db, *words, "--format", "json"))
+    same(name, found, {"rows": [dict(zip(FIELDS, row)) for row in rows], "left": total})
+    same(name, sum(decimal.Decimal(row["left"]) for row in found["rows"]), decimal.Decimal(total))
+    text = ask(program, db, *words, "--format", "ics")
+    same(name, [line for line in text.split(b"\n") if line and (line[-1:] != b"\r" or len(line) > 76)], [])
+    found = [read_event(it) for it in icalendar.Calendar.from_ical(text).walk("VEVENT")]
+    same(name, found, [event_of(row, as_of) for row in rows])
+    same(name, len({it["UID"] for it in found}), len(rows))
+    return len(rows)
+
+
+def main():
+    program = os.path.abspath(sys.argv[1] if len(sys.argv) > 1 else FTD)
+    chance = random.Random(5545)
+    with tempfile.TemporaryDirectory() as folder:
+        db = os.path.join(folder, "office.db")
+        fill(program, db, chance)
+        count, rows = 0, 0
+        for week in range(13):
+            as_of = datetime.date(2024, 4, 1) + datetime.timedelta(7 * week)
+            to = as_of + datetime.timedelta(20)
+            rows += compare(program, db, ["agenda", str(as_of), str(to), str(as_of)], as_of)
+            rows += compare(program, db, ["owed", str(as_of)], as_of)
+            count += 2
+    print(f"{count} answers, {rows} rows: the same in four formats")
+
+
+if __name__ == "__main__":
+    main()
