@@ -3,8 +3,8 @@
 
 It makes seeded lists of requests (several accounts on both forms, late pay runs, voids, openings, added holidays, nonsense),
 asks `ftd serve` over a new file, and compares each answer and, at the end, each row of each table, which Python's sqlite3 reads
-from the file. Then it asks with the commands `ftd agenda` and `ftd owed` what is due over all accounts, compares each text, and
-looks that each command left every row of every table. `bench/desk.py [PROGRAM [COUNT SEED..]]` takes the program, how many
+from the file. Then it asks with commands what is due over all accounts and what is kept, compares each text, and looks that each command
+left every row of every table. `bench/desk.py [PROGRAM [COUNT SEED..]]` takes the program, how many
 requests a list has, and the seeds.
 """
 import contextlib
@@ -75,6 +75,10 @@ def close(day):
 def opens(day):
     end = close(day)
     return end - 2 * DAY if end.weekday() == 4 else end - 3 * DAY
+
+
+def lines_of(head, rows):
+    return "".join(f"{line}\n" for line in [head, *rows])
 
 
 class Refused(Exception):
@@ -503,6 +507,56 @@ class Desk:
         rows = [row for row in self.agenda(lambda due: due <= until, as_of) if row[3]]
         return self.agenda_text(f"OWED UNTIL {until} AS OF {as_of}", rows)
 
+    # ---- what is kept
+
+    def ask_accounts(self):
+        rows = sorted(self.accounts.items())
+        return lines_of("ACCOUNTS", [f"{name:20} {form} {start}{' carried' * carried}" for name, (start, carried, form) in rows])
+
+    def ask_years(self, name):
+        self.named(name)
+        self.known(name)
+        return lines_of(f"YEARS {name}", [
+            f"{year} {money(look):>17} {'semiweekly' if semiweekly else 'monthly'}{' carried' * carried}{f' turned {turn}' if turn else ''}"
+            for year, (look, carried, semiweekly, turn) in sorted(self.lines(name, self.liability(name)).items())
+        ])
+
+    def ask_reported(self, name):
+        self.named(name)
+        yearly = self.known(name)[2] == "943"
+        kept = sorted((key, cents) for (owner, key), cents in (self.years_reported if yearly else self.reported).items() if owner == name)
+        return lines_of(f"REPORTED {name}", [f"{key if yearly else name_of(key)} {money(cents):>17}" for key, cents in kept])
+
+    def ask_holidays(self, year):
+        if not 2001 <= int(year) <= 2099:
+            refuse(2, "BadYear")
+        if int(year) not in self.calendars:
+            refuse(16, "CalendarMissing", year)
+        added = sorted(day for day in self.added if day.year == int(year))
+        return lines_of(f"HOLIDAYS {year}", [*map(str, sorted(self.calendars[int(year)])), *(f"{day} added" for day in added)])
+
+    def kept_of(self, kept, day, name, quarter):
+        """The runs or payments of a quarter, by day and number."""
+        quarter = self.asked_of_quarter(name, quarter)
+        self.known(name)
+        return sorted((it[day], number, it) for (owner, number), it in kept.items() if owner == name and quarter_of(it[day]) == quarter)
+
+    def ask_runs(self, name, quarter, form="text"):
+        rows = self.kept_of(self.runs, "payday", name, quarter)
+        if form == "csv":
+            live = [(number, day, *map(money, run["amounts"])) for day, number, run in rows if not run["voided"]]
+            return lines_of("employer,run,payday,fit,ss,medicare", [",".join(map(str, (name, *it))) for it in live])
+        amounts = lambda run: " ".join(f"{money(cents):>17}" for cents in run["amounts"])
+        return lines_of(f"RUNS {name} {quarter}", [f"{day} {amounts(run)} {number}{' void' * run['voided']}" for day, number, run in rows])
+
+    def ask_payments(self, name, quarter):
+        rows = self.kept_of(self.payments, "for", name, quarter)
+        owed = self.obligations(name)
+        held = lambda day: str(min((row[0] for row in owed if row[0] <= day <= row[1]), default="none"))
+        return lines_of(f"PAYMENTS {name} {quarter}", [
+            f"{day} {money(it['cents']):>17} {it['paid']} {held(day):10} {number}{' void' * it['voided']}" for day, number, it in rows
+        ])
+
     # ---- tables
 
     def tables(self):
@@ -539,7 +593,7 @@ class Desk:
 # ---- random requests
 
 # So many questions of a seed are asked with a command, on the file that the server left.
-QUESTIONS = 10
+QUESTIONS = 16
 NAMES = ["ash", "birch", "cedar", "elm", "fir", "oak", "pine", "rye", "nobody", "Bad"]
 YEARS = range(2022, 2028)
 
@@ -591,6 +645,14 @@ def owed(rng):
     return f"owed {as_of} {as_of + rng.choice([7, 7, rng.randrange(-400, 60)]) * DAY}"
 
 
+def kept(rng):
+    """A question for what is kept."""
+    name, quarter = rng.choice(NAMES), f"{rng.choice([*YEARS, 2000, 2030])}Q{rng.randint(1, 4)}"
+    year = rng.choice([*YEARS, 2021, 2028, 2029, 2000, 2100])
+    return rng.choice(["accounts", f"years {name}", f"reported {name}", f"holidays {year}", f"runs {name} {quarter}",
+                       f"runs {name} {quarter}", f"runs {name} {quarter} csv", f"payments {name} {quarter}", f"payments {name} {quarter}"])
+
+
 def payment(rng, owed):
     """A day, the day that it is paid for and an amount: anything, or what an obligation needs, a little less, or a cent more."""
     if not owed or rng.random() < 0.3:
@@ -624,6 +686,8 @@ def one(rng, desk, posted, paid):
         return agenda(rng)
     if kind < 0.77:
         return owed(rng)
+    if kind < 0.82:
+        return kept(rng)
     quarter = f"{rng.choice(YEARS)}Q{rng.randint(1, 4)}"
     if kind < 0.9:
         as_of = first_of((int(quarter[:4]), int(quarter[5]))) + rng.randrange(240) * DAY
@@ -656,8 +720,9 @@ def compare_answer(where, line, found, right):
 
 def command_answer(program, file, line):
     """What the command of a question prints: its text, or the line of the refusal."""
-    verb, *days = line.split(" ")
-    ran = subprocess.run([program, verb, "--db", file, *days], capture_output=True, text=True, timeout=60)
+    verb, *words = line.removesuffix(" csv").split(" ")
+    words += ["--format", "csv"] if line.endswith(" csv") else []
+    ran = subprocess.run([program, verb, "--db", file, *words], capture_output=True, text=True, timeout=60)
     return ran.stdout if ran.returncode == 0 else ran.stderr.split("\n")[0]
 
 
@@ -676,7 +741,7 @@ def compare(program, file, seed, count):
     for place, line in enumerate(lines):
         compare_answer(f"seed {seed}, request {place}", line, answers[place], right[place])
     compare_tables(file, desk, f"seed {seed}")
-    questions = [rng.choice([agenda, owed])(rng) for _ in range(QUESTIONS)] + [f"owed {some_day(rng)}" for _ in range(2)]
+    questions = [rng.choice([agenda, owed, kept])(rng) for _ in range(QUESTIONS)] + [f"owed {some_day(rng)}" for _ in range(2)]
     for line in questions:
         compare_answer(f"seed {seed}, command", line, command_answer(program, file, line), desk.ask(line))
         compare_tables(file, desk, f"seed {seed}, after ftd {line}")

@@ -11,6 +11,8 @@ TOP = os.path.dirname(os.path.dirname(os.path.abspath(__file__)))
 FTD = os.path.join(TOP, "crates", "ftd", "out", "ftd")
 # A connection has so many messages at most.
 MESSAGES = 100
+# How the texts begin that are compared as they are.
+LISTS = ("AGENDA", "OWED", "ACCOUNTS", "YEARS", "REPORTED", "HOLIDAYS", "RUNS", "PAYMENTS", "employer,")
 
 
 def program_of(words):
@@ -53,6 +55,10 @@ def message_of(line):
         body = {"account": words[1], "start": words[2], "carried": "carried" in words, "form": form}
     elif words[0] in ("agenda", "owed"):
         method, target, body = "GET", "/" + "/".join(words), None
+    elif words[0] in ("accounts", "holidays"):
+        method, target, body = "GET", "/lists/" + "/".join(words), None
+    elif words[0] in ("years", "reported", "runs", "payments"):
+        method, target, body = "GET", "/".join(["/lists/accounts", words[1], words[0], *words[2:]]), None
     else:
         method, end, body = body_of(words)
         target = f"/accounts/{words[1]}/{end}"
@@ -79,8 +85,8 @@ def rows_of(text):
 
 
 def told(body):
-    """The answer as a line; what is due over all accounts is its text."""
-    if body.startswith(("AGENDA", "OWED")):
+    """The answer as a line; what is due over all accounts, and a list of what is kept, is its text."""
+    if body.startswith(LISTS):
         return body
     if not body.startswith("{"):
         return rows_of(body)

@@ -7,15 +7,17 @@ use Rattle.ftd_messages.specs.declared.status.Status.TheVariants as status
 use Rattle.ftd_machine.specs.Questions.{question_of}
 use Rattle.ftd_machine.specs.declared.requests.Question.{Question}
 use Rattle.ftd_machine.specs.declared.requests.Question.TheVariants.{Status, DueList, ScheduleB}
-use Rattle.ftd_machine.specs.declared.requests.Question.TheVariants.{Agenda, Owed}
+use Rattle.ftd_machine.specs.declared.requests.Question.TheVariants.{Agenda, Owed, Kept}
 use Rattle.ftd_machine.specs.declared.requests.Request.{Request}
 use Rattle.ftd_rules.specs.declared.Kind.{Kind}
 use Rattle.ftd_rules.specs.declared.Kind.TheVariants.{Monthly, Semiweekly}
+use Rattle.ftd_machine.specs.declared.kept.KeptRows.{KeptRows}
 use Rattle.ftd_machine.specs.declared.lists.AgendaRow.{AgendaRow}
 use Rattle.ftd_machine.specs.declared.replies.Reason.{Reason}
 use Rattle.ftd_machine.specs.declared.replies.Reason.TheVariants.{Lookback, Turned, Carried}
 use Rattle.ftd_machine.specs.declared.replies.Reply.{Reply}
 use Rattle.ftd_machine.specs.declared.replies.Reply.TheVariants as reply
+use Rattle.ftd_listings.specs.Listings.{kept_as}
 use Rattle.ftd_reports.specs.Formats.{agenda_as, owed_as}
 use Rattle.ftd_reports.specs.declared.formats.Format.{Format}
 use Rattle.ftd_reports.specs.DueLists.{due_text}
@@ -59,6 +61,7 @@ scheduled (Some (DueList account quarter as_of)) kind reason = bare status.Inter
 scheduled (Some (ScheduleB account quarter)) kind reason = bare status.InternalServerError
 scheduled (Some (Agenda from to as_of)) kind reason = bare status.InternalServerError
 scheduled (Some (Owed until as_of)) kind reason = bare status.InternalServerError
+scheduled (Some (Kept asked)) kind reason = bare status.InternalServerError
 scheduled None kind reason = bare status.InternalServerError
 
 -- the response to the rows of a due list that a request asked for
@@ -69,6 +72,7 @@ listed (Some (DueList account quarter as_of)) rows =
 listed (Some (ScheduleB account quarter)) rows = bare status.InternalServerError
 listed (Some (Agenda from to as_of)) rows = bare status.InternalServerError
 listed (Some (Owed until as_of)) rows = bare status.InternalServerError
+listed (Some (Kept asked)) rows = bare status.InternalServerError
 listed None rows = bare status.InternalServerError
 
 -- the response to the days of a Schedule B that a request asked for
@@ -78,6 +82,7 @@ summed (Some (DueList account quarter as_of)) sums = bare status.InternalServerE
 summed (Some (ScheduleB account quarter)) sums = plain (b_text account quarter sums)
 summed (Some (Agenda from to as_of)) sums = bare status.InternalServerError
 summed (Some (Owed until as_of)) sums = bare status.InternalServerError
+summed (Some (Kept asked)) sums = bare status.InternalServerError
 summed None sums = bare status.InternalServerError
 
 -- the response to the rows of what is due over all accounts that a request asked for, in a format
@@ -89,10 +94,21 @@ gathered format (Some (Agenda from to as_of)) rows =
     formatted format (agenda_as format from to as_of rows)
 gathered format (Some (Owed until as_of)) rows =
     formatted format (owed_as format until as_of rows)
+gathered format (Some (Kept asked)) rows = bare status.InternalServerError
 gathered format None rows = bare status.InternalServerError
 
--- The response to a reply, in a format where it tells of all accounts. One that does not fit its request, which the desk does not give, is a
--- fault of the server.
+-- the response to what is kept, as far as a request asked for it, in a format
+abbrev pub kept_said : Format → Option Question → KeptRows → Said
+kept_said format (Some (Status account day)) rows = bare status.InternalServerError
+kept_said format (Some (DueList account quarter as_of)) rows = bare status.InternalServerError
+kept_said format (Some (ScheduleB account quarter)) rows = bare status.InternalServerError
+kept_said format (Some (Agenda from to as_of)) rows = bare status.InternalServerError
+kept_said format (Some (Owed until as_of)) rows = bare status.InternalServerError
+kept_said format (Some (Kept asked)) rows = formatted format (kept_as format asked rows)
+kept_said format None rows = bare status.InternalServerError
+
+-- The response to a reply, in a format where it tells of all accounts or of what is kept. One that
+-- does not fit its request, which the desk does not give, is a fault of the server.
 abbrev pub replied : Format → Request → Reply → Said
 replied format request reply.Done = json status.Okay (codes "{\"reply\":\"done\"}")
 replied format request reply.Already = json status.Okay (codes "{\"reply\":\"already\"}")
@@ -102,6 +118,7 @@ replied format request (reply.Status kind reason) = scheduled (question_of reque
 replied format request (reply.Due rows) = listed (question_of request) rows
 replied format request (reply.Days sums) = summed (question_of request) sums
 replied format request (reply.Agenda rows) = gathered format (question_of request) rows
+replied format request (reply.Kept rows) = kept_said format (question_of request) rows
 
 abbrev pub answered : Format → Request → Answer → Said
 answered format request (Ok reply) = replied format request reply

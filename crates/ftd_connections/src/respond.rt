@@ -9,14 +9,18 @@ ghost use Rattle.ftd_reports.specs.DueLists.{due_text};
 ghost use Rattle.ftd_reports.specs.SchedulesB.{b_text};
 ghost use Rattle.ftd_connections.specs.Refusals.{refused};
 ghost use Rattle.ftd_connections.specs.Replying.{Responds, answered, replied, scheduled, listed};
-ghost use Rattle.ftd_connections.specs.Replying.{summed, gathered, schedule_text, kind_text};
-ghost use Rattle.ftd_connections.specs.Replying.{reason_text, posted_text};
+ghost use Rattle.ftd_listings.specs.Listings.{kept_as};
+ghost use Rattle.ftd_connections.specs.Replying.{summed, gathered, kept_said, schedule_text};
+ghost use Rattle.ftd_connections.specs.Replying.{kind_text, reason_text, posted_text};
 
 use crate::machine::Machine;
 use crate::refusals::refused;
 use crate::response::{Response, add_number, bare, formatted, json, other_method, plain};
 use ftd_days::{Day, Quarter};
-use ftd_machine::{AgendaRow, Answer, Question, Reason, Reply, Request, are_sums_bounded};
+use ftd_listings::write_kept_as;
+use ftd_machine::{
+    AgendaRow, Answer, Kept, KeptRows, Question, Reason, Reply, Request, are_sums_bounded,
+};
 use ftd_messages::Status;
 use ftd_ports::Port;
 use ftd_reports::{DueText, Format, day_bytes, schedule_b, write_agenda_as, write_owed_as};
@@ -94,6 +98,7 @@ fn replied(
         Reply::Due(rows) => listed(alloc, request, rows.as_slice()),
         Reply::Days(sums) => summed(alloc, request, sums.as_slice()),
         Reply::Agenda(rows) => gathered(alloc, format, request, rows.as_slice()),
+        Reply::Kept(rows) => kept_said(alloc, format, request, rows),
     }
 }
 
@@ -159,7 +164,8 @@ fn scheduled(
             Question::DueList { .. }
             | Question::ScheduleB { .. }
             | Question::Agenda { .. }
-            | Question::Owed { .. },
+            | Question::Owed { .. }
+            | Question::Kept(_),
         )
         | None => Ok(bare(alloc, Status::InternalServerError)),
     }
@@ -221,7 +227,8 @@ fn listed(alloc: Global, request: &Request, rows: &[DueRow]) -> Result<Response,
             Question::Status { .. }
             | Question::ScheduleB { .. }
             | Question::Agenda { .. }
-            | Question::Owed { .. },
+            | Question::Owed { .. }
+            | Question::Kept(_),
         )
         | None => Ok(bare(alloc, Status::InternalServerError)),
     }
@@ -268,7 +275,8 @@ fn summed(alloc: Global, request: &Request, sums: &[DaySum]) -> Result<Response,
             Question::Status { .. }
             | Question::DueList { .. }
             | Question::Agenda { .. }
-            | Question::Owed { .. },
+            | Question::Owed { .. }
+            | Question::Kept(_),
         )
         | None => Ok(bare(alloc, Status::InternalServerError)),
     }
@@ -313,7 +321,12 @@ fn gathered(
             let text = owed_text(alloc, format, *until, *as_of, rows)?;
             Ok(formatted(format, text))
         }
-        Some(Question::Status { .. } | Question::DueList { .. } | Question::ScheduleB { .. })
+        Some(
+            Question::Status { .. }
+            | Question::DueList { .. }
+            | Question::ScheduleB { .. }
+            | Question::Kept(_),
+        )
         | None => Ok(bare(alloc, Status::InternalServerError)),
     }
 }
@@ -348,6 +361,48 @@ fn owed_text(
 {
     let mut port = Port::new(Vec::new(alloc));
     match write_owed_as(format, until, as_of, rows, &mut port) {
+        Ok(()) => Ok(port.into_inner()),
+        Err(_) => Err(AllocError),
+    }
+}
+
+/// The response with what is kept, as far as a request asked for it, in a format.
+fn kept_said(
+    alloc: Global,
+    format: Format,
+    request: &Request,
+    rows: &KeptRows,
+) -> Result<Response, AllocError>
+    ensures { IfOk result
+        (λ response. said_of response ≡ kept_said format (question_of request.now) rows.now) }
+{
+    match request.question() {
+        Some(Question::Kept(asked)) => {
+            let text = kept_text(alloc, format, asked, rows)?;
+            Ok(formatted(format, text))
+        }
+        Some(
+            Question::Status { .. }
+            | Question::DueList { .. }
+            | Question::ScheduleB { .. }
+            | Question::Agenda { .. }
+            | Question::Owed { .. },
+        )
+        | None => Ok(bare(alloc, Status::InternalServerError)),
+    }
+}
+
+/// The text of what is kept, in a format.
+fn kept_text(
+    alloc: Global,
+    format: Format,
+    asked: &Kept,
+    rows: &KeptRows,
+) -> Result<Vec<u8>, AllocError>
+    ensures { IfOk result (λ text. text.items ≡ kept_as format asked.now rows.now) }
+{
+    let mut port = Port::new(Vec::new(alloc));
+    match write_kept_as(format, asked, rows, &mut port) {
         Ok(()) => Ok(port.into_inner()),
         Err(_) => Err(AllocError),
     }

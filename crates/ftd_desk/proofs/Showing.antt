@@ -18,7 +18,7 @@ use Rattle.ftd_machine.specs.Questions.{question_of}
 use Rattle.ftd_machine.specs.declared.replies.Refusal.{Refusal}
 use Rattle.ftd_machine.specs.declared.requests.Question.{Question}
 use Rattle.ftd_machine.specs.declared.requests.Question.TheVariants.{Status, DueList, ScheduleB}
-use Rattle.ftd_machine.specs.declared.requests.Question.TheVariants.{Agenda, Owed}
+use Rattle.ftd_machine.specs.declared.requests.Question.TheVariants.{Agenda, Owed, Kept}
 use Rattle.ftd_machine.specs.declared.requests.Request.{Request}
 use Rattle.ftd_desk.specs.Shown.{ShowsIf, ShowsFor, ShowsAsked}
 use Rattle.ftd_desk.specs.declared.listed.Answered.{Answered}
@@ -33,6 +33,7 @@ refusal_shows (Some (DueList name quarter as_of)) refusal t = λ rows is. absurd
 refusal_shows (Some (ScheduleB name quarter)) refusal t = tt
 refusal_shows (Some (Agenda from to as_of)) refusal t = tt
 refusal_shows (Some (Owed until as_of)) refusal t = tt
+refusal_shows (Some (Kept asked)) refusal t = tt
 
 pub change_shows : (asked : Option Question) (answer : Answer) (t : Tables)
     → is_change answer ≡ true → ShowsIf asked answer t
@@ -43,6 +44,7 @@ change_shows (Some (DueList name quarter as_of)) answer t changes =
 change_shows (Some (ScheduleB name quarter)) answer t changes = tt
 change_shows (Some (Agenda from to as_of)) answer t changes = tt
 change_shows (Some (Owed until as_of)) answer t changes = tt
+change_shows (Some (Kept asked)) answer t changes = tt
 
 module _ {S : Type 0} (g : store.Ghosts S) where
   pub past_shows : (old new : Tx S) (served : Served) (past : Answered) (request : Request)

@@ -27,7 +27,8 @@ pub(crate) fn is_change(answer: &Answer) -> bool
             | Reply::Status { .. }
             | Reply::Due(_)
             | Reply::Days(_)
-            | Reply::Agenda(_),
+            | Reply::Agenda(_)
+            | Reply::Kept(_),
         )
         | Err(_) => false,
     }

@@ -166,10 +166,10 @@ whole_rises (negsuc a) b h = omega arith
 pub key_rises : (a b : ℤ) → a ≤ℤ b → whole (a +ℤ pos 25_567) ≤ whole (b +ℤ pos 25_567)
 key_rises a b h = whole_rises (a +ℤ pos 25_567) (b +ℤ pos 25_567) (omega (arith, ints))
 
-abbrev itself : ℕ → ℕ
+abbrev pub itself : ℕ → ℕ
 itself day = day
 
-rising : (days : List ℕ) → are_rising days ≡ true → KeysRise itself days
+pub rising : (days : List ℕ) → are_rising days ≡ true → KeysRise itself days
 rising [] e = tt
 rising (x ∷ []) e = ((λ later has. absurd has), tt)
 rising (x ∷ y ∷ days) e =

@@ -32,13 +32,13 @@ flag_is false true h = absurd cc
 flag_is true false h = absurd cc
 flag_is true true h = refl
 
-form_is : (a b : Form) → form_number a ≡ form_number b → a ≡ b
+pub form_is : (a b : Form) → form_number a ≡ form_number b → a ≡ b
 form_is F941 F941 h = refl
 form_is F941 F943 h = absurd cc
 form_is F943 F941 h = absurd cc
 form_is F943 F943 h = refl
 
-same_account : (name : List ℕ) (x : Enrolled) (a : StoredAccount) (f : Form)
+pub same_account : (name : List ℕ) (x : Enrolled) (a : StoredAccount) (f : Form)
     → enrolled_row x ≡ account_row name a → enrolled_form x ≡ form_row name f
     → x.account ≡ record { start = a.start; carried = a.carried; form = f }
 same_account name x a f row form =

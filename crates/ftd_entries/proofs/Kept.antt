@@ -72,7 +72,7 @@ module _ {X R : Type 0} (row : Entry X → R) (test : R → Bool) where
 
 -- ---- equal keys
 
-same_nat : (a b : ℕ) → pos a ≡ pos b → a ≡ b
+pub same_nat : (a b : ℕ) → pos a ≡ pos b → a ≡ b
 same_nat a b is = cc
 
 pub same_number : (a b : ℕ) → int_eq (pos a) (pos b) ≡ (a == b)
@@ -80,7 +80,7 @@ same_number a b = same_from_decides (int_eq (pos a) (pos b)) (a == b)
     (Decides-like (int_eq (pos a) (pos b)) (same_nat a b) (λ is. ap pos is)
     (Decides-int_eq (pos a) (pos b))) (Decides-eqb a b)
 
-quarter_is : (a b : ℕ) → quarter_year a ≡ quarter_year b → quarter_number a ≡ quarter_number b
+pub quarter_is : (a b : ℕ) → quarter_year a ≡ quarter_year b → quarter_number a ≡ quarter_number b
     → a ≡ b
 quarter_is a b year number = omega arith
 
@@ -101,7 +101,7 @@ same_quarter a b =
 
 -- ---- equal contents
 
-cents_is : (a b : Cents) → pos a.0 ≡ pos b.0 → a ≡ b
+pub cents_is : (a b : Cents) → pos a.0 ≡ pos b.0 → a ≡ b
 cents_is a b is =
     let make : ℕ → Cents = λ n. record { 0 = n } in
     ap make (same_nat a.0 b.0 is)
@@ -114,7 +114,7 @@ payment_as : (v : Voidable Payment) (paid for_day : ℕ) (cents : Cents) (voided
     }
 payment_as v paid for_day cents voided a b c d = rw (sym a, sym b, sym c, sym d) refl
 
-payment_is : (name : List ℕ) (number : ℕ) (e : Entry (Voidable Payment)) (x : Voidable Payment)
+pub payment_is : (name : List ℕ) (number : ℕ) (e : Entry (Voidable Payment)) (x : Voidable Payment)
     → payment_entry e ≡ payment_row name (pos number) x.value x.voided → e.content ≡ x
 payment_is name number e x is =
     payment_as e.content x.value.paid x.value.for_day x.value.cents x.voided
@@ -132,7 +132,7 @@ run_as : (v : Voidable PayRun) (payday : ℕ) (fit ss medicare : Cents) (voided 
     }
 run_as v payday fit ss medicare voided a b c d e = rw (sym a, sym b, sym c, sym d, sym e) refl
 
-run_is : (name : List ℕ) (number : ℕ) (e : Entry (Voidable PayRun)) (x : Voidable PayRun)
+pub run_is : (name : List ℕ) (number : ℕ) (e : Entry (Voidable PayRun)) (x : Voidable PayRun)
     → run_entry e ≡ run_row name (pos number) x.value x.voided → e.content ≡ x
 run_is name number e x is =
     run_as e.content x.value.payday x.value.fit x.value.ss x.value.medicare x.voided

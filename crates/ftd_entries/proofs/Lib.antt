@@ -22,3 +22,4 @@ pub mod YearHolidays
 pub mod OwedRows
 pub mod Ends
 pub mod ListedRows
+pub mod QuarterDays

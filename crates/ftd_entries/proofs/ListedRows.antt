@@ -1,4 +1,4 @@
--- Obligations that were listed with their accounts, and their rows.
+-- What was listed of a table, and its rows.
 use Rattle.std.proofs.Common.{◌≡◌, Bool, true, List, [], ◌∷◌, inl, inr, refl, sym, ap, ◌∙◌}
 use Rattle.std.specs.Prelude.{filter, string_bytes}
 use Rattle.std.proofs.lemmas.List.Sorted.{IsPermutation-sym}
@@ -12,6 +12,49 @@ use Rattle.ftd_store.specs.Finds.{IsAccountObligation}
 use Rattle.ftd_store.proofs.Sifted.{keeps_has}
 use Rattle.ftd_machine.proofs.Members.{has_filtered}
 
+-- ---- values that each have their row
+
+module _ {X Y : Type 0} (row_for : Y → X) where
+  abbrev pub IsFor : X → Y → Type 0
+  IsFor row y = row ≡ row_for y
+
+  pub value_row : (rows : List X) (given : List Y) → Pairs IsFor rows given → (y : Y)
+      → Has given y → Has rows (row_for y)
+  value_row [] [] pairs y has = absurd has
+  value_row [] (z ∷ given) pairs y has = absurd pairs
+  value_row (r ∷ rows) [] pairs y has = absurd has
+  value_row (r ∷ rows) (z ∷ given) pairs y (inl is) = inl (ap row_for is ∙ sym pairs.0)
+  value_row (r ∷ rows) (z ∷ given) pairs y (inr has) = inr (value_row rows given pairs.1 y has)
+
+  pub row_value : (rows : List X) (given : List Y) → Pairs IsFor rows given → (r : X) → Has rows r
+      → (y : Y) × Has given y × (r ≡ row_for y)
+  row_value [] given pairs r has = absurd has
+  row_value (q ∷ rows) [] pairs r has = absurd pairs
+  row_value (q ∷ rows) (z ∷ given) pairs r (inl is) = (z, inl refl, is ∙ pairs.0)
+  row_value (q ∷ rows) (z ∷ given) pairs r (inr has) = let found =
+      row_value rows given pairs.1 r has in (found.0, inr found.1, found.2)
+
+  -- what the rows that pass a test were listed as, in whatever order
+  module _ (Rise : X → X → Type 0) (test : X → Bool) (rows : List X) (given : List Y)
+      (listed : Lists Rise IsFor (filter test rows) given) where
+    -- what was listed has its row there, which passes
+    pub value_passes : (y : Y) → Has given y → Has rows (row_for y) × (test (row_for y) ≡ true)
+    value_passes y has =
+        has_filtered test rows (row_for y)
+        (has_permuted (filter test rows) listed.ordered listed.same (row_for y)
+        (value_row listed.ordered given listed.pairs y has))
+
+    -- a row that passes is that of what was listed
+    pub passing_value : (r : X) → Has rows r → test r ≡ true
+        → (y : Y) × Has given y × (r ≡ row_for y)
+    passing_value r has passes =
+        row_value listed.ordered given listed.pairs r
+        (has_permuted listed.ordered (filter test rows)
+        (IsPermutation-sym (filter test rows) listed.ordered listed.same) r
+        (keeps_has test rows r has passes))
+
+-- ---- obligations with their accounts
+
 -- the row of an obligation and its account
 abbrev pub row_of : AccountObligation → ObligationRow
 row_of x = obligation_row (string_bytes x.account) x.obligation
@@ -19,38 +62,20 @@ row_of x = obligation_row (string_bytes x.account) x.obligation
 pub listed_row : (rows : List ObligationRow) (given : List AccountObligation)
     → Pairs IsAccountObligation rows given → (x : AccountObligation) → Has given x
     → Has rows (row_of x)
-listed_row [] [] pairs x has = absurd has
-listed_row [] (y ∷ given) pairs x has = absurd pairs
-listed_row (r ∷ rows) [] pairs x has = absurd has
-listed_row (r ∷ rows) (y ∷ given) pairs x (inl is) = inl (ap row_of is ∙ sym pairs.0)
-listed_row (r ∷ rows) (y ∷ given) pairs x (inr has) = inr (listed_row rows given pairs.1 x has)
+listed_row rows given pairs x has = value_row row_of rows given pairs x has
 
 pub row_listed : (rows : List ObligationRow) (given : List AccountObligation)
     → Pairs IsAccountObligation rows given → (r : ObligationRow) → Has rows r
     → (x : AccountObligation) × Has given x × (r ≡ row_of x)
-row_listed [] given pairs r has = absurd has
-row_listed (q ∷ rows) [] pairs r has = absurd pairs
-row_listed (q ∷ rows) (y ∷ given) pairs r (inl is) = (y, inl refl, is ∙ pairs.0)
-row_listed (q ∷ rows) (y ∷ given) pairs r (inr has) = let found =
-    row_listed rows given pairs.1 r has in (found.0, inr found.1, found.2)
+row_listed rows given pairs r has = row_value row_of rows given pairs r has
 
--- what the rows that pass a test were listed as, in whatever order
 module _ (Rise : ObligationRow → ObligationRow → Type 0) (test : ObligationRow → Bool)
     (rows : List ObligationRow) (given : List AccountObligation)
     (listed : Lists Rise IsAccountObligation (filter test rows) given) where
-  -- what was listed has its row there, which passes
   pub listed_passes : (x : AccountObligation) → Has given x
       → Has rows (row_of x) × (test (row_of x) ≡ true)
-  listed_passes x has =
-      has_filtered test rows (row_of x)
-      (has_permuted (filter test rows) listed.ordered listed.same (row_of x)
-      (listed_row listed.ordered given listed.pairs x has))
+  listed_passes x has = value_passes row_of Rise test rows given listed x has
 
-  -- a row that passes is that of what was listed
   pub passing_listed : (r : ObligationRow) → Has rows r → test r ≡ true
       → (x : AccountObligation) × Has given x × (r ≡ row_of x)
-  passing_listed r has passes =
-      row_listed listed.ordered given listed.pairs r
-      (has_permuted listed.ordered (filter test rows)
-      (IsPermutation-sym (filter test rows) listed.ordered listed.same) r
-      (keeps_has test rows r has passes))
+  passing_listed r has passes = passing_value row_of Rise test rows given listed r has passes

@@ -1,6 +1,7 @@
 -- What the rows tell of an account, in the machine's words.
 use Rattle.std.specs.Prelude.{◌≡◌, ℕ, Bool, List, Option, None, Some}
 use Rattle.ftd_rules.specs.declared.Form.{Form}
+use Rattle.ftd_rules.specs.declared.YearLine.{YearLine}
 use Rattle.ftd_schema.specs.Standing.{Tables}
 use Rattle.ftd_rows.specs.declared.accounts.Account.{Account as StoredAccount}
 use Rattle.ftd_store.specs.Changes.{with_account, with_form}
@@ -18,6 +19,13 @@ joined None form = None
 -- the account is what each state keeps for which the tables stand
 abbrev pub KnowsAccount : List ℕ → Option Account → Tables → Type 0
 KnowsAccount name found t = (s : State) → StandsFor t s → (entries_of s name).account ≡ found
+
+-- the account, and the lines of its open years, are what each state keeps for which the tables
+-- stand
+abbrev pub KnowsLines : List ℕ → Option Account → List YearLine → Tables → Type 0
+KnowsLines name account lines t =
+    (s : State) (stands : StandsFor t s)
+    → ((entries_of s name).account ≡ account) × (lines ≡ (stands.settled name).lines)
 
 -- the form of an account that is known is that of its row
 abbrev pub HasForm : List ℕ → Option Account → Tables → Type 0

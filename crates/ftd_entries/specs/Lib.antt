@@ -4,6 +4,7 @@ pub mod Opening
 pub mod Payments
 pub mod Standing
 pub mod Words
+pub mod Owed
 pub use Rattle.ftd_days.specs.Calendar
 pub use Rattle.ftd_schema.specs.Beginnings
 pub use Rattle.ftd_store.specs.Finds

@@ -59,6 +59,7 @@ is_posted (Ok (reply.Status kind reason)) = false
 is_posted (Ok (reply.Due rows)) = false
 is_posted (Ok (reply.Days sums)) = false
 is_posted (Ok (reply.Agenda rows)) = false
+is_posted (Ok (reply.Kept rows)) = false
 is_posted (Err refused) = false
 
 abbrev pub is_already : Answer → Bool
@@ -69,6 +70,7 @@ is_already (Ok (reply.Status kind reason)) = false
 is_already (Ok (reply.Due rows)) = false
 is_already (Ok (reply.Days sums)) = false
 is_already (Ok (reply.Agenda rows)) = false
+is_already (Ok (reply.Kept rows)) = false
 is_already (Err refused) = false
 
 abbrev pub is_refused : Answer → Bool

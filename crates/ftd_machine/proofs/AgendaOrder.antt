@@ -34,7 +34,7 @@ use Rattle.ftd_machine.proofs.DueSome.{row_one}
 not_greater : Less ≡ Greater → ⊥
 not_greater e = absurd cc
 
-names_once : (a b : List ℕ) → IsNameBefore a b → IsNameBefore b a → ⊥
+pub names_once : (a b : List ℕ) → IsNameBefore a b → IsNameBefore b a → ⊥
 names_once a b g h = not_greater (sym g ∙ (nat_list_cmp_total.antisymm a b ∙ ap ordering_reverse h))
 
 name_once : (a b : List ℕ) → a ≡ b → IsNameBefore a b → ⊥
@@ -47,8 +47,22 @@ by_name a b Less e = inl e
 by_name a b Equal e = inr (inl (slice_cmp-IsAntisymmetric nat_cmp-IsAntisymmetric a b e))
 by_name a b Greater e = inr (inr (nat_list_cmp_total.antisymm b a ∙ ap ordering_reverse e))
 
-names_total : (a b : List ℕ) → IsNameBefore a b ⊎ ((a ≡ b) ⊎ IsNameBefore b a)
+pub names_total : (a b : List ℕ) → IsNameBefore a b ⊎ ((a ≡ b) ⊎ IsNameBefore b a)
 names_total a b = by_name a b (slice_cmp nat_cmp a b) refl
+
+pub names_then : (a b c : List ℕ) → IsNameBefore a b → IsNameBefore b c → IsNameBefore a c
+names_then a b c g h = nat_list_cmp_total.trans a b c g h
+
+-- ---- numbers
+
+pub three : (a b : ℕ) → (a < b) ⊎ ((a ≡ b) ⊎ (b < a))
+three a b = elim (lt_or_le a b) [
+  | inl less ↦ inl less
+  | inr not ↦ elim (lt_or_le b a) [
+    | inl more ↦ inr (inr more)
+    | inr also ↦ inr (inl (omega arith))
+  ]
+]
 
 -- ---- rows
 
@@ -164,12 +178,3 @@ module _ (s : State) (as_of : ℕ) (once : (name : List ℕ) → IsOnce (entries
       ]
     ]
   ]
-    where
-      three : (a b : ℕ) → (a < b) ⊎ ((a ≡ b) ⊎ (b < a))
-      three a b = elim (lt_or_le a b) [
-        | inl less ↦ inl less
-        | inr not ↦ elim (lt_or_le b a) [
-          | inl more ↦ inr (inr more)
-          | inr also ↦ inr (inl (omega arith))
-        ]
-      ]

@@ -30,6 +30,7 @@ use Rattle.ftd_machine.proofs.Single.{IsOnce, owed_one}
 use Rattle.ftd_machine.proofs.Lined.{owed_some}
 use Rattle.ftd_machine.proofs.DueSome.{Or, both_or, le_or, row_some}
 use Rattle.ftd_machine.proofs.Ordered.{ordered_some}
+use Rattle.ftd_machine.proofs.Choosing.{chosen}
 use Rattle.ftd_machine.proofs.AgendaOrder.{agenda_row_one, comes_then, rows_total}
 
 -- the day by which to pay
@@ -42,39 +43,6 @@ day_some form hs row Open = (row.obligation.due, refl)
 day_some form hs row MadeUp = (row.obligation.due, refl)
 day_some form hs row Short = (row.makeup, refl)
 day_some form hs row Late = (row.obligation.due, refl)
-
--- the rows that are asked for
-chosen : (IsAsked : AgendaRow → Type 0) → ((x : AgendaRow) → Or (IsAsked x))
-    → (xs : List AgendaRow)
-    → (ys : List AgendaRow) × ((x : AgendaRow) → Has ys x ↔ (Has xs x × IsAsked x))
-chosen IsAsked asked_or [] = ([], λ x. ((λ has. absurd has), (λ h. absurd h.0)))
-chosen IsAsked asked_or (z ∷ xs) =
-    let rest = chosen IsAsked asked_or xs in
-    elim (asked_or z) [
-      | inl asked ↦ (
-        z ∷ rest.0,
-        λ x. (
-          (λ has. elim has [
-            | inl is ↦ (inl is, subst IsAsked (sym is) asked)
-            | inr more ↦ (let h = (rest.1 x).0 more in (inr h.0, h.1))
-          ]),
-          (λ h. elim h.0 [
-            | inl is ↦ inl is
-            | inr more ↦ inr ((rest.1 x).1 (more, h.1))
-          ]),
-        ),
-      )
-      | inr not ↦ (
-        rest.0,
-        λ x. (
-          (λ has. (let h = (rest.1 x).0 has in (inr h.0, h.1))),
-          (λ h. elim h.0 [
-            | inl is ↦ absurd (not (subst IsAsked is h.1))
-            | inr more ↦ (rest.1 x).1 (more, h.1)
-          ]),
-        ),
-      )
-    ]
 
 module _ (s : State) (as_of : ℕ) (once : (name : List ℕ) → IsOnce (entries_of s name))
     (lines : (name : List ℕ) → (lines : List YearLine) × AreLinesOf (entries_of s name) lines) where

@@ -23,7 +23,7 @@ use Rattle.ftd_machine.specs.declared.replies.Refusal.TheVariants.{UnknownAccoun
 use Rattle.ftd_machine.specs.declared.replies.Refusal.TheVariants.{UnknownRun}
 use Rattle.ftd_machine.specs.declared.requests.Question.{Question as Questions}
 use Rattle.ftd_machine.specs.declared.requests.Question.TheVariants.{Status, DueList, ScheduleB}
-use Rattle.ftd_machine.specs.declared.requests.Question.TheVariants.{Agenda, Owed}
+use Rattle.ftd_machine.specs.declared.requests.Question.TheVariants.{Agenda, Owed, Kept}
 use Rattle.ftd_machine.specs.declared.requests.Request.{Request}
 use Rattle.ftd_machine.specs.declared.requests.Request.TheVariants.{Enrol, Calendar, AddHoliday}
 use Rattle.ftd_machine.specs.declared.requests.Request.TheVariants.{Report, ReportYear, OpenYear}
@@ -36,6 +36,7 @@ use Rattle.ftd_machine.proofs.Lined.{lines_of_sound}
 use Rattle.ftd_machine.proofs.PostedSome.{posted_some}
 use Rattle.ftd_machine.proofs.ToldSome.{total_or, status_some, schedule_some}
 use Rattle.ftd_machine.proofs.DueSome.{due_list_some}
+use Rattle.ftd_machine.proofs.KeptSome.{kept_told}
 use Rattle.ftd_machine.proofs.AgendaSome.{agenda_some, between_or, left_or}
 use Rattle.ftd_machine.proofs.Single.{IsOnce}
 use Rattle.ftd_machine.proofs.Soundness.{sound_once}
@@ -88,6 +89,7 @@ tells_some s (Agenda from to as_of) once lines e =
     agenda_some s as_of once lines (IsDueBetween from to) (between_or from to)
 tells_some s (Owed until as_of) once lines e =
     agenda_some s as_of once lines (IsLeftBy until) (left_or until)
+tells_some s (Kept kept) once lines e = kept_told s kept lines e
 
 -- where each account has lines, each request has an answer and a next state
 lines_answer : (s : State) (request : Request)

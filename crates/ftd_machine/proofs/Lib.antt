@@ -4,6 +4,7 @@ pub mod Leaving
 pub mod Others
 pub mod Own
 pub mod Heads
+pub mod KeptChecks
 pub mod Keeping
 pub mod Again
 pub mod Single
@@ -21,7 +22,10 @@ pub mod Lined
 pub mod PostedSome
 pub mod ToldSome
 pub mod DueSome
+pub mod Choosing
 pub mod AgendaOrder
+pub mod KeptOne
+pub mod KeptSome
 pub mod OneTold
 pub mod AgendaSome
 pub mod Agendas
@@ -34,3 +38,4 @@ pub mod Listed
 pub mod Alike
 pub mod Examples
 pub mod Deposit
+pub mod Entered

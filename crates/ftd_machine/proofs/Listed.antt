@@ -4,13 +4,17 @@ use Rattle.std.proofs.Common.{sym, subst, [], Ok}
 use Rattle.ftd_machine.specs.Limits.{IsBounded}
 use Rattle.ftd_machine.specs.State.{State}
 use Rattle.ftd_machine.specs.Checks.{Answer}
+use Rattle.ftd_machine.specs.Kept.{kept_checks, TellsKept}
 use Rattle.ftd_machine.specs.Questions.{question_checks, Tells}
 use Rattle.ftd_machine.specs.Step.{Step}
 use Rattle.ftd_machine.specs.Sound.{IsSound}
 use Rattle.ftd_machine.specs.declared.replies.Reply.{Reply}
 use Rattle.ftd_machine.specs.declared.requests.Question.{Question as Questions}
 use Rattle.ftd_machine.specs.declared.requests.Question.TheVariants.{Status, DueList, ScheduleB}
-use Rattle.ftd_machine.specs.declared.requests.Question.TheVariants.{Agenda, Owed}
+use Rattle.ftd_machine.specs.declared.requests.Question.TheVariants.{Agenda, Owed, Kept}
+use Rattle.ftd_machine.specs.declared.requests.Kept.{Kept as WhatIsKept}
+use Rattle.ftd_machine.specs.declared.requests.Kept.TheVariants.{Accounts, Years, Reported}
+use Rattle.ftd_machine.specs.declared.requests.Kept.TheVariants.{Holidays, Runs, Payments}
 use Rattle.ftd_machine.specs.declared.requests.Request.{Request}
 use Rattle.ftd_machine.specs.declared.requests.Request.TheVariants.{Enrol, Calendar, AddHoliday}
 use Rattle.ftd_machine.specs.declared.requests.Request.TheVariants.{Report, ReportYear, OpenYear}
@@ -21,6 +25,27 @@ use Rattle.ftd_machine.proofs.ListsSmall.{due_list_small, days_small}
 use Rattle.ftd_machine.proofs.Brief.{AnswersBounded, AreBrief, brief_none, brief_needs, brief_done}
 use Rattle.ftd_machine.proofs.Brief.{brief_finds, brief_new, decided, is_done, opens_next}
 use Rattle.ftd_machine.proofs.Brief.{is_posted}
+
+-- ---- what is kept
+
+kept_brief : (s : State) (kept : WhatIsKept) → AreBrief (kept_checks s kept)
+kept_brief s Accounts = brief_none
+kept_brief s (Years name) = brief_needs _ _ _ (brief_finds _ _ [] brief_none)
+kept_brief s (Reported name) = brief_needs _ _ _ (brief_finds _ _ [] brief_none)
+kept_brief s (Holidays year) = brief_needs _ _ _ (brief_needs _ _ [] brief_none)
+kept_brief s (Runs name quarter) =
+    brief_needs _ _ _ (brief_needs _ _ _ (brief_finds _ _ [] brief_none))
+kept_brief s (Payments name quarter) =
+    brief_needs _ _ _ (brief_needs _ _ _ (brief_finds _ _ [] brief_none))
+
+kept_bounded : (s : State) (kept : WhatIsKept) (answer : Answer) → TellsKept s kept answer
+    → AnswersBounded answer
+kept_bounded s Accounts answer told = subst AnswersBounded (sym told.told) tt
+kept_bounded s (Years name) answer told = subst AnswersBounded (sym told.told) tt
+kept_bounded s (Reported name) answer told = subst AnswersBounded (sym told.told) tt
+kept_bounded s (Holidays year) answer told = subst AnswersBounded (sym told.told) tt
+kept_bounded s (Runs name quarter) answer told = subst AnswersBounded (sym told.told) tt
+kept_bounded s (Payments name quarter) answer told = subst AnswersBounded (sym told.told) tt
 
 -- ---- questions
 
@@ -35,6 +60,7 @@ question_brief s (ScheduleB name quarter) =
     (brief_needs _ _ _ (brief_finds _ _ _ (brief_needs _ _ _ (brief_needs _ _ [] brief_none))))
 question_brief s (Agenda from to as_of) = brief_needs _ _ _ (brief_needs _ _ [] brief_none)
 question_brief s (Owed until as_of) = brief_needs _ _ _ (brief_needs _ _ [] brief_none)
+question_brief s (Kept kept) = kept_brief s kept
 
 tells_bounded : (s : State) (question : Questions) (answer : Answer) → IsSound s
     → Tells s question answer → AnswersBounded answer
@@ -45,6 +71,7 @@ tells_bounded s (ScheduleB name quarter) answer sound told =
     subst AnswersBounded (sym told.told) (days_small s name sound quarter answer told)
 tells_bounded s (Agenda from to as_of) answer sound told = subst AnswersBounded (sym told.told) tt
 tells_bounded s (Owed until as_of) answer sound told = subst AnswersBounded (sym told.told) tt
+tells_bounded s (Kept kept) answer sound told = kept_bounded s kept answer told
 
 -- ---- requests
 

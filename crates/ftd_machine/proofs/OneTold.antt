@@ -8,10 +8,11 @@ use Rattle.ftd_machine.specs.declared.lists.AgendaRow.{AgendaRow}
 use Rattle.ftd_machine.specs.declared.replies.Reply.TheVariants as reply
 use Rattle.ftd_machine.specs.declared.requests.Question.{Question}
 use Rattle.ftd_machine.specs.declared.requests.Question.TheVariants.{Status, DueList, ScheduleB}
-use Rattle.ftd_machine.specs.declared.requests.Question.TheVariants.{Agenda, Owed}
+use Rattle.ftd_machine.specs.declared.requests.Question.TheVariants.{Agenda, Owed, Kept}
 use Rattle.ftd_machine.proofs.Single.{IsOnce, status_one, due_list_one, schedule_one}
 use Rattle.ftd_machine.proofs.Ordered.{ordered_one}
 use Rattle.ftd_machine.proofs.AgendaOrder.{not_both}
+use Rattle.ftd_machine.proofs.KeptOne.{kept_one}
 
 agenda_one : (s : State) (IsAsked : AgendaRow → Type 0) (as_of : ℕ) (a b : Answer)
     → IsAgenda s IsAsked as_of a → IsAgenda s IsAsked as_of b → a ≡ b
@@ -33,3 +34,4 @@ tells_one s (ScheduleB name quarter) a b once g h =
 tells_one s (Agenda from to as_of) a b once g h =
     agenda_one s (IsDueBetween from to) as_of a b g h
 tells_one s (Owed until as_of) a b once g h = agenda_one s (IsLeftBy until) as_of a b g h
+tells_one s (Kept kept) a b once g h = kept_one s kept a b once g h

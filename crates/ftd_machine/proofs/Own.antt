@@ -25,7 +25,13 @@ use Rattle.ftd_machine.specs.Laws.{Names, AgreeOn}
 use Rattle.ftd_machine.specs.declared.replies.Reply.TheVariants.{Done}
 use Rattle.ftd_machine.specs.declared.requests.Question.{Question as Questions}
 use Rattle.ftd_machine.specs.declared.requests.Question.TheVariants.{Status, DueList, ScheduleB}
-use Rattle.ftd_machine.specs.declared.requests.Question.TheVariants.{Agenda, Owed}
+use Rattle.ftd_machine.specs.declared.requests.Question.TheVariants.{Agenda, Owed, Kept}
+use Rattle.ftd_machine.specs.Kept.{kept_checks, TellsKept, KeptOf, AreYears, AreTotals, AreRuns}
+use Rattle.ftd_machine.specs.Kept.{ArePayments}
+use Rattle.ftd_machine.specs.Requests.{kept_of_checks, kept_in_quarter_checks}
+use Rattle.ftd_machine.specs.declared.requests.Kept.{Kept as WhatIsKept}
+use Rattle.ftd_machine.specs.declared.requests.Kept.TheVariants.{Accounts, Years, Reported}
+use Rattle.ftd_machine.specs.declared.requests.Kept.TheVariants.{Holidays, Runs, Payments}
 use Rattle.ftd_machine.specs.declared.requests.Request.{Request}
 use Rattle.ftd_machine.specs.declared.requests.Request.TheVariants.{Enrol, Calendar, AddHoliday}
 use Rattle.ftd_machine.specs.declared.requests.Request.TheVariants.{Report, ReportYear, OpenYear}
@@ -289,6 +295,43 @@ is_given_same : (name : List ℕ) (s t : State) (year : ℕ) → AgreeOn name s 
     → is_given t year ≡ is_given s year
 is_given_same name s t year agree = rw (agree.calendars) refl
 
+-- ---- what is kept
+
+same_kept_checks : (s t : State) (kept : WhatIsKept) (name : List ℕ) → KeptOf kept name
+    → AgreeOn name s t → first_of (kept_checks t kept) ≡ first_of (kept_checks s kept)
+same_kept_checks s t Accounts name named agree = absurd named
+same_kept_checks s t (Years own) name named agree =
+    let agrees : AgreeOn own s t = subst (λ x. AgreeOn x s t) (sym named) agree in
+    ap (λ (e : Entries). first_of (kept_of_checks own e.account)) agrees.own
+same_kept_checks s t (Reported own) name named agree =
+    let agrees : AgreeOn own s t = subst (λ x. AgreeOn x s t) (sym named) agree in
+    ap (λ (e : Entries). first_of (kept_of_checks own e.account)) agrees.own
+same_kept_checks s t (Holidays year) name named agree = absurd named
+same_kept_checks s t (Runs own quarter) name named agree =
+    let agrees : AgreeOn own s t = subst (λ x. AgreeOn x s t) (sym named) agree in
+    ap (λ (e : Entries). first_of (kept_in_quarter_checks own quarter e.account)) agrees.own
+same_kept_checks s t (Payments own quarter) name named agree =
+    let agrees : AgreeOn own s t = subst (λ x. AgreeOn x s t) (sym named) agree in
+    ap (λ (e : Entries). first_of (kept_in_quarter_checks own quarter e.account)) agrees.own
+
+same_kept : (s t : State) (kept : WhatIsKept) (name : List ℕ) → KeptOf kept name
+    → AgreeOn name s t → (answer : Answer) → TellsKept s kept answer → TellsKept t kept answer
+same_kept s t Accounts name named agree answer told = absurd named
+same_kept s t (Years own) name named agree answer told =
+    let agrees : AgreeOn own s t = subst (λ x. AgreeOn x s t) (sym named) agree in
+    subst (λ e. AreYears e answer) (sym agrees.own) told
+same_kept s t (Reported own) name named agree answer told =
+    let agrees : AgreeOn own s t = subst (λ x. AgreeOn x s t) (sym named) agree in
+    subst (λ e. AreTotals e answer) (sym agrees.own) told
+same_kept s t (Holidays year) name named agree answer told = absurd named
+same_kept s t (Runs own quarter) name named agree answer told =
+    let agrees : AgreeOn own s t = subst (λ x. AgreeOn x s t) (sym named) agree in
+    subst (λ e. AreRuns e quarter answer) (sym agrees.own) told
+same_kept s t (Payments own quarter) name named agree answer told =
+    let agrees : AgreeOn own s t = subst (λ x. AgreeOn x s t) (sym named) agree in
+    subst (λ h. ArePayments h (entries_of t own) quarter answer) (sym (same_holidays own s t agrees))
+    (subst (λ e. ArePayments (holidays s) e quarter answer) (sym agrees.own) told)
+
 -- ---- questions
 
 -- the checks of a question that names an account answer the same
@@ -309,6 +352,7 @@ same_checks s t (ScheduleB own quarter) name named agree =
     (is_open e (quarter_year quarter)))) agrees.own
 same_checks s t (Agenda from to as_of) name named agree = absurd named
 same_checks s t (Owed until as_of) name named agree = absurd named
+same_checks s t (Kept kept) name named agree = same_kept_checks s t kept name named agree
 
 -- and the same is told
 same_told : (s t : State) (question : Questions) (name : List ℕ) → AsksOf question name
@@ -326,6 +370,8 @@ same_told s t (ScheduleB own quarter) name named agree answer told =
     subst (λ e. IsScheduleB e quarter answer) (sym agrees.own) told
 same_told s t (Agenda from to as_of) name named agree answer told = absurd named
 same_told s t (Owed until as_of) name named agree answer told = absurd named
+same_told s t (Kept kept) name named agree answer told =
+    same_kept s t kept name named agree answer told
 
 -- ---- requests
 

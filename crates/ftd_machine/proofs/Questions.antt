@@ -7,10 +7,11 @@ use Rattle.ftd_machine.specs.Laws.{is_change}
 use Rattle.ftd_machine.specs.Questions.{question_checks, question_of, Tells}
 use Rattle.ftd_machine.specs.declared.requests.Question.{Question}
 use Rattle.ftd_machine.specs.declared.requests.Question.TheVariants.{Status, DueList, ScheduleB}
-use Rattle.ftd_machine.specs.declared.requests.Question.TheVariants.{Agenda, Owed}
+use Rattle.ftd_machine.specs.declared.requests.Question.TheVariants.{Agenda, Owed, Kept}
 use Rattle.ftd_machine.specs.declared.requests.Request.{Request}
 use Rattle.ftd_machine.specs.declared.requests.Request.TheVariants as request
 use Rattle.ftd_machine.proofs.Heads.{Quiet, quiet_none, quiet_needs, quiet_finds}
+use Rattle.ftd_machine.proofs.KeptChecks.{kept_quiet, kept_firm, kept_no_change}
 use Rattle.ftd_machine.proofs.Heads.{Firm, firm_none, firm_needs, firm_finds}
 
 -- the checks of a question answer no change
@@ -25,6 +26,7 @@ question_quiet s (ScheduleB name quarter) =
     (quiet_needs _ _ _ (quiet_finds _ _ _ (quiet_needs _ _ _ (quiet_needs _ _ [] quiet_none))))
 question_quiet s (Agenda from to as_of) = quiet_needs _ _ _ (quiet_needs _ _ [] quiet_none)
 question_quiet s (Owed until as_of) = quiet_needs _ _ _ (quiet_needs _ _ [] quiet_none)
+question_quiet s (Kept kept) = kept_quiet s kept
 
 -- nor that something was done before
 pub question_firm : (s : State) (question : Question) → Firm (question_checks s question)
@@ -38,6 +40,7 @@ question_firm s (ScheduleB name quarter) =
     (firm_needs _ _ _ (firm_finds _ _ _ (firm_needs _ _ _ (firm_needs _ _ [] firm_none))))
 question_firm s (Agenda from to as_of) = firm_needs _ _ _ (firm_needs _ _ [] firm_none)
 question_firm s (Owed until as_of) = firm_needs _ _ _ (firm_needs _ _ [] firm_none)
+question_firm s (Kept kept) = kept_firm s kept
 
 -- what is told is no change
 pub told_is : (s : State) (question : Question) (answer : Answer) → Tells s question answer
@@ -47,6 +50,7 @@ told_is s (DueList name quarter as_of) answer told = ap is_change told.told
 told_is s (ScheduleB name quarter) answer told = ap is_change told.told
 told_is s (Agenda from to as_of) answer told = ap is_change told.told
 told_is s (Owed until as_of) answer told = ap is_change told.told
+told_is s (Kept kept) answer told = kept_no_change s kept answer told
 
 -- a request that is a question is this one
 pub question_is : (asked : Request) (question : Question) → question_of asked ≡ Some question

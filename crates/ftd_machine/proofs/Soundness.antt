@@ -15,7 +15,7 @@ use Rattle.ftd_rules.specs.declared.run.PayRun.{PayRun}
 use Rattle.ftd_rules.specs.declared.payment.Payment.{Payment}
 use Rattle.ftd_rules.specs.declared.run.Voidable.{Voidable}
 use Rattle.ftd_machine.specs.Limits.{is_between, is_calendar, is_amount, are_amounts}
-use Rattle.ftd_machine.specs.Limits.{most_entries}
+use Rattle.ftd_machine.specs.Limits.{is_number, most_entries}
 use Rattle.ftd_machine.specs.State.{State, nothing, Entry, entries_of, is_named, account_of, is_of}
 use Rattle.ftd_machine.specs.State.{has_key, content_of, kept_at, is_open, is_given, calendar_at}
 use Rattle.ftd_machine.specs.State.{days_of, added_in}
@@ -146,6 +146,7 @@ sound_account s name account none sound = record {
   counts = sound.counts;
   reported_amounts = sound.reported_amounts;
   year_amounts = sound.year_amounts;
+  run_numbers = sound.run_numbers;
   run_amounts = sound.run_amounts;
   paid_amounts = sound.paid_amounts;
   added_days = sound.added_days;
@@ -189,6 +190,7 @@ sound_calendar s year days none between fits sound = record {
   counts = sound.counts;
   reported_amounts = sound.reported_amounts;
   year_amounts = sound.year_amounts;
+  run_numbers = sound.run_numbers;
   run_amounts = sound.run_amounts;
   paid_amounts = sound.paid_amounts;
   added_days = λ d has. given_still s year days (year_of d) (sound.added_days d has);
@@ -222,6 +224,7 @@ sound_reported s name key cents none fits sound = record {
     | inr is ↦ subst (λ (x : Entry Cents). is_amount x.content ≡ true) (sym is) fits
   ];
   year_amounts = sound.year_amounts;
+  run_numbers = sound.run_numbers;
   run_amounts = sound.run_amounts;
   paid_amounts = sound.paid_amounts;
   added_days = sound.added_days;
@@ -252,6 +255,7 @@ sound_reported_year s name key cents none fits sound = record {
     | inl here ↦ sound.year_amounts e here
     | inr is ↦ subst (λ (x : Entry Cents). is_amount x.content ≡ true) (sym is) fits
   ];
+  run_numbers = sound.run_numbers;
   run_amounts = sound.run_amounts;
   paid_amounts = sound.paid_amounts;
   added_days = sound.added_days;
@@ -282,6 +286,7 @@ sound_added s day given room sound = record {
   counts = sound.counts;
   reported_amounts = sound.reported_amounts;
   year_amounts = sound.year_amounts;
+  run_numbers = sound.run_numbers;
   run_amounts = sound.run_amounts;
   paid_amounts = sound.paid_amounts;
   added_days = λ d has. elim (has_last s.added_days day d has) [
@@ -428,6 +433,7 @@ sound_open s name year there between given next first fresh total sound = record
   counts = sound.counts;
   reported_amounts = sound.reported_amounts;
   year_amounts = sound.year_amounts;
+  run_numbers = sound.run_numbers;
   run_amounts = sound.run_amounts;
   paid_amounts = sound.paid_amounts;
   added_days = sound.added_days;
@@ -447,9 +453,9 @@ still_value name key e = value_as (is_under name key e) e.content
 sound_run : (s : State) (name : List ℕ) (number : ℕ) (value : PayRun)
     → kept_at number (entries_of s name).runs ≡ None
     → is_open (entries_of s name) (year_of value.payday) ≡ true → are_amounts value ≡ true
-    → length (entries_of s name).runs < most_entries → IsSound s
+    → is_number number ≡ true → length (entries_of s name).runs < most_entries → IsSound s
     → IsSound (record s { runs = with_entry s.runs name number (taken value) })
-sound_run s name number value none there fits room sound = record {
+sound_run s name number value none there fits numbered room sound = record {
   accounts = sound.accounts;
   calendars = sound.calendars;
   reported = sound.reported;
@@ -476,6 +482,10 @@ sound_run s name number value none there fits room sound = record {
   );
   reported_amounts = sound.reported_amounts;
   year_amounts = sound.year_amounts;
+  run_numbers = λ e has. elim (has_last s.runs _ e has) [
+    | inl here ↦ sound.run_numbers e here
+    | inr is ↦ subst (λ (x : Entry (Voidable PayRun)). is_number x.key ≡ true) (sym is) numbered
+  ];
   run_amounts = λ e has. elim (has_last s.runs _ e has) [
     | inl here ↦ sound.run_amounts e here
     | inr is ↦ subst (λ (x : Entry (Voidable PayRun)). are_amounts x.content.value ≡ true) (sym is)
@@ -521,6 +531,10 @@ sound_void_run s name number sound = record {
   );
   reported_amounts = sound.reported_amounts;
   year_amounts = sound.year_amounts;
+  run_numbers = λ e has.
+      let from = has_mapped (voided_if name number) s.runs e has in
+      subst (λ (x : Entry (Voidable PayRun)). is_number x.key ≡ true) (sym from.2)
+      (sound.run_numbers from.0 from.1);
   run_amounts = λ e has.
       let from = has_mapped (voided_if name number) s.runs e has in
       subst (λ (x : Entry (Voidable PayRun)). are_amounts x.content.value ≡ true) (sym from.2)
@@ -562,6 +576,7 @@ sound_payment s name number value none there fits room sound = record {
   );
   reported_amounts = sound.reported_amounts;
   year_amounts = sound.year_amounts;
+  run_numbers = sound.run_numbers;
   run_amounts = sound.run_amounts;
   paid_amounts = λ e has. elim (has_last s.payments _ e has) [
     | inl here ↦ sound.paid_amounts e here
@@ -607,6 +622,7 @@ sound_void_payment s name number sound = record {
   );
   reported_amounts = sound.reported_amounts;
   year_amounts = sound.year_amounts;
+  run_numbers = sound.run_numbers;
   run_amounts = sound.run_amounts;
   paid_amounts = λ e has.
       let from = has_mapped (voided_if name number) s.payments e has in
@@ -756,6 +772,8 @@ step_sound s (Post name number payday fit ss medicare) answer next step sound =
     (skip_finds _ _ _ _ (skip_new _ _ _ _ _ (skip_needs _ _ _ _ (gives_needs _ _ _))))))) in
     let fits : Gives P (are_amounts run ≡ true) =
     skip_needs _ _ _ _ (skip_needs _ _ _ _ (gives_needs _ _ _)) in
+    let numbered : Gives P (is_number number ≡ true) =
+    skip_needs _ _ _ _ (skip_needs _ _ _ _ (skip_needs _ _ _ _ (gives_needs _ _ _))) in
     let room : Gives P (nat_lt (length (entries_of s name).runs) most_entries ≡ true) =
     skip_needs _ _ _ _
     (skip_needs _ _ _ _
@@ -764,7 +782,7 @@ step_sound s (Post name number payday fit ss medicare) answer next step sound =
     (skip_finds _ _ _ _
     (skip_new _ _ _ _ _ (skip_needs _ _ _ _ (skip_needs _ _ _ _ (gives_needs _ _ [])))))))) in
     post_sound s answer next sound P _ _ step (λ e. sound_run s name number run (none.fact e)
-    (there.fact e) (fits.fact e) (ltb-true _ _ (room.fact e)) sound)
+    (there.fact e) (fits.fact e) (numbered.fact e) (ltb-true _ _ (room.fact e)) sound)
 step_sound s (Void name number) answer next step sound =
     void_sound s answer next sound (checks_of s (Void name number)) _ _ _ step
     (sound_void_run s name number sound)
@@ -819,6 +837,7 @@ nothing_sound = record {
   counts = λ name. (omega arith, omega arith);
   reported_amounts = λ e has. absurd has;
   year_amounts = λ e has. absurd has;
+  run_numbers = λ e has. absurd has;
   run_amounts = λ e has. absurd has;
   paid_amounts = λ e has. absurd has;
   added_days = λ d has. absurd has;

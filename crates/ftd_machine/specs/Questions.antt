@@ -7,9 +7,10 @@ use Rattle.ftd_machine.specs.Requests.{status_checks, due_list_checks, schedule_
 use Rattle.ftd_machine.specs.Requests.{agenda_checks, owed_checks}
 use Rattle.ftd_machine.specs.Asking.{IsStatus, IsDueList, IsScheduleB}
 use Rattle.ftd_machine.specs.Agenda.{IsDueBetween, IsLeftBy, IsAgenda}
+use Rattle.ftd_machine.specs.Kept.{kept_checks, TellsKept, KeptOf}
 use Rattle.ftd_machine.specs.declared.requests.Question.{Question}
 use Rattle.ftd_machine.specs.declared.requests.Question.TheVariants.{Status, DueList, ScheduleB}
-use Rattle.ftd_machine.specs.declared.requests.Question.TheVariants.{Agenda, Owed}
+use Rattle.ftd_machine.specs.declared.requests.Question.TheVariants.{Agenda, Owed, Kept}
 use Rattle.ftd_machine.specs.declared.requests.Request.{Request}
 use Rattle.ftd_machine.specs.declared.requests.Request.TheVariants as request
 
@@ -26,9 +27,11 @@ question_checks s (ScheduleB name quarter) =
     schedule_b_checks name quarter own.account (is_open own (quarter_year quarter))
 question_checks s (Agenda from to as_of) = agenda_checks from to as_of
 question_checks s (Owed until as_of) = owed_checks until as_of
+question_checks s (Kept kept) = kept_checks s kept
 
 -- where they pass, this is the answer: the deposit schedule of a day, the due list of a quarter,
--- its liability by day, what is due between two days over all accounts, or what of it is not paid
+-- its liability by day, what is due between two days over all accounts, what of it is not paid, or
+-- what is kept
 abbrev pub Tells : State → Question → Answer → Type 0
 Tells s (Status name day) answer = IsStatus (entries_of s name) day answer
 Tells s (DueList name quarter as_of) answer =
@@ -36,14 +39,17 @@ Tells s (DueList name quarter as_of) answer =
 Tells s (ScheduleB name quarter) answer = IsScheduleB (entries_of s name) quarter answer
 Tells s (Agenda from to as_of) answer = IsAgenda s (IsDueBetween from to) as_of answer
 Tells s (Owed until as_of) answer = IsAgenda s (IsLeftBy until) as_of answer
+Tells s (Kept kept) answer = TellsKept s kept answer
 
--- the question names the account; what is due over all accounts names none
+-- the question names the account; what is due over all accounts names none,
+-- nor do all accounts and the holidays of a year
 abbrev pub AsksOf : Question → List ℕ → Type 0
 AsksOf (Status name day) account = name ≡ account
 AsksOf (DueList name quarter as_of) account = name ≡ account
 AsksOf (ScheduleB name quarter) account = name ≡ account
 AsksOf (Agenda from to as_of) account = ⊥
 AsksOf (Owed until as_of) account = ⊥
+AsksOf (Kept kept) account = KeptOf kept account
 
 -- the question that a request is, if it is one
 abbrev pub question_of : Request → Option Question

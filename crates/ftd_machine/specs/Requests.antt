@@ -259,3 +259,25 @@ owed_checks until as_of =
     needs (is_between 2001 2099 (year_of until)) BadDay
     ∷ needs (is_between 2001 2099 (year_of as_of)) BadDay
     ∷ []
+
+-- Kept, of an account: the name; and the account
+abbrev pub kept_of_checks : List ℕ → Option Account → List (Option Answer)
+kept_of_checks name account =
+    needs (is_account_name name) BadName
+    ∷ finds account UnknownAccount
+    ∷ []
+
+-- Kept, of an account and a quarter: the name; a quarter of 2001 to 2098; and the account
+abbrev pub kept_in_quarter_checks : List ℕ → ℕ → Option Account → List (Option Answer)
+kept_in_quarter_checks name quarter account =
+    needs (is_account_name name) BadName
+    ∷ needs (is_between 2001 2098 (quarter_year quarter)) BadYear
+    ∷ finds account UnknownAccount
+    ∷ []
+
+-- Kept, the holidays of a year: a year of 2001 to 2099; and its calendar
+abbrev pub holidays_checks : ℕ → Bool → List (Option Answer)
+holidays_checks year is_given =
+    needs (is_between 2001 2099 year) BadYear
+    ∷ needs is_given (CalendarMissing year)
+    ∷ []

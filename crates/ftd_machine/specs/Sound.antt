@@ -8,7 +8,7 @@ use Rattle.ftd_rules.specs.declared.run.PayRun.{PayRun}
 use Rattle.ftd_rules.specs.declared.payment.Payment.{Payment}
 use Rattle.ftd_rules.specs.declared.run.Voidable.{Voidable}
 use Rattle.ftd_machine.specs.Limits.{is_between, is_calendar, is_amount, are_amounts}
-use Rattle.ftd_machine.specs.Limits.{most_entries}
+use Rattle.ftd_machine.specs.Limits.{is_number, most_entries}
 use Rattle.ftd_machine.specs.State.{State, Enrolled, holidays, Entry, entries_of, is_of, is_open}
 use Rattle.ftd_machine.specs.State.{is_given}
 use Rattle.ftd_machine.specs.History.{year_of_entry, HasLookback}
@@ -74,6 +74,8 @@ pub record IsSound (s : State) : Type 0 where
   -- an account has at most 20,000 runs, and as many payments, voided ones too
   pub counts : (name : List ℕ) → (length (entries_of s name).runs ≤ most_entries)
       × (length (entries_of s name).payments ≤ most_entries)
+  -- each run has a number of 1 to 999,999,999
+  pub run_numbers : (e : Entry (Voidable PayRun)) → Has s.runs e → is_number e.key ≡ true
   -- each amount is at most 999,999,999.99
   pub reported_amounts : (e : Entry Cents) → Has s.reported e → is_amount e.content ≡ true
   pub year_amounts : (e : Entry Cents) → Has s.reported_years e → is_amount e.content ≡ true

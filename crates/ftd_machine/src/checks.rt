@@ -9,6 +9,8 @@ ghost use Rattle.ftd_machine.specs.Requests.{report_checks, report_year_checks, 
 ghost use Rattle.ftd_machine.specs.Requests.{post_checks, void_checks, pay_checks};
 ghost use Rattle.ftd_machine.specs.Requests.{void_payment_checks, status_checks, due_list_checks};
 ghost use Rattle.ftd_machine.specs.Requests.{schedule_b_checks, agenda_checks, owed_checks};
+ghost use Rattle.ftd_machine.specs.Requests.{holidays_checks, kept_of_checks};
+ghost use Rattle.ftd_machine.specs.Requests.{kept_in_quarter_checks};
 
 use crate::entries::Account;
 use crate::limits::{
@@ -470,6 +472,53 @@ pub fn owed_check(until: Day, as_of: Day) -> Option<Answer>
     }
     if !is_between(2001, 2099, as_of.year()) {
         return Some(Err(Refusal::BadDay));
+    }
+    None
+}
+
+/// The checks of an account of which what is kept is asked for, where this is known of it.
+pub fn kept_of_check(name: &str, account: Option<Account>) -> Option<Answer>
+    ensures { result ≡ first_of (kept_of_checks name.now account) }
+{
+    if !is_account_name(name.as_bytes()) {
+        return Some(Err(Refusal::BadName));
+    }
+    if account.is_none() {
+        return Some(Err(Refusal::UnknownAccount));
+    }
+    None
+}
+
+/// The checks of an account and a quarter of which the runs or payments are asked for, where this is
+/// known of the account.
+pub fn kept_in_quarter_check(
+    name: &str,
+    quarter: Quarter,
+    account: Option<Account>,
+) -> Option<Answer>
+    ensures { result ≡ first_of (kept_in_quarter_checks name.now quarter account) }
+{
+    if !is_account_name(name.as_bytes()) {
+        return Some(Err(Refusal::BadName));
+    }
+    if !is_between(2001, 2098, quarter.year()) {
+        return Some(Err(Refusal::BadYear));
+    }
+    if account.is_none() {
+        return Some(Err(Refusal::UnknownAccount));
+    }
+    None
+}
+
+/// The checks of a year whose holidays are asked for, where its calendar was given or not.
+pub fn holidays_check(year: u32, is_given: bool) -> Option<Answer>
+    ensures { result ≡ first_of (holidays_checks year is_given) }
+{
+    if !is_between(2001, 2099, year) {
+        return Some(Err(Refusal::BadYear));
+    }
+    if !is_given {
+        return Some(Err(Refusal::CalendarMissing(year)));
     }
     None
 }

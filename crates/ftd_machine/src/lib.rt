@@ -7,6 +7,7 @@
 
 mod checks;
 mod entries;
+mod kept;
 pub mod laws;
 mod limits;
 mod lists;
@@ -15,11 +16,16 @@ mod requests;
 
 pub use crate::checks::{
     Answer, add_holiday_check, agenda_check, calendar_check, due_list_check, enrol_check,
-    open_year_check, owed_check, pay_check, post_check, report_check, report_year_check,
-    schedule_b_check, status_check, void_check, void_payment_check,
+    holidays_check, kept_in_quarter_check, kept_of_check, open_year_check, owed_check, pay_check,
+    post_check, report_check, report_year_check, schedule_b_check, status_check, void_check,
+    void_payment_check,
 };
 pub use crate::entries::Account;
-pub use crate::limits::{MOST_ENTRIES, MOST_HOLIDAYS, are_sums_bounded, is_bounded};
-pub use crate::lists::{AccountName, AgendaRow, AgendaRows, DaySums, Days, DueRows};
+pub use crate::kept::{
+    KeptAccount, KeptAccounts, KeptPayment, KeptPayments, KeptRows, KeptRun, KeptRuns, KeptTotal,
+    KeptTotals, KeptYears,
+};
+pub use crate::limits::{MOST_ENTRIES, MOST_HOLIDAYS, are_rising, are_sums_bounded, is_bounded};
+pub use crate::lists::{AccountName, AgendaRow, AgendaRows, DaySums, Days, DueRows, ListOf};
 pub use crate::replies::{Named, Reason, Refusal, Reply};
-pub use crate::requests::{Question, Request};
+pub use crate::requests::{Kept, Question, Request};

@@ -47,7 +47,7 @@ pub(crate) fn is_number(number: u32) -> bool
 }
 
 /// Whether each day is before the next.
-fn are_rising(days: &[Day]) -> bool
+pub fn are_rising(days: &[Day]) -> bool
     ensures { result ≡ are_rising days.now }
 {
     days.iter()
@@ -89,7 +89,8 @@ pub fn is_bounded(reply: &Reply) -> bool
         | Reply::Already
         | Reply::Posted { .. }
         | Reply::Status { .. }
-        | Reply::Agenda(_) => true,
+        | Reply::Agenda(_)
+        | Reply::Kept(_) => true,
     }
 }
 

@@ -45,118 +45,54 @@ impl AccountName {
     }
 }
 
-/// A list of days, made from a vector and given back as one without taking memory.
+/// A list, made from a vector and given back as one without taking memory.
 #[derive(Drop)]
-pub struct Days {
-    days: Vec<Day>,
+pub struct ListOf<T> {
+    items: Vec<T>,
 }
 
-impl Model for Days {
-    ghost use Rattle.std.specs.Prelude.{List, ℕ};
-
-    ghost Value = { List ℕ };
-
-    ghost view = { λ a. a.days.items };
-}
-
-impl Days {
-    /// The days of a vector, in its order.
-    pub fn from_vec(days: Vec<Day>) -> Days
-        ensures { result ≡ days.items }
-    {
-        Days { days }
-    }
-
-    /// The days as a vector.
-    pub fn into_vec(self) -> Vec<Day>
-        ensures { result.items ≡ self }
-    {
-        self.days
-    }
-
-    /// The days.
-    pub fn as_slice(&self) -> &[Day]
-        ensures { result.now ≡ self.now }
-    {
-        &self.days
-    }
-}
-
-/// The liability of some days, made from a vector and given back as one without taking memory.
-#[derive(Drop)]
-pub struct DaySums {
-    sums: Vec<DaySum>,
-}
-
-impl Model for DaySums {
+impl<T> Model for ListOf<T> {
     ghost use Rattle.std.specs.Prelude.{List};
-    ghost use Rattle.ftd_rules.specs.declared.DaySum.{DaySum};
 
-    ghost Value = { List DaySum };
+    ghost Value = { List T };
 
-    ghost view = { λ a. a.sums.items };
+    ghost view = { λ a. a.items.items };
 }
 
-impl DaySums {
-    /// The sums of a vector, in its order.
-    pub fn from_vec(sums: Vec<DaySum>) -> DaySums
-        ensures { result ≡ sums.items }
+impl<T> ListOf<T> {
+    /// The items of a vector, in its order.
+    pub fn from_vec(items: Vec<T>) -> ListOf<T>
+        ensures { result ≡ items.items }
     {
-        DaySums { sums }
+        ListOf { items }
     }
 
-    /// The sums as a vector.
-    pub fn into_vec(self) -> Vec<DaySum>
+    /// The items as a vector.
+    pub fn into_vec(self) -> Vec<T>
         ensures { result.items ≡ self }
     {
-        self.sums
+        self.items
     }
 
-    /// The sums.
-    pub fn as_slice(&self) -> &[DaySum]
+    /// The items.
+    pub fn as_slice(&self) -> &[T]
         ensures { result.now ≡ self.now }
     {
-        &self.sums
+        &self.items
     }
 }
 
-/// The rows of a due list, made from a vector and given back as one without taking memory.
-#[derive(Drop)]
-pub struct DueRows {
-    rows: Vec<DueRow>,
-}
+/// Days.
+pub type Days = ListOf<Day>;
 
-impl Model for DueRows {
-    ghost use Rattle.std.specs.Prelude.{List};
-    ghost use Rattle.ftd_rules.specs.declared.verdict.DueRow.{DueRow};
+/// The liability of some days.
+pub type DaySums = ListOf<DaySum>;
 
-    ghost Value = { List DueRow };
+/// The rows of a due list.
+pub type DueRows = ListOf<DueRow>;
 
-    ghost view = { λ a. a.rows.items };
-}
-
-impl DueRows {
-    /// The rows of a vector, in its order.
-    pub fn from_vec(rows: Vec<DueRow>) -> DueRows
-        ensures { result ≡ rows.items }
-    {
-        DueRows { rows }
-    }
-
-    /// The rows as a vector.
-    pub fn into_vec(self) -> Vec<DueRow>
-        ensures { result.items ≡ self }
-    {
-        self.rows
-    }
-
-    /// The rows.
-    pub fn as_slice(&self) -> &[DueRow]
-        ensures { result.now ≡ self.now }
-    {
-        &self.rows
-    }
-}
+/// What is due over all accounts.
+pub type AgendaRows = ListOf<AgendaRow>;
 
 /// A row of what is due over all accounts.
 #[derive(Drop)]
@@ -170,42 +106,4 @@ pub struct AgendaRow {
     /// The day by which to pay what is left: the makeup date where the verdict is short, the due
     /// date of the return where it is with-return, the obligation's due date otherwise.
     pub pay_by: Day,
-}
-
-/// What is due over all accounts, made from a vector and given back as one without taking memory.
-#[derive(Drop)]
-pub struct AgendaRows {
-    rows: Vec<AgendaRow>,
-}
-
-impl Model for AgendaRows {
-    ghost use Rattle.std.specs.Prelude.{List};
-    ghost use Rattle.ftd_machine.specs.declared.lists.AgendaRow.{AgendaRow};
-
-    ghost Value = { List AgendaRow };
-
-    ghost view = { λ a. a.rows.items };
-}
-
-impl AgendaRows {
-    /// The rows of a vector, in its order.
-    pub fn from_vec(rows: Vec<AgendaRow>) -> AgendaRows
-        ensures { result ≡ rows.items }
-    {
-        AgendaRows { rows }
-    }
-
-    /// The rows as a vector.
-    pub fn into_vec(self) -> Vec<AgendaRow>
-        ensures { result.items ≡ self }
-    {
-        self.rows
-    }
-
-    /// The rows.
-    pub fn as_slice(&self) -> &[AgendaRow]
-        ensures { result.now ≡ self.now }
-    {
-        &self.rows
-    }
 }

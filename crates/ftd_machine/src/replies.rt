@@ -2,6 +2,7 @@
 
 ghost use Rattle.std.specs.Prelude.{◌≡◌};
 
+use crate::kept::KeptRows;
 use crate::lists::{AgendaRows, DaySums, DueRows};
 use ftd_days::{Day, Quarter};
 use ftd_rules::Kind;
@@ -44,6 +45,8 @@ pub enum Reply {
     Days(DaySums),
     /// What is due over all accounts, by due date, then by account, then by first day.
     Agenda(AgendaRows),
+    /// What is kept.
+    Kept(KeptRows),
 }
 
 /// Why the desk refuses a request. It prints with its number, and 16, 17, 18 and 25 with what they

@@ -128,4 +128,37 @@ pub enum Question {
         until: Day,
         as_of: Day,
     },
+    /// What is kept?
+    Kept(Kept),
+}
+
+/// What of all that is kept is asked for.
+#[derive(Drop)]
+pub enum Kept {
+    /// The accounts, by name.
+    Accounts,
+    /// The open years of an account, by year, each with its lookback total, its opening and its
+    /// turn.
+    Years {
+        account: AccountName,
+    },
+    /// The totals that an account reported, by quarter on Form 941 and by year on Form 943.
+    Reported {
+        account: AccountName,
+    },
+    /// The legal holidays of a year: those that its calendar was given with, and those that were
+    /// added to it.
+    Holidays {
+        year: u32,
+    },
+    /// The runs of an account with a payday in a quarter, void ones too, by payday and number.
+    Runs {
+        account: AccountName,
+        quarter: Quarter,
+    },
+    /// The payments of an account for a day of a quarter, void ones too, by that day and number.
+    Payments {
+        account: AccountName,
+        quarter: Quarter,
+    },
 }

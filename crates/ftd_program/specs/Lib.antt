@@ -12,4 +12,4 @@ pub use Rattle.ftd_replies.specs.Putting
 pub use Rattle.ftd_replies.specs.Refusals
 pub use Rattle.ftd_replies.specs.Replies
 pub use Rattle.ftd_rules.specs.Liability
-pub use Rattle.ftd_words.specs.Table
+pub use Rattle.ftd_commands.specs.Table

@@ -14,7 +14,7 @@ use Rattle.ftd_machine.specs.declared.requests.Request.{Request}
 use Rattle.ftd_machine.specs.Questions.{question_of}
 use Rattle.ftd_machine.specs.declared.requests.Question.{Question as Questions}
 use Rattle.ftd_machine.specs.declared.requests.Question.TheVariants.{Status, DueList, ScheduleB}
-use Rattle.ftd_machine.specs.declared.requests.Question.TheVariants.{Agenda, Owed}
+use Rattle.ftd_machine.specs.declared.requests.Question.TheVariants.{Agenda, Owed, Kept}
 use Rattle.ftd_machine.specs.declared.requests.Request.TheVariants.{Question}
 use Rattle.ftd_questions.specs.Shown.{ShowsRows}
 use Rattle.ftd_questions.specs.Telling.{Replies, Refuses}
@@ -178,6 +178,7 @@ module _ {O E : Type 0} (o_taken : O → Option (List ℕ)) (o_failed : O → Bo
   AsksBy old new db format request (Some (ScheduleB account quarter)) = Performs old new db format request
   AsksBy old new db format request (Some (Agenda from to as_of)) = Performs old new db format request
   AsksBy old new db format request (Some (Owed until as_of)) = Performs old new db format request
+  AsksBy old new db format request (Some (Kept asked)) = Performs old new db format request
 
   abbrev pub Asks : Held → Held → List ℕ → Format → Request → Type 0
   Asks old new db format request = AsksBy old new db format request (question_of request)

@@ -97,7 +97,8 @@ fn ask<S: Alter, O: Target, E: Target>(
             Question::Status { .. }
             | Question::ScheduleB { .. }
             | Question::Agenda { .. }
-            | Question::Owed { .. },
+            | Question::Owed { .. }
+            | Question::Kept(_),
         )
         | None => answer(desk, db, format, request, out, err),
     }

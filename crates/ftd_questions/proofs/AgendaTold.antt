@@ -48,7 +48,7 @@ use Rattle.ftd_entries.proofs.ListedRows.{row_of, listed_row, listed_passes, pas
 use Rattle.ftd_entries.proofs.OwedRows.{obligation_is}
 use Rattle.ftd_questions.specs.Agendas.{is_left, KnowsRow, KnowsRowsDue}
 use Rattle.ftd_questions.proofs.ByDueDate.{kept_in_order}
-use Rattle.ftd_questions.proofs.DueListed.{paired_from, paired_to}
+use Rattle.ftd_store.proofs.Items.{paired_from, paired_to}
 use Rattle.ftd_questions.proofs.TableOrder.{IsRowBefore, listed_rise}
 
 -- ---- cells

@@ -44,30 +44,11 @@ use Rattle.ftd_questions.specs.Walks.{begun}
 use Rattle.ftd_questions.specs.declared.return_periods.ReturnPeriod.{ReturnPeriod}
 use Rattle.ftd_questions.specs.declared.due_rows.QuarterReturn.{QuarterReturn}
 use Rattle.ftd_questions.proofs.OneVerdict.{same_test, verdict_one}
-use Rattle.ftd_questions.proofs.OwedRows.{kept_by_first_day}
+use Rattle.ftd_entries.proofs.OwedRows.{kept_by_first_day}
 use Rattle.ftd_questions.proofs.ReturnDates.{AgreeIn, return_same, makeup_same, makeup_one}
 use Rattle.ftd_questions.proofs.OwedDays.{quarter_begins, piece, period_days, some_days}
+use Rattle.ftd_store.proofs.Items.{paired_from, paired_to}
 use Rattle.ftd_store.proofs.Sifted.{keeps_has}
-
--- ---- lists that go pair by pair
-
-pub paired_from : {X Y : Type 0} (R : X → Y → Type 0) (xs : List X) (ys : List Y) (y : Y)
-    → Pairs R xs ys → Has ys y → (x : X) × Has xs x × R x y
-paired_from R [] [] y pairs has = absurd has
-paired_from R [] (z ∷ ys) y pairs has = absurd pairs
-paired_from R (x ∷ xs) [] y pairs has = absurd has
-paired_from R (x ∷ xs) (z ∷ ys) y pairs (inl is) = (x, inl refl, subst (R x) (sym is) pairs.0)
-paired_from R (x ∷ xs) (z ∷ ys) y pairs (inr has) = let rest = paired_from R xs ys y pairs.1 has in
-    (rest.0, inr rest.1, rest.2)
-
-pub paired_to : {X Y : Type 0} (R : X → Y → Type 0) (xs : List X) (ys : List Y) (x : X)
-    → Pairs R xs ys → Has xs x → (y : Y) × Has ys y × R x y
-paired_to R [] [] x pairs has = absurd has
-paired_to R [] (y ∷ ys) x pairs has = absurd has
-paired_to R (z ∷ xs) [] x pairs has = absurd pairs
-paired_to R (z ∷ xs) (y ∷ ys) x pairs (inl is) = (y, inl refl, subst (λ w. R w y) (sym is) pairs.0)
-paired_to R (z ∷ xs) (y ∷ ys) x pairs (inr has) = let rest = paired_to R xs ys x pairs.1 has in
-    (rest.0, inr rest.1, rest.2)
 
 -- rows of obligations by first day are so
 rows_rise : (R : Obligation → DueRow → Type 0) → ((o : Obligation) (row : DueRow) → R o row

@@ -28,7 +28,8 @@ use Rattle.ftd_machine.specs.Step.{Step}
 use Rattle.ftd_machine.proofs.Deciding.{decided, passed}
 use Rattle.ftd_machine.proofs.Heads.{Gives, gives_needs, skip_needs}
 use Rattle.ftd_entries.specs.Standing.{StandsFor}
-use Rattle.ftd_questions.specs.Returns.{KnowsObligations, KnowsPeriod}
+use Rattle.ftd_entries.specs.Owed.{KnowsObligations}
+use Rattle.ftd_questions.specs.Returns.{KnowsPeriod}
 use Rattle.ftd_questions.specs.DueRows.{begins_in, is_next_day_row, IsReturnBy, IsRowBy}
 use Rattle.ftd_questions.specs.DueRows.{KnowsForDue, KnowsDueList}
 use Rattle.ftd_questions.specs.Telling.{Passes, KnowsAsked, KnowsRows}

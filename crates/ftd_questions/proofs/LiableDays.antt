@@ -9,8 +9,7 @@ use Rattle.std.proofs.lemmas.Bool.{cases_Bool, eqb-true}
 use Rattle.std.proofs.lemmas.Int.{ints}
 use Rattle.std.proofs.lemmas.List.Sums.{sum_by-cons}
 use Rattle.std.proofs.lemmas.List.Sorted.{sum_by-IsPermutation}
-use Rattle.ftd_days.specs.Calendar.{month_start, quarter_of, quarter_year, quarter_start}
-use Rattle.ftd_days.proofs.Months.{day_in_years, month_start-mono, month_start-end}
+use Rattle.ftd_days.specs.Calendar.{quarter_year, quarter_start}
 use Rattle.ftd_rules.specs.declared.DaySum.{DaySum}
 use Rattle.ftd_rules.specs.declared.run.PayRun.{PayRun}
 use Rattle.ftd_rules.specs.declared.run.Voidable.{Voidable}
@@ -18,7 +17,6 @@ use Rattle.ftd_rules.specs.Liability.{share, liability}
 use Rattle.ftd_rules.specs.Lists.{Has, KeysRise}
 use Rattle.ftd_rules.proofs.Cuts.{lt_or_le}
 use Rattle.ftd_rules.proofs.Rising.{has_all}
-use Rattle.ftd_rules.proofs.Status.{quarter_is, quarter_only}
 use Rattle.ftd_rows.proofs.Found.{both}
 use Rattle.ftd_schema.specs.Rows.{RunRow}
 use Rattle.ftd_schema.specs.Standing.{Tables}
@@ -35,6 +33,7 @@ use Rattle.ftd_machine.specs.Asking.{day_of_sum, IsLiableDay}
 use Rattle.ftd_entries.specs.Standing.{StandsFor, run_entry}
 use Rattle.ftd_entries.proofs.CalendarRows.{whole}
 use Rattle.ftd_entries.proofs.DayCells.{same_day}
+use Rattle.ftd_entries.proofs.QuarterDays.{in_quarter, of_quarter}
 use Rattle.ftd_questions.proofs.KeptSums.{kept_sum, none_of, live_cell}
 use Rattle.ftd_questions.proofs.Rising.{keys_rise, sum_of_its_day, sum_of_day}
 
@@ -228,32 +227,12 @@ module _ {A : Type 0} (name : List ℕ) (from to : ℕ) (sums : Vec DaySum A) (t
 module _ {A : Type 0} (name : List ℕ) (quarter last : ℕ) (sums : Vec DaySum A) (t : Tables)
     (s : State) (stands : StandsFor t s) (is_last : last + 1 ≡ quarter_start (quarter + 1))
     (lists : ListsLiability name (quarter_start quarter) last sums t) where
-  in_quarter : (day : ℕ) → quarter_year quarter ≤ 2098 → quarter_of day ≡ quarter
-      → (quarter_start quarter ≤ day) × (day ≤ last)
-  in_quarter day early is =
-      let within = day_in_years day (omega arith) in
-      let days = quarter_is day within in
-      let low = days.0 in let high = days.1 in
-      let first : quarter_start (quarter_of day) ≡ quarter_start quarter = ap quarter_start is in
-      let next : month_start (3 * quarter_of day + 3) ≡ quarter_start (quarter + 1) =
-      ap month_start (omega arith) in
-      (omega arith, omega arith)
-
-  of_quarter : (day : ℕ) → quarter_year quarter ≤ 2098 → quarter_start quarter ≤ day → day ≤ last
-      → quarter_of day ≡ quarter
-  of_quarter day early low high =
-      let next : month_start (3 * quarter + 3) ≡ quarter_start (quarter + 1) =
-      ap month_start (omega arith) in
-      let top = month_start-mono (3 * quarter + 3) 3600 (omega arith) in
-      let end = month_start-end in
-      quarter_only day quarter (omega arith) low (omega arith)
-
   pub liable_days : quarter_year quarter ≤ 2098 → (x : DaySum) → Has sums.items x ↔ IsLiableDay
       (entries_of s name) quarter x
   liable_days early x = (
     (λ has. (let is = sum_is name (quarter_start quarter) last sums t s stands lists x has in
-        (of_quarter x.day early is.0 is.1, is.2, is.3))),
-    (λ is. (let within = in_quarter x.day early is.0 in
+        (of_quarter quarter last is_last x.day early is.0 is.1, is.2, is.3))),
+    (λ is. (let within = in_quarter quarter last is_last x.day early is.0 in
         is_sum name (quarter_start quarter) last sums t s stands lists x within.0 within.1 is.1
         is.2)),
   )

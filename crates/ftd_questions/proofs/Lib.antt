@@ -5,7 +5,6 @@ mod LiableDays
 mod Searching
 mod Scheduling
 mod Billing
-mod OwedRows
 mod PaymentsRead
 mod LiabilityRead
 mod ReturnDates

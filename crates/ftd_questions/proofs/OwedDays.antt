@@ -22,7 +22,7 @@ use Rattle.ftd_rows.proofs.Found.{both}
 use Rattle.ftd_machine.specs.State.{State, entries_of, holidays}
 use Rattle.ftd_machine.specs.History.{form_of, live_sums}
 use Rattle.ftd_entries.specs.Standing.{StandsFor}
-use Rattle.ftd_questions.specs.Returns.{begins_on}
+use Rattle.ftd_entries.specs.Owed.{begins_on}
 use Rattle.ftd_questions.specs.DueRows.{begins_in}
 use Rattle.ftd_questions.specs.Walks.{begun}
 use Rattle.ftd_questions.proofs.OneVerdict.{same_test}

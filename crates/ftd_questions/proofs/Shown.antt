@@ -43,12 +43,12 @@ use Rattle.ftd_machine.proofs.Members.{has_filtered}
 use Rattle.ftd_entries.proofs.CalendarRows.{key_rises}
 use Rattle.ftd_entries.proofs.DayCells.{le_from, le_into}
 use Rattle.ftd_questions.specs.DueRows.{begins_in, IsRowBy}
-use Rattle.ftd_questions.specs.Returns.{begins_on}
+use Rattle.ftd_entries.specs.Owed.{begins_on}
 use Rattle.ftd_questions.specs.Shown.{row_shown, Shows, ShowsRows}
 use Rattle.ftd_questions.specs.declared.due.KnownForDue.{KnownForDue}
 use Rattle.ftd_questions.specs.declared.due_rows.QuarterReturn.{QuarterReturn}
 use Rattle.ftd_questions.proofs.OwedDays.{filter_same, quarter_begins}
-use Rattle.ftd_questions.proofs.OwedRows.{begins, begins_is, first_key, key_is, paired, rows_begin}
+use Rattle.ftd_entries.proofs.OwedRows.{begins, begins_is, first_key, key_is, paired, rows_begin}
 
 abbrev due_of : List DueRow → Answer
 due_of rows = Ok (Due rows)

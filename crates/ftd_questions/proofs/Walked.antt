@@ -25,7 +25,7 @@ use Rattle.ftd_machine.specs.State.{State}
 use Rattle.ftd_entries.specs.Standing.{StandsFor}
 use Rattle.ftd_questions.specs.Walks.{Stays, StaysIfSettled, StandIfOpen, begun}
 use Rattle.ftd_questions.proofs.OwedDays.{of_quarter}
-use Rattle.ftd_questions.proofs.OwedRows.{obligations_listed, first_listed}
+use Rattle.ftd_entries.proofs.OwedRows.{obligations_listed, first_listed}
 
 -- ---- what a walk leaves
 

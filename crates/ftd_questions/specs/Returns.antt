@@ -1,8 +1,7 @@
 -- What is known of an account's return period, in the machine's words.
-use Rattle.std.specs.Prelude.{◌≡◌, ◌≤◌, ◌&&◌, ℕ, nat_le, Bool, List, Option, filter}
+use Rattle.std.specs.Prelude.{◌≡◌, ◌≤◌, ℕ, List, Option}
 use Rattle.ftd_days.specs.declared.cents.Cents.{Cents}
 use Rattle.ftd_rules.specs.declared.Form.{Form}
-use Rattle.ftd_rules.specs.declared.Obligation.{Obligation}
 use Rattle.ftd_rules.specs.declared.payment.Payment.{Payment}
 use Rattle.ftd_rules.specs.Liability.{liability}
 use Rattle.ftd_rules.specs.Payments.{paid_by}
@@ -26,16 +25,6 @@ KnowsPayments name first last payments t =
     → (from to as_of day : ℕ) → first ≤ from → to ≤ last
     → paid_by payments from to as_of day
     ≡ paid_by (live_payments (entries_of s name)) from to as_of day
-
--- the obligation begins on one of the days
-abbrev pub begins_on : ℕ → ℕ → Obligation → Bool
-begins_on first last o = nat_le first o.first && nat_le o.first last
-
--- these are the account's obligations that begin on the days, by first day
-abbrev pub KnowsObligations : List ℕ → ℕ → ℕ → List Obligation → Tables → Type 0
-KnowsObligations name first last found t =
-    (s : State) (stands : StandsFor t s)
-    → found ≡ filter (begins_on first last) (stands.settled name).owed
 
 -- this is what counts of the figure of the quarter before
 abbrev pub KnowsPreceding : List ℕ → Form → ℕ → Option Cents → Tables → Type 0

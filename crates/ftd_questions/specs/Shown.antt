@@ -15,7 +15,7 @@ use Rattle.ftd_questions.specs.DueRows.{KnowsDueList, KnowsReturnDue}
 use Rattle.ftd_questions.specs.declared.due.QuarterRows.{QuarterRows}
 use Rattle.ftd_machine.specs.declared.requests.Question.{Question}
 use Rattle.ftd_machine.specs.declared.requests.Question.TheVariants.{Status, DueList, ScheduleB}
-use Rattle.ftd_machine.specs.declared.requests.Question.TheVariants.{Agenda, Owed}
+use Rattle.ftd_machine.specs.declared.requests.Question.TheVariants.{Agenda, Owed, Kept}
 
 -- the account's obligation of a row, as it stands in the tables
 abbrev pub row_shown : List ℕ → DueRow → ObligationRow
@@ -49,3 +49,4 @@ Shows (DueList name quarter as_of) answer t =
 Shows (ScheduleB name quarter) answer t = ⊤
 Shows (Agenda from to as_of) answer t = ⊤
 Shows (Owed until as_of) answer t = ⊤
+Shows (Kept asked) answer t = ⊤

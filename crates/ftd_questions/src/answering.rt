@@ -9,6 +9,7 @@ use crate::agendas::{agenda, owed};
 use crate::due::due_list;
 use crate::liable::schedule_b;
 use crate::schedules::status;
+use ftd_kept::kept;
 use ftd_machine::{Answer, Question};
 use ftd_store::{StoreFault, Tx};
 use sqlite::Alter;
@@ -37,5 +38,6 @@ pub fn ask<S: Alter>(
         }
         Question::Agenda { from, to, as_of } => agenda(tx, alloc, *from, *to, *as_of),
         Question::Owed { until, as_of } => owed(tx, alloc, *until, *as_of),
+        Question::Kept(asked) => kept(tx, alloc, asked),
     }
 }

@@ -9,6 +9,8 @@ use Rattle.ftd_days.specs.Text.{day_text, quarter_text}
 use Rattle.ftd_machine.specs.declared.replies.Refusal.{Refusal}
 use Rattle.ftd_machine.specs.declared.replies.Refusal.TheVariants as refusal
 use Rattle.ftd_machine.specs.declared.requests.Question.{Question}
+use Rattle.ftd_machine.specs.declared.requests.Kept.{Kept}
+use Rattle.ftd_machine.specs.declared.requests.Kept.TheVariants as kept
 use Rattle.ftd_machine.specs.declared.requests.Question.TheVariants as question
 use Rattle.ftd_machine.specs.declared.requests.Request.{Request}
 use Rattle.ftd_machine.specs.declared.requests.Request.TheVariants as request
@@ -38,12 +40,21 @@ command_of before db account word after =
     concat (before ∷ file_text db ∷ codes " " ∷ account ∷ codes " " ∷ word ∷ after ∷ [])
 
 -- the account that a question names; the empty text where it names none
+abbrev pub account_kept : Kept → List ℕ
+account_kept kept.Accounts = []
+account_kept (kept.Years account) = account
+account_kept (kept.Reported account) = account
+account_kept (kept.Holidays year) = []
+account_kept (kept.Runs account quarter) = account
+account_kept (kept.Payments account quarter) = account
+
 abbrev pub account_asked : Question → List ℕ
 account_asked (question.Status account day) = account
 account_asked (question.DueList account quarter as_of) = account
 account_asked (question.ScheduleB account quarter) = account
 account_asked (question.Agenda from to as_of) = []
 account_asked (question.Owed until as_of) = []
+account_asked (question.Kept asked) = account_kept asked
 
 -- the account that a request names, and the number of its run or payment
 abbrev pub account_in : Request → List ℕ
@@ -80,9 +91,28 @@ totals_years = codes "hint: the years of reported totals are 1999 to 2098\n"
 abbrev paydays_years : List ℕ
 paydays_years = codes "hint: the years of paydays are 2001 to 2098\n"
 
+abbrev calendars_years : List ℕ
+calendars_years = codes "hint: the years of calendars are 2001 to 2099\n"
+
+abbrev pub years_kept : Kept → List ℕ
+years_kept kept.Accounts = paydays_years
+years_kept (kept.Years account) = paydays_years
+years_kept (kept.Reported account) = paydays_years
+years_kept (kept.Holidays year) = calendars_years
+years_kept (kept.Runs account quarter) = paydays_years
+years_kept (kept.Payments account quarter) = paydays_years
+
+abbrev pub years_asked : Question → List ℕ
+years_asked (question.Status account day) = paydays_years
+years_asked (question.DueList account quarter as_of) = paydays_years
+years_asked (question.ScheduleB account quarter) = paydays_years
+years_asked (question.Agenda from to as_of) = paydays_years
+years_asked (question.Owed until as_of) = paydays_years
+years_asked (question.Kept asked) = years_kept asked
+
 abbrev pub years_text : Request → List ℕ
 years_text (request.Enrol account start carried form) = paydays_years
-years_text (request.Calendar year days) = codes "hint: the years of calendars are 2001 to 2099\n"
+years_text (request.Calendar year days) = calendars_years
 years_text (request.AddHoliday day) = paydays_years
 years_text (request.Report account quarter cents) = totals_years
 years_text (request.ReportYear account year cents) = totals_years
@@ -91,7 +121,7 @@ years_text (request.Post account run payday fit ss medicare) = paydays_years
 years_text (request.Void account run) = paydays_years
 years_text (request.Pay account payment paid for_day cents) = paydays_years
 years_text (request.VoidPay account payment) = paydays_years
-years_text (request.Question question) = paydays_years
+years_text (request.Question question) = years_asked question
 
 abbrev paydays_days : List ℕ
 paydays_days = codes "hint: the days of paydays are those of 2001 to 2098\n"
@@ -106,6 +136,7 @@ days_asked (question.DueList account quarter as_of) =
 days_asked (question.ScheduleB account quarter) = paydays_days
 days_asked (question.Agenda from to as_of) = agenda_days
 days_asked (question.Owed until as_of) = agenda_days
+days_asked (question.Kept asked) = paydays_days
 
 abbrev pub days_text : Request → List ℕ
 days_text (request.Enrol account start carried form) =

@@ -6,6 +6,8 @@ use Rattle.ftd_days.specs.Text.{day_text}
 use Rattle.ftd_rules.specs.declared.DaySum.{DaySum}
 use Rattle.ftd_rules.specs.declared.Kind.{Kind}
 use Rattle.ftd_rules.specs.declared.Kind.TheVariants.{Monthly, Semiweekly}
+use Rattle.ftd_listings.specs.Listings.{kept_as}
+use Rattle.ftd_machine.specs.declared.kept.KeptRows.{KeptRows}
 use Rattle.ftd_machine.specs.declared.lists.AgendaRow.{AgendaRow}
 use Rattle.ftd_machine.specs.declared.replies.Reason.{Reason}
 use Rattle.ftd_machine.specs.declared.replies.Reason.TheVariants.{Lookback, Turned, Carried}
@@ -15,7 +17,7 @@ use Rattle.ftd_machine.specs.declared.requests.Request.{Request}
 use Rattle.ftd_machine.specs.Questions.{question_of}
 use Rattle.ftd_machine.specs.declared.requests.Question.{Question}
 use Rattle.ftd_machine.specs.declared.requests.Question.TheVariants.{Status, DueList, ScheduleB}
-use Rattle.ftd_machine.specs.declared.requests.Question.TheVariants.{Agenda, Owed}
+use Rattle.ftd_machine.specs.declared.requests.Question.TheVariants.{Agenda, Owed, Kept}
 use Rattle.ftd_reports.specs.Formats.{agenda_as, owed_as}
 use Rattle.ftd_reports.specs.declared.formats.Format.{Format}
 use Rattle.ftd_reports.specs.SchedulesB.{b_text}
@@ -46,6 +48,7 @@ status_told (Some (DueList account quarter as_of)) kind reason = []
 status_told (Some (ScheduleB account quarter)) kind reason = []
 status_told (Some (Agenda from to as_of)) kind reason = []
 status_told (Some (Owed until as_of)) kind reason = []
+status_told (Some (Kept asked)) kind reason = []
 status_told None kind reason = []
 
 abbrev pub days_told : Option Question → List DaySum → List ℕ
@@ -54,6 +57,7 @@ days_told (Some (DueList account quarter as_of)) sums = []
 days_told (Some (ScheduleB account quarter)) sums = b_text account quarter sums
 days_told (Some (Agenda from to as_of)) sums = []
 days_told (Some (Owed until as_of)) sums = []
+days_told (Some (Kept asked)) sums = []
 days_told None sums = []
 
 -- what is due over all accounts, in a format
@@ -63,10 +67,21 @@ agenda_told format (Some (DueList account quarter as_of)) rows = []
 agenda_told format (Some (ScheduleB account quarter)) rows = []
 agenda_told format (Some (Agenda from to as_of)) rows = agenda_as format from to as_of rows
 agenda_told format (Some (Owed until as_of)) rows = owed_as format until as_of rows
+agenda_told format (Some (Kept asked)) rows = []
 agenda_told format None rows = []
 
--- the text of the reply to a request, in a format where it tells of all accounts. A due list has none here: it is printed row by row, and
--- `PrintsDue` says of what text.
+-- what is kept, in a format
+abbrev pub kept_told : Format → Option Question → KeptRows → List ℕ
+kept_told format (Some (Status account day)) rows = []
+kept_told format (Some (DueList account quarter as_of)) rows = []
+kept_told format (Some (ScheduleB account quarter)) rows = []
+kept_told format (Some (Agenda from to as_of)) rows = []
+kept_told format (Some (Owed until as_of)) rows = []
+kept_told format (Some (Kept asked)) rows = kept_as format asked rows
+kept_told format None rows = []
+
+-- the text of the reply to a request, in a format where it tells of all accounts or of what is kept.
+-- A due list has none here: it is printed row by row, and `PrintsDue` says of what text.
 abbrev pub reply_text : Format → Request → Reply → List ℕ
 reply_text format request reply.Done = concat (codes "done" ∷ (10 ∷ []) ∷ [])
 reply_text format request reply.Already = concat (codes "already" ∷ (10 ∷ []) ∷ [])
@@ -76,3 +91,4 @@ reply_text format request (reply.Due rows) = []
 reply_text format request (reply.Days sums) = days_told (question_of request) sums
 reply_text format request (reply.Agenda rows) =
     agenda_told format (question_of request) rows
+reply_text format request (reply.Kept rows) = kept_told format (question_of request) rows

@@ -5,9 +5,9 @@ use Rattle.std.specs.Io.KnownBytes.{Appends}
 use Rattle.std.specs.List.{concat}
 use Rattle.std.specs.String.{string_bytes}
 use Rattle.ftd_ports.specs.Writing.{WritesPrefix}
-use Rattle.ftd_words.specs.Table.{word_text}
-use Rattle.ftd_words.specs.declared.table.Word.{Word}
-use Rattle.ftd_words.specs.declared.table.Word.TheVariants as word
+use Rattle.ftd_commands.specs.Table.{word_text}
+use Rattle.ftd_commands.specs.declared.table.Word.{Word}
+use Rattle.ftd_commands.specs.declared.table.Word.TheVariants as word
 use Rattle.ftd_words.specs.declared.tasks.CliFault.{CliFault}
 use Rattle.ftd_words.specs.declared.tasks.CliFault.TheVariants as fault
 use Rattle.ftd_replies.specs.Putting.{IsPut}
@@ -48,6 +48,7 @@ asked_text word.Payment = number_form
 asked_text word.Port = codes "a port of 0 to 65535"
 asked_text word.Wait = codes "a number of seconds of 0 to 3600"
 asked_text word.Format = codes "a format: text, csv, json or ics"
+asked_text word.RunsFormat = codes "a format: text or csv"
 asked_text _ = codes "a value that is taken here"
 
 -- the value that was given; it is told in words where it is empty, and where it is not known

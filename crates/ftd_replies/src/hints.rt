@@ -5,17 +5,18 @@ ghost use Rattle.std.specs.Fmt.{decimal};
 ghost use Rattle.std.specs.List.{flat_map, list_all};
 ghost use Rattle.std.specs.Io.KnownBytes.{Appends};
 ghost use Rattle.ftd_ports.specs.Writing.{WritesPrefix};
-ghost use Rattle.ftd_replies.specs.Hints.{account_asked, account_in, calendar_text, command_of};
-ghost use Rattle.ftd_replies.specs.Hints.{command_on, days_asked, days_in, days_text};
+ghost use Rattle.ftd_replies.specs.Hints.{account_asked, account_in, account_kept, calendar_text};
+ghost use Rattle.ftd_replies.specs.Hints.{command_of, command_on, days_asked, days_in, days_text};
 ghost use Rattle.ftd_replies.specs.Hints.{differing_text, enrolled_as};
 ghost use Rattle.ftd_replies.specs.Hints.{file_text, first_beside, first_text, form_text};
 ghost use Rattle.ftd_replies.specs.Hints.{hint_of, hint_text, hints_text};
 ghost use Rattle.ftd_replies.specs.Hints.{is_plain, left_out_text, new_text, number_in};
-ghost use Rattle.ftd_replies.specs.Hints.{quarter_hint, said_text, told_text, years_text};
+ghost use Rattle.ftd_replies.specs.Hints.{quarter_hint, said_text, told_text, years_asked};
+ghost use Rattle.ftd_replies.specs.Hints.{years_text};
 
 use crate::refusals::write_refusal;
 use ftd_days::{Day, Quarter};
-use ftd_machine::{Question, Refusal, Request};
+use ftd_machine::{Kept, Question, Refusal, Request};
 use ftd_ports::{Target, WriteFault, write_all, write_pieces};
 use ftd_reports::{day_bytes, quarter_bytes};
 use itoa::Buffer;
@@ -101,6 +102,17 @@ fn file_bytes(db: &str) -> &[u8]
     }
 }
 
+/// The account of which it is asked what is kept. The empty text where there is none.
+fn account_kept(asked: &Kept) -> &str
+    ensures { result.now ≡ account_kept asked.now }
+{
+    match asked {
+        Kept::Accounts | Kept::Holidays { .. } => "",
+        Kept::Years { account } | Kept::Reported { account } => account.as_str(),
+        Kept::Runs { account, .. } | Kept::Payments { account, .. } => account.as_str(),
+    }
+}
+
 /// The account that the question names. The empty text where it names none.
 fn account_asked(question: &Question) -> &str
     ensures { result.now ≡ account_asked question.now }
@@ -110,6 +122,7 @@ fn account_asked(question: &Question) -> &str
         Question::DueList { account, .. } => account.as_str(),
         Question::ScheduleB { account, .. } => account.as_str(),
         Question::Agenda { .. } | Question::Owed { .. } => "",
+        Question::Kept(asked) => account_kept(asked),
     }
 }
 
@@ -183,8 +196,31 @@ fn years_said(request: &Request) -> &'static [u8]
         | Request::Post { .. }
         | Request::Void { .. }
         | Request::Pay { .. }
-        | Request::VoidPay { .. }
-        | Request::Question(_) => b"hint: the years of paydays are 2001 to 2098\n",
+        | Request::VoidPay { .. } => b"hint: the years of paydays are 2001 to 2098\n",
+        Request::Question(question) => years_asked(question),
+    }
+}
+
+/// What is said of a year of a question that is out of range.
+fn years_asked(question: &Question) -> &'static [u8]
+    ensures { result.now ≡ years_asked question.now }
+{
+    match question {
+        Question::Kept(Kept::Holidays { .. }) => {
+            b"hint: the years of calendars are 2001 to 2099\n"
+        }
+        Question::Kept(
+            Kept::Accounts
+            | Kept::Years { .. }
+            | Kept::Reported { .. }
+            | Kept::Runs { .. }
+            | Kept::Payments { .. },
+        )
+        | Question::Status { .. }
+        | Question::DueList { .. }
+        | Question::ScheduleB { .. }
+        | Question::Agenda { .. }
+        | Question::Owed { .. } => b"hint: the years of paydays are 2001 to 2098\n",
     }
 }
 
@@ -197,7 +233,7 @@ fn days_asked(question: &Question) -> &'static [u8]
         Question::Agenda { .. } | Question::Owed { .. } => {
             b"hint: an agenda is of days of 2001 to 2099\n"
         }
-        Question::Status { .. } | Question::ScheduleB { .. } => {
+        Question::Status { .. } | Question::ScheduleB { .. } | Question::Kept(_) => {
             b"hint: the days of paydays are those of 2001 to 2098\n"
         }
     }

@@ -7,11 +7,12 @@ ghost use Rattle.ftd_ports.specs.Writing.{WritesPrefix};
 ghost use Rattle.ftd_rules.specs.Liability.{cents_of};
 ghost use Rattle.ftd_machine.specs.Limits.{IsBounded, amounts_end};
 ghost use Rattle.ftd_machine.specs.Questions.{question_of};
-ghost use Rattle.ftd_replies.specs.Replies.{agenda_told, days_told, kind_text, posted_text};
-ghost use Rattle.ftd_replies.specs.Replies.{reply_text, status_told, status_text};
+ghost use Rattle.ftd_replies.specs.Replies.{agenda_told, days_told, kept_told, kind_text};
+ghost use Rattle.ftd_replies.specs.Replies.{posted_text, reply_text, status_told, status_text};
 
 use ftd_days::Day;
-use ftd_machine::{AgendaRow, Question, Reason, Reply, Request};
+use ftd_listings::write_kept_as;
+use ftd_machine::{AgendaRow, KeptRows, Question, Reason, Reply, Request};
 use ftd_ports::{Target, WriteFault, write_all, write_pieces};
 use ftd_reports::{Format, day_bytes, schedule_b, write_agenda_as, write_owed_as};
 use ftd_rules::{DaySum, Kind};
@@ -46,6 +47,7 @@ pub fn write_reply<W: Target>(
         Reply::Due(_) => write_all(target, b""),
         Reply::Days(sums) => write_days(request, sums.as_slice(), target),
         Reply::Agenda(rows) => write_rows(format, request, rows.as_slice(), target),
+        Reply::Kept(rows) => write_kept_rows(format, request, rows, target),
     }
 }
 
@@ -115,7 +117,8 @@ fn write_status<W: Target>(
             Question::DueList { .. }
             | Question::ScheduleB { .. }
             | Question::Agenda { .. }
-            | Question::Owed { .. },
+            | Question::Owed { .. }
+            | Question::Kept(_),
         )
         | None => write_all(target, b""),
     }
@@ -167,7 +170,8 @@ fn write_days<W: Target>(
             Question::Status { .. }
             | Question::DueList { .. }
             | Question::Agenda { .. }
-            | Question::Owed { .. },
+            | Question::Owed { .. }
+            | Question::Kept(_),
         )
         | None => write_all(target, b""),
     }
@@ -195,7 +199,40 @@ fn write_rows<W: Target>(
         Some(Question::Owed { until, as_of }) => write_owed_as(
             format, *until, *as_of, rows, target,
         ),
-        Some(Question::Status { .. } | Question::DueList { .. } | Question::ScheduleB { .. })
+        Some(
+            Question::Status { .. }
+            | Question::DueList { .. }
+            | Question::ScheduleB { .. }
+            | Question::Kept(_),
+        )
+        | None => write_all(target, b""),
+    }
+}
+
+/// Writes what is kept, as it was asked for, in a format.
+fn write_kept_rows<W: Target>(
+    format: Format,
+    request: &Request,
+    rows: &KeptRows,
+    target: &mut W,
+) -> Result<(), WriteFault>
+    ensures ok { OnOk result
+        (Appends (W.taken target.old) (W.taken target.new)
+        (kept_told format (question_of request.now) rows.now)) }
+    ensures err { OnErr result
+        (WritesPrefix (W.taken target.old) (W.taken target.new)
+        (kept_told format (question_of request.now) rows.now)) }
+    ensures fault { OnErr result (W.failed target.new ≡ true) }
+{
+    match request.question() {
+        Some(Question::Kept(asked)) => write_kept_as(format, asked, rows, target),
+        Some(
+            Question::Status { .. }
+            | Question::DueList { .. }
+            | Question::ScheduleB { .. }
+            | Question::Agenda { .. }
+            | Question::Owed { .. },
+        )
         | None => write_all(target, b""),
     }
 }

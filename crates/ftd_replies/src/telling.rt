@@ -5,8 +5,9 @@ ghost use Rattle.ftd_replies.specs.Putting.{IsPut};
 ghost use Rattle.ftd_replies.specs.Telling.{Tells, TellsHelp, asked_text, bad_text, bad_word};
 ghost use Rattle.ftd_replies.specs.Telling.{given_text};
 
+use ftd_commands::Word;
 use ftd_ports::{Target, write_all, write_pieces};
-use ftd_words::{CliFault, Word};
+use ftd_words::CliFault;
 
 /// Prints why the words of a command line ask nothing, or the help that they ask for, and answers
 /// the exit status: 0 for help, 2 for a bad command line, 3 where there was no memory, or where
@@ -63,6 +64,7 @@ fn asked_bytes(word: Word) -> &'static [u8]
         Word::Port => b"a port of 0 to 65535",
         Word::Wait => b"a number of seconds of 0 to 3600",
         Word::Format => b"a format: text, csv, json or ics",
+        Word::RunsFormat => b"a format: text or csv",
         _ => b"a value that is taken here",
     }
 }

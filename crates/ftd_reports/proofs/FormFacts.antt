@@ -31,12 +31,12 @@ texts_end text rows i h = let none = drop_all i rows h in rw none refl
 -- ---- CSV
 
 -- a field, a comma and what follows to the end of the line
-field : (a others end line : List ℕ) → others ++ end ≡ line
+pub field : (a others end line : List ℕ) → others ++ end ≡ line
     → (a ++ (44 ∷ others)) ++ end ≡ a ++ ((44 ∷ []) ++ line)
 field a others end line e = append_assoc a (44 ∷ others) end ∙ ap (λ z. a ++ (44 ∷ z)) e
 
 -- a field of two pieces
-amount_field : (d c others end line : List ℕ) → others ++ end ≡ line
+pub amount_field : (d c others end line : List ℕ) → others ++ end ≡ line
     → ((d ++ c) ++ (44 ∷ others)) ++ end ≡ d ++ (c ++ ((44 ∷ []) ++ line))
 amount_field d c others end line e = field (d ++ c) others end line e
     ∙ append_assoc d c (44 ∷ line)

@@ -131,7 +131,7 @@ pub fn left_of(row: &DueRow) -> Cents
 }
 
 /// The spaces that follow an account in its column.
-fn spaces_after(account: &str) -> &[u8]
+pub fn spaces_after(account: &str) -> &[u8]
     ensures { account.now ++ result.now ≡ left_in 20 account.now }
 {
     &SPACES[..20usize.saturating_sub(account.len())]

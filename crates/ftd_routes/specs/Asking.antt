@@ -36,8 +36,14 @@ method_of ask.DueList = Get
 method_of ask.ScheduleB = Get
 method_of (ask.Agenda format) = Get
 method_of (ask.Owed format) = Get
+method_of ask.ListAccounts = Get
+method_of ask.ListYears = Get
+method_of ask.ListReported = Get
+method_of ask.ListHolidays = Get
+method_of (ask.ListRuns format) = Get
+method_of ask.ListPayments = Get
 
--- the format in which a route tells of all accounts
+-- the format in which a route tells of all accounts, or of runs
 abbrev pub format_of : Ask → Format
 format_of ask.Enrol = format.Text
 format_of ask.Calendar = format.Text
@@ -54,6 +60,12 @@ format_of ask.DueList = format.Text
 format_of ask.ScheduleB = format.Text
 format_of (ask.Agenda asked) = asked
 format_of (ask.Owed asked) = asked
+format_of ask.ListAccounts = format.Text
+format_of ask.ListYears = format.Text
+format_of ask.ListReported = format.Text
+format_of ask.ListHolidays = format.Text
+format_of (ask.ListRuns asked) = asked
+format_of ask.ListPayments = format.Text
 
 -- what a message of the right method asks
 abbrev pub formed : Format → Option Request → Asked

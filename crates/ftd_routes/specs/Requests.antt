@@ -2,6 +2,8 @@
 use Rattle.std.specs.Prelude.{ℕ, List, Option, Some, option_and_then, codes}
 use Rattle.serde_json.specs.Find.{get}
 use Rattle.ftd_days.specs.Spelling.{day_of, spelled_quarter}
+use Rattle.ftd_machine.specs.declared.requests.Kept.{Kept}
+use Rattle.ftd_machine.specs.declared.requests.Kept.TheVariants as kept
 use Rattle.ftd_machine.specs.declared.requests.Question.TheVariants as question
 use Rattle.ftd_machine.specs.declared.requests.Request.{Request}
 use Rattle.ftd_machine.specs.declared.requests.Request.TheVariants as request
@@ -122,6 +124,28 @@ owed_in target = do
   until ← day_of (part 3 target)
   Some (request.Question (question.Owed until as_of))
 
+-- what is kept; the account of such a path is its third part
+abbrev pub kept_asked : Kept → Request
+kept_asked asked = request.Question (question.Kept asked)
+
+abbrev pub listed_account : List ℕ → List ℕ
+listed_account target = part 3 target
+
+unfoldable pub holidays_in : List ℕ → Option Request
+holidays_in target = do
+  year ← path_number (part 3 target)
+  Some (kept_asked (kept.Holidays year))
+
+unfoldable pub runs_in : List ℕ → Option Request
+runs_in target = do
+  quarter ← spelled_quarter (part 5 target)
+  Some (kept_asked (kept.Runs (listed_account target) quarter))
+
+unfoldable pub payments_in : List ℕ → Option Request
+payments_in target = do
+  quarter ← spelled_quarter (part 5 target)
+  Some (kept_asked (kept.Payments (listed_account target) quarter))
+
 -- the request of a route
 abbrev pub request_of : Ask → List ℕ → List ℕ → Option Request
 request_of ask.Enrol target body = enrol_in body
@@ -139,3 +163,10 @@ request_of ask.DueList target body = due_list_in target
 request_of ask.ScheduleB target body = schedule_b_in target
 request_of (ask.Agenda format) target body = agenda_in target
 request_of (ask.Owed format) target body = owed_in target
+request_of ask.ListAccounts target body = Some (kept_asked kept.Accounts)
+request_of ask.ListYears target body = Some (kept_asked (kept.Years (listed_account target)))
+request_of ask.ListReported target body =
+    Some (kept_asked (kept.Reported (listed_account target)))
+request_of ask.ListHolidays target body = holidays_in target
+request_of (ask.ListRuns format) target body = runs_in target
+request_of ask.ListPayments target body = payments_in target

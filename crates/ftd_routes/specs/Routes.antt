@@ -47,6 +47,13 @@ table =
     ∷ (codes "/owed/{asof}/{until}/csv", ask.Owed format.Csv)
     ∷ (codes "/owed/{asof}/{until}/json", ask.Owed format.Json)
     ∷ (codes "/owed/{asof}/{until}/ics", ask.Owed format.Calendar)
+    ∷ (codes "/lists/accounts", ask.ListAccounts)
+    ∷ (codes "/lists/accounts/{account}/years", ask.ListYears)
+    ∷ (codes "/lists/accounts/{account}/reported", ask.ListReported)
+    ∷ (codes "/lists/holidays/{year}", ask.ListHolidays)
+    ∷ (codes "/lists/accounts/{account}/runs/{quarter}", ask.ListRuns format.Text)
+    ∷ (codes "/lists/accounts/{account}/runs/{quarter}/csv", ask.ListRuns format.Csv)
+    ∷ (codes "/lists/accounts/{account}/payments/{quarter}", ask.ListPayments)
     ∷ []
 
 unfoldable pub all_routes : RowsOf (RouteOf Ask)

@@ -32,7 +32,8 @@ pub enum Asked {
     OtherMethod(Method),
     /// A part of the path, or the body, is not of the route's form.
     BadForm,
-    /// A request to the desk. What its reply tells over all accounts is told in this format.
+    /// A request to the desk. What its reply tells over all accounts, or of runs, is told in this
+    /// format.
     Asks { format: Format, request: Request },
 }
 
@@ -54,6 +55,8 @@ fn method_of(route: Ask) -> Method
     match route {
         Ask::Void | Ask::VoidPay => Method::Delete,
         Ask::Status | Ask::DueList | Ask::ScheduleB | Ask::Agenda(_) | Ask::Owed(_) => Method::Get,
+        Ask::ListAccounts | Ask::ListYears | Ask::ListReported => Method::Get,
+        Ask::ListHolidays | Ask::ListRuns(_) | Ask::ListPayments => Method::Get,
         Ask::Enrol
         | Ask::Calendar
         | Ask::AddHoliday
@@ -65,12 +68,12 @@ fn method_of(route: Ask) -> Method
     }
 }
 
-/// The format in which a route tells of all accounts.
+/// The format in which a route tells of all accounts, or of runs.
 fn format_of(route: Ask) -> Format
     ensures { result ≡ format_of route }
 {
     match route {
-        Ask::Agenda(format) | Ask::Owed(format) => format,
+        Ask::Agenda(format) | Ask::Owed(format) | Ask::ListRuns(format) => format,
         Ask::Enrol
         | Ask::Calendar
         | Ask::AddHoliday
@@ -83,7 +86,12 @@ fn format_of(route: Ask) -> Format
         | Ask::VoidPay
         | Ask::Status
         | Ask::DueList
-        | Ask::ScheduleB => Format::Text,
+        | Ask::ScheduleB
+        | Ask::ListAccounts
+        | Ask::ListYears
+        | Ask::ListReported
+        | Ask::ListHolidays
+        | Ask::ListPayments => Format::Text,
     }
 }
 

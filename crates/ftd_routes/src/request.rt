@@ -1,10 +1,12 @@
 //! The requests of the routes.
 
-ghost use Rattle.std.specs.Prelude.{◌≡◌, IfOk};
+ghost use Rattle.std.specs.Prelude.{◌≡◌, IfOk, Some};
 ghost use Rattle.ftd_routes.specs.Requests.{enrol_in, calendar_in, add_holiday_in, report_in};
 ghost use Rattle.ftd_routes.specs.Requests.{report_year_in, open_year_in, post_in, pay_in, void_in};
 ghost use Rattle.ftd_routes.specs.Requests.{void_payment_in, status_in, due_list_in, schedule_b_in};
-ghost use Rattle.ftd_routes.specs.Requests.{agenda_in, owed_in, request_of};
+ghost use Rattle.ftd_machine.specs.declared.requests.Kept.TheVariants as kept;
+ghost use Rattle.ftd_routes.specs.Requests.{agenda_in, owed_in, request_of, kept_asked};
+ghost use Rattle.ftd_routes.specs.Requests.{listed_account, holidays_in, runs_in, payments_in};
 
 use crate::Ask;
 use crate::body::{
@@ -13,7 +15,7 @@ use crate::body::{
 use crate::path::part;
 use crate::values::{name, path_number};
 use ftd_days::{Day, Quarter};
-use ftd_machine::{Days, Question, Request};
+use ftd_machine::{Days, Kept, Question, Request};
 use std::alloc::{AllocError, Global};
 
 /// The request of a route, by its target and its body.
@@ -33,6 +35,12 @@ pub fn make_request(
         Ask::ScheduleB => schedule_b(alloc, target),
         Ask::Agenda(_) => Ok(agenda(target)),
         Ask::Owed(_) => Ok(owed(target)),
+        Ask::ListAccounts => Ok(Some(Request::Question(Question::Kept(Kept::Accounts)))),
+        Ask::ListYears => years(alloc, target),
+        Ask::ListReported => reported(alloc, target),
+        Ask::ListHolidays => Ok(holidays(target)),
+        Ask::ListRuns(_) => runs(alloc, target),
+        Ask::ListPayments => payments(alloc, target),
         Ask::Enrol => enrol(alloc, body),
         Ask::Calendar => calendar(alloc, body),
         Ask::AddHoliday => add_holiday(alloc, body),
@@ -316,4 +324,55 @@ fn owed(target: &str) -> Option<Request>
     let as_of = Day::read(part(target, 2).as_bytes())?;
     let until = Day::read(part(target, 3).as_bytes())?;
     Some(Request::Question(Question::Owed { until, as_of }))
+}
+
+/// The open years of an account.
+fn years(alloc: Global, target: &str) -> Result<Option<Request>, AllocError>
+    ensures { IfOk result (λ request. request
+        ≡ Some (kept_asked (kept.Years (listed_account target.now)))) }
+{
+    let account = name(alloc, part(target, 3))?;
+    Ok(Some(Request::Question(Question::Kept(Kept::Years { account }))))
+}
+
+/// The totals that an account reported.
+fn reported(alloc: Global, target: &str) -> Result<Option<Request>, AllocError>
+    ensures { IfOk result (λ request. request
+        ≡ Some (kept_asked (kept.Reported (listed_account target.now)))) }
+{
+    let account = name(alloc, part(target, 3))?;
+    Ok(Some(Request::Question(Question::Kept(Kept::Reported { account }))))
+}
+
+/// The holidays of a year.
+#[tactic(auto, unfolding(crate::specs::Requests::holidays_in))]
+fn holidays(target: &str) -> Option<Request>
+    ensures { result ≡ holidays_in target.now }
+{
+    let year = path_number(part(target, 3))?;
+    Some(Request::Question(Question::Kept(Kept::Holidays { year })))
+}
+
+/// The pay runs of a quarter.
+#[tactic(auto, unfolding(crate::specs::Requests::runs_in))]
+fn runs(alloc: Global, target: &str) -> Result<Option<Request>, AllocError>
+    ensures { IfOk result (λ request. request ≡ runs_in target.now) }
+{
+    let Some(quarter) = Quarter::read(part(target, 5).as_bytes()) else {
+        return Ok(None);
+    };
+    let account = name(alloc, part(target, 3))?;
+    Ok(Some(Request::Question(Question::Kept(Kept::Runs { account, quarter }))))
+}
+
+/// The payments of a quarter.
+#[tactic(auto, unfolding(crate::specs::Requests::payments_in))]
+fn payments(alloc: Global, target: &str) -> Result<Option<Request>, AllocError>
+    ensures { IfOk result (λ request. request ≡ payments_in target.now) }
+{
+    let Some(quarter) = Quarter::read(part(target, 5).as_bytes()) else {
+        return Ok(None);
+    };
+    let account = name(alloc, part(target, 3))?;
+    Ok(Some(Request::Question(Question::Kept(Kept::Payments { account, quarter }))))
 }

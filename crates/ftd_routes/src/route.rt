@@ -41,6 +41,18 @@ pub enum Ask {
     Agenda(Format),
     /// What is due until a day and not paid, in this format.
     Owed(Format),
+    /// The accounts.
+    ListAccounts,
+    /// The open years of an account.
+    ListYears,
+    /// The totals that an account reported.
+    ListReported,
+    /// The holidays of a year.
+    ListHolidays,
+    /// The pay runs of a quarter, in this format.
+    ListRuns(Format),
+    /// The payments of a quarter.
+    ListPayments,
 }
 
 /// Puts in one more route.
@@ -52,7 +64,7 @@ fn put(router: &mut Router<Ask>, route: &str, ask: Ask) -> Result<(), InsertErro
 }
 
 /// The routes and what they ask.
-const ROUTES: [(&str, Ask); 21] = [
+const ROUTES: [(&str, Ask); 28] = [
     ("/accounts", Ask::Enrol),
     ("/calendars", Ask::Calendar),
     ("/holidays", Ask::AddHoliday),
@@ -77,6 +89,22 @@ const ROUTES: [(&str, Ask); 21] = [
     ("/owed/{asof}/{until}/csv", Ask::Owed(Format::Csv)),
     ("/owed/{asof}/{until}/json", Ask::Owed(Format::Json)),
     ("/owed/{asof}/{until}/ics", Ask::Owed(Format::Calendar)),
+    ("/lists/accounts", Ask::ListAccounts),
+    ("/lists/accounts/{account}/years", Ask::ListYears),
+    ("/lists/accounts/{account}/reported", Ask::ListReported),
+    ("/lists/holidays/{year}", Ask::ListHolidays),
+    (
+        "/lists/accounts/{account}/runs/{quarter}",
+        Ask::ListRuns(Format::Text),
+    ),
+    (
+        "/lists/accounts/{account}/runs/{quarter}/csv",
+        Ask::ListRuns(Format::Csv),
+    ),
+    (
+        "/lists/accounts/{account}/payments/{quarter}",
+        Ask::ListPayments,
+    ),
 ];
 
 /// Puts in these routes more.

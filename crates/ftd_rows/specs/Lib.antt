@@ -7,3 +7,4 @@ pub mod Lists
 pub mod DaySums
 pub mod Years
 pub use Rattle.ftd_rules.specs.Liability
+pub mod Kept

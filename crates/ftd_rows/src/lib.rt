@@ -9,6 +9,7 @@ mod calendars;
 mod cells;
 mod day_sums;
 mod faults;
+mod kept;
 mod obligations;
 mod payments;
 mod reader;
@@ -21,6 +22,9 @@ pub use crate::cells::{
 };
 pub use crate::day_sums::{added, sum_of, sums_of};
 pub use crate::faults::StoreFault;
+pub use crate::kept::{
+    NamedAccount, NamedForm, NumberedPayment, NumberedRun, QuarterTotal, YearTotal,
+};
 pub use crate::obligations::AccountObligation;
 pub use crate::reader::{FromRow, all, only};
 pub use crate::years::{StoredYear, open_years, stored_turn};

@@ -11,7 +11,9 @@ use Rattle.ftd_schema.specs.declared.texts.TheConstants.{READ_CALENDAR_YEAR, LIS
 use Rattle.ftd_schema.specs.declared.texts.TheConstants.{LIST_ADDED_HOLIDAYS, LIST_YEARS, READ_RUN}
 use Rattle.ftd_schema.specs.declared.texts.TheConstants.{LIST_RUNS, READ_PAYMENT, LIST_PAYMENTS}
 use Rattle.ftd_schema.specs.declared.texts.TheConstants.{LIST_OBLIGATIONS, LIST_DUE_OVER, COUNT_RUNS}
-use Rattle.ftd_schema.specs.declared.texts.TheConstants.{LIST_DUE_BETWEEN}
+use Rattle.ftd_schema.specs.declared.texts.TheConstants.{LIST_DUE_BETWEEN, LIST_ENROLLED, LIST_FORMS}
+use Rattle.ftd_schema.specs.declared.texts.TheConstants.{LIST_REPORTED, LIST_REPORTED_YEARS}
+use Rattle.ftd_schema.specs.declared.texts.TheConstants.{LIST_KEPT_RUNS, LIST_KEPT_PAYMENTS}
 use Rattle.ftd_schema.specs.declared.texts.TheConstants.{COUNT_PAYMENTS}
 use Rattle.ftd_schema.proofs.Shapes.{place, test_on, Value, Zero, Is, IsBelow, IsAtMost, IsAtLeast}
 use Rattle.ftd_schema.proofs.Reading.{Asks, Counts}
@@ -482,6 +484,174 @@ pub lists_due_between : Asks Obligations LIST_DUE_BETWEEN.now
     (place (codes "account") 1 ∷ place (codes "first_day") 2 ∷ [])
 unfolding everything
 lists_due_between = record {
+  reads = record { read = _; is = refl; said = refl; untimed = refl; whole = refl };
+  opens = record { whole = refl; first = refl };
+  resolves = λ tree. record {
+    filters = _;
+    grouped = false;
+    keys = _;
+    after_columns = _;
+    after_test = _;
+    after_order = _;
+    known_columns = refl;
+    known_test = refl;
+    known_order = refl;
+    columns_are = refl;
+    filters_are = refl;
+    is_grouped = refl;
+    keys_are = refl;
+    draft_is = λ at. refl;
+  };
+  accepted = λ tree. (refl, refl);
+  is_query = λ tree. refl;
+}
+
+pub lists_enrolled : Asks Accounts LIST_ENROLLED.now
+    (place (codes "name") 1 ∷ place (codes "start") 2 ∷ place (codes "carried") 3 ∷ [])
+    []
+    (place (codes "name") 1 ∷ [])
+unfolding everything
+lists_enrolled = record {
+  reads = record { read = _; is = refl; said = refl; untimed = refl; whole = refl };
+  opens = record { whole = refl; first = refl };
+  resolves = λ tree. record {
+    filters = _;
+    grouped = false;
+    keys = _;
+    after_columns = _;
+    after_test = _;
+    after_order = _;
+    known_columns = refl;
+    known_test = refl;
+    known_order = refl;
+    columns_are = refl;
+    filters_are = refl;
+    is_grouped = refl;
+    keys_are = refl;
+    draft_is = λ at. refl;
+  };
+  accepted = λ tree. (refl, refl);
+  is_query = λ tree. refl;
+}
+
+pub lists_forms : Asks Forms LIST_FORMS.now
+    (place (codes "account") 1 ∷ place (codes "form") 2 ∷ [])
+    []
+    (place (codes "account") 1 ∷ [])
+unfolding everything
+lists_forms = record {
+  reads = record { read = _; is = refl; said = refl; untimed = refl; whole = refl };
+  opens = record { whole = refl; first = refl };
+  resolves = λ tree. record {
+    filters = _;
+    grouped = false;
+    keys = _;
+    after_columns = _;
+    after_test = _;
+    after_order = _;
+    known_columns = refl;
+    known_test = refl;
+    known_order = refl;
+    columns_are = refl;
+    filters_are = refl;
+    is_grouped = refl;
+    keys_are = refl;
+    draft_is = λ at. refl;
+  };
+  accepted = λ tree. (refl, refl);
+  is_query = λ tree. refl;
+}
+
+pub lists_reported : Asks ReportedQuarters LIST_REPORTED.now
+    (place (codes "cal_year") 2 ∷ place (codes "quarter") 3 ∷ place (codes "cents") 4 ∷ [])
+    (test_on (codes "account") 1 Is (Value 1) ∷ [])
+    (place (codes "cal_year") 2 ∷ place (codes "quarter") 3 ∷ [])
+unfolding everything
+lists_reported = record {
+  reads = record { read = _; is = refl; said = refl; untimed = refl; whole = refl };
+  opens = record { whole = refl; first = refl };
+  resolves = λ tree. record {
+    filters = _;
+    grouped = false;
+    keys = _;
+    after_columns = _;
+    after_test = _;
+    after_order = _;
+    known_columns = refl;
+    known_test = refl;
+    known_order = refl;
+    columns_are = refl;
+    filters_are = refl;
+    is_grouped = refl;
+    keys_are = refl;
+    draft_is = λ at. refl;
+  };
+  accepted = λ tree. (refl, refl);
+  is_query = λ tree. refl;
+}
+
+pub lists_reported_years : Asks ReportedYears LIST_REPORTED_YEARS.now
+    (place (codes "cal_year") 2 ∷ place (codes "cents") 3 ∷ [])
+    (test_on (codes "account") 1 Is (Value 1) ∷ [])
+    (place (codes "cal_year") 2 ∷ [])
+unfolding everything
+lists_reported_years = record {
+  reads = record { read = _; is = refl; said = refl; untimed = refl; whole = refl };
+  opens = record { whole = refl; first = refl };
+  resolves = λ tree. record {
+    filters = _;
+    grouped = false;
+    keys = _;
+    after_columns = _;
+    after_test = _;
+    after_order = _;
+    known_columns = refl;
+    known_test = refl;
+    known_order = refl;
+    columns_are = refl;
+    filters_are = refl;
+    is_grouped = refl;
+    keys_are = refl;
+    draft_is = λ at. refl;
+  };
+  accepted = λ tree. (refl, refl);
+  is_query = λ tree. refl;
+}
+
+pub lists_kept_runs : Asks Runs LIST_KEPT_RUNS.now
+    (place (codes "run") 2 ∷ place (codes "payday") 3 ∷ place (codes "fit") 4 ∷ place (codes "ss") 5 ∷ place (codes "medicare") 6 ∷ place (codes "voided") 7 ∷ [])
+    (test_on (codes "account") 1 Is (Value 1) ∷ test_on (codes "payday") 3 IsAtLeast (Value 2) ∷ test_on (codes "payday") 3 IsAtMost (Value 3) ∷ [])
+    (place (codes "payday") 3 ∷ place (codes "run") 2 ∷ [])
+unfolding everything
+lists_kept_runs = record {
+  reads = record { read = _; is = refl; said = refl; untimed = refl; whole = refl };
+  opens = record { whole = refl; first = refl };
+  resolves = λ tree. record {
+    filters = _;
+    grouped = false;
+    keys = _;
+    after_columns = _;
+    after_test = _;
+    after_order = _;
+    known_columns = refl;
+    known_test = refl;
+    known_order = refl;
+    columns_are = refl;
+    filters_are = refl;
+    is_grouped = refl;
+    keys_are = refl;
+    draft_is = λ at. refl;
+  };
+  accepted = λ tree. (refl, refl);
+  is_query = λ tree. refl;
+}
+
+pub lists_kept_payments : Asks Payments LIST_KEPT_PAYMENTS.now
+    (place (codes "payment") 2 ∷ place (codes "paid") 3 ∷ place (codes "for_day") 4 ∷ place (codes "cents") 5 ∷ place (codes "voided") 6 ∷ [])
+    (test_on (codes "account") 1 Is (Value 1) ∷ test_on (codes "for_day") 4 IsAtLeast (Value 2) ∷ test_on (codes "for_day") 4 IsAtMost (Value 3) ∷ [])
+    (place (codes "for_day") 4 ∷ place (codes "payment") 2 ∷ [])
+unfolding everything
+lists_kept_payments = record {
   reads = record { read = _; is = refl; said = refl; untimed = refl; whole = refl };
   opens = record { whole = refl; first = refl };
   resolves = λ tree. record {

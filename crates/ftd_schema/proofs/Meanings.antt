@@ -1,10 +1,17 @@
 -- What each statement shows of the typed rows, or makes of them.
 use Rattle.std.proofs.Common.{◌≡◌, ℕ, ℤ, pos, List, [], ◌∷◌, length, map, not, Bool, true, Ok, refl}
-use Rattle.std.proofs.Common.{ap, subst}
+use Rattle.std.proofs.Common.{ap, subst, sym, ◌∙◌, ◌⊎◌, inl, inr, false}
 use Rattle.std.specs.Prelude.{filter, min}
 use Rattle.std.specs.List.Sorted.{IsPermutation}
-use Rattle.sqlite.specs.declared.types.Value.TheVariants.{Int}
-use Rattle.sqlite.specs.Order.{Row}
+use Rattle.std.specs.Ordering.{is_lt, nat_cmp, ordering_then, ordering_reverse}
+use Rattle.std.specs.declared.cmp.Ordering.{Ordering}
+use Rattle.std.specs.declared.cmp.Ordering.TheVariants.{Less, Equal, Greater}
+use Rattle.std.specs.FinMap.{slice_cmp-IsAntisymmetric, nat_cmp-IsAntisymmetric}
+use Rattle.std.proofs.lemmas.Cmp.{nat_list_cmp_total}
+use Rattle.sqlite_value.proofs.OrderLemmas.{value_cmp-Text}
+use Rattle.std.specs.Cmp.Lexicographic.{slice_cmp}
+use Rattle.sqlite.specs.declared.types.Value.TheVariants.{Int, Text}
+use Rattle.sqlite.specs.Order.{Row, value_cmp}
 use Rattle.sqlite.specs.State.{State, Executes, Shown}
 use Rattle.sqlite_tied.specs.Compute.{everything}
 use Rattle.ftd_tables.specs.Kept.{changed}
@@ -28,7 +35,9 @@ use Rattle.ftd_schema.specs.declared.texts.TheConstants.{READ_CALENDAR_YEAR, REA
 use Rattle.ftd_schema.specs.declared.texts.TheConstants.{LIST_HOLIDAYS, LIST_ADDED_HOLIDAYS}
 use Rattle.ftd_schema.specs.declared.texts.TheConstants.{LIST_YEARS, LIST_RUNS, LIST_PAYMENTS}
 use Rattle.ftd_schema.specs.declared.texts.TheConstants.{LIST_OBLIGATIONS, LIST_DUE_OVER, COUNT_RUNS}
-use Rattle.ftd_schema.specs.declared.texts.TheConstants.{LIST_DUE_BETWEEN}
+use Rattle.ftd_schema.specs.declared.texts.TheConstants.{LIST_DUE_BETWEEN, LIST_ENROLLED, LIST_FORMS}
+use Rattle.ftd_schema.specs.declared.texts.TheConstants.{LIST_REPORTED, LIST_REPORTED_YEARS}
+use Rattle.ftd_schema.specs.declared.texts.TheConstants.{LIST_KEPT_RUNS, LIST_KEPT_PAYMENTS}
 use Rattle.ftd_schema.specs.declared.texts.TheConstants.{COUNT_PAYMENTS, SET_VERSION, SET_YEAR}
 use Rattle.ftd_schema.specs.declared.texts.TheConstants.{VOID_RUN, VOID_PAYMENT, SET_OBLIGATION}
 use Rattle.ftd_schema.specs.declared.texts.TheConstants.{SET_DUE, REMOVE_OBLIGATIONS}
@@ -55,7 +64,13 @@ use Rattle.ftd_schema.proofs.Asking.{reads_reported, reads_reported_year, reads_
 use Rattle.ftd_schema.proofs.Asking.{reads_run, reads_payment, lists_holidays, lists_added_holidays}
 use Rattle.ftd_schema.proofs.Asking.{lists_years, lists_runs, lists_payments, lists_obligations}
 use Rattle.ftd_schema.proofs.Asking.{lists_due_over, lists_due_between, counts_runs}
-use Rattle.ftd_schema.proofs.Asking.{counts_payments}
+use Rattle.ftd_schema.proofs.Asking.{counts_payments, lists_enrolled, lists_forms, lists_reported}
+use Rattle.ftd_schema.proofs.Asking.{lists_reported_years, lists_kept_runs, lists_kept_payments}
+use Rattle.ftd_schema.specs.Answers.{enrolled_shown, account_form_shown, quarter_total_shown}
+use Rattle.ftd_schema.specs.Answers.{year_total_shown, kept_run_shown, kept_payment_shown}
+use Rattle.ftd_schema.specs.Tests.{is_any_account, is_any_form, is_reported_of}
+use Rattle.ftd_schema.specs.Tests.{is_reported_year_of, is_run_between, is_payment_between}
+use Rattle.ftd_schema.specs.Orders.{NamesRise, FormsRise, QuartersRise, ReportedYearsRise}
 use Rattle.ftd_schema.proofs.Changing.{sets_version, sets_year, voids_run, voids_payment}
 use Rattle.ftd_schema.proofs.Changing.{sets_obligation, sets_due, removes_obligations}
 
@@ -257,6 +272,78 @@ due_between_in_order from to old new rows t stands h =
     (at_least_is p.1.due from) (at_most_is p.1.due to)) (λ p. refl) old new rows (t Obligations)
     (stands Obligations) h
     AccountsRise (λ tree a b i j h. text_then_number a.account b.account a.first b.first h)
+
+-- by a text
+not_after : (o : Ordering) → is_lt (ordering_then o Equal) ≡ false → (o ≡ Greater) ⊎ (o ≡ Equal)
+not_after Less h = absurd cc
+not_after Equal h = inr refl
+not_after Greater h = inl refl
+
+names_rise : (a b : List ℕ) → is_lt (ordering_then (value_cmp (Text b) (Text a)) Equal) ≡ false
+    → (slice_cmp nat_cmp a b ≡ Less) ⊎ (a ≡ b)
+names_rise a b h = elim (not_after (value_cmp (Text b) (Text a)) h) [
+  | inl after ↦ inl (nat_list_cmp_total.antisymm a b ∙ ap ordering_reverse (sym (value_cmp-Text b a)
+      ∙ after))
+  | inr same ↦ inr (sym (slice_cmp-IsAntisymmetric nat_cmp-IsAntisymmetric b a
+      (sym (value_cmp-Text b a) ∙ same)))
+]
+
+pub enrolled_in_order : ListsTested Accounts LIST_ENROLLED.now [] is_any_account enrolled_shown
+    NamesRise
+unfolding everything
+enrolled_in_order old new rows t stands h =
+    lists Accounts LIST_ENROLLED.now _ _ _ lists_enrolled [] is_any_account enrolled_shown
+    (λ p. refl) (λ p. refl) old new rows (t Accounts) (stands Accounts) h
+    NamesRise (λ tree a b i j h. names_rise a.name b.name h)
+
+pub forms_in_order : ListsTested Forms LIST_FORMS.now [] is_any_form account_form_shown FormsRise
+unfolding everything
+forms_in_order old new rows t stands h =
+    lists Forms LIST_FORMS.now _ _ _ lists_forms [] is_any_form account_form_shown
+    (λ p. refl) (λ p. refl) old new rows (t Forms) (stands Forms) h
+    FormsRise (λ tree a b i j h. names_rise a.account b.account h)
+
+pub reported_in_order : (account : List ℕ) → ListsTested ReportedQuarters LIST_REPORTED.now
+    (name_given account) (is_reported_of account) quarter_total_shown QuartersRise
+unfolding everything
+reported_in_order account old new rows t stands h =
+    lists ReportedQuarters LIST_REPORTED.now _ _ _ lists_reported (name_given account)
+    (is_reported_of account) quarter_total_shown
+    (λ p. one_passes _ _ (text_is p.1.account account)) (λ p. refl) old new rows
+    (t ReportedQuarters) (stands ReportedQuarters) h
+    QuartersRise (λ tree a b i j h. two_rise a.year b.year a.quarter b.quarter h)
+
+pub reported_years_in_order : (account : List ℕ) → ListsTested ReportedYears
+    LIST_REPORTED_YEARS.now (name_given account) (is_reported_year_of account) year_total_shown
+    ReportedYearsRise
+unfolding everything
+reported_years_in_order account old new rows t stands h =
+    lists ReportedYears LIST_REPORTED_YEARS.now _ _ _ lists_reported_years (name_given account)
+    (is_reported_year_of account) year_total_shown
+    (λ p. one_passes _ _ (text_is p.1.account account)) (λ p. refl) old new rows
+    (t ReportedYears) (stands ReportedYears) h
+    ReportedYearsRise (λ tree a b i j h. one_rises a.year b.year h)
+
+pub kept_runs_in_order : (account : List ℕ) (from to : ℤ) → ListsTested Runs LIST_KEPT_RUNS.now
+    (pair_given account from to) (is_run_between account from to) kept_run_shown RunsRise
+unfolding everything
+kept_runs_in_order account from to old new rows t stands h =
+    lists Runs LIST_KEPT_RUNS.now _ _ _ lists_kept_runs (pair_given account from to)
+    (is_run_between account from to) kept_run_shown
+    (λ p. three_pass _ _ _ _ _ _ (text_is p.1.account account) (at_least_is p.1.payday from)
+    (at_most_is p.1.payday to)) (λ p. refl) old new rows (t Runs) (stands Runs) h
+    RunsRise (λ tree a b i j h. two_rise a.payday b.payday a.number b.number h)
+
+pub kept_payments_in_order : (account : List ℕ) (from to : ℤ)
+    → ListsTested Payments LIST_KEPT_PAYMENTS.now (pair_given account from to)
+    (is_payment_between account from to) kept_payment_shown PaymentsRise
+unfolding everything
+kept_payments_in_order account from to old new rows t stands h =
+    lists Payments LIST_KEPT_PAYMENTS.now _ _ _ lists_kept_payments (pair_given account from to)
+    (is_payment_between account from to) kept_payment_shown
+    (λ p. three_pass _ _ _ _ _ _ (text_is p.1.account account) (at_least_is p.1.for_day from)
+    (at_most_is p.1.for_day to)) (λ p. refl) old new rows (t Payments) (stands Payments) h
+    PaymentsRise (λ tree a b i j h. two_rise a.for_day b.for_day a.number b.number h)
 
 -- ---- counted
 

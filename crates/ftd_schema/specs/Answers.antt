@@ -16,14 +16,27 @@ account_shown a = Int a.start ∷ Int a.carried ∷ []
 abbrev pub name_shown : AccountRow → Row
 name_shown a = Text a.name ∷ []
 
+abbrev pub enrolled_shown : AccountRow → Row
+enrolled_shown a = Text a.name ∷ account_shown a
+
 abbrev pub form_shown : FormRow → Row
 form_shown f = Int f.form ∷ []
+
+abbrev pub account_form_shown : FormRow → Row
+account_form_shown f = Text f.account ∷ form_shown f
 
 abbrev pub reported_shown : ReportedQuarterRow → Row
 reported_shown r = Int r.cents ∷ []
 
 abbrev pub reported_year_shown : ReportedYearRow → Row
 reported_year_shown r = Int r.cents ∷ []
+
+-- each total of an account in a list
+abbrev pub quarter_total_shown : ReportedQuarterRow → Row
+quarter_total_shown r = Int r.year ∷ Int r.quarter ∷ Int r.cents ∷ []
+
+abbrev pub year_total_shown : ReportedYearRow → Row
+year_total_shown r = Int r.year ∷ Int r.cents ∷ []
 
 abbrev pub calendar_year_shown : CalendarYearRow → Row
 calendar_year_shown c = Int c.year ∷ []
@@ -41,12 +54,20 @@ run_shown r = Int r.payday ∷ Int r.fit ∷ Int r.ss ∷ Int r.medicare ∷ Int
 abbrev pub live_run_shown : RunRow → Row
 live_run_shown r = Int r.payday ∷ Int r.fit ∷ Int r.ss ∷ Int r.medicare ∷ []
 
+-- a run in a list, void or not
+abbrev pub kept_run_shown : RunRow → Row
+kept_run_shown r = Int r.number ∷ run_shown r
+
 -- a payment of a key, void or not, and a live payment in a list
 abbrev pub payment_shown : PaymentRow → Row
 payment_shown p = Int p.paid ∷ Int p.for_day ∷ Int p.cents ∷ Int p.voided ∷ []
 
 abbrev pub live_payment_shown : PaymentRow → Row
 live_payment_shown p = Int p.for_day ∷ Int p.paid ∷ Int p.cents ∷ []
+
+-- a payment in a list, void or not
+abbrev pub kept_payment_shown : PaymentRow → Row
+kept_payment_shown p = Int p.number ∷ payment_shown p
 
 -- an obligation of one account, and one with its account
 abbrev pub obligation_shown : ObligationRow → Row

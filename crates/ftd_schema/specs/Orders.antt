@@ -3,7 +3,22 @@ use Rattle.std.specs.Prelude.{◌≡◌, ◌⊎◌, ◌<ℤ◌, ◌≤ℤ◌}
 use Rattle.std.specs.Ordering.{nat_cmp}
 use Rattle.std.specs.declared.cmp.Ordering.TheVariants.{Less}
 use Rattle.std.specs.Cmp.Lexicographic.{slice_cmp}
+use Rattle.ftd_schema.specs.Rows.{AccountRow, FormRow, ReportedQuarterRow, ReportedYearRow}
 use Rattle.ftd_schema.specs.Rows.{HolidayRow, YearRow, RunRow, PaymentRow, ObligationRow}
+
+-- by name
+abbrev pub NamesRise : AccountRow → AccountRow → Type 0
+NamesRise a b = (slice_cmp nat_cmp a.name b.name ≡ Less) ⊎ (a.name ≡ b.name)
+
+abbrev pub FormsRise : FormRow → FormRow → Type 0
+FormsRise a b = (slice_cmp nat_cmp a.account b.account ≡ Less) ⊎ (a.account ≡ b.account)
+
+-- by quarter, and by year
+abbrev pub QuartersRise : ReportedQuarterRow → ReportedQuarterRow → Type 0
+QuartersRise a b = (a.year <ℤ b.year) ⊎ ((a.year ≡ b.year) × (a.quarter ≤ℤ b.quarter))
+
+abbrev pub ReportedYearsRise : ReportedYearRow → ReportedYearRow → Type 0
+ReportedYearsRise a b = a.year ≤ℤ b.year
 
 -- by day
 abbrev pub HolidaysRise : HolidayRow → HolidayRow → Type 0

@@ -1,6 +1,6 @@
 -- Which rows a statement speaks of, and how it changes them. Numbers, days and amounts are as they
 -- are stored.
-use Rattle.std.specs.Prelude.{ℕ, ℤ, pos, Bool, ◌&&◌, bytes_eq, int_le, int_lt, List, Option}
+use Rattle.std.specs.Prelude.{ℕ, ℤ, pos, Bool, true, ◌&&◌, bytes_eq, int_le, int_lt, List, Option}
 use Rattle.std.specs.Ordering.{int_eq}
 use Rattle.ftd_schema.specs.Rows.{MetaRow, AccountRow, ReportedQuarterRow, CalendarYearRow}
 use Rattle.ftd_schema.specs.Rows.{HolidayRow, YearRow, RunRow, PaymentRow, ObligationRow, FormRow}
@@ -14,14 +14,27 @@ is_tag tag m = bytes_eq m.tag tag
 abbrev pub is_account : List ℕ → AccountRow → Bool
 is_account name a = bytes_eq a.name name
 
+-- each account, and each form
+abbrev pub is_any_account : AccountRow → Bool
+is_any_account a = true
+
+abbrev pub is_any_form : FormRow → Bool
+is_any_form f = true
+
 -- the form of the account
 abbrev pub is_form_of : List ℕ → FormRow → Bool
 is_form_of account f = bytes_eq f.account account
 
--- the figure of the account's quarter
+-- the figure of the account's quarter, and each of its figures of quarters and of years
 abbrev pub is_reported : List ℕ → ℤ → ℤ → ReportedQuarterRow → Bool
 is_reported account year quarter r =
     bytes_eq r.account account && (int_eq r.year year && int_eq r.quarter quarter)
+
+abbrev pub is_reported_of : List ℕ → ReportedQuarterRow → Bool
+is_reported_of account r = bytes_eq r.account account
+
+abbrev pub is_reported_year_of : List ℕ → ReportedYearRow → Bool
+is_reported_year_of account r = bytes_eq r.account account
 
 -- the figure of the account's year
 abbrev pub is_reported_year : List ℕ → ℤ → ReportedYearRow → Bool
@@ -55,6 +68,11 @@ is_live_run_between account from to r =
     bytes_eq r.account account
     && (int_le from r.payday && (int_le r.payday to && int_eq r.voided (pos 0)))
 
+-- each of its runs with a payday between two days, void ones too
+abbrev pub is_run_between : List ℕ → ℤ → ℤ → RunRow → Bool
+is_run_between account from to r =
+    bytes_eq r.account account && (int_le from r.payday && int_le r.payday to)
+
 -- the account's payment of the number, each of its payments, and each of its live payments for a
 -- day between two days
 abbrev pub is_payment : List ℕ → ℤ → PaymentRow → Bool
@@ -67,6 +85,11 @@ abbrev pub is_live_payment_between : List ℕ → ℤ → ℤ → PaymentRow →
 is_live_payment_between account from to p =
     bytes_eq p.account account
     && (int_le from p.for_day && (int_le p.for_day to && int_eq p.voided (pos 0)))
+
+-- each of its payments for a day between two days, void ones too
+abbrev pub is_payment_between : List ℕ → ℤ → ℤ → PaymentRow → Bool
+is_payment_between account from to p =
+    bytes_eq p.account account && (int_le from p.for_day && int_le p.for_day to)
 
 -- an obligation of the account whose first day lies between two days, and the one of a first day
 abbrev pub is_obligation_between : List ℕ → ℤ → ℤ → ObligationRow → Bool

@@ -17,10 +17,14 @@ pub const SET_VERSION: &str = "UPDATE ftd_meta SET version = ?2 WHERE tag = ?1";
 pub const READ_ACCOUNT: &str = "SELECT start, carried FROM account WHERE name = ?1";
 /// The names of all accounts.
 pub const LIST_ACCOUNTS: &str = "SELECT name FROM account";
+/// All accounts, by name.
+pub const LIST_ENROLLED: &str = "SELECT name, start, carried FROM account ORDER BY name";
 /// Adds an account.
 pub const ADD_ACCOUNT: &str = "INSERT INTO account (name, start, carried) VALUES (?1, ?2, ?3)";
 /// The form of an account.
 pub const READ_FORM: &str = "SELECT form FROM account_form WHERE account = ?1";
+/// The forms of all accounts, by account.
+pub const LIST_FORMS: &str = "SELECT account, form FROM account_form ORDER BY account";
 /// Adds the form of an account.
 pub const ADD_FORM: &str = "INSERT INTO account_form (account, form) VALUES (?1, ?2)";
 
@@ -29,12 +33,18 @@ pub const ADD_FORM: &str = "INSERT INTO account_form (account, form) VALUES (?1,
 /// The total that an account reported for a quarter.
 pub const READ_REPORTED: &str =
     "SELECT cents FROM reported WHERE account = ?1 AND cal_year = ?2 AND quarter = ?3";
+/// The totals that an account reported for quarters, by quarter.
+pub const LIST_REPORTED: &str =
+    "SELECT cal_year, quarter, cents FROM reported WHERE account = ?1 ORDER BY cal_year, quarter";
 /// Adds the total of a quarter.
 pub const ADD_REPORTED: &str =
     "INSERT INTO reported (account, cal_year, quarter, cents) VALUES (?1, ?2, ?3, ?4)";
 /// The total that an account reported for a year.
 pub const READ_REPORTED_YEAR: &str =
     "SELECT cents FROM reported_year WHERE account = ?1 AND cal_year = ?2";
+/// The totals that an account reported for years, by year.
+pub const LIST_REPORTED_YEARS: &str =
+    "SELECT cal_year, cents FROM reported_year WHERE account = ?1 ORDER BY cal_year";
 /// Adds the total of a year.
 pub const ADD_REPORTED_YEAR: &str =
     "INSERT INTO reported_year (account, cal_year, cents) VALUES (?1, ?2, ?3)";
@@ -82,6 +92,9 @@ pub const COUNT_RUNS: &str = "SELECT COUNT(*) FROM run WHERE account = ?1";
 /// The live runs of an account with a payday between two days, by payday and number.
 pub const LIST_RUNS: &str =
     "SELECT payday, fit, ss, medicare FROM run WHERE account = ?1 AND payday >= ?2 AND payday <= ?3 AND voided = 0 ORDER BY payday, run";
+/// The runs of an account with a payday between two days, void ones too, by payday and number.
+pub const LIST_KEPT_RUNS: &str =
+    "SELECT run, payday, fit, ss, medicare, voided FROM run WHERE account = ?1 AND payday >= ?2 AND payday <= ?3 ORDER BY payday, run";
 
 // ---- payment
 
@@ -98,6 +111,9 @@ pub const COUNT_PAYMENTS: &str = "SELECT COUNT(*) FROM payment WHERE account = ?
 /// The live payments of an account for days between two, by that day and number.
 pub const LIST_PAYMENTS: &str =
     "SELECT for_day, paid, cents FROM payment WHERE account = ?1 AND for_day >= ?2 AND for_day <= ?3 AND voided = 0 ORDER BY for_day, payment";
+/// The payments of an account for days between two, void ones too, by that day and number.
+pub const LIST_KEPT_PAYMENTS: &str =
+    "SELECT payment, paid, for_day, cents, voided FROM payment WHERE account = ?1 AND for_day >= ?2 AND for_day <= ?3 ORDER BY for_day, payment";
 
 // ---- bucket: the obligations
 

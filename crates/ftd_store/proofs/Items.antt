@@ -1,6 +1,6 @@
 -- The items of a list as far as a loop has come.
 use Rattle.std.proofs.Common.{◌≡◌, ◌⊎◌, ℕ, zero, suc, ◌+◌, ◌<◌, inl, inr, List, [], ◌∷◌, ◌++◌, take}
-use Rattle.std.proofs.Common.{length, get_or, refl, sym, ap, ◌∙◌, arith}
+use Rattle.std.proofs.Common.{length, get_or, refl, sym, ap, subst, ◌∙◌, arith}
 use Rattle.std.proofs.lemmas.List.{take_more}
 use Rattle.ftd_rules.specs.Lists.{Has}
 use Rattle.ftd_rules.proofs.Owed.{has_append, has_left, has_right}
@@ -26,6 +26,25 @@ pairs_length R [] [] h = refl
 pairs_length R [] (b ∷ ys) h = absurd h
 pairs_length R (a ∷ xs) [] h = absurd h
 pairs_length R (a ∷ xs) (b ∷ ys) h = let rest = pairs_length R xs ys h.1 in omega arith
+
+-- each item of either list has its pair
+pub paired_from : {X Y : Type 0} (R : X → Y → Type 0) (xs : List X) (ys : List Y) (y : Y)
+    → Pairs R xs ys → Has ys y → (x : X) × Has xs x × R x y
+paired_from R [] [] y pairs has = absurd has
+paired_from R [] (z ∷ ys) y pairs has = absurd pairs
+paired_from R (x ∷ xs) [] y pairs has = absurd has
+paired_from R (x ∷ xs) (z ∷ ys) y pairs (inl is) = (x, inl refl, subst (R x) (sym is) pairs.0)
+paired_from R (x ∷ xs) (z ∷ ys) y pairs (inr has) = let rest = paired_from R xs ys y pairs.1 has in
+    (rest.0, inr rest.1, rest.2)
+
+pub paired_to : {X Y : Type 0} (R : X → Y → Type 0) (xs : List X) (ys : List Y) (x : X)
+    → Pairs R xs ys → Has xs x → (y : Y) × Has ys y × R x y
+paired_to R [] [] x pairs has = absurd has
+paired_to R [] (y ∷ ys) x pairs has = absurd has
+paired_to R (z ∷ xs) [] x pairs has = absurd pairs
+paired_to R (z ∷ xs) (y ∷ ys) x pairs (inl is) = (y, inl refl, subst (λ w. R w y) (sym is) pairs.0)
+paired_to R (z ∷ xs) (y ∷ ys) x pairs (inr has) = let rest = paired_to R xs ys x pairs.1 has in
+    (rest.0, inr rest.1, rest.2)
 
 -- ---- what stands in a list
 

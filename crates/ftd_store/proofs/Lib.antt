@@ -3,6 +3,7 @@ pub mod Beginning
 pub mod Replaced
 pub mod Telling
 pub mod Same
+mod SameKept
 pub mod Sums
 pub mod YearRows
 pub mod Putting

@@ -7,6 +7,7 @@
 mod accounts;
 mod calendars;
 mod holidays;
+mod kept;
 mod obligation_rows;
 mod obligations;
 mod opening;

@@ -14,7 +14,7 @@ use Rattle.ftd_words.specs.Tasks.{task_of, task_view, value, wanted_as, wanted_i
 use Rattle.ftd_words.specs.Tasks.{words}
 use Rattle.ftd_words.specs.declared.fault.WordFault.{WordFault}
 use Rattle.ftd_words.specs.declared.fault.WordFault.TheVariants as values
-use Rattle.ftd_words.specs.declared.table.Name.{Name}
+use Rattle.ftd_commands.specs.declared.table.Name.{Name}
 use Rattle.ftd_words.specs.declared.tasks.CliFault.{CliFault}
 use Rattle.ftd_words.specs.declared.tasks.CliFault.TheVariants as fault
 

@@ -4,11 +4,11 @@ use Rattle.std.specs.Prelude.{ℤ, pos}
 use Rattle.clap.specs.Words.{App, Rule, Text, new_app, new_rule, with_rule, with_subcommand}
 use Rattle.clap.specs.declared.builder.ArgAction.TheVariants.{Append, SetTrue}
 use Rattle.clap.specs.declared.builder.value_parser.ValueParser.TheVariants as parser
-use Rattle.ftd_words.specs.declared.table.Name.{Name}
-use Rattle.ftd_words.specs.declared.table.Word.{Word}
-use Rattle.ftd_words.specs.declared.table.Takes.{Takes}
-use Rattle.ftd_words.specs.declared.table.Takes.TheVariants as takes
-use Rattle.ftd_words.specs.Table.{all_names, is_option, name_text, takes_of, word_text, words_of}
+use Rattle.ftd_commands.specs.declared.table.Name.{Name}
+use Rattle.ftd_commands.specs.declared.table.Word.{Word}
+use Rattle.ftd_commands.specs.declared.table.Takes.{Takes}
+use Rattle.ftd_commands.specs.declared.table.Takes.TheVariants as takes
+use Rattle.ftd_commands.specs.Table.{all_names, is_option, name_text, takes_of, word_text, words_of}
 
 -- a whole number of seconds, from so many to 3,600; so many if none is given
 abbrev pub seconds_or : ℤ → Text → Rule → Rule

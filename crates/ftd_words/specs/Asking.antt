@@ -3,6 +3,8 @@ use Rattle.std.specs.Prelude.{ℕ, ◌≡◌, ◌+◌, ◌||◌, min, nat_lt, Li
 use Rattle.std.specs.Prelude.{if◌then◌else◌}
 use Rattle.clap.specs.Words.{Row, Text}
 use Rattle.ftd_days.specs.Calendar.{last_day}
+use Rattle.ftd_machine.specs.declared.requests.Kept.{Kept}
+use Rattle.ftd_machine.specs.declared.requests.Kept.TheVariants as kept
 use Rattle.ftd_machine.specs.declared.requests.Question.TheVariants as question
 use Rattle.ftd_machine.specs.declared.requests.Request.{Request}
 use Rattle.ftd_machine.specs.declared.requests.Request.TheVariants as request
@@ -11,11 +13,11 @@ use Rattle.ftd_reports.specs.declared.formats.Format.TheVariants as formats
 use Rattle.ftd_rules.specs.Accounts.{is_account_name}
 use Rattle.ftd_words.specs.declared.fault.WordFault.{WordFault}
 use Rattle.ftd_words.specs.declared.fault.WordFault.TheVariants as fault
-use Rattle.ftd_words.specs.declared.table.Name.{Name}
-use Rattle.ftd_words.specs.declared.table.Name.TheVariants as name
-use Rattle.ftd_words.specs.declared.table.Word.TheVariants as word
+use Rattle.ftd_commands.specs.declared.table.Name.{Name}
+use Rattle.ftd_commands.specs.declared.table.Name.TheVariants as name
+use Rattle.ftd_commands.specs.declared.table.Word.TheVariants as word
 use Rattle.ftd_words.specs.Values.{cents_in, day_in, day_or, days_in, form_in, is_given, port_in}
-use Rattle.ftd_words.specs.Values.{format_in}
+use Rattle.ftd_words.specs.Values.{format_in, runs_format_in}
 use Rattle.ftd_words.specs.Values.{quarter_in, text_in, whole_in}
 
 -- what follows from a value, or its fault
@@ -142,6 +144,37 @@ schedule_b_of rows =
     then_with (quarter_in word.Quarter rows) (λ quarter.
     Ok (request.Question (question.ScheduleB account quarter))))
 
+-- what is kept
+abbrev pub kept_asked : Kept → Request
+kept_asked asked = request.Question (question.Kept asked)
+
+unfoldable pub years_of : List Row → Result Request WordFault
+years_of rows =
+    then_with (text_in word.Account rows) (λ account.
+    Ok (kept_asked (kept.Years account)))
+
+unfoldable pub reported_of : List Row → Result Request WordFault
+reported_of rows =
+    then_with (text_in word.Account rows) (λ account.
+    Ok (kept_asked (kept.Reported account)))
+
+unfoldable pub holidays_of : List Row → Result Request WordFault
+holidays_of rows =
+    then_with (whole_in word.Year rows) (λ year.
+    Ok (kept_asked (kept.Holidays year)))
+
+unfoldable pub runs_of : List Row → Result Request WordFault
+runs_of rows =
+    then_with (text_in word.Account rows) (λ account.
+    then_with (quarter_in word.Quarter rows) (λ quarter.
+    Ok (kept_asked (kept.Runs account quarter))))
+
+unfoldable pub payments_of : List Row → Result Request WordFault
+payments_of rows =
+    then_with (text_in word.Account rows) (λ account.
+    then_with (quarter_in word.Quarter rows) (λ quarter.
+    Ok (kept_asked (kept.Payments account quarter))))
+
 -- ---- what a subcommand asks: the deposits of pay runs from standard input; or a server, an import,
 -- or a request to the desk in a database, for which so many seconds are waited
 pub data Wanted : Type 0 where
@@ -202,6 +235,11 @@ abbrev pub formatted : List Row → Request → Result Wanted WordFault
 formatted rows request =
     then_with (format_in rows) (λ format. asked_as rows format request)
 
+-- told as text, or as the CSV that is imported
+abbrev pub runs_formatted : List Row → Request → Result Wanted WordFault
+runs_formatted rows request =
+    then_with (runs_format_in rows) (λ format. asked_as rows format request)
+
 -- what the subcommand asks with these values
 unfoldable pub wanted_of : Name → List Row → Result Wanted WordFault
 wanted_of name.Plain rows = plain_of rows
@@ -222,3 +260,9 @@ wanted_of name.Due rows = then_with (due_of rows) (asked rows)
 wanted_of name.Agenda rows = then_with (agenda_of rows) (formatted rows)
 wanted_of name.Owed rows = then_with (owed_of rows) (formatted rows)
 wanted_of name.ScheduleB rows = then_with (schedule_b_of rows) (asked rows)
+wanted_of name.Accounts rows = asked rows (kept_asked kept.Accounts)
+wanted_of name.Years rows = then_with (years_of rows) (asked rows)
+wanted_of name.Reported rows = then_with (reported_of rows) (asked rows)
+wanted_of name.Holidays rows = then_with (holidays_of rows) (asked rows)
+wanted_of name.Runs rows = then_with (runs_of rows) (runs_formatted rows)
+wanted_of name.Payments rows = then_with (payments_of rows) (asked rows)

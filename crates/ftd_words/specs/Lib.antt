@@ -1,4 +1,3 @@
-pub mod Table
 pub mod Apps
 pub mod Parses
 pub mod Values

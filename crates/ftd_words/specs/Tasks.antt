@@ -10,11 +10,11 @@ use Rattle.clap.specs.declared.error.ErrorKind.TheVariants as kind
 use Rattle.ftd_words.specs.Apps.{ftd_app}
 use Rattle.ftd_words.specs.Asking.{Wanted, ask, import, plain, serve, wanted_of}
 use Rattle.ftd_words.specs.Escapes.{escaped, escaped_word}
-use Rattle.ftd_words.specs.Table.{all_names, name_text}
+use Rattle.ftd_commands.specs.Table.{all_names, name_text}
 use Rattle.ftd_words.specs.Values.{bad_value}
 use Rattle.ftd_words.specs.declared.fault.WordFault.{WordFault}
 use Rattle.ftd_words.specs.declared.fault.WordFault.TheVariants as values
-use Rattle.ftd_words.specs.declared.table.Name.{Name}
+use Rattle.ftd_commands.specs.declared.table.Name.{Name}
 use Rattle.ftd_words.specs.declared.tasks.CliFault.{CliFault}
 use Rattle.ftd_words.specs.declared.tasks.CliFault.TheVariants as fault
 use Rattle.ftd_words.specs.declared.tasks.Job.{Job}

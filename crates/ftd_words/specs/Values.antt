@@ -13,9 +13,9 @@ use Rattle.ftd_reports.specs.declared.formats.Format.{Format}
 use Rattle.ftd_reports.specs.declared.formats.Format.TheVariants as format
 use Rattle.ftd_words.specs.declared.fault.WordFault.{WordFault}
 use Rattle.ftd_words.specs.declared.fault.WordFault.TheVariants as fault
-use Rattle.ftd_words.specs.declared.table.Word.{Word}
-use Rattle.ftd_words.specs.declared.table.Word.TheVariants as word
-use Rattle.ftd_words.specs.Table.{takes_many, takes_of, word_text}
+use Rattle.ftd_commands.specs.declared.table.Word.{Word}
+use Rattle.ftd_commands.specs.declared.table.Word.TheVariants as word
+use Rattle.ftd_commands.specs.Table.{takes_many, takes_of, word_text}
 
 -- the word is there
 abbrev pub is_given : Word → List Row → Bool
@@ -96,6 +96,16 @@ format_of text =
 
 abbrev pub format_in : List Row → Result Format WordFault
 format_in rows = spelled_in format_of word.Format rows
+
+-- the format of a list of runs
+abbrev pub runs_format_of : Text → Option Format
+runs_format_of text =
+    if bytes_eq text (codes "text") then Some format.Text
+    else if bytes_eq text (codes "csv") then Some format.Csv
+    else None
+
+abbrev pub runs_format_in : List Row → Result Format WordFault
+runs_format_in rows = spelled_in runs_format_of word.RunsFormat rows
 
 -- the form of an account
 abbrev pub form_of : Option Text → Result Form WordFault

@@ -6,17 +6,18 @@ ghost use Rattle.clap.specs.Words.{found_of, rows_of};
 ghost use Rattle.ftd_words.specs.Asking.{Tells, enrol_of, calendar_of, add_holiday_of, report_of};
 ghost use Rattle.ftd_words.specs.Asking.{report_year_of, open_year_of, post_of, void_of, pay_of};
 ghost use Rattle.ftd_words.specs.Asking.{void_pay_of, status_of, due_of, agenda_of, week_after};
-ghost use Rattle.ftd_words.specs.Asking.{owed_of, schedule_b_of};
+ghost use Rattle.ftd_words.specs.Asking.{owed_of, schedule_b_of, years_of, reported_of};
+ghost use Rattle.ftd_words.specs.Asking.{holidays_of, runs_of, payments_of};
 ghost use Rattle.ftd_words.specs.Values.{text_in};
 
 use crate::fault::WordFault;
 use crate::reading::{
     cents_at, day_at, day_or, days_at, form_at, is_given, owned_text, quarter_at, whole_at,
 };
-use crate::table::Word;
 use clap::ArgMatches;
+use ftd_commands::Word;
 use ftd_days::Day;
-use ftd_machine::{AccountName, Question, Request};
+use ftd_machine::{AccountName, Kept, Question, Request};
 use std::alloc::Global;
 
 /// The number of the last day, 31 December 2199, in days since 1970-01-01.
@@ -227,4 +228,51 @@ pub fn schedule_b(alloc: Global, inner: &ArgMatches<'_>) -> Result<Request, Word
     let account = account_at(alloc, inner)?;
     let quarter = quarter_at(inner, Word::Quarter)?;
     Ok(Request::Question(Question::ScheduleB { account, quarter }))
+}
+
+/// What `years` asks.
+#[tactic(auto, unfolding(crate::specs::Asking::years_of))]
+pub fn years(alloc: Global, inner: &ArgMatches<'_>) -> Result<Request, WordFault>
+    ensures { Tells result (years_of (rows_of (found_of inner.now))) }
+{
+    let account = account_at(alloc, inner)?;
+    Ok(Request::Question(Question::Kept(Kept::Years { account })))
+}
+
+/// What `reported` asks.
+#[tactic(auto, unfolding(crate::specs::Asking::reported_of))]
+pub fn reported(alloc: Global, inner: &ArgMatches<'_>) -> Result<Request, WordFault>
+    ensures { Tells result (reported_of (rows_of (found_of inner.now))) }
+{
+    let account = account_at(alloc, inner)?;
+    Ok(Request::Question(Question::Kept(Kept::Reported { account })))
+}
+
+/// What `holidays` asks.
+#[tactic(auto, unfolding(crate::specs::Asking::holidays_of))]
+pub fn holidays(inner: &ArgMatches<'_>) -> Result<Request, WordFault>
+    ensures { Tells result (holidays_of (rows_of (found_of inner.now))) }
+{
+    let year = whole_at(inner, Word::Year)?;
+    Ok(Request::Question(Question::Kept(Kept::Holidays { year })))
+}
+
+/// What `runs` asks.
+#[tactic(auto, unfolding(crate::specs::Asking::runs_of))]
+pub fn runs(alloc: Global, inner: &ArgMatches<'_>) -> Result<Request, WordFault>
+    ensures { Tells result (runs_of (rows_of (found_of inner.now))) }
+{
+    let account = account_at(alloc, inner)?;
+    let quarter = quarter_at(inner, Word::Quarter)?;
+    Ok(Request::Question(Question::Kept(Kept::Runs { account, quarter })))
+}
+
+/// What `payments` asks.
+#[tactic(auto, unfolding(crate::specs::Asking::payments_of))]
+pub fn payments(alloc: Global, inner: &ArgMatches<'_>) -> Result<Request, WordFault>
+    ensures { Tells result (payments_of (rows_of (found_of inner.now))) }
+{
+    let account = account_at(alloc, inner)?;
+    let quarter = quarter_at(inner, Word::Quarter)?;
+    Ok(Request::Question(Question::Kept(Kept::Payments { account, quarter })))
 }

@@ -5,9 +5,9 @@ ghost use Rattle.clap.specs.Words.{app_of, rule_of, shape_of, with_rule, with_su
 ghost use Rattle.clap.specs.declared.builder.command.Command.TheViews.{out-Command};
 ghost use Rattle.ftd_words.specs.Apps.{app_for, ftd_app, program, rule_for, seconds_or, with_names};
 
-use crate::table::{NAMES, Name, Takes, Word};
 use clap::builder::ValueParser;
 use clap::{Arg, ArgAction, Command};
+use ftd_commands::{NAMES, Name, Takes, Word};
 use std::alloc::{AllocError, Global};
 
 /// What the desk is for.

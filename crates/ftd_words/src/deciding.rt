@@ -8,23 +8,26 @@ ghost use Rattle.ftd_words.specs.declared.fault.WordFault.TheVariants.{BadWord};
 ghost use Rattle.ftd_words.specs.Apps.{ftd_app};
 ghost use Rattle.ftd_words.specs.Values.{bad_value};
 ghost use Rattle.ftd_words.specs.Asking.{Tells, TellsAs, Wanted, account_in, asked, asked_as};
-ghost use Rattle.ftd_words.specs.Asking.{formatted, import_of, plain_of, serve_of, wanted_of, year_in};
+ghost use Rattle.ftd_words.specs.Asking.{formatted, import_of, plain_of, runs_formatted, serve_of};
+ghost use Rattle.ftd_words.specs.Asking.{wanted_of, year_in};
 ghost use Rattle.ftd_words.specs.Tasks.{Fails, Gives, IsUsage, Refused, ShowsValue, command_named};
 ghost use Rattle.ftd_words.specs.Tasks.{rows_in, task_of, task_view, value, wanted_in, words};
 
 use crate::asking::{
-    account_at, add_holiday, agenda, calendar, due, enrol, open_year, owed, pay, post, report,
-    report_year, schedule_b, status, void, void_pay,
+    account_at, add_holiday, agenda, calendar, due, enrol, holidays, open_year, owed, pay,
+    payments, post, report, report_year, reported, runs, schedule_b, status, void, void_pay, years,
 };
 use crate::escape::{escaped, escaped_word};
 use crate::fault::WordFault;
 use crate::parse::{ParseFault, parsed};
-use crate::reading::{bad_value, days_at, format_at, owned_text, port_at, whole_at};
-use crate::table::{NAMES, Name, Word};
+use crate::reading::{
+    bad_value, days_at, format_at, owned_text, port_at, runs_format_at, whole_at,
+};
 use crate::tasks::{CliFault, Job, LocalTask, PlainTask, ServeTask, Task};
 use clap::error::ErrorKind;
 use clap::{ArgMatches, Error};
-use ftd_machine::{AccountName, Request};
+use ftd_commands::{NAMES, Name, Word};
+use ftd_machine::{AccountName, Kept, Question, Request};
 use ftd_reports::Format;
 use ftd_rules::is_account_name;
 use std::alloc::Global;
@@ -152,6 +155,19 @@ fn formatted(alloc: Global, inner: &ArgMatches<'_>, request: Request) -> Result<
     local_as(alloc, inner, format, request)
 }
 
+/// The request, to the desk in the database, whose reply is told as text, or as the CSV that is
+/// imported where that is asked for.
+fn runs_formatted(
+    alloc: Global,
+    inner: &ArgMatches<'_>,
+    request: Request,
+) -> Result<Task, WordFault>
+    ensures { TellsAs task_view result (runs_formatted (rows_of (found_of inner.now)) request) }
+{
+    let format = runs_format_at(inner)?;
+    local_as(alloc, inner, format, request)
+}
+
 /// What the subcommand asks.
 #[tactic(auto, unfolding(crate::specs::Asking::wanted_of))]
 fn task_for(alloc: Global, name: Name, inner: &ArgMatches<'_>) -> Result<Task, WordFault>
@@ -176,6 +192,16 @@ fn task_for(alloc: Global, name: Name, inner: &ArgMatches<'_>) -> Result<Task, W
         Name::Agenda => formatted(alloc, inner, agenda(inner)?),
         Name::Owed => formatted(alloc, inner, owed(inner)?),
         Name::ScheduleB => local(alloc, inner, schedule_b(alloc, inner)?),
+        Name::Accounts => local(
+            alloc,
+            inner,
+            Request::Question(Question::Kept(Kept::Accounts)),
+        ),
+        Name::Years => local(alloc, inner, years(alloc, inner)?),
+        Name::Reported => local(alloc, inner, reported(alloc, inner)?),
+        Name::Holidays => local(alloc, inner, holidays(inner)?),
+        Name::Runs => runs_formatted(alloc, inner, runs(alloc, inner)?),
+        Name::Payments => local(alloc, inner, payments(alloc, inner)?),
     }
 }
 

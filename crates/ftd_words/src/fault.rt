@@ -1,6 +1,6 @@
 //! Why the values of a subcommand ask nothing.
 
-use crate::table::Word;
+use ftd_commands::Word;
 use std::alloc::{AllocError, AllocFailed};
 
 /// Why the values of a subcommand ask nothing.

@@ -8,10 +8,8 @@ mod escape;
 mod fault;
 mod parse;
 mod reading;
-mod table;
 mod tasks;
 
 pub use crate::deciding::decide;
 pub use crate::escape::{escaped, escaped_word};
-pub use crate::table::Word;
 pub use crate::tasks::{CliFault, Job, LocalTask, PlainTask, ServeTask, Task};

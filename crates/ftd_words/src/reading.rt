@@ -4,17 +4,18 @@ ghost use Rattle.std.specs.Prelude.{◌≡◌, map, option_map};
 ghost use Rattle.std.specs.String.{string_bytes};
 ghost use Rattle.clap.specs.Words.{all_of, first_of, found_of, rows_of};
 ghost use Rattle.ftd_days.specs.Spelling.{days_of};
-ghost use Rattle.ftd_words.specs.Table.{word_text};
+ghost use Rattle.ftd_commands.specs.Table.{word_text};
 ghost use Rattle.ftd_words.specs.Values.{bad_value, cents_in, day_in, day_or, days_in};
 ghost use Rattle.ftd_words.specs.Values.{first_no_day};
 ghost use Rattle.ftd_words.specs.Values.{form_in, format_in, format_of, is_given, needed};
+ghost use Rattle.ftd_words.specs.Values.{runs_format_in, runs_format_of};
 ghost use Rattle.ftd_words.specs.Values.{port_in, quarter_in, text_in};
 ghost use Rattle.ftd_words.specs.Values.{whole_in};
 ghost use Rattle.ftd_words.specs.Asking.{Tells, TellsAs};
 
 use crate::fault::WordFault;
-use crate::table::Word;
 use clap::ArgMatches;
+use ftd_commands::Word;
 use ftd_days::digits::whole_number;
 use ftd_days::{Cents, Day, Quarter};
 use ftd_machine::Days;
@@ -136,6 +137,29 @@ pub fn format_at(inner: &ArgMatches<'_>) -> Result<Format, WordFault>
         return Err(WordFault::BadWord(Word::Format));
     };
     format_named(text).ok_or(WordFault::BadWord(Word::Format))
+}
+
+/// The format of a list of runs that is named so.
+fn runs_format_named(text: &str) -> Option<Format>
+    ensures { result ≡ runs_format_of text.now }
+{
+    if text == "text" {
+        Some(Format::Text)
+    } else if text == "csv" {
+        Some(Format::Csv)
+    } else {
+        None
+    }
+}
+
+/// The format of a list of runs that is asked for.
+pub fn runs_format_at(inner: &ArgMatches<'_>) -> Result<Format, WordFault>
+    ensures { result ≡ runs_format_in (rows_of (found_of inner.now)) }
+{
+    let Some(text) = text_at(inner, Word::RunsFormat) else {
+        return Err(WordFault::BadWord(Word::RunsFormat));
+    };
+    runs_format_named(text).ok_or(WordFault::BadWord(Word::RunsFormat))
 }
 
 /// The form of an account.

@@ -2,7 +2,7 @@
 
 ghost use Rattle.std.specs.Prelude.{◌≤◌};
 
-use crate::table::Word;
+use ftd_commands::Word;
 use ftd_machine::{AccountName, Days, Request};
 use ftd_reports::Format;
 

@@ -14,7 +14,7 @@ use Rattle.ftd_questions.specs.DueRows.{IsRowBy, begins_in, is_next_day_row}
 use Rattle.ftd_questions.specs.Shown.{KnowsQuarter}
 use Rattle.ftd_questions.proofs.DueListed.{return_known}
 use Rattle.ftd_questions.proofs.DueTold.{due_known}
-use Rattle.ftd_questions.proofs.OwedRows.{obligations_known}
+use Rattle.ftd_entries.proofs.OwedRows.{obligations_known}
 use Rattle.ftd_questions.proofs.Shown.{rows_shown}
 use Rattle.ftd_questions.proofs.due.rows_of_quarter.Goals as goal
 

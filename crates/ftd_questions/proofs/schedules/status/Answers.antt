@@ -7,11 +7,11 @@ use Rattle.ftd_machine.specs.Checks.{first_of}
 use Rattle.ftd_machine.specs.Requests.{status_checks}
 use Rattle.ftd_machine.specs.declared.requests.Question.TheVariants.{Status}
 use Rattle.ftd_machine.specs.declared.requests.Request.TheVariants.{Question}
-use Rattle.ftd_entries.specs.Known.{KnowsAccount}
+use Rattle.ftd_entries.specs.Known.{KnowsAccount, KnowsLines}
 use Rattle.ftd_entries.specs.Opening.{is_line_of}
 use Rattle.ftd_entries.proofs.Lines.{lines_known}
 use Rattle.ftd_entries.proofs.Serving.{served_looked}
-use Rattle.ftd_questions.specs.Schedules.{AreScheduled, IsStatusBy, KnowsLines}
+use Rattle.ftd_questions.specs.Schedules.{AreScheduled, IsStatusBy}
 use Rattle.ftd_questions.proofs.Scheduling.{status_decided, status_told}
 use Rattle.ftd_questions.proofs.schedules.status.Goals as goal
 

@@ -1,13 +1,13 @@
 //! The subcommands and their words, as a table.
 
 ghost use Rattle.std.specs.Prelude.{◌≡◌};
-ghost use Rattle.ftd_words.specs.Table.{is_option, name_text, takes_many, takes_of, word_text};
-ghost use Rattle.ftd_words.specs.Table.{words_of};
+ghost use Rattle.ftd_commands.specs.Table.{is_option, name_text, takes_many, takes_of, word_text};
+ghost use Rattle.ftd_commands.specs.Table.{words_of};
 
 use Word::{
     Account, Amount, AsOf, Carried, Connections, CsvFile, Day, Days, Db, Duration, Fit, For, Form,
-    Format, From, Holidays, Idle, Medicare, Paid, Payday, Payment, Port, Quarter, Run, Silence, Ss,
-    Start, To, Until, Wait, Year,
+    Format, From, Holidays, Idle, Medicare, Paid, Payday, Payment, Port, Quarter, Run, RunsFormat,
+    Silence, Ss, Start, To, Until, Wait, Year,
 };
 
 /// What a word takes.
@@ -58,6 +58,12 @@ pub enum Name {
     Owed,
     ScheduleB,
     AddHoliday,
+    Accounts,
+    Years,
+    Reported,
+    Holidays,
+    Runs,
+    Payments,
 }
 
 /// A word of a subcommand.
@@ -94,6 +100,7 @@ pub enum Word {
     To,
     Until,
     Format,
+    RunsFormat,
 }
 
 impl Name {
@@ -120,6 +127,12 @@ impl Name {
             Name::Owed => "owed",
             Name::ScheduleB => "schedule-b",
             Name::AddHoliday => "add-holiday",
+            Name::Accounts => "accounts",
+            Name::Years => "years",
+            Name::Reported => "reported",
+            Name::Holidays => "holidays",
+            Name::Runs => "runs",
+            Name::Payments => "payments",
         }
     }
 
@@ -146,6 +159,12 @@ impl Name {
             Name::Owed => &[Db, Wait, Format, AsOf, Until],
             Name::ScheduleB => &[Db, Wait, Account, Quarter],
             Name::AddHoliday => &[Db, Wait, Day],
+            Name::Accounts => &[Db, Wait],
+            Name::Years => &[Db, Wait, Account],
+            Name::Reported => &[Db, Wait, Account],
+            Name::Holidays => &[Db, Wait, Year],
+            Name::Runs => &[Db, Wait, RunsFormat, Account, Quarter],
+            Name::Payments => &[Db, Wait, Account, Quarter],
         }
     }
 
@@ -170,6 +189,12 @@ impl Name {
             Name::Owed => "List what is due and not paid, over all accounts",
             Name::ScheduleB => "List the liability of a quarter by day, as for Schedule B",
             Name::AddHoliday => "Add a legal holiday to a year that was given",
+            Name::Accounts => "List the accounts",
+            Name::Years => "List the open years of an account, and how each opened",
+            Name::Reported => "List the totals that were reported for an account",
+            Name::Holidays => "List the legal holidays of a year",
+            Name::Runs => "List the pay runs of a quarter, void ones too",
+            Name::Payments => "List the deposits recorded for a quarter, and what each counts for",
         }
     }
 
@@ -198,6 +223,12 @@ impl Name {
             Name::Owed => "Example: ftd owed --db office.db 2024-06-10 2024-06-17",
             Name::ScheduleB => "Example: ftd schedule-b --db office.db elm 2024Q2",
             Name::AddHoliday => "Example: ftd add-holiday --db office.db 2024-06-17",
+            Name::Accounts => "Example: ftd accounts --db office.db",
+            Name::Years => "Example: ftd years --db office.db elm",
+            Name::Reported => "Example: ftd reported --db office.db elm",
+            Name::Holidays => "Example: ftd holidays --db office.db 2024",
+            Name::Runs => "Example: ftd runs --db office.db elm 2024Q2",
+            Name::Payments => "Example: ftd payments --db office.db elm 2024Q2",
         }
     }
 }
@@ -239,6 +270,7 @@ impl Word {
             Word::To => "TO",
             Word::Until => "UNTIL",
             Word::Format => "format",
+            Word::RunsFormat => "format",
         }
     }
 
@@ -258,6 +290,7 @@ impl Word {
                 | Word::Carried
                 | Word::Form
                 | Word::Format
+                | Word::RunsFormat
         )
     }
 
@@ -297,6 +330,7 @@ impl Word {
             Word::To => Takes::Text,
             Word::Until => Takes::Optional,
             Word::Format => Takes::Format,
+            Word::RunsFormat => Takes::Format,
         }
     }
 
@@ -312,7 +346,7 @@ impl Word {
         match self {
             Word::Db => "FILE",
             Word::Form => "FORM",
-            Word::Format => "FORMAT",
+            Word::Format | Word::RunsFormat => "FORMAT",
             Word::Port | Word::Connections => "N",
             Word::Wait | Word::Idle | Word::Silence | Word::Duration => "SECONDS",
             word => word.text(),
@@ -356,12 +390,13 @@ impl Word {
             Word::To => "The last due date, YYYY-MM-DD",
             Word::Until => "The last due date, YYYY-MM-DD; a week after ASOF if it is left out",
             Word::Format => "The format of the list: text, csv, json or ics",
+            Word::RunsFormat => "The format of the list: text, or csv as it is imported",
         }
     }
 }
 
 /// The subcommands, as help lists them: in the order in which an employer needs them.
-pub const NAMES: [Name; 18] = [
+pub const NAMES: [Name; 24] = [
     Name::Calendar,
     Name::Enrol,
     Name::Report,
@@ -375,6 +410,12 @@ pub const NAMES: [Name; 18] = [
     Name::Pay,
     Name::Status,
     Name::ScheduleB,
+    Name::Accounts,
+    Name::Years,
+    Name::Reported,
+    Name::Holidays,
+    Name::Runs,
+    Name::Payments,
     Name::Void,
     Name::VoidPay,
     Name::AddHoliday,

@@ -1,15 +1,14 @@
 -- The subcommands and their words.
-use Rattle.std.specs.Prelude.{List, [], ◌∷◌, Bool, true, false, codes, pos}
-use Rattle.clap.specs.Words.{Text}
-use Rattle.ftd_words.specs.declared.table.Name.{Name}
-use Rattle.ftd_words.specs.declared.table.Name.TheVariants as name
-use Rattle.ftd_words.specs.declared.table.Word.{Word}
-use Rattle.ftd_words.specs.declared.table.Word.TheVariants as word
-use Rattle.ftd_words.specs.declared.table.Takes.{Takes}
-use Rattle.ftd_words.specs.declared.table.Takes.TheVariants as takes
+use Rattle.std.specs.Prelude.{ℕ, List, [], ◌∷◌, Bool, true, false, codes, pos}
+use Rattle.ftd_commands.specs.declared.table.Name.{Name}
+use Rattle.ftd_commands.specs.declared.table.Name.TheVariants as name
+use Rattle.ftd_commands.specs.declared.table.Word.{Word}
+use Rattle.ftd_commands.specs.declared.table.Word.TheVariants as word
+use Rattle.ftd_commands.specs.declared.table.Takes.{Takes}
+use Rattle.ftd_commands.specs.declared.table.Takes.TheVariants as takes
 
 -- the subcommand as it is written
-abbrev pub name_text : Name → Text
+abbrev pub name_text : Name → List ℕ
 name_text name.Plain = codes "plain"
 name_text name.Serve = codes "serve"
 name_text name.Import = codes "import"
@@ -28,6 +27,12 @@ name_text name.Agenda = codes "agenda"
 name_text name.Owed = codes "owed"
 name_text name.ScheduleB = codes "schedule-b"
 name_text name.AddHoliday = codes "add-holiday"
+name_text name.Accounts = codes "accounts"
+name_text name.Years = codes "years"
+name_text name.Reported = codes "reported"
+name_text name.Holidays = codes "holidays"
+name_text name.Runs = codes "runs"
+name_text name.Payments = codes "payments"
 
 -- its words, in their order
 abbrev pub words_of : Name → List Word
@@ -56,9 +61,15 @@ words_of name.Agenda =
 words_of name.Owed = word.Db ∷ word.Wait ∷ word.Format ∷ word.AsOf ∷ word.Until ∷ []
 words_of name.ScheduleB = word.Db ∷ word.Wait ∷ word.Account ∷ word.Quarter ∷ []
 words_of name.AddHoliday = word.Db ∷ word.Wait ∷ word.Day ∷ []
+words_of name.Accounts = word.Db ∷ word.Wait ∷ []
+words_of name.Years = word.Db ∷ word.Wait ∷ word.Account ∷ []
+words_of name.Reported = word.Db ∷ word.Wait ∷ word.Account ∷ []
+words_of name.Holidays = word.Db ∷ word.Wait ∷ word.Year ∷ []
+words_of name.Runs = word.Db ∷ word.Wait ∷ word.RunsFormat ∷ word.Account ∷ word.Quarter ∷ []
+words_of name.Payments = word.Db ∷ word.Wait ∷ word.Account ∷ word.Quarter ∷ []
 
 -- the name of the word
-abbrev pub word_text : Word → Text
+abbrev pub word_text : Word → List ℕ
 word_text word.Db = codes "db"
 word_text word.Wait = codes "wait"
 word_text word.Port = codes "port"
@@ -90,6 +101,7 @@ word_text word.From = codes "FROM"
 word_text word.To = codes "TO"
 word_text word.Until = codes "UNTIL"
 word_text word.Format = codes "format"
+word_text word.RunsFormat = codes "format"
 
 -- a word that stands behind two hyphens
 abbrev pub is_option : Word → Bool
@@ -124,6 +136,7 @@ is_option word.From = false
 is_option word.To = false
 is_option word.Until = false
 is_option word.Format = true
+is_option word.RunsFormat = true
 
 -- what the word takes
 abbrev pub takes_of : Word → Takes
@@ -158,6 +171,7 @@ takes_of word.From = takes.Text
 takes_of word.To = takes.Text
 takes_of word.Until = takes.Optional
 takes_of word.Format = takes.Format
+takes_of word.RunsFormat = takes.Format
 
 -- what takes any number of values
 abbrev pub takes_many : Takes → Bool
@@ -169,5 +183,6 @@ abbrev pub all_names : List Name
 all_names =
     name.Calendar ∷ name.Enrol ∷ name.Report ∷ name.ReportYear ∷ name.OpenYear ∷ name.Post
     ∷ name.Import ∷ name.Due
-    ∷ name.Agenda ∷ name.Owed ∷ name.Pay ∷ name.Status ∷ name.ScheduleB ∷ name.Void
+    ∷ name.Agenda ∷ name.Owed ∷ name.Pay ∷ name.Status ∷ name.ScheduleB ∷ name.Accounts
+    ∷ name.Years ∷ name.Reported ∷ name.Holidays ∷ name.Runs ∷ name.Payments ∷ name.Void
     ∷ name.VoidPay ∷ name.AddHoliday ∷ name.Plain ∷ name.Serve ∷ []

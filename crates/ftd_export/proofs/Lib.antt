@@ -1,0 +1,6 @@
+mod PlainFields
+mod RecordText
+mod PrintedDays
+mod ReadBack
+mod Reread
+mod Imported

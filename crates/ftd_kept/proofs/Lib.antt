@@ -1,0 +1,11 @@
+mod KeptOrder
+mod KeptRuns
+mod KeptPayments
+mod KeptTotals
+mod KeptMore
+mod KeptHeld
+mod KeptJoined
+mod KeptYears
+mod TotalsKnown
+mod KeptEnrolled
+mod KeptAdded

@@ -1,0 +1,62 @@
+use Rattle.std.proofs.Common.{◌≡◌, ◌∙◌, None, Some, ap, refl, rules, subst, sym}
+use Rattle.ftd_rules.specs.Lists.{Has}
+use Rattle.ftd_store.proofs.Telling.{then_reads}
+use Rattle.ftd_machine.specs.Checks.{first_of}
+use Rattle.ftd_machine.specs.Kept.{IsTotal, told_rows}
+use Rattle.ftd_machine.specs.Requests.{kept_of_checks}
+use Rattle.ftd_machine.specs.History.{form_of}
+use Rattle.ftd_machine.specs.State.{entries_of}
+use Rattle.ftd_machine.specs.declared.kept.KeptRows.TheVariants as rows
+use Rattle.ftd_machine.specs.declared.requests.Kept.TheVariants as kept
+use Rattle.ftd_machine.specs.declared.requests.Question.TheVariants as questions
+use Rattle.ftd_machine.specs.declared.requests.Request.TheVariants.{Question}
+use Rattle.ftd_machine.proofs.Deciding.{decided, passed}
+use Rattle.ftd_entries.specs.Known.{KnowsAccount}
+use Rattle.ftd_entries.proofs.Serving.{served_looked}
+use Rattle.ftd_kept.specs.Kept.{KnowsTotals}
+use Rattle.ftd_kept.proofs.lists.reported.Goals as goal
+
+pub returns-in-Some : goal.returns-in-Some
+returns-in-Some g c =
+    let name = c.args.name.now in
+    let account = c.in_ok-found.found in
+    let is : first_of (kept_of_checks name account) ≡ Some c.in-Some.answer = search rules in
+    record {
+      call = served_looked g.S.Store (Question (questions.Kept (kept.Reported name)))
+          c.args.tx.now c.known.new.tx account c.in-Some.answer (λ a. KnowsAccount name a)
+          c.in_ok-found.ensures.call
+          (λ t s stands sound knows. decided _ s c.in-Some.answer _
+          (ap (λ a. first_of (kept_of_checks name a)) (knows s stands) ∙ is));
+    }
+
+pub returns : goal.returns
+returns g c =
+    let name = c.args.name.now in
+    let found = c.in_ok-found.found in
+    let account = c.in-Some-found.account in
+    let listed = c.in_ok-rows.rows in
+    let read = then_reads g.S.Store c.args.tx.now c.known.new.tx c.totals.new.tx found listed
+    found (KnowsAccount name) (λ told. KnowsTotals name account.form told.items)
+    (λ a t. KnowsAccount name a t × KnowsTotals name account.form listed.items t)
+    (λ t knows totals. (knows, totals))
+    c.in_ok-found.ensures.call c.in_ok-rows.ensures.call in
+    let is : first_of (kept_of_checks name found) ≡ None = search rules in
+    let answer = told_rows (rows.Reported c.from_vec.result) in
+    record {
+      call = served_looked g.S.Store (Question (questions.Kept (kept.Reported name)))
+          c.args.tx.now c.totals.new.tx found answer
+          (λ a t. KnowsAccount name a t × KnowsTotals name account.form listed.items t)
+          read (λ t s stands sound knows. passed _ s answer s _
+          (ap (λ a. first_of (kept_of_checks name a)) (knows.0 s stands) ∙ is) (
+            refl,
+            record {
+              listed = listed.items;
+              by_period = knows.1.by_period;
+              all = λ x. subst (λ f. (Has listed.items x → IsTotal f (entries_of s name) x)
+                  × (IsTotal f (entries_of s name) x → Has listed.items x))
+                  (sym (ap form_of (knows.0 s stands ∙ c.in-Some-found.is)))
+                  (knows.1.all s stands sound x);
+              told = ap (λ xs. told_rows (rows.Reported xs)) c.from_vec.ensures;
+            },
+          ));
+    }

@@ -1,0 +1,74 @@
+use Rattle.std.proofs.Common.{◌≡◌, ◌∙◌, None, Some, ap, refl, rules, subst, sym, map}
+use Rattle.ftd_rules.specs.Lists.{Has}
+use Rattle.ftd_store.specs.Kept.{ListsKeptRuns}
+use Rattle.ftd_store.proofs.Telling.{then_reads}
+use Rattle.ftd_machine.specs.Checks.{first_of}
+use Rattle.ftd_machine.specs.Kept.{IsRunIn, told_rows}
+use Rattle.ftd_machine.specs.Requests.{kept_in_quarter_checks}
+use Rattle.ftd_machine.specs.State.{entries_of}
+use Rattle.ftd_machine.specs.declared.kept.KeptRows.TheVariants as rows
+use Rattle.ftd_machine.specs.declared.requests.Kept.TheVariants as kept
+use Rattle.ftd_machine.specs.declared.requests.Question.TheVariants as questions
+use Rattle.ftd_machine.specs.declared.requests.Request.TheVariants.{Question}
+use Rattle.ftd_machine.proofs.Deciding.{decided, passed}
+use Rattle.ftd_entries.specs.Known.{KnowsAccount}
+use Rattle.ftd_entries.proofs.Serving.{served_looked}
+use Rattle.ftd_kept.specs.Kept.{kept_run}
+use Rattle.ftd_kept.proofs.KeptRuns.{runs_are}
+use Rattle.ftd_kept.proofs.KeptYears.{early_quarter}
+use Rattle.ftd_kept.proofs.lists.runs.Goals as goal
+
+pub returns-in-Some : goal.returns-in-Some
+returns-in-Some g c =
+    let name = c.args.name.now in
+    let quarter = c.args.quarter in
+    let account = c.in_ok-account.account in
+    let found = c.in_ok-found.found in
+    let read = then_reads g.S.Store c.args.tx.now c.known.new.tx c.kept_runs.new.self account found
+    account (KnowsAccount name) (ListsKeptRuns name c.first.result c.last.result)
+    (λ a. KnowsAccount name a) (λ t knows lists. knows)
+    c.in_ok-account.ensures.call c.in_ok-found.ensures.call in
+    let is : first_of (kept_in_quarter_checks name quarter account) ≡ Some c.in-Some.answer =
+    search rules in
+    record {
+      call = served_looked g.S.Store (Question (questions.Kept (kept.Runs name quarter)))
+          c.args.tx.now c.kept_runs.new.self account c.in-Some.answer (λ a. KnowsAccount name a)
+          read (λ t s stands sound knows. decided _ s c.in-Some.answer _
+          (ap (λ a. first_of (kept_in_quarter_checks name quarter a)) (knows s stands) ∙ is));
+    }
+
+pub returns-in-Ok : goal.returns-in-Ok
+returns-in-Ok g c =
+    let name = c.args.name.now in
+    let quarter = c.args.quarter in
+    let account = c.in_ok-account.account in
+    let found = c.in_ok-found.found in
+    let read = then_reads g.S.Store c.args.tx.now c.known.new.tx c.kept_runs.new.self account found
+    account (KnowsAccount name) (ListsKeptRuns name c.first.result c.last.result)
+    (λ a t. KnowsAccount name a t × ListsKeptRuns name c.first.result c.last.result found t)
+    (λ t knows lists. (knows, lists))
+    c.in_ok-account.ensures.call c.in_ok-found.ensures.call in
+    let is : first_of (kept_in_quarter_checks name quarter account) ≡ None = search rules in
+    let early = early_quarter name quarter account is in
+    let told = c.in-Ok.ensures in
+    let answer = told_rows (rows.Runs c.from_vec.result) in
+    record {
+      call = served_looked g.S.Store (Question (questions.Kept (kept.Runs name quarter)))
+          c.args.tx.now c.kept_runs.new.self account answer
+          (λ a t. KnowsAccount name a t × ListsKeptRuns name c.first.result c.last.result found t)
+          read (λ t s stands sound knows. passed _ s answer s _
+          (ap (λ a. first_of (kept_in_quarter_checks name quarter a)) (knows.0 s stands) ∙ is) (
+            refl,
+            record {
+              listed = c.in-Ok.rows.items;
+              in_order = told.in_order;
+              all = λ x. subst (λ xs. (Has xs x → IsRunIn (entries_of s name) quarter x)
+                  × (IsRunIn (entries_of s name) quarter x → Has xs x))
+                  (sym (told.told ∙ ap (map kept_run) c.deref.ensures.value))
+                  (runs_are name quarter c.last.result c.last.ensures early t s stands sound
+                  found.items
+                  (subst (λ d. ListsKeptRuns name d c.last.result found t) c.first.ensures knows.1) x);
+              told = ap (λ xs. told_rows (rows.Runs xs)) c.from_vec.ensures;
+            },
+          ));
+    }

@@ -1,0 +1,8 @@
+//! The question what is kept: accounts, open years, reported totals, holidays, pay runs and
+//! payments. It is one function on a transaction, whose contract is the machine's step.
+#![tactic(auto)]
+
+mod lists;
+mod rows;
+
+pub use crate::lists::kept;

@@ -1,0 +1,178 @@
+//! What is kept, by what the tables have.
+
+ghost use Rattle.ftd_store.specs.Frame.{Calls, Reads};
+ghost use Rattle.ftd_machine.specs.declared.requests.Kept.TheVariants as kept;
+ghost use Rattle.ftd_machine.specs.declared.requests.Question.TheVariants as questions;
+ghost use Rattle.ftd_machine.specs.declared.requests.Request.TheVariants.{Question};
+ghost use Rattle.ftd_entries.specs.Words.{Serves};
+ghost use Rattle.ftd_kept.specs.Kept.{KnowsAccounts, KnowsTotals};
+
+use crate::rows::{told_accounts, told_payments, told_quarters, told_runs, told_years};
+use ftd_days::{Day, Quarter};
+use ftd_entries::known;
+use ftd_machine::{
+    Answer, Days, Kept, KeptAccount, KeptAccounts, KeptPayments, KeptRows, KeptRuns, KeptTotal,
+    KeptTotals, KeptYears, Refusal, Reply, are_rising, holidays_check, kept_in_quarter_check,
+    kept_of_check,
+};
+use ftd_rules::Form;
+use ftd_store::{StoreFault, Tx};
+use sqlite::Alter;
+use std::alloc::Global;
+
+/// Tells what is kept, as far as it is asked for.
+pub fn kept<S: Alter>(tx: &mut Tx<'_, S>, alloc: Global, asked: &Kept) -> Result<Answer, StoreFault>
+    ensures call { Calls S.Store tx.old tx.new result
+        (Serves (Question (questions.Kept asked.now))) }
+{
+    match asked {
+        Kept::Accounts => accounts(tx, alloc),
+        Kept::Years { account } => years(tx, alloc, account.as_str()),
+        Kept::Reported { account } => reported(tx, alloc, account.as_str()),
+        Kept::Holidays { year } => holidays(tx, alloc, *year),
+        Kept::Runs { account, quarter } => runs(tx, alloc, account.as_str(), *quarter),
+        Kept::Payments { account, quarter } => payments(tx, alloc, account.as_str(), *quarter),
+    }
+}
+
+/// All accounts, by name. `Failed` also where the tables of accounts and of forms differ, or do not
+/// go on by name.
+fn all_accounts<S: Alter>(tx: &mut Tx<'_, S>, alloc: Global) -> Result<Vec<KeptAccount>, StoreFault>
+    ensures call { Reads S.Store tx.old tx.new result (λ rows. KnowsAccounts rows.items) }
+{
+    let named = tx.enrolled(alloc)?;
+    let forms = tx.forms(alloc)?;
+    match told_accounts(alloc, &named, &forms) {
+        Ok(rows) => Ok(rows),
+        Err(fault) => tx.give_up(fault),
+    }
+}
+
+/// Tells all accounts, by name.
+fn accounts<S: Alter>(tx: &mut Tx<'_, S>, alloc: Global) -> Result<Answer, StoreFault>
+    ensures call { Calls S.Store tx.old tx.new result
+        (Serves (Question (questions.Kept kept.Accounts))) }
+{
+    let rows = all_accounts(tx, alloc)?;
+    Ok(Ok(Reply::Kept(KeptRows::Accounts(KeptAccounts::from_vec(rows)))))
+}
+
+/// Tells the open years of an account, by year.
+fn years<S: Alter>(tx: &mut Tx<'_, S>, alloc: Global, name: &str) -> Result<Answer, StoreFault>
+    ensures call { Calls S.Store tx.old tx.new result
+        (Serves (Question (questions.Kept (kept.Years name.now)))) }
+{
+    let account = known(tx, name)?;
+    let lines = tx.years(alloc, name)?;
+    if let Some(answer) = kept_of_check(name, account) {
+        return Ok(answer);
+    }
+    Ok(Ok(Reply::Kept(KeptRows::Years(KeptYears::from_vec(lines)))))
+}
+
+/// The totals that an account on this form reported. `Failed` also where they do not go on by
+/// quarter or year.
+fn totals<S: Alter>(
+    tx: &mut Tx<'_, S>,
+    alloc: Global,
+    name: &str,
+    form: Form,
+) -> Result<Vec<KeptTotal>, StoreFault>
+    ensures call { Reads S.Store tx.old tx.new result
+        (λ rows. KnowsTotals name.now form rows.items) }
+{
+    let quarters = tx.reported_totals(alloc, name)?;
+    let years = tx.reported_year_totals(alloc, name)?;
+    let told = match form {
+        Form::F941 => told_quarters(alloc, &quarters),
+        Form::F943 => told_years(alloc, &years),
+    };
+    match told {
+        Ok(rows) => Ok(rows),
+        Err(fault) => tx.give_up(fault),
+    }
+}
+
+/// Tells the totals that an account reported.
+fn reported<S: Alter>(tx: &mut Tx<'_, S>, alloc: Global, name: &str) -> Result<Answer, StoreFault>
+    ensures call { Calls S.Store tx.old tx.new result
+        (Serves (Question (questions.Kept (kept.Reported name.now)))) }
+{
+    let found = known(tx, name)?;
+    if let Some(answer) = kept_of_check(name, found) {
+        return Ok(answer);
+    }
+    let Some(account) = &found else {
+        return Ok(Err(Refusal::UnknownAccount));
+    };
+    let rows = totals(tx, alloc, name, account.form)?;
+    Ok(Ok(Reply::Kept(KeptRows::Reported(KeptTotals::from_vec(rows)))))
+}
+
+/// Tells the holidays of a year: those that its calendar was given with, and those that were added
+/// to it. `Failed` also where the latter do not rise.
+fn holidays<S: Alter>(tx: &mut Tx<'_, S>, alloc: Global, year: u32) -> Result<Answer, StoreFault>
+    ensures call { Calls S.Store tx.old tx.new result
+        (Serves (Question (questions.Kept (kept.Holidays year)))) }
+{
+    let given = tx.calendar(alloc, year)?;
+    let added = tx.added(alloc, year)?;
+    if let Some(answer) = holidays_check(year, given.is_some()) {
+        return Ok(answer);
+    }
+    let Some(given) = given else {
+        return Ok(Err(Refusal::CalendarMissing(year)));
+    };
+    if !are_rising(&added) {
+        return tx.give_up(StoreFault::Failed);
+    }
+    Ok(Ok(Reply::Kept(KeptRows::Holidays {
+        given: Days::from_vec(given),
+        added: Days::from_vec(added),
+    })))
+}
+
+/// Tells the runs of an account with a payday in the quarter. `Failed` also where they do not go on
+/// by payday and number.
+fn runs<S: Alter>(
+    tx: &mut Tx<'_, S>,
+    alloc: Global,
+    name: &str,
+    quarter: Quarter,
+) -> Result<Answer, StoreFault>
+    ensures call { Calls S.Store tx.old tx.new result
+        (Serves (Question (questions.Kept (kept.Runs name.now quarter)))) }
+{
+    let account = known(tx, name)?;
+    let found = tx.kept_runs(alloc, name, quarter.first(), quarter.last())?;
+    if let Some(answer) = kept_in_quarter_check(name, quarter, account) {
+        return Ok(answer);
+    }
+    match told_runs(alloc, &found) {
+        Ok(rows) => Ok(Ok(Reply::Kept(KeptRows::Runs(KeptRuns::from_vec(rows))))),
+        Err(fault) => tx.give_up(fault),
+    }
+}
+
+/// Tells the payments of an account for a day of the quarter. `Failed` also where they do not go on
+/// by that day and number.
+fn payments<S: Alter>(
+    tx: &mut Tx<'_, S>,
+    alloc: Global,
+    name: &str,
+    quarter: Quarter,
+) -> Result<Answer, StoreFault>
+    ensures call { Calls S.Store tx.old tx.new result
+        (Serves (Question (questions.Kept (kept.Payments name.now quarter)))) }
+{
+    let account = known(tx, name)?;
+    let found = tx.kept_payments(alloc, name, quarter.first(), quarter.last())?;
+    let owed = tx.obligations(alloc, name, Day::first_of_month(0), quarter.last())?;
+    if let Some(answer) = kept_in_quarter_check(name, quarter, account) {
+        return Ok(answer);
+    }
+    match told_payments(alloc, &found, &owed) {
+        Ok(rows) => Ok(Ok(Reply::Kept(KeptRows::Payments(KeptPayments::from_vec(rows))))),
+        Err(fault) => tx.give_up(fault),
+    }
+}

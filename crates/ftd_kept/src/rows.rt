@@ -1,0 +1,325 @@
+//! Rows of what is kept, as they are told.
+
+ghost use Rattle.std.specs.Prelude.{◌≡◌, ◌↔◌, IfOk, IsTrue, map};
+ghost use Rattle.ftd_machine.specs.Agenda.{EachToLater};
+ghost use Rattle.ftd_machine.specs.Kept.{IsAccountBefore, IsTotalBefore, IsRunBefore};
+ghost use Rattle.ftd_machine.specs.Kept.{IsPaymentBefore, IsHeldBy, Holds, period_of};
+ghost use Rattle.ftd_rows.specs.Lists.{Pairs};
+ghost use Rattle.ftd_kept.specs.Kept.{kept_run, kept_quarter, kept_year, is_account_before};
+ghost use Rattle.ftd_kept.specs.Kept.{is_run_before, is_payment_before, is_total_before};
+ghost use Rattle.ftd_kept.specs.Kept.{are_in_order, JoinsTo, AreJoined, IsKeptPayment, earlier};
+ghost use Rattle.ftd_kept.specs.Kept.{kept_payment};
+
+use ftd_days::Day;
+use ftd_machine::{Account, AccountName, KeptAccount, KeptPayment, KeptRun, KeptTotal};
+use ftd_rows::{NamedAccount, NamedForm, NumberedPayment, NumberedRun, QuarterTotal, YearTotal};
+use ftd_rules::Obligation;
+use ftd_store::StoreFault;
+use std::alloc::{AllocError, Global};
+
+// ---- runs
+
+/// A run, as it is told.
+fn kept_run(row: &NumberedRun) -> KeptRun
+    ensures { result ≡ kept_run row.now }
+{
+    KeptRun {
+        number: row.number,
+        run: row.run.value,
+        voided: row.run.voided,
+    }
+}
+
+/// Whether a run comes before another one: by payday, and on one payday by number.
+fn is_run_before(run: &KeptRun, next: &KeptRun) -> bool
+    ensures { result ≡ is_run_before run.now next.now }
+{
+    run.run.payday < next.run.payday
+        || run.run.payday == next.run.payday && run.number < next.number
+}
+
+/// Whether each run comes before the next.
+fn are_runs_in_order(runs: &[KeptRun]) -> bool
+    ensures { result ≡ are_in_order is_run_before runs.now }
+{
+    runs.iter()
+        .zip(runs.iter().skip(1))
+        .all(|(run, next)| is_run_before(run, next))
+}
+
+/// The runs, as they are told.
+fn kept_runs(alloc: Global, rows: &[NumberedRun]) -> Result<Vec<KeptRun>, AllocError>
+    ensures { IfOk result (λ runs. runs.items ≡ map kept_run rows.now) }
+{
+    let mut runs = Vec::new(alloc);
+    for row in rows {
+        runs.push(kept_run(row))?;
+    }
+    Ok(runs)
+}
+
+/// The runs, as they are told. `Failed` where they do not go on by payday and number, and `Memory`
+/// where there was no memory.
+#[tactic(auto, using(crate::proofs::KeptOrder::runs_in_order))]
+pub(crate) fn told_runs(alloc: Global, rows: &[NumberedRun]) -> Result<Vec<KeptRun>, StoreFault>
+    ensures told { IfOk result (λ runs. runs.items ≡ map kept_run rows.now) }
+    ensures in_order { IfOk result (λ runs. EachToLater IsRunBefore runs.items) }
+{
+    let runs = kept_runs(alloc, rows)?;
+    if !are_runs_in_order(&runs) {
+        return Err(StoreFault::Failed);
+    }
+    Ok(runs)
+}
+
+// ---- accounts
+
+/// Whether an account comes before another one, by its name's bytes.
+fn is_account_before(account: &KeptAccount, next: &KeptAccount) -> bool
+    ensures { result ≡ is_account_before account.now next.now }
+{
+    account.name.as_str() < next.name.as_str()
+}
+
+/// Whether each account comes before the next.
+fn are_accounts_in_order(accounts: &[KeptAccount]) -> bool
+    ensures { result ≡ are_in_order is_account_before accounts.now }
+{
+    accounts
+        .iter()
+        .zip(accounts.iter().skip(1))
+        .all(|(account, next)| is_account_before(account, next))
+}
+
+/// The account of a name, first day and form. `Failed` where the form is another account's, and
+/// `Memory` where there was no memory.
+fn joined(
+    alloc: Global,
+    account: &NamedAccount,
+    form: &NamedForm,
+) -> Result<KeptAccount, StoreFault>
+    ensures { IfOk result (λ joined. JoinsTo account.now form.now joined) }
+{
+    if account.name != form.account {
+        return Err(StoreFault::Failed);
+    }
+    let name = String::from_str(alloc, &account.name)?;
+    Ok(KeptAccount {
+        name: AccountName::from_string(name),
+        account: Account {
+            start: account.account.start,
+            carried: account.account.carried,
+            form: form.form,
+        },
+    })
+}
+
+/// The accounts, each with its form. `Failed` where the two lists differ, and `Memory` where there
+/// was no memory.
+#[tactic(auto, using(crate::proofs::KeptJoined::joined_more))]
+fn all_joined(
+    alloc: Global,
+    accounts: &[NamedAccount],
+    forms: &[NamedForm],
+) -> Result<Vec<KeptAccount>, StoreFault>
+    ensures { IfOk result (λ joined. AreJoined accounts.now forms.now joined.items) }
+{
+    if accounts.len() != forms.len() {
+        return Err(StoreFault::Failed);
+    }
+    let mut rows = Vec::new(alloc);
+    for place in 0..accounts.len() {
+        rows.push(joined(alloc, &accounts[place], &forms[place])?)?;
+    }
+    Ok(rows)
+}
+
+/// The accounts, as they are told. `Failed` where the two lists differ, or do not go on by name,
+/// and `Memory` where there was no memory.
+#[tactic(auto, using(crate::proofs::KeptOrder::accounts_in_order))]
+pub(crate) fn told_accounts(
+    alloc: Global,
+    accounts: &[NamedAccount],
+    forms: &[NamedForm],
+) -> Result<Vec<KeptAccount>, StoreFault>
+    ensures told { IfOk result (λ joined. AreJoined accounts.now forms.now joined.items) }
+    ensures in_order { IfOk result (λ joined. EachToLater IsAccountBefore joined.items) }
+{
+    let rows = all_joined(alloc, accounts, forms)?;
+    if !are_accounts_in_order(&rows) {
+        return Err(StoreFault::Failed);
+    }
+    Ok(rows)
+}
+
+// ---- reported totals
+
+/// Whether a total is of an earlier quarter or year than another one.
+fn is_total_before(total: &KeptTotal, next: &KeptTotal) -> bool
+    ensures { result ≡ is_total_before total.now next.now }
+{
+    period_of(total) < period_of(next)
+}
+
+/// The number of a total's quarter after the first of 1900, or its year.
+fn period_of(total: &KeptTotal) -> u32
+    ensures { result ≡ period_of total.now }
+{
+    match total {
+        KeptTotal::OfQuarter(quarter, _) => quarter.quarters(),
+        KeptTotal::OfYear(year, _) => *year,
+    }
+}
+
+/// Whether each total is of an earlier quarter or year than the next.
+fn are_totals_in_order(totals: &[KeptTotal]) -> bool
+    ensures { result ≡ are_in_order is_total_before totals.now }
+{
+    totals
+        .iter()
+        .zip(totals.iter().skip(1))
+        .all(|(total, next)| is_total_before(total, next))
+}
+
+/// The totals, where each is of an earlier quarter or year than the next. `Failed` where they are
+/// not.
+#[tactic(auto, using(crate::proofs::KeptOrder::totals_in_order))]
+fn in_turn(totals: Vec<KeptTotal>) -> Result<Vec<KeptTotal>, StoreFault>
+    ensures same { IfOk result (λ told. told.items ≡ totals.items) }
+    ensures in_order { IfOk result (λ told. EachToLater IsTotalBefore told.items) }
+{
+    if !are_totals_in_order(&totals) {
+        return Err(StoreFault::Failed);
+    }
+    Ok(totals)
+}
+
+/// The totals of quarters, as they are told. `Failed` where they do not go on by quarter, and
+/// `Memory` where there was no memory.
+pub(crate) fn told_quarters(
+    alloc: Global,
+    rows: &[QuarterTotal],
+) -> Result<Vec<KeptTotal>, StoreFault>
+    ensures told { IfOk result (λ totals. totals.items ≡ map kept_quarter rows.now) }
+    ensures in_order { IfOk result (λ totals. EachToLater IsTotalBefore totals.items) }
+{
+    let mut totals = Vec::new(alloc);
+    for row in rows {
+        totals.push(KeptTotal::OfQuarter(row.quarter, row.cents))?;
+    }
+    in_turn(totals)
+}
+
+/// The totals of years, as they are told. `Failed` where they do not go on by year, and `Memory`
+/// where there was no memory.
+pub(crate) fn told_years(alloc: Global, rows: &[YearTotal]) -> Result<Vec<KeptTotal>, StoreFault>
+    ensures told { IfOk result (λ totals. totals.items ≡ map kept_year rows.now) }
+    ensures in_order { IfOk result (λ totals. EachToLater IsTotalBefore totals.items) }
+{
+    let mut totals = Vec::new(alloc);
+    for row in rows {
+        totals.push(KeptTotal::OfYear(row.year, row.cents))?;
+    }
+    in_turn(totals)
+}
+
+// ---- payments
+
+/// Whether the deposit period of the obligation holds the day.
+fn holds(obligation: &Obligation, day: Day) -> bool
+    ensures { IsTrue result ↔ Holds obligation.now day }
+{
+    obligation.first <= day && day <= obligation.last
+}
+
+/// The first day of the obligation whose deposit period holds the day, the earliest of several.
+#[tactic(auto, using(crate::proofs::KeptHeld::held_by_this, crate::proofs::KeptHeld::held_before))]
+fn held_by(owed: &[Obligation], day: Day) -> Option<Day>
+    ensures { IsHeldBy owed.now day result }
+{
+    let mut held: Option<Day> = None;
+    for obligation in owed {
+        if holds(obligation, day) {
+            held = Some(earlier(held, obligation.first));
+        }
+    }
+    held
+}
+
+/// The earlier of two days, where there is the one.
+fn earlier(day: Option<Day>, other: Day) -> Day
+    ensures { result ≡ earlier day other }
+{
+    match day {
+        Some(day) => day.min(other),
+        None => other,
+    }
+}
+
+/// A payment, as it is told.
+fn kept_payment(row: &NumberedPayment, obligation: Option<Day>) -> KeptPayment
+    ensures { result ≡ kept_payment row.now obligation }
+{
+    KeptPayment {
+        number: row.number,
+        payment: row.payment.value,
+        voided: row.payment.voided,
+        obligation,
+    }
+}
+
+/// Whether a payment comes before another one: by the day that it is for, and for one day by
+/// number.
+fn is_payment_before(payment: &KeptPayment, next: &KeptPayment) -> bool
+    ensures { result ≡ is_payment_before payment.now next.now }
+{
+    payment.payment.for_day < next.payment.for_day
+        || payment.payment.for_day == next.payment.for_day && payment.number < next.number
+}
+
+/// Whether each payment comes before the next.
+fn are_payments_in_order(payments: &[KeptPayment]) -> bool
+    ensures { result ≡ are_in_order is_payment_before payments.now }
+{
+    payments
+        .iter()
+        .zip(payments.iter().skip(1))
+        .all(|(payment, next)| is_payment_before(payment, next))
+}
+
+/// The payments, as they are told.
+#[tactic(auto, using(crate::proofs::KeptHeld::told_more))]
+fn kept_payments(
+    alloc: Global,
+    rows: &[NumberedPayment],
+    owed: &[Obligation],
+) -> Result<Vec<KeptPayment>, AllocError>
+    ensures { IfOk result (λ payments.
+        Pairs (IsKeptPayment owed.now) rows.now payments.items) }
+{
+    let mut payments = Vec::new(alloc);
+    for row in rows {
+        let obligation = held_by(owed, row.payment.value.for_day);
+        payments.push(kept_payment(row, obligation))?;
+    }
+    Ok(payments)
+}
+
+/// The payments, as they are told. `Failed` where they do not go on by the day that they are for
+/// and number, and `Memory` where there was no memory.
+#[tactic(auto, using(crate::proofs::KeptOrder::payments_in_order))]
+pub(crate) fn told_payments(
+    alloc: Global,
+    rows: &[NumberedPayment],
+    owed: &[Obligation],
+) -> Result<Vec<KeptPayment>, StoreFault>
+    ensures told { IfOk result (λ payments.
+        Pairs (IsKeptPayment owed.now) rows.now payments.items) }
+    ensures in_order { IfOk result (λ payments. EachToLater IsPaymentBefore payments.items) }
+{
+    let payments = kept_payments(alloc, rows, owed)?;
+    if !are_payments_in_order(&payments) {
+        return Err(StoreFault::Failed);
+    }
+    Ok(payments)
+}

@@ -1,0 +1,10 @@
+use Rattle.std.proofs.Common.{drop}
+use Rattle.std.specs.List.{flat_map}
+use Rattle.ftd_ports.proofs.WritingFacts.{HasWritten}
+use Rattle.ftd_listings.proofs.lines.write_lines.Given as goal
+
+-- what is left to write: the lines of the other rows
+abbrev pub invariant-loop-row : goal.invariant-loop-row
+invariant-loop-row g l =
+    HasWritten (g.W.Target.taken l.fn.target) (g.W.Target.taken l.target)
+    (flat_map g.L.Line.text l.rows) (flat_map g.L.Line.text (drop l.row-index l.rows))

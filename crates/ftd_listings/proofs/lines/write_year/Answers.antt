@@ -1,0 +1,43 @@
+use Rattle.ftd_listings.specs.Listings.{year_text}
+use Rattle.ftd_listings.proofs.LineParts.{year_parts}
+use Rattle.ftd_listings.proofs.lines.write_year.Goals as goal
+
+pub returns-clause-ok : goal.returns-clause-ok
+unfolding year_text
+returns-clause-ok g c =
+    let whole = year_parts c.as_bytes-year.result.now c.amount_column-total.result.spaces.now
+    c.amount_column-total.result.dollars.now c.amount_column-total.result.cents
+    c.opening_text.result.now c.carried_text.result.now in
+    let line = rw (
+      c.amount_column-total.ensures,
+      c.as_bytes-year.ensures.value,
+      c.format.ensures.text,
+      c.opening_text.ensures,
+      c.carried_text.ensures,
+    ) at whole in
+    rw line (rw (
+      c.as_bytes-year.ensures.value,
+      c.format.ensures.text,
+      c.opening_text.ensures,
+      c.carried_text.ensures,
+    ) at c.write_pieces.ensures.ok)
+
+pub returns-clause-err : goal.returns-clause-err
+unfolding year_text
+returns-clause-err g c =
+    let whole = year_parts c.as_bytes-year.result.now c.amount_column-total.result.spaces.now
+    c.amount_column-total.result.dollars.now c.amount_column-total.result.cents
+    c.opening_text.result.now c.carried_text.result.now in
+    let line = rw (
+      c.amount_column-total.ensures,
+      c.as_bytes-year.ensures.value,
+      c.format.ensures.text,
+      c.opening_text.ensures,
+      c.carried_text.ensures,
+    ) at whole in
+    rw line (rw (
+      c.as_bytes-year.ensures.value,
+      c.format.ensures.text,
+      c.opening_text.ensures,
+      c.carried_text.ensures,
+    ) at c.write_pieces.ensures.err)

@@ -1,0 +1,2 @@
+pub mod Listings
+pub use Rattle.ftd_ports.specs.Writing

@@ -1,0 +1,182 @@
+-- What the desk answers to the question what is kept.
+use Rattle.std.specs.Prelude.{◌≡◌, ◌⊎◌, ◌≤◌, ◌<◌, ◌↔◌, ℕ, Bool, List, [], Option, None, Some, Ok}
+use Rattle.ftd_days.specs.Calendar.{year_of, quarter_of}
+use Rattle.ftd_rules.specs.declared.Form.{Form}
+use Rattle.ftd_rules.specs.declared.Form.TheVariants.{F941, F943}
+use Rattle.ftd_rules.specs.declared.Obligation.{Obligation}
+use Rattle.ftd_rules.specs.declared.YearLine.{YearLine}
+use Rattle.ftd_rules.specs.Lists.{Has}
+use Rattle.ftd_machine.specs.State.{State, Entries, entries_of, holidays, calendar_at, is_given}
+use Rattle.ftd_machine.specs.State.{kept_at}
+use Rattle.ftd_machine.specs.History.{form_of, AreLinesOf, AreOwed}
+use Rattle.ftd_machine.specs.Checks.{Answer}
+use Rattle.ftd_machine.specs.Requests.{kept_of_checks, kept_in_quarter_checks, holidays_checks}
+use Rattle.ftd_machine.specs.Agenda.{EachToLater, IsNameBefore}
+use Rattle.ftd_machine.specs.declared.kept.KeptAccount.{KeptAccount}
+use Rattle.ftd_machine.specs.declared.kept.KeptPayment.{KeptPayment}
+use Rattle.ftd_machine.specs.declared.kept.KeptRun.{KeptRun}
+use Rattle.ftd_machine.specs.declared.kept.KeptTotal.{KeptTotal}
+use Rattle.ftd_machine.specs.declared.kept.KeptTotal.TheVariants.{OfQuarter, OfYear}
+use Rattle.ftd_machine.specs.declared.kept.KeptRows.{KeptRows}
+use Rattle.ftd_machine.specs.declared.kept.KeptRows.TheVariants as rows
+use Rattle.ftd_machine.specs.declared.replies.Reply.TheVariants as reply
+use Rattle.ftd_machine.specs.declared.requests.Kept.{Kept}
+use Rattle.ftd_machine.specs.declared.requests.Kept.TheVariants.{Accounts, Years, Reported}
+use Rattle.ftd_machine.specs.declared.requests.Kept.TheVariants.{Holidays, Runs, Payments}
+
+abbrev pub told_rows : KeptRows → Answer
+told_rows kept = Ok (reply.Kept kept)
+
+-- ---- accounts
+
+-- it is enrolled so
+abbrev pub IsEnrolled : State → KeptAccount → Type 0
+IsEnrolled s x = (entries_of s x.name).account ≡ Some x.account
+
+abbrev pub IsAccountBefore : KeptAccount → KeptAccount → Type 0
+IsAccountBefore a b = IsNameBefore a.name b.name
+
+-- the answer is all accounts, by name
+pub record AreAccounts (s : State) (answer : Answer) : Type 0 where
+  pub listed : List KeptAccount
+  pub by_name : EachToLater IsAccountBefore listed
+  pub all : (x : KeptAccount) → Has listed x ↔ IsEnrolled s x
+  pub told : answer ≡ told_rows (rows.Accounts listed)
+
+-- ---- open years
+
+-- the answer is the lines of the account's open years: each with its lookback total, with whether
+-- the account is carried into it, with its opening and its turn
+pub record AreYears (own : Entries) (answer : Answer) : Type 0 where
+  pub lines : List YearLine
+  pub are_lines : AreLinesOf own lines
+  pub told : answer ≡ told_rows (rows.Years lines)
+
+-- ---- reported totals
+
+-- it was reported: for a quarter on Form 941, for a year on Form 943
+abbrev pub IsTotal : Form → Entries → KeptTotal → Type 0
+IsTotal F941 own (OfQuarter quarter cents) = kept_at quarter own.reported ≡ Some cents
+IsTotal F941 own (OfYear year cents) = ⊥
+IsTotal F943 own (OfQuarter quarter cents) = ⊥
+IsTotal F943 own (OfYear year cents) = kept_at year own.reported_years ≡ Some cents
+
+abbrev pub period_of : KeptTotal → ℕ
+period_of (OfQuarter quarter cents) = quarter
+period_of (OfYear year cents) = year
+
+abbrev pub IsTotalBefore : KeptTotal → KeptTotal → Type 0
+IsTotalBefore a b = period_of a < period_of b
+
+-- the answer is all of them, by quarter or year
+pub record AreTotals (own : Entries) (answer : Answer) : Type 0 where
+  pub listed : List KeptTotal
+  pub by_period : EachToLater IsTotalBefore listed
+  pub all : (x : KeptTotal) → Has listed x ↔ IsTotal (form_of own.account) own x
+  pub told : answer ≡ told_rows (rows.Reported listed)
+
+-- ---- holidays
+
+-- it was added to the calendar of the year
+abbrev pub IsAdded : State → ℕ → ℕ → Type 0
+IsAdded s year day = Has s.added_days day × (year_of day ≡ year)
+
+abbrev pub IsDayBefore : ℕ → ℕ → Type 0
+IsDayBefore a b = a < b
+
+-- the answer is the calendar of the year as it was given, and all days that were added to it, rising
+pub record AreHolidays (s : State) (year : ℕ) (answer : Answer) : Type 0 where
+  pub given : List ℕ
+  pub is_given : calendar_at s year ≡ Some given
+  pub added : List ℕ
+  pub rising : EachToLater IsDayBefore added
+  pub all : (day : ℕ) → Has added day ↔ IsAdded s year day
+  pub told : answer ≡ told_rows (rows.Holidays given added)
+
+-- ---- runs
+
+-- it is the run of its number, with a payday in the quarter
+abbrev pub IsRunIn : Entries → ℕ → KeptRun → Type 0
+IsRunIn own quarter x =
+    (kept_at x.number own.runs ≡ Some (record { value = x.run; voided = x.voided }))
+    × (quarter_of x.run.payday ≡ quarter)
+
+-- by payday, and on one payday by number
+abbrev pub IsRunBefore : KeptRun → KeptRun → Type 0
+IsRunBefore a b =
+    (a.run.payday < b.run.payday)
+    ⊎ ((a.run.payday ≡ b.run.payday) × (a.number < b.number))
+
+-- the answer is all of them, in this order
+pub record AreRuns (own : Entries) (quarter : ℕ) (answer : Answer) : Type 0 where
+  pub listed : List KeptRun
+  pub in_order : EachToLater IsRunBefore listed
+  pub all : (x : KeptRun) → Has listed x ↔ IsRunIn own quarter x
+  pub told : answer ≡ told_rows (rows.Runs listed)
+
+-- ---- payments
+
+-- the deposit period of the obligation holds the day
+abbrev pub Holds : Obligation → ℕ → Type 0
+Holds o day = (o.first ≤ day) × (day ≤ o.last)
+
+-- this is the first day of the obligation whose deposit period holds the day, or there is none
+abbrev pub IsHeldBy : List Obligation → ℕ → Option ℕ → Type 0
+IsHeldBy owed day None = (o : Obligation) → Has owed o → Holds o day → ⊥
+IsHeldBy owed day (Some first) =
+    (o : Obligation) × Has owed o × Holds o day × (o.first ≡ first)
+    × ((p : Obligation) → Has owed p → Holds p day → first ≤ p.first)
+
+-- it is the payment of its number, for a day of the quarter, with the obligation that holds that day
+abbrev pub IsPaymentIn : List Obligation → Entries → ℕ → KeptPayment → Type 0
+IsPaymentIn owed own quarter x =
+    (kept_at x.number own.payments ≡ Some (record { value = x.payment; voided = x.voided }))
+    × (quarter_of x.payment.for_day ≡ quarter)
+    × IsHeldBy owed x.payment.for_day x.obligation
+
+-- by the day that they are for, and for one day by number
+abbrev pub IsPaymentBefore : KeptPayment → KeptPayment → Type 0
+IsPaymentBefore a b =
+    (a.payment.for_day < b.payment.for_day)
+    ⊎ ((a.payment.for_day ≡ b.payment.for_day) × (a.number < b.number))
+
+-- the answer is all of them, in this order
+pub record ArePayments (holidays : List ℕ) (own : Entries) (quarter : ℕ) (answer : Answer)
+    : Type 0 where
+  pub owed : List Obligation
+  pub are_owed : AreOwed holidays own owed
+  pub listed : List KeptPayment
+  pub in_order : EachToLater IsPaymentBefore listed
+  pub all : (x : KeptPayment) → Has listed x ↔ IsPaymentIn owed own quarter x
+  pub told : answer ≡ told_rows (rows.Payments listed)
+
+-- ---- the question
+
+-- its checks, in their order
+abbrev pub kept_checks : State → Kept → List (Option Answer)
+kept_checks s Accounts = []
+kept_checks s (Years name) = kept_of_checks name (entries_of s name).account
+kept_checks s (Reported name) = kept_of_checks name (entries_of s name).account
+kept_checks s (Holidays year) = holidays_checks year (is_given s year)
+kept_checks s (Runs name quarter) = kept_in_quarter_checks name quarter (entries_of s name).account
+kept_checks s (Payments name quarter) =
+    kept_in_quarter_checks name quarter (entries_of s name).account
+
+-- where they pass, this is the answer
+abbrev pub TellsKept : State → Kept → Answer → Type 0
+TellsKept s Accounts answer = AreAccounts s answer
+TellsKept s (Years name) answer = AreYears (entries_of s name) answer
+TellsKept s (Reported name) answer = AreTotals (entries_of s name) answer
+TellsKept s (Holidays year) answer = AreHolidays s year answer
+TellsKept s (Runs name quarter) answer = AreRuns (entries_of s name) quarter answer
+TellsKept s (Payments name quarter) answer =
+    ArePayments (holidays s) (entries_of s name) quarter answer
+
+-- it names the account
+abbrev pub KeptOf : Kept → List ℕ → Type 0
+KeptOf Accounts account = ⊥
+KeptOf (Years name) account = name ≡ account
+KeptOf (Reported name) account = name ≡ account
+KeptOf (Holidays year) account = ⊥
+KeptOf (Runs name quarter) account = name ≡ account
+KeptOf (Payments name quarter) account = name ≡ account
