@@ -448,6 +448,24 @@ class Desk:
             return f"{kind} turned {before}"
         return f"{kind} carried" if carried else f"{kind} turned {turn}"
 
+    def ask_explain(self, name, day):
+        schedule = self.ask_status(name, day)
+        day, form, sums = date(day), self.known(name)[2], self.liability(name)
+        lines = [f"OBLIGATION {name} {day}"]
+        for first, last, rule, cents, due in self.obligations(name):
+            if first <= day <= last:
+                paydays = [it for it in sorted(sums) if first <= it <= last]
+                counted = month_end(last) + 15 * DAY if rule == "monthly" else (close(last) if rule == "semiweekly" else last) + DAY
+                days = [counted + n * DAY for n in range((due - counted).days + 1)]
+                kinds = [["Saturday", "Sunday"][it.weekday() - 5] if it.weekday() > 4 else "business" if self.is_business(it) else "holiday" for it in days]
+                paid = sorted((it["for"], number, it) for (owner, number), it in self.payments.items()
+                              if owner == name and not it["voided"] and first <= it["for"] <= last)
+                lines += [f"{first} {last} {rule:10} {money(cents):>17} {due}", f"{first} {self.ask_status(name, str(first))}", "PAYDAYS"]
+                lines += [f"{it} {money(sums[it]):>17} {money(sum(sums[d] for d in paydays if d <= it)):>17}" for it in paydays]
+                lines += ["DAYS", *(f"{it} {kind}" for it, kind in zip(days, kinds)), f"RETURN {self.return_due(form, quarter_of(first))}", "PAYMENTS"]
+                lines += [f"{it} {money(p['cents']):>17} {p['paid']} {first} {number}" for it, number, p in paid]
+        return lines_of(lines[0], lines[1:] or ["none"]) if schedule else ""
+
     def asked_of_quarter(self, name, quarter):
         quarter = (int(quarter[:4]), int(quarter[5]))
         self.named(name)
@@ -680,8 +698,11 @@ def one(rng, desk, posted, paid):
         return f"pay {name} {number} {payment(rng, desk.obligations(name))}"
     if kind < 0.63:
         return f"void-pay {name} {rng.randint(0, len(paid.get(name, [])) + 1)}"
-    if kind < 0.73:
+    if kind < 0.69:
         return f"status {name} {some_day(rng)}"
+    if kind < 0.73:
+        rows = desk.obligations(name)
+        return f"explain {name} {rng.choice(rng.choice(rows)[:2]) if rows and rng.random() < 0.7 else some_day(rng)}"
     if kind < 0.76:
         return agenda(rng)
     if kind < 0.77:

@@ -1,11 +1,12 @@
 #!/usr/bin/env python3
-"""What is due over all accounts as a calendar, as CSV and as JSON, read by other programs' readers, beside the rows of the text.
+"""Each list as CSV and as JSON, and what is due over all accounts as a calendar, read by other programs' readers, beside the rows of the text.
 
     python3 bench/formats.py [PROGRAM]
 
 PROGRAM is the path of `ftd`, or that of the build of this repository. It makes a desk with 40 accounts and random pay runs and payments, asks
-`agenda` and `owed` for each week of a quarter in each format, reads the calendar with `icalendar` (Debian's python3-icalendar) and the
-other two with Python's own `csv` and `json`, and compares each row with that of the text. It ends with status 1 at the first that differs.
+`agenda` and `owed` for each week of a quarter in each format, and `due`, `schedule-b` and the lists of what is kept of each account; it
+reads the calendar with `icalendar` (Debian's python3-icalendar) and the other two with Python's own `csv` and `json`, and compares each row
+with that of the text. It ends with status 1 at the first that differs.
 """
 
 import csv
@@ -23,6 +24,7 @@ import icalendar
 
 TOP = os.path.dirname(os.path.dirname(os.path.abspath(__file__)))
 FTD = os.path.join(TOP, "crates", "ftd", "out", "ftd")
+DUE_FIELDS = ["due", "account", "first", "last", "rule", "amount", "paid", "left", "makeup", "verdict"]
 FIELDS = ["due", "account", "form", "first", "last", "rule", "amount", "paid", "left", "pay_by", "verdict"]
 HOLIDAYS = {
     "2024": ["2024-01-01", "2024-01-15", "2024-02-19", "2024-04-16", "2024-05-27", "2024-06-19", "2024-07-04", "2024-09-02"]
@@ -55,6 +57,16 @@ def fill(program, db, chance):
             ask(program, db, "post", name, str(run), str(payday), amount, "0.00", "0.00")
             if chance.random() < 0.5:
                 ask(program, db, "pay", name, str(run), str(payday), str(payday), amount)
+                if chance.random() < 0.2:
+                    ask(program, db, "void-pay", name, str(run))
+            if chance.random() < 0.1:
+                ask(program, db, "void", name, str(run))
+        ask(program, db, "pay", name, "7", "2024-06-30", "2024-06-30", "5.00")
+        if form == "943":
+            ask(program, db, "report-year", name, "2024", "12.50")
+        else:
+            ask(program, db, "report", name, "2024Q1", "12.50")
+    ask(program, db, "add-holiday", "2024-12-24")
 
 
 def text_rows(text):
@@ -104,6 +116,78 @@ def compare(program, db, words, as_of):
     return len(rows)
 
 
+def forms(program, db, words):
+    """The lines of the text of a list, without the first; the records of its CSV, without the first; its JSON."""
+    lines = ask(program, db, *words).decode().splitlines()[1:]
+    records = list(csv.reader(io.StringIO(ask(program, db, *words, "--format", "csv").decode(), newline="")))
+    return lines, records[1:], json.loads(ask(program, db, *words, "--format", "json"))
+
+
+def plain(value):
+    """A value of JSON as it stands in the CSV."""
+    if isinstance(value, bool):
+        return "yes" if value else "no"
+    return "" if value is None else str(value)
+
+
+def left_of(amount, paid):
+    """What is left of an amount."""
+    return str(max(decimal.Decimal(amount) - decimal.Decimal(paid), decimal.Decimal("0.00")))
+
+
+def compare_due(program, db, name, form):
+    """Compares the formats of an account's due list and, on Form 941, of its Schedule B."""
+    words = ["due", name, "2024Q2", "2024-06-30"]
+    lines, records, found = forms(program, db, words)
+    rows = [line.split() for line in lines[:-1]]
+    wanted = [[due, name, first, last, rule, amount, paid, left_of(amount, paid), makeup, verdict]
+              for first, last, rule, amount, due, makeup, paid, verdict in rows]
+    same(words, records, wanted)
+    same(words, found["rows"], [dict(zip(DUE_FIELDS, row)) for row in wanted])
+    same(words, found["amount"], lines[-1].split()[1])
+    same(words, decimal.Decimal(found["left"]), sum((decimal.Decimal(row[7]) for row in wanted), decimal.Decimal(0)))
+    if form == "943":
+        return len(rows)
+    words = ["schedule-b", name, "2024Q2"]
+    lines, records, found = forms(program, db, words)
+    days = [[name, *line.split()] for line in lines if len(line.split()[0]) == 10]
+    same(words, records, days)
+    same(words, found, {"rows": [dict(zip(["account", "day", "amount"], row)) for row in days], "amount": lines[-1].split()[1]})
+    return len(rows) + len(days)
+
+
+def compare_kept(program, db, words, columns):
+    """Compares the formats of a list: `columns` makes a record of CSV of the words of a line of the text. What is void is not in the CSV. The first
+    values of a row of JSON are those of its record, and what it has more is in the text too."""
+    lines, records, found = forms(program, db, words)
+    rows = [line.split() for line in lines]
+    live = [row for row in rows if row[-1] != "void"]
+    same(words, records, [columns(row) for row in live])
+    same(words, [row.get("void", False) for row in found["rows"]], [row[-1] == "void" for row in rows])
+    same(words, [[plain(it) for it in list(row.values())[: len(columns(line))]] for row, line in zip(found["rows"], rows)],
+         [columns(line) for line in rows])
+    for row, line in zip(found["rows"], rows):
+        if "obligation" in row:
+            same(words, row["obligation"] or "none", line[3])
+    return len(rows)
+
+
+def compare_account(program, db, name):
+    """Compares the formats of all that is kept of an account."""
+    def marked(row, mark):
+        return "yes" if mark in row else "no"
+
+    def turned(row):
+        return row[row.index("turned") + 1] if "turned" in row else ""
+
+    return (
+        compare_kept(program, db, ["years", name], lambda row: [name, *row[:3], marked(row, "carried"), turned(row)])
+        + compare_kept(program, db, ["reported", name], lambda row: [name, *row])
+        + compare_kept(program, db, ["runs", name, "2024Q2"], lambda row: [name, row[4], *row[:4]])
+        + compare_kept(program, db, ["payments", name, "2024Q2"], lambda row: [name, row[4], row[2], row[0], row[1]])
+    )
+
+
 def main():
     program = os.path.abspath(sys.argv[1] if len(sys.argv) > 1 else FTD)
     chance = random.Random(5545)
@@ -117,7 +201,12 @@ def main():
             rows += compare(program, db, ["agenda", str(as_of), str(to), str(as_of)], as_of)
             rows += compare(program, db, ["owed", str(as_of)], as_of)
             count += 2
-    print(f"{count} answers, {rows} rows: the same in four formats")
+        print(f"{count} answers, {rows} rows: the same in four formats")
+        accounts = [line.split()[:2] for line in ask(program, db, "accounts").decode().splitlines()[1:]]
+        rows = compare_kept(program, db, ["accounts"], lambda row: [row[0], row[2], "yes" if "carried" in row else "no", row[1]])
+        rows += compare_kept(program, db, ["holidays", "2024"], lambda row: [row[0], "yes" if "added" in row else "no"])
+        rows += sum(compare_due(program, db, *it) + compare_account(program, db, it[0]) for it in accounts)
+    print(f"the lists of {len(accounts)} accounts, {rows} rows: the same in three formats")
 
 
 if __name__ == "__main__":

@@ -12,7 +12,7 @@ FTD = os.path.join(TOP, "crates", "ftd", "out", "ftd")
 # A connection has so many messages at most.
 MESSAGES = 100
 # How the texts begin that are compared as they are.
-LISTS = ("AGENDA", "OWED", "ACCOUNTS", "YEARS", "REPORTED", "HOLIDAYS", "RUNS", "PAYMENTS", "employer,")
+LISTS = ("OBLIGATION", "AGENDA", "OWED", "ACCOUNTS", "YEARS", "REPORTED", "HOLIDAYS", "RUNS", "PAYMENTS", "employer,")
 
 
 def program_of(words):

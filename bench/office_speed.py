@@ -5,7 +5,11 @@
 them semiweekly, with ten open years each and a thousand pay runs an account, imported. Each obligation due before June 2023 is
 paid on its due date. Then `agenda` of June 2023 and `owed` until its end are asked of `ftd serve`, in turn with Python's `sqlite3`
 over a copy of the file, which both have open: ten times each, the medians, in milliseconds, and how many rows there are. The rows have to
-be the same. At the end stands what the command takes, which opens the file and looks through all of it first.
+be the same. Then stands what the command takes, which opens the file and looks through all of it first. At the end `accounts` is asked of an
+office of 10,000 accounts that are enrolled and no more, over HTTP and by the command.
+
+What other work takes of the processors is in these times. Beside them stands the processor time alone (of the server by
+/proc/PID/schedstat).
 """
 
 import csv
@@ -26,6 +30,9 @@ YEARS = range(2014, 2024)
 FROM, TO, AS_OF = "2023-06-01", "2023-06-30", "2023-06-01"
 HOLIDAYS = ("01-01", "07-04", "12-25")
 RUNS, TURNS = 1000, 10
+ENROLLED = 10_000
+# The runs of so many accounts are imported at once: a text has a greatest length.
+TOGETHER = 100
 ROWS = "account, first_day, last_day, rule, cents, due"
 PAID = """(SELECT COALESCE(SUM(p.cents), 0) FROM payment p WHERE p.account = b.account AND p.voided = 0
     AND p.for_day BETWEEN b.first_day AND b.last_day AND p.paid <= {as_of})"""
@@ -51,14 +58,14 @@ def setting_up(accounts):
         yield from (f"open {name} {year}" for year in YEARS)
 
 
-def write_runs(path, accounts, chosen):
-    """A thousand runs an account, by payday."""
+def write_runs(path, some, chosen):
+    """A thousand runs of each of some accounts, by payday."""
     first, last = datetime.date(YEARS[0], 1, 1), datetime.date(YEARS[-1], 12, 31)
     days = [first + datetime.timedelta(chosen.randrange((last - first).days + 1)) for _ in range(RUNS)]
     with open(path, "w", newline="", encoding="utf-8") as file:
         out = csv.writer(file, lineterminator="\n")
         out.writerow(["employer", "run", "payday", "fit", "ss", "medicare"])
-        for name in names(accounts):
+        for name in some:
             for number, day in enumerate(sorted(days), 1):
                 fit = chosen.randrange(10_000, 300_000)
                 out.writerow([name, number, day, f"{fit // 100}.{fit % 100:02}", "120.00", "30.00"])
@@ -80,8 +87,10 @@ def made(program, folder, accounts):
     """An office, in a file."""
     db, text = os.path.join(folder, f"{accounts}.db"), os.path.join(folder, "runs.csv")
     ask(program, db, list(setting_up(accounts)))
-    write_runs(text, accounts, random.Random(accounts))
-    subprocess.run([program, "import", "--db", db, text], check=True, stdout=subprocess.DEVNULL)
+    chosen, all_names = random.Random(accounts), names(accounts)
+    for place in range(0, accounts, TOGETHER):
+        write_runs(text, all_names[place : place + TOGETHER], chosen)
+        subprocess.run([program, "import", "--db", db, text], check=True, stdout=subprocess.DEVNULL)
     tables = sqlite3.connect(f"file:{db}?mode=ro", uri=True)
     owed = tables.execute(f"SELECT {ROWS} FROM bucket WHERE due < ? ORDER BY account, first_day", (day_number(FROM),)).fetchall()
     tables.close()
@@ -99,23 +108,35 @@ def same_rows(printed, listed):
     return ours == [(day_text(row[5]), row[0], day_text(row[1]), row[4]) for row in listed]
 
 
-def clocked(call):
-    """The milliseconds that a call takes, and what it gives."""
-    start = time.perf_counter()
+def served(server):
+    """The nanoseconds of processor time that a server has used."""
+    with open(f"/proc/{server.pid}/schedstat", encoding="ascii") as line:
+        return int(line.read().split()[0])
+
+
+def clocked(call, used=time.process_time_ns):
+    """The milliseconds that a call takes, those of a processor, and what it gives."""
+    before, start = used(), time.perf_counter()
     given = call()
-    return (time.perf_counter() - start) * 1e3, given
+    return (time.perf_counter() - start) * 1e3, (used() - before) / 1e6, given
+
+
+def median(turns, place):
+    return statistics.median(turn[place] for turn in turns)
 
 
 def beside(program, db, question, statement):
-    """Both, ten times in turn: the medians of their milliseconds, and how many rows there are."""
+    """Both, ten times in turn: what each turn took, ours and theirs, and how many rows there are."""
     copy = shutil.copy(db, f"{db}.copy")
     office, tables = Office(program, db, TURNS * MESSAGES), sqlite3.connect(copy)
-    turns = [(clocked(lambda: office.ask_some([question])), clocked(lambda: tables.execute(statement).fetchall())) for _ in range(TURNS)]
+    ours, theirs = [], []
+    for _ in range(TURNS):
+        ours.append(clocked(lambda: office.ask_some([question]), lambda: served(office.server)))
+        theirs.append(clocked(lambda: tables.execute(statement).fetchall()))
+        assert same_rows(ours[-1][2][0], theirs[-1][2]), f"{question}: the rows differ"
     tables.close()
     office.close()
-    for (_, printed), (_, listed) in turns:
-        assert same_rows(printed[0], listed), f"{question}: the rows differ"
-    return [statistics.median(turn[who][0] for turn in turns) for who in (0, 1)], len(turns[0][1][1])
+    return ours, theirs, len(theirs[0][2])
 
 
 def measure(program, db, accounts):
@@ -125,11 +146,28 @@ def measure(program, db, accounts):
         f"owed {AS_OF} {TO}": f"SELECT {ROWS} FROM bucket b WHERE due <= {day_number(TO)} AND {paid} < cents ORDER BY due, account, first_day",
     }
     for question, statement in statements.items():
-        (ours, theirs), rows = beside(program, db, question, statement)
-        print(f"{accounts:5} accounts  {question:35} {rows:6} rows  ftd {ours:7.1f} ms  SQLite {theirs:7.1f} ms  {ours / theirs:5.1f} times", flush=True)
-    command = [program, "owed", "--db", db, AS_OF, TO]
-    took, _ = clocked(lambda: subprocess.run(command, check=True, stdout=subprocess.DEVNULL))
-    print(f"{accounts:5} accounts  the command owed, which opens the file first: {took / 1e3:.1f} s", flush=True)
+        ours, theirs, rows = beside(program, db, question, statement)
+        wall, used = [(median(ours, place), median(theirs, place)) for place in (0, 1)]
+        print(f"{accounts:5} accounts  {question:35} {rows:6} rows  ftd {wall[0]:7.1f} ms  SQLite {wall[1]:7.1f} ms  {wall[0] / wall[1]:5.1f} times"
+              f"  (processor {used[0]:7.1f} and {used[1]:7.1f} ms, {used[0] / used[1]:5.1f} times)", flush=True)
+    print(f"{accounts:5} accounts  the command owed, which opens the file first: {commanded(program, 'owed', '--db', db, AS_OF, TO):.0f} ms", flush=True)
+
+
+def commanded(program, *words):
+    """The milliseconds that a command takes."""
+    return clocked(lambda: subprocess.run([program, *words], check=True, stdout=subprocess.DEVNULL))[0]
+
+
+def list_accounts(program, folder):
+    """`accounts` of many accounts that are enrolled and no more."""
+    db = os.path.join(folder, "enrolled.db")
+    ask(program, db, [f"enrol {name} {YEARS[0]}-01-01" for name in names(ENROLLED)])
+    office = Office(program, db, TURNS * MESSAGES)
+    turns = [clocked(lambda: office.ask_some(["accounts"]), lambda: served(office.server)) for _ in range(TURNS)]
+    office.close()
+    assert all(len(turn[2][0].splitlines()) == ENROLLED + 1 for turn in turns)
+    command = statistics.median(commanded(program, "accounts", "--db", db) for _ in range(TURNS))
+    print(f"{ENROLLED} accounts  accounts: {median(turns, 0):.0f} ms (processor {median(turns, 1):.0f} ms), the command {command:.0f} ms", flush=True)
 
 
 def main():
@@ -142,6 +180,7 @@ def main():
             db = made(program, folder, accounts)
             print(f"{accounts} accounts, {accounts * RUNS} runs: made in {time.perf_counter() - start:.0f} s, {os.path.getsize(db) // 1_000_000} MB")
             measure(program, db, accounts)
+        list_accounts(program, folder)
 
 
 main()

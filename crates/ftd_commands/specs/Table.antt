@@ -22,6 +22,7 @@ name_text name.Void = codes "void"
 name_text name.Pay = codes "pay"
 name_text name.VoidPay = codes "void-pay"
 name_text name.Status = codes "status"
+name_text name.Explain = codes "explain"
 name_text name.Due = codes "due"
 name_text name.Agenda = codes "agenda"
 name_text name.Owed = codes "owed"
@@ -55,18 +56,20 @@ words_of name.Pay =
     word.Db ∷ word.Wait ∷ word.Account ∷ word.Payment ∷ word.Paid ∷ word.For ∷ word.Amount ∷ []
 words_of name.VoidPay = word.Db ∷ word.Wait ∷ word.Account ∷ word.Payment ∷ []
 words_of name.Status = word.Db ∷ word.Wait ∷ word.Account ∷ word.Day ∷ []
-words_of name.Due = word.Db ∷ word.Wait ∷ word.Account ∷ word.Quarter ∷ word.AsOf ∷ []
+words_of name.Explain = word.Db ∷ word.Wait ∷ word.Account ∷ word.Day ∷ []
+words_of name.Due =
+    word.Db ∷ word.Wait ∷ word.ListFormat ∷ word.Account ∷ word.Quarter ∷ word.AsOf ∷ []
 words_of name.Agenda =
     word.Db ∷ word.Wait ∷ word.Format ∷ word.From ∷ word.To ∷ word.AsOf ∷ []
 words_of name.Owed = word.Db ∷ word.Wait ∷ word.Format ∷ word.AsOf ∷ word.Until ∷ []
-words_of name.ScheduleB = word.Db ∷ word.Wait ∷ word.Account ∷ word.Quarter ∷ []
+words_of name.ScheduleB = word.Db ∷ word.Wait ∷ word.ListFormat ∷ word.Account ∷ word.Quarter ∷ []
 words_of name.AddHoliday = word.Db ∷ word.Wait ∷ word.Day ∷ []
-words_of name.Accounts = word.Db ∷ word.Wait ∷ []
-words_of name.Years = word.Db ∷ word.Wait ∷ word.Account ∷ []
-words_of name.Reported = word.Db ∷ word.Wait ∷ word.Account ∷ []
-words_of name.Holidays = word.Db ∷ word.Wait ∷ word.Year ∷ []
-words_of name.Runs = word.Db ∷ word.Wait ∷ word.RunsFormat ∷ word.Account ∷ word.Quarter ∷ []
-words_of name.Payments = word.Db ∷ word.Wait ∷ word.Account ∷ word.Quarter ∷ []
+words_of name.Accounts = word.Db ∷ word.Wait ∷ word.ListFormat ∷ []
+words_of name.Years = word.Db ∷ word.Wait ∷ word.ListFormat ∷ word.Account ∷ []
+words_of name.Reported = word.Db ∷ word.Wait ∷ word.ListFormat ∷ word.Account ∷ []
+words_of name.Holidays = word.Db ∷ word.Wait ∷ word.ListFormat ∷ word.Year ∷ []
+words_of name.Runs = word.Db ∷ word.Wait ∷ word.ListFormat ∷ word.Account ∷ word.Quarter ∷ []
+words_of name.Payments = word.Db ∷ word.Wait ∷ word.ListFormat ∷ word.Account ∷ word.Quarter ∷ []
 
 -- the name of the word
 abbrev pub word_text : Word → List ℕ
@@ -101,7 +104,7 @@ word_text word.From = codes "FROM"
 word_text word.To = codes "TO"
 word_text word.Until = codes "UNTIL"
 word_text word.Format = codes "format"
-word_text word.RunsFormat = codes "format"
+word_text word.ListFormat = codes "format"
 
 -- a word that stands behind two hyphens
 abbrev pub is_option : Word → Bool
@@ -136,7 +139,7 @@ is_option word.From = false
 is_option word.To = false
 is_option word.Until = false
 is_option word.Format = true
-is_option word.RunsFormat = true
+is_option word.ListFormat = true
 
 -- what the word takes
 abbrev pub takes_of : Word → Takes
@@ -171,7 +174,7 @@ takes_of word.From = takes.Text
 takes_of word.To = takes.Text
 takes_of word.Until = takes.Optional
 takes_of word.Format = takes.Format
-takes_of word.RunsFormat = takes.Format
+takes_of word.ListFormat = takes.Format
 
 -- what takes any number of values
 abbrev pub takes_many : Takes → Bool
@@ -183,6 +186,6 @@ abbrev pub all_names : List Name
 all_names =
     name.Calendar ∷ name.Enrol ∷ name.Report ∷ name.ReportYear ∷ name.OpenYear ∷ name.Post
     ∷ name.Import ∷ name.Due
-    ∷ name.Agenda ∷ name.Owed ∷ name.Pay ∷ name.Status ∷ name.ScheduleB ∷ name.Accounts
-    ∷ name.Years ∷ name.Reported ∷ name.Holidays ∷ name.Runs ∷ name.Payments ∷ name.Void
+    ∷ name.Agenda ∷ name.Owed ∷ name.Pay ∷ name.Status ∷ name.Explain ∷ name.ScheduleB
+    ∷ name.Accounts ∷ name.Years ∷ name.Reported ∷ name.Holidays ∷ name.Runs ∷ name.Payments ∷ name.Void
     ∷ name.VoidPay ∷ name.AddHoliday ∷ name.Plain ∷ name.Serve ∷ []

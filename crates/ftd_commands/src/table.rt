@@ -6,7 +6,7 @@ ghost use Rattle.ftd_commands.specs.Table.{words_of};
 
 use Word::{
     Account, Amount, AsOf, Carried, Connections, CsvFile, Day, Days, Db, Duration, Fit, For, Form,
-    Format, From, Holidays, Idle, Medicare, Paid, Payday, Payment, Port, Quarter, Run, RunsFormat,
+    Format, From, Holidays, Idle, ListFormat, Medicare, Paid, Payday, Payment, Port, Quarter, Run,
     Silence, Ss, Start, To, Until, Wait, Year,
 };
 
@@ -53,6 +53,7 @@ pub enum Name {
     Pay,
     VoidPay,
     Status,
+    Explain,
     Due,
     Agenda,
     Owed,
@@ -100,7 +101,7 @@ pub enum Word {
     To,
     Until,
     Format,
-    RunsFormat,
+    ListFormat,
 }
 
 impl Name {
@@ -122,6 +123,7 @@ impl Name {
             Name::Pay => "pay",
             Name::VoidPay => "void-pay",
             Name::Status => "status",
+            Name::Explain => "explain",
             Name::Due => "due",
             Name::Agenda => "agenda",
             Name::Owed => "owed",
@@ -154,17 +156,18 @@ impl Name {
             Name::Pay => &[Db, Wait, Account, Payment, Paid, For, Amount],
             Name::VoidPay => &[Db, Wait, Account, Payment],
             Name::Status => &[Db, Wait, Account, Day],
-            Name::Due => &[Db, Wait, Account, Quarter, AsOf],
+            Name::Explain => &[Db, Wait, Account, Day],
+            Name::Due => &[Db, Wait, ListFormat, Account, Quarter, AsOf],
             Name::Agenda => &[Db, Wait, Format, From, To, AsOf],
             Name::Owed => &[Db, Wait, Format, AsOf, Until],
-            Name::ScheduleB => &[Db, Wait, Account, Quarter],
+            Name::ScheduleB => &[Db, Wait, ListFormat, Account, Quarter],
             Name::AddHoliday => &[Db, Wait, Day],
-            Name::Accounts => &[Db, Wait],
-            Name::Years => &[Db, Wait, Account],
-            Name::Reported => &[Db, Wait, Account],
-            Name::Holidays => &[Db, Wait, Year],
-            Name::Runs => &[Db, Wait, RunsFormat, Account, Quarter],
-            Name::Payments => &[Db, Wait, Account, Quarter],
+            Name::Accounts => &[Db, Wait, ListFormat],
+            Name::Years => &[Db, Wait, ListFormat, Account],
+            Name::Reported => &[Db, Wait, ListFormat, Account],
+            Name::Holidays => &[Db, Wait, ListFormat, Year],
+            Name::Runs => &[Db, Wait, ListFormat, Account, Quarter],
+            Name::Payments => &[Db, Wait, ListFormat, Account, Quarter],
         }
     }
 
@@ -184,6 +187,7 @@ impl Name {
             Name::Pay => "Record a deposit that was paid",
             Name::VoidPay => "Void a recorded deposit",
             Name::Status => "Say whether an account is a monthly or a semiweekly depositor",
+            Name::Explain => "Say why the deposit for a day is so: its days, amount and due date",
             Name::Due => "List the deposits of a quarter: how much, by which day, paid or not",
             Name::Agenda => "List what is due between two days, over all accounts",
             Name::Owed => "List what is due and not paid, over all accounts",
@@ -216,6 +220,7 @@ impl Name {
             Name::Pay => "Example: ftd pay --db office.db elm 1 2024-06-17 2024-05-08 40000.00",
             Name::VoidPay => "Example: ftd void-pay --db office.db elm 1",
             Name::Status => "Example: ftd status --db office.db elm 2024-05-08",
+            Name::Explain => "Example: ftd explain --db office.db elm 2024-05-08",
             Name::Due => "Example: ftd due --db office.db elm 2024Q2 2024-06-30",
             Name::Agenda => {
                 "Example: ftd agenda --db office.db 2024-06-10 2024-06-17 2024-06-10"
@@ -270,7 +275,7 @@ impl Word {
             Word::To => "TO",
             Word::Until => "UNTIL",
             Word::Format => "format",
-            Word::RunsFormat => "format",
+            Word::ListFormat => "format",
         }
     }
 
@@ -290,7 +295,7 @@ impl Word {
                 | Word::Carried
                 | Word::Form
                 | Word::Format
-                | Word::RunsFormat
+                | Word::ListFormat
         )
     }
 
@@ -330,7 +335,7 @@ impl Word {
             Word::To => Takes::Text,
             Word::Until => Takes::Optional,
             Word::Format => Takes::Format,
-            Word::RunsFormat => Takes::Format,
+            Word::ListFormat => Takes::Format,
         }
     }
 
@@ -346,7 +351,7 @@ impl Word {
         match self {
             Word::Db => "FILE",
             Word::Form => "FORM",
-            Word::Format | Word::RunsFormat => "FORMAT",
+            Word::Format | Word::ListFormat => "FORMAT",
             Word::Port | Word::Connections => "N",
             Word::Wait | Word::Idle | Word::Silence | Word::Duration => "SECONDS",
             word => word.text(),
@@ -390,13 +395,13 @@ impl Word {
             Word::To => "The last due date, YYYY-MM-DD",
             Word::Until => "The last due date, YYYY-MM-DD; a week after ASOF if it is left out",
             Word::Format => "The format of the list: text, csv, json or ics",
-            Word::RunsFormat => "The format of the list: text, or csv as it is imported",
+            Word::ListFormat => "The format of the list: text, csv or json",
         }
     }
 }
 
 /// The subcommands, as help lists them: in the order in which an employer needs them.
-pub const NAMES: [Name; 24] = [
+pub const NAMES: [Name; 25] = [
     Name::Calendar,
     Name::Enrol,
     Name::Report,
@@ -409,6 +414,7 @@ pub const NAMES: [Name; 24] = [
     Name::Owed,
     Name::Pay,
     Name::Status,
+    Name::Explain,
     Name::ScheduleB,
     Name::Accounts,
     Name::Years,

@@ -6,26 +6,27 @@ use Rattle.ftd_days.specs.Text.{day_text}
 use Rattle.ftd_messages.specs.declared.status.Status.TheVariants as status
 use Rattle.ftd_machine.specs.Questions.{question_of}
 use Rattle.ftd_machine.specs.declared.requests.Question.{Question}
-use Rattle.ftd_machine.specs.declared.requests.Question.TheVariants.{Status, DueList, ScheduleB}
-use Rattle.ftd_machine.specs.declared.requests.Question.TheVariants.{Agenda, Owed, Kept}
+use Rattle.ftd_machine.specs.declared.requests.Question.TheVariants.{Status, Explain, DueList}
+use Rattle.ftd_machine.specs.declared.requests.Question.TheVariants.{ScheduleB, Agenda, Owed, Kept}
 use Rattle.ftd_machine.specs.declared.requests.Request.{Request}
 use Rattle.ftd_rules.specs.declared.Kind.{Kind}
 use Rattle.ftd_rules.specs.declared.Kind.TheVariants.{Monthly, Semiweekly}
+use Rattle.ftd_machine.specs.declared.explained.Explanation.{Explanation}
 use Rattle.ftd_machine.specs.declared.kept.KeptRows.{KeptRows}
 use Rattle.ftd_machine.specs.declared.lists.AgendaRow.{AgendaRow}
 use Rattle.ftd_machine.specs.declared.replies.Reason.{Reason}
 use Rattle.ftd_machine.specs.declared.replies.Reason.TheVariants.{Lookback, Turned, Carried}
 use Rattle.ftd_machine.specs.declared.replies.Reply.{Reply}
 use Rattle.ftd_machine.specs.declared.replies.Reply.TheVariants as reply
-use Rattle.ftd_listings.specs.Listings.{kept_as}
-use Rattle.ftd_reports.specs.Formats.{agenda_as, owed_as}
-use Rattle.ftd_reports.specs.declared.formats.Format.{Format}
-use Rattle.ftd_reports.specs.DueLists.{due_text}
-use Rattle.ftd_reports.specs.SchedulesB.{b_text}
+use Rattle.ftd_formats.specs.Formats.{agenda_as, b_as, due_as, list_format, owed_as}
+use Rattle.ftd_formats.specs.declared.formats.Format.{Format}
+use Rattle.ftd_formats.specs.declared.formats.ListFormat.TheVariants.{Text}
+use Rattle.ftd_listings.specs.Explanations.{explanation_told}
+use Rattle.ftd_listings.specs.KeptForms.{kept_as}
 use Rattle.ftd_rules.specs.declared.DaySum.{DaySum}
 use Rattle.ftd_rules.specs.declared.verdict.DueRow.{DueRow}
 use Rattle.ftd_machine.specs.Checks.{Answer}
-use Rattle.ftd_connections.specs.Responses.{Said, bare, json, plain, formatted}
+use Rattle.ftd_connections.specs.Responses.{Said, bare, json, formatted, told}
 use Rattle.ftd_connections.specs.Responses.{other_method}
 use Rattle.ftd_connections.specs.Refusals.{refused}
 use Rattle.ftd_routes.specs.declared.ask.Asked.{Asked}
@@ -57,6 +58,7 @@ schedule_text day kind reason =
 abbrev pub scheduled : Option Question → Kind → Reason → Said
 scheduled (Some (Status account day)) kind reason =
     json status.Okay (schedule_text day kind reason)
+scheduled (Some (Explain account day)) kind reason = bare status.InternalServerError
 scheduled (Some (DueList account quarter as_of)) kind reason = bare status.InternalServerError
 scheduled (Some (ScheduleB account quarter)) kind reason = bare status.InternalServerError
 scheduled (Some (Agenda from to as_of)) kind reason = bare status.InternalServerError
@@ -64,30 +66,34 @@ scheduled (Some (Owed until as_of)) kind reason = bare status.InternalServerErro
 scheduled (Some (Kept asked)) kind reason = bare status.InternalServerError
 scheduled None kind reason = bare status.InternalServerError
 
--- the response to the rows of a due list that a request asked for
-abbrev pub listed : Option Question → List DueRow → Said
-listed (Some (Status account day)) rows = bare status.InternalServerError
-listed (Some (DueList account quarter as_of)) rows =
-    plain (due_text account quarter as_of rows)
-listed (Some (ScheduleB account quarter)) rows = bare status.InternalServerError
-listed (Some (Agenda from to as_of)) rows = bare status.InternalServerError
-listed (Some (Owed until as_of)) rows = bare status.InternalServerError
-listed (Some (Kept asked)) rows = bare status.InternalServerError
-listed None rows = bare status.InternalServerError
+-- the response to the rows of a due list that a request asked for, in a format
+abbrev pub listed : Format → Option Question → List DueRow → Said
+listed format (Some (Status account day)) rows = bare status.InternalServerError
+listed format (Some (Explain account day)) rows = bare status.InternalServerError
+listed format (Some (DueList account quarter as_of)) rows =
+    told (list_format format) (due_as (list_format format) account quarter as_of rows)
+listed format (Some (ScheduleB account quarter)) rows = bare status.InternalServerError
+listed format (Some (Agenda from to as_of)) rows = bare status.InternalServerError
+listed format (Some (Owed until as_of)) rows = bare status.InternalServerError
+listed format (Some (Kept asked)) rows = bare status.InternalServerError
+listed format None rows = bare status.InternalServerError
 
--- the response to the days of a Schedule B that a request asked for
-abbrev pub summed : Option Question → List DaySum → Said
-summed (Some (Status account day)) sums = bare status.InternalServerError
-summed (Some (DueList account quarter as_of)) sums = bare status.InternalServerError
-summed (Some (ScheduleB account quarter)) sums = plain (b_text account quarter sums)
-summed (Some (Agenda from to as_of)) sums = bare status.InternalServerError
-summed (Some (Owed until as_of)) sums = bare status.InternalServerError
-summed (Some (Kept asked)) sums = bare status.InternalServerError
-summed None sums = bare status.InternalServerError
+-- the response to the days of a Schedule B that a request asked for, in a format
+abbrev pub summed : Format → Option Question → List DaySum → Said
+summed format (Some (Status account day)) sums = bare status.InternalServerError
+summed format (Some (Explain account day)) sums = bare status.InternalServerError
+summed format (Some (DueList account quarter as_of)) sums = bare status.InternalServerError
+summed format (Some (ScheduleB account quarter)) sums =
+    told (list_format format) (b_as (list_format format) account quarter sums)
+summed format (Some (Agenda from to as_of)) sums = bare status.InternalServerError
+summed format (Some (Owed until as_of)) sums = bare status.InternalServerError
+summed format (Some (Kept asked)) sums = bare status.InternalServerError
+summed format None sums = bare status.InternalServerError
 
 -- the response to the rows of what is due over all accounts that a request asked for, in a format
 abbrev pub gathered : Format → Option Question → List AgendaRow → Said
 gathered format (Some (Status account day)) rows = bare status.InternalServerError
+gathered format (Some (Explain account day)) rows = bare status.InternalServerError
 gathered format (Some (DueList account quarter as_of)) rows = bare status.InternalServerError
 gathered format (Some (ScheduleB account quarter)) rows = bare status.InternalServerError
 gathered format (Some (Agenda from to as_of)) rows =
@@ -100,23 +106,37 @@ gathered format None rows = bare status.InternalServerError
 -- the response to what is kept, as far as a request asked for it, in a format
 abbrev pub kept_said : Format → Option Question → KeptRows → Said
 kept_said format (Some (Status account day)) rows = bare status.InternalServerError
+kept_said format (Some (Explain account day)) rows = bare status.InternalServerError
 kept_said format (Some (DueList account quarter as_of)) rows = bare status.InternalServerError
 kept_said format (Some (ScheduleB account quarter)) rows = bare status.InternalServerError
 kept_said format (Some (Agenda from to as_of)) rows = bare status.InternalServerError
 kept_said format (Some (Owed until as_of)) rows = bare status.InternalServerError
-kept_said format (Some (Kept asked)) rows = formatted format (kept_as format asked rows)
+kept_said format (Some (Kept asked)) rows =
+    told (list_format format) (kept_as (list_format format) asked rows)
 kept_said format None rows = bare status.InternalServerError
 
--- The response to a reply, in a format where it tells of all accounts or of what is kept. One that
--- does not fit its request, which the desk does not give, is a fault of the server.
+-- the response to why an obligation is so that a request asked for: its text
+abbrev pub why_said : Option Question → Option Explanation → Said
+why_said (Some (Status account day)) explained = bare status.InternalServerError
+why_said (Some (Explain account day)) explained = told Text (explanation_told account day explained)
+why_said (Some (DueList account quarter as_of)) explained = bare status.InternalServerError
+why_said (Some (ScheduleB account quarter)) explained = bare status.InternalServerError
+why_said (Some (Agenda from to as_of)) explained = bare status.InternalServerError
+why_said (Some (Owed until as_of)) explained = bare status.InternalServerError
+why_said (Some (Kept asked)) explained = bare status.InternalServerError
+why_said None explained = bare status.InternalServerError
+
+-- The response to a reply, in a format where it is a list. One that does not fit its request, which
+-- the desk does not give, is a fault of the server.
 abbrev pub replied : Format → Request → Reply → Said
 replied format request reply.Done = json status.Okay (codes "{\"reply\":\"done\"}")
 replied format request reply.Already = json status.Okay (codes "{\"reply\":\"already\"}")
 replied format request (reply.Posted from to removed added) =
     json status.Okay (posted_text from to removed added)
 replied format request (reply.Status kind reason) = scheduled (question_of request) kind reason
-replied format request (reply.Due rows) = listed (question_of request) rows
-replied format request (reply.Days sums) = summed (question_of request) sums
+replied format request (reply.Explained explained) = why_said (question_of request) explained
+replied format request (reply.Due rows) = listed format (question_of request) rows
+replied format request (reply.Days sums) = summed format (question_of request) sums
 replied format request (reply.Agenda rows) = gathered format (question_of request) rows
 replied format request (reply.Kept rows) = kept_said format (question_of request) rows
 

@@ -5,8 +5,10 @@ use Rattle.std.specs.List.{concat}
 use Rattle.std.specs.Fmt.{decimal}
 use Rattle.ftd_messages.specs.declared.status.Status.{Status}
 use Rattle.ftd_messages.specs.declared.status.Status.TheVariants as status
-use Rattle.ftd_reports.specs.declared.formats.Format.{Format}
-use Rattle.ftd_reports.specs.declared.formats.Format.TheVariants as format
+use Rattle.ftd_formats.specs.declared.formats.Format.{Format}
+use Rattle.ftd_formats.specs.declared.formats.Format.TheVariants as format
+use Rattle.ftd_formats.specs.declared.formats.ListFormat.{ListFormat}
+use Rattle.ftd_formats.specs.declared.formats.ListFormat.TheVariants.{Text, Csv, Json}
 use Rattle.ftd_routes.specs.declared.ask.Method.{Method}
 use Rattle.ftd_routes.specs.Asking.{method_text}
 use Rattle.ftd_connections.specs.declared.response.Content.{Content}
@@ -36,20 +38,22 @@ other_method method = record (bare status.MethodNotAllowed) { allow = Some metho
 abbrev pub json : Status → List ℕ → Said
 json status body = record { status = status; allow = None; content = content.Json; body = body }
 
--- a response with the text of a report
-abbrev pub plain : List ℕ → Said
-plain body = record { status = status.Okay; allow = None; content = content.Text; body = body }
+-- a response with the text of a report in a format, and one with a list
+abbrev pub list_content : ListFormat → Content
+list_content Text = content.Text
+list_content Csv = content.Csv
+list_content Json = content.Json
 
--- a response with the text of a report in a format
 abbrev pub content_of : Format → Content
-content_of format.Text = content.Text
-content_of format.Csv = content.Csv
-content_of format.Json = content.Json
+content_of (format.List of_list) = list_content of_list
 content_of format.Calendar = content.Calendar
 
 abbrev pub formatted : Format → List ℕ → Said
 formatted format body =
     record { status = status.Okay; allow = None; content = content_of format; body = body }
+
+abbrev pub told : ListFormat → List ℕ → Said
+told of_list body = formatted (format.List of_list) body
 
 -- the end of a line
 abbrev pub line_end : List ℕ

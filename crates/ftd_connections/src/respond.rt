@@ -4,26 +4,31 @@ ghost use Rattle.std.specs.Prelude.{◌≡◌, ◌⊎◌, ◌<◌, true, IfOk, O
 ghost use Rattle.ftd_machine.specs.Questions.{question_of};
 ghost use Rattle.ftd_connections.specs.Responses.{Said, said_of, json};
 ghost use Rattle.std.specs.List.{flat_map};
-ghost use Rattle.ftd_reports.specs.Formats.{agenda_as, owed_as};
+ghost use Rattle.ftd_formats.specs.Dues.{due_csv, due_json};
+ghost use Rattle.ftd_formats.specs.Formats.{agenda_as, b_as, due_as, owed_as};
 ghost use Rattle.ftd_reports.specs.DueLists.{due_text};
-ghost use Rattle.ftd_reports.specs.SchedulesB.{b_text};
 ghost use Rattle.ftd_connections.specs.Refusals.{refused};
 ghost use Rattle.ftd_connections.specs.Replying.{Responds, answered, replied, scheduled, listed};
-ghost use Rattle.ftd_listings.specs.Listings.{kept_as};
-ghost use Rattle.ftd_connections.specs.Replying.{summed, gathered, kept_said, schedule_text};
+ghost use Rattle.ftd_listings.specs.Explanations.{explanation_told};
+ghost use Rattle.ftd_listings.specs.KeptForms.{kept_as};
+ghost use Rattle.ftd_connections.specs.Replying.{summed, gathered, kept_said, schedule_text, why_said};
 ghost use Rattle.ftd_connections.specs.Replying.{kind_text, reason_text, posted_text};
 
 use crate::machine::Machine;
 use crate::refusals::refused;
-use crate::response::{Response, add_number, bare, formatted, json, other_method, plain};
+use crate::response::{Response, add_number, bare, formatted, json, other_method, told};
 use ftd_days::{Day, Quarter};
-use ftd_listings::write_kept_as;
+use ftd_formats::{
+    Format, ListFormat, write_agenda_as, write_b_as, write_due_csv, write_due_json, write_owed_as,
+};
+use ftd_listings::{write_explanation, write_kept_as};
 use ftd_machine::{
-    AgendaRow, Answer, Kept, KeptRows, Question, Reason, Reply, Request, are_sums_bounded,
+    AgendaRow, Answer, Explanation, Kept, KeptRows, Question, Reason, Reply, Request,
+    are_sums_bounded,
 };
 use ftd_messages::Status;
 use ftd_ports::Port;
-use ftd_reports::{DueText, Format, day_bytes, schedule_b, write_agenda_as, write_owed_as};
+use ftd_reports::{DueText, day_bytes};
 use ftd_routes::Asked;
 use ftd_rules::{DaySum, DueRow, DueSink, Kind};
 use std::alloc::{AllocError, Global};
@@ -95,8 +100,9 @@ fn replied(
             added,
         } => posted(alloc, *from, *to, *removed, *added),
         Reply::Status { kind, reason } => scheduled(alloc, request, *kind, *reason),
-        Reply::Due(rows) => listed(alloc, request, rows.as_slice()),
-        Reply::Days(sums) => summed(alloc, request, sums.as_slice()),
+        Reply::Explained(explained) => why_said(alloc, request, explained),
+        Reply::Due(rows) => listed(alloc, format, request, rows.as_slice()),
+        Reply::Days(sums) => summed(alloc, format, request, sums.as_slice()),
         Reply::Agenda(rows) => gathered(alloc, format, request, rows.as_slice()),
         Reply::Kept(rows) => kept_said(alloc, format, request, rows),
     }
@@ -161,7 +167,8 @@ fn scheduled(
             Ok(json(Status::Okay, schedule_text(alloc, *day, kind, reason)?))
         }
         Some(
-            Question::DueList { .. }
+            Question::Explain { .. }
+            | Question::DueList { .. }
             | Question::ScheduleB { .. }
             | Question::Agenda { .. }
             | Question::Owed { .. }
@@ -210,10 +217,15 @@ fn reason_text(alloc: Global, reason: Reason) -> Result<Vec<u8>, AllocError>
     }
 }
 
-/// The response with a due list that a request asked for.
-fn listed(alloc: Global, request: &Request, rows: &[DueRow]) -> Result<Response, AllocError>
+/// The response with a due list that a request asked for, in a format.
+fn listed(
+    alloc: Global,
+    format: Format,
+    request: &Request,
+    rows: &[DueRow],
+) -> Result<Response, AllocError>
     ensures { IfOk result
-        (λ response. said_of response ≡ listed (question_of request.now) rows.now) }
+        (λ response. said_of response ≡ listed format (question_of request.now) rows.now) }
 {
     match request.question() {
         Some(
@@ -222,15 +234,61 @@ fn listed(alloc: Global, request: &Request, rows: &[DueRow]) -> Result<Response,
                 quarter,
                 as_of,
             },
-        ) => Ok(plain(due_text(alloc, account.as_str(), *quarter, *as_of, rows)?)),
+        ) => {
+            let format = format.of_list();
+            let text = due_list_text(alloc, format, account.as_str(), *quarter, *as_of, rows)?;
+            Ok(told(format, text))
+        }
         Some(
             Question::Status { .. }
+            | Question::Explain { .. }
             | Question::ScheduleB { .. }
             | Question::Agenda { .. }
             | Question::Owed { .. }
             | Question::Kept(_),
         )
         | None => Ok(bare(alloc, Status::InternalServerError)),
+    }
+}
+
+/// The text of a due list in a format.
+fn due_list_text(
+    alloc: Global,
+    format: ListFormat,
+    account: &str,
+    quarter: Quarter,
+    as_of: Day,
+    rows: &[DueRow],
+) -> Result<Vec<u8>, AllocError>
+    ensures { IfOk result
+        (λ text. text.items ≡ due_as format account.now quarter as_of rows.now) }
+{
+    match format {
+        ListFormat::Text => due_text(alloc, account, quarter, as_of, rows),
+        ListFormat::Csv => due_csv(alloc, account, rows),
+        ListFormat::Json => due_json(alloc, account, rows),
+    }
+}
+
+/// A due list as CSV.
+fn due_csv(alloc: Global, account: &str, rows: &[DueRow]) -> Result<Vec<u8>, AllocError>
+    ensures { IfOk result (λ text. text.items ≡ due_csv account.now rows.now) }
+{
+    let mut port = Port::new(Vec::new(alloc));
+    match write_due_csv(account, rows, &mut port) {
+        Ok(()) => Ok(port.into_inner()),
+        Err(_) => Err(AllocError),
+    }
+}
+
+/// A due list as JSON.
+fn due_json(alloc: Global, account: &str, rows: &[DueRow]) -> Result<Vec<u8>, AllocError>
+    ensures { IfOk result (λ text. text.items ≡ due_json account.now rows.now) }
+{
+    let mut port = Port::new(Vec::new(alloc));
+    match write_due_json(account, rows, &mut port) {
+        Ok(()) => Ok(port.into_inner()),
+        Err(_) => Err(AllocError),
     }
 }
 
@@ -262,17 +320,25 @@ fn due_text(
     }
 }
 
-/// The response with the Schedule B that a request asked for.
-fn summed(alloc: Global, request: &Request, sums: &[DaySum]) -> Result<Response, AllocError>
+/// The response with the Schedule B that a request asked for, in a format.
+fn summed(
+    alloc: Global,
+    format: Format,
+    request: &Request,
+    sums: &[DaySum],
+) -> Result<Response, AllocError>
     ensures { IfOk result
-        (λ response. said_of response ≡ summed (question_of request.now) sums.now) }
+        (λ response. said_of response ≡ summed format (question_of request.now) sums.now) }
 {
     match request.question() {
         Some(Question::ScheduleB { account, quarter }) => {
-            Ok(plain(schedule_b_text(alloc, account.as_str(), *quarter, sums)?))
+            let format = format.of_list();
+            let text = schedule_b_text(alloc, format, account.as_str(), *quarter, sums)?;
+            Ok(told(format, text))
         }
         Some(
             Question::Status { .. }
+            | Question::Explain { .. }
             | Question::DueList { .. }
             | Question::Agenda { .. }
             | Question::Owed { .. }
@@ -282,21 +348,22 @@ fn summed(alloc: Global, request: &Request, sums: &[DaySum]) -> Result<Response,
     }
 }
 
-/// The text of a Schedule B. The sums that a desk answers come to less than
+/// The text of a Schedule B in a format. The sums that a desk answers come to less than
 /// 6,000,000,000,000,000 cents; others have no text.
 fn schedule_b_text(
     alloc: Global,
+    format: ListFormat,
     account: &str,
     quarter: Quarter,
     sums: &[DaySum],
 ) -> Result<Vec<u8>, AllocError>
-    ensures { IfOk result (λ text. text.items ≡ b_text account.now quarter sums.now) }
+    ensures { IfOk result (λ text. text.items ≡ b_as format account.now quarter sums.now) }
 {
     if !are_sums_bounded(sums) {
         return Err(AllocError);
     }
     let mut port = Port::new(Vec::new(alloc));
-    match schedule_b(account, quarter, sums, &mut port) {
+    match write_b_as(format, account, quarter, sums, &mut port) {
         Ok(()) => Ok(port.into_inner()),
         Err(_) => Err(AllocError),
     }
@@ -323,6 +390,7 @@ fn gathered(
         }
         Some(
             Question::Status { .. }
+            | Question::Explain { .. }
             | Question::DueList { .. }
             | Question::ScheduleB { .. }
             | Question::Kept(_),
@@ -378,11 +446,13 @@ fn kept_said(
 {
     match request.question() {
         Some(Question::Kept(asked)) => {
+            let format = format.of_list();
             let text = kept_text(alloc, format, asked, rows)?;
-            Ok(formatted(format, text))
+            Ok(told(format, text))
         }
         Some(
             Question::Status { .. }
+            | Question::Explain { .. }
             | Question::DueList { .. }
             | Question::ScheduleB { .. }
             | Question::Agenda { .. }
@@ -395,7 +465,7 @@ fn kept_said(
 /// The text of what is kept, in a format.
 fn kept_text(
     alloc: Global,
-    format: Format,
+    format: ListFormat,
     asked: &Kept,
     rows: &KeptRows,
 ) -> Result<Vec<u8>, AllocError>
@@ -403,6 +473,48 @@ fn kept_text(
 {
     let mut port = Port::new(Vec::new(alloc));
     match write_kept_as(format, asked, rows, &mut port) {
+        Ok(()) => Ok(port.into_inner()),
+        Err(_) => Err(AllocError),
+    }
+}
+
+/// The response to why an obligation is so.
+fn why_said(
+    alloc: Global,
+    request: &Request,
+    explained: &Option<Explanation>,
+) -> Result<Response, AllocError>
+    ensures { IfOk result
+        (λ response. said_of response ≡ why_said (question_of request.now) explained.now) }
+{
+    match request.question() {
+        Some(Question::Explain { account, day }) => {
+            let text = why_text(alloc, account.as_str(), *day, explained)?;
+            Ok(told(ListFormat::Text, text))
+        }
+        Some(
+            Question::Status { .. }
+            | Question::DueList { .. }
+            | Question::ScheduleB { .. }
+            | Question::Agenda { .. }
+            | Question::Owed { .. }
+            | Question::Kept(_),
+        )
+        | None => Ok(bare(alloc, Status::InternalServerError)),
+    }
+}
+
+/// The text of why an obligation is so.
+fn why_text(
+    alloc: Global,
+    account: &str,
+    day: Day,
+    explained: &Option<Explanation>,
+) -> Result<Vec<u8>, AllocError>
+    ensures { IfOk result (λ text. text.items ≡ explanation_told account.now day explained.now) }
+{
+    let mut port = Port::new(Vec::new(alloc));
+    match write_explanation(account, day, explained, &mut port) {
         Ok(()) => Ok(port.into_inner()),
         Err(_) => Err(AllocError),
     }

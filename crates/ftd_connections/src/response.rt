@@ -4,14 +4,15 @@ ghost use Rattle.std.specs.Prelude.{◌≡◌, ◌++◌, true, Some, IfOk, OnOk,
 ghost use Rattle.std.specs.Fmt.{decimal};
 ghost use Rattle.std.specs.Io.KnownBytes.{Appends};
 ghost use Rattle.ftd_ports.specs.Writing.{WritesPrefix};
-ghost use Rattle.ftd_connections.specs.Responses.{said_of, bare, json, plain, formatted};
+ghost use Rattle.ftd_connections.specs.Responses.{said_of, bare, json, formatted, list_content};
+ghost use Rattle.ftd_connections.specs.Responses.{told};
 ghost use Rattle.ftd_connections.specs.Responses.{content_of, other_method};
 ghost use Rattle.ftd_connections.specs.Responses.{status_text, allow_line, content_line};
 ghost use Rattle.ftd_connections.specs.Responses.{connection_line, head_text, response_text};
 
+use ftd_formats::{Format, ListFormat};
 use ftd_messages::Status;
 use ftd_ports::{Port, Target, WriteFault, write_all, write_pieces};
-use ftd_reports::Format;
 use ftd_routes::Method;
 use itoa::Buffer;
 use std::alloc::{AllocError, Global};
@@ -80,15 +81,14 @@ pub fn json(status: Status, body: Vec<u8>) -> Response
     }
 }
 
-/// A response with the text of a report.
-pub fn plain(body: Vec<u8>) -> Response
-    ensures { said_of result ≡ plain body.items }
+/// What the body of a list in a format is.
+fn list_content(format: ListFormat) -> Content
+    ensures { result ≡ list_content format }
 {
-    Response {
-        status: Status::Okay,
-        allow: None,
-        content: Content::Text,
-        body,
+    match format {
+        ListFormat::Text => Content::Text,
+        ListFormat::Csv => Content::Csv,
+        ListFormat::Json => Content::Json,
     }
 }
 
@@ -97,9 +97,7 @@ fn content_of(format: Format) -> Content
     ensures { result ≡ content_of format }
 {
     match format {
-        Format::Text => Content::Text,
-        Format::Csv => Content::Csv,
-        Format::Json => Content::Json,
+        Format::List(format) => list_content(format),
         Format::Calendar => Content::Calendar,
     }
 }
@@ -114,6 +112,13 @@ pub fn formatted(format: Format, body: Vec<u8>) -> Response
         content: content_of(format),
         body,
     }
+}
+
+/// A response with a list in a format.
+pub fn told(format: ListFormat, body: Vec<u8>) -> Response
+    ensures { said_of result ≡ told format body.items }
+{
+    formatted(Format::List(format), body)
 }
 
 /// Adds a number in digits.

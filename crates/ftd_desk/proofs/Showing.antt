@@ -17,8 +17,8 @@ use Rattle.ftd_machine.specs.Laws.{is_change}
 use Rattle.ftd_machine.specs.Questions.{question_of}
 use Rattle.ftd_machine.specs.declared.replies.Refusal.{Refusal}
 use Rattle.ftd_machine.specs.declared.requests.Question.{Question}
-use Rattle.ftd_machine.specs.declared.requests.Question.TheVariants.{Status, DueList, ScheduleB}
-use Rattle.ftd_machine.specs.declared.requests.Question.TheVariants.{Agenda, Owed, Kept}
+use Rattle.ftd_machine.specs.declared.requests.Question.TheVariants.{Status, Explain, DueList}
+use Rattle.ftd_machine.specs.declared.requests.Question.TheVariants.{ScheduleB, Agenda, Owed, Kept}
 use Rattle.ftd_machine.specs.declared.requests.Request.{Request}
 use Rattle.ftd_desk.specs.Shown.{ShowsIf, ShowsFor, ShowsAsked}
 use Rattle.ftd_desk.specs.declared.listed.Answered.{Answered}
@@ -29,6 +29,7 @@ pub refusal_shows : (asked : Option Question) (refusal : Refusal) (t : Tables)
     → ShowsIf asked (Err refusal) t
 refusal_shows None refusal t = tt
 refusal_shows (Some (Status name day)) refusal t = tt
+refusal_shows (Some (Explain name day)) refusal t = tt
 refusal_shows (Some (DueList name quarter as_of)) refusal t = λ rows is. absurd cc
 refusal_shows (Some (ScheduleB name quarter)) refusal t = tt
 refusal_shows (Some (Agenda from to as_of)) refusal t = tt
@@ -39,6 +40,7 @@ pub change_shows : (asked : Option Question) (answer : Answer) (t : Tables)
     → is_change answer ≡ true → ShowsIf asked answer t
 change_shows None answer t changes = tt
 change_shows (Some (Status name day)) answer t changes = tt
+change_shows (Some (Explain name day)) answer t changes = tt
 change_shows (Some (DueList name quarter as_of)) answer t changes =
     λ rows is. absurd (true≢false (sym (rw is at changes)))
 change_shows (Some (ScheduleB name quarter)) answer t changes = tt

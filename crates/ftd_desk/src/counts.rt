@@ -28,6 +28,7 @@ pub(crate) fn is_change(answer: &Answer) -> bool
             | Reply::Due(_)
             | Reply::Days(_)
             | Reply::Agenda(_)
+            | Reply::Explained(_)
             | Reply::Kept(_),
         )
         | Err(_) => false,

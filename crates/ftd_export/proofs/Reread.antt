@@ -22,7 +22,8 @@ use Rattle.ftd_rules.specs.Accounts.{is_account_name}
 use Rattle.ftd_rules.specs.Lists.{Has}
 use Rattle.ftd_csv.specs.Fields.{run_number_of}
 use Rattle.ftd_csv.specs.Records.{HasHeader, header_row, records_of, rows_of, said_of}
-use Rattle.ftd_listings.specs.Listings.{live_record, run_record, runs_csv, records_head}
+use Rattle.ftd_formats.specs.Fields.{record_told}
+use Rattle.ftd_listings.specs.KeptForms.{live_record, run_record, runs_csv, records_head}
 use Rattle.ftd_machine.specs.Limits.{is_amount}
 use Rattle.ftd_machine.specs.declared.kept.KeptRun.{KeptRun}
 use Rattle.ftd_machine.proofs.Few.{and_first, and_second}
@@ -87,7 +88,7 @@ module _ (account : List ℕ) (name : is_account_name account ≡ true) (x : Kep
 
   -- its record is what a writer of CSV writes of its fields
   pub record_is : row_text default_writer (fields_of account x) ≡ run_record account x
-  unfolding run_record
+  unfolding run_record record_told
   record_is = row_is account (decimal x.number) _ own_fields
 
   number_reread : run_number_of (decimal x.number) ≡ Some x.number

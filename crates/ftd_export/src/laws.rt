@@ -4,7 +4,7 @@ ghost use Rattle.std.specs.Prelude.{◌≡◌, ℕ, List, true, filter, map};
 ghost use Rattle.ftd_rules.specs.Accounts.{is_account_name};
 ghost use Rattle.ftd_rules.specs.Lists.{Has};
 ghost use Rattle.ftd_csv.specs.Records.{HasHeader, records_of};
-ghost use Rattle.ftd_listings.specs.Listings.{runs_csv};
+ghost use Rattle.ftd_listings.specs.KeptForms.{runs_csv};
 ghost use Rattle.ftd_machine.specs.Kept.{told_rows};
 ghost use Rattle.ftd_machine.specs.Runs.{IsReached};
 ghost use Rattle.ftd_machine.specs.State.{State};

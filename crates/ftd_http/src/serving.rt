@@ -1,16 +1,16 @@
 //! A listener's connections, served one after the other.
 
-ghost use Rattle.std.specs.Prelude.{◌<◌, ◌≤◌, Result};
+ghost use Rattle.std.specs.Prelude.{◌≡◌, ◌<◌, ◌≤◌, Result};
 ghost use Rattle.ftd_desk.specs.Desks.{held};
 ghost use Rattle.ftd_ports.specs.declared.writing.WriteFault.{WriteFault};
 ghost use Rattle.ftd_connections.specs.Listening.{HasTaken, IsTurn, outcome_of};
-ghost use Rattle.ftd_http.specs.Turns.{IsServed, asks, serves};
+ghost use Rattle.ftd_http.specs.Turns.{IsServed, asks, is_lost, serves};
 
 use crate::office::serve;
 use ftd_connections::{Cause, End, Outcome, Served, Timed, Timer, Turn, Wire, end, tell_outcome};
 use ftd_days::Day;
 use ftd_desk::Desk;
-use ftd_machine::{AccountName, Question, Refusal, Request};
+use ftd_machine::{AccountName, Answer, Question, Refusal, Request};
 use ftd_ports::{Port, Target};
 use sqlite::Alter;
 use std::alloc::Global;
@@ -103,7 +103,15 @@ fn still_answers<S: Alter>(alloc: Global, desk: &mut Desk<S>) -> bool
         account: AccountName::from_string(String::new(alloc)),
         day: Day::first_of_month(0),
     });
-    !matches!(desk.handle(&question), Err(Refusal::Store))
+    let answer = desk.handle(&question);
+    !is_lost(&answer)
+}
+
+/// Whether the store of the desk that answered failed.
+fn is_lost(answer: &Answer) -> bool
+    ensures { result ≡ is_lost answer.now }
+{
+    matches!(answer, Err(Refusal::Store))
 }
 
 /// Takes a connection, serves it, and sees whether the desk still answers.

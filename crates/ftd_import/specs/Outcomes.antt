@@ -59,6 +59,7 @@ is_posted (Ok (reply.Status kind reason)) = false
 is_posted (Ok (reply.Due rows)) = false
 is_posted (Ok (reply.Days sums)) = false
 is_posted (Ok (reply.Agenda rows)) = false
+is_posted (Ok (reply.Explained explained)) = false
 is_posted (Ok (reply.Kept rows)) = false
 is_posted (Err refused) = false
 
@@ -70,6 +71,7 @@ is_already (Ok (reply.Status kind reason)) = false
 is_already (Ok (reply.Due rows)) = false
 is_already (Ok (reply.Days sums)) = false
 is_already (Ok (reply.Agenda rows)) = false
+is_already (Ok (reply.Explained explained)) = false
 is_already (Ok (reply.Kept rows)) = false
 is_already (Err refused) = false
 

@@ -22,7 +22,7 @@ use Rattle.ftd_machine.specs.Sound.{IsSound, AreDistinct, name_of}
 use Rattle.ftd_machine.specs.State.{State, Enrolled, account_of, is_named}
 use Rattle.ftd_machine.specs.declared.kept.KeptAccount.{KeptAccount}
 use Rattle.ftd_machine.proofs.Adding.{own_name, same_name}
-use Rattle.ftd_machine.proofs.KeptSome.{account_one}
+use Rattle.ftd_machine.proofs.KeptOne.{account_one}
 use Rattle.ftd_machine.proofs.Members.{found_some, has_mapped, mapped_has}
 use Rattle.ftd_entries.specs.Standing.{StandsFor, enrolled_row, enrolled_form}
 use Rattle.ftd_entries.proofs.Found.{same_account}

@@ -6,7 +6,8 @@ use Rattle.std.proofs.Math.Nat.{min-eq_left, min-eq_right}
 use Rattle.ftd_rules.specs.declared.Obligation.{Obligation}
 use Rattle.ftd_rules.proofs.Cuts.{lt_or_le}
 use Rattle.ftd_rules.proofs.Owed.{has_append, has_left, has_right}
-use Rattle.ftd_machine.specs.Kept.{Holds, IsHeldBy}
+use Rattle.ftd_rules.specs.Laws.{Covers}
+use Rattle.ftd_machine.specs.Kept.{IsHeldBy}
 use Rattle.ftd_rows.specs.Lists.{Pairs}
 use Rattle.ftd_rows.specs.declared.kept.NumberedPayment.{NumberedPayment}
 use Rattle.ftd_machine.specs.declared.kept.KeptPayment.{KeptPayment}
@@ -15,7 +16,7 @@ use Rattle.ftd_kept.specs.Kept.{earlier, kept_payment, IsKeptPayment}
 
 -- the new one holds the day
 holds_new : (xs : List Obligation) (o : Obligation) (day : ℕ) (held : Option ℕ)
-    → IsHeldBy xs day held → Holds o day → IsHeldBy (xs ++ o ∷ []) day (Some (earlier held o.first))
+    → IsHeldBy xs day held → Covers o day → IsHeldBy (xs ++ o ∷ []) day (Some (earlier held o.first))
 holds_new xs o day None none h = (
   o,
   has_right xs (o ∷ []) o (inl refl),
@@ -56,7 +57,7 @@ holds_new xs o day (Some first) (q, hasq, hq, is_first, least) h = elim (lt_or_l
 
 -- the new one does not hold the day
 holds_old : (xs : List Obligation) (o : Obligation) (day : ℕ) (held : Option ℕ)
-    → IsHeldBy xs day held → (Holds o day → ⊥) → IsHeldBy (xs ++ o ∷ []) day held
+    → IsHeldBy xs day held → (Covers o day → ⊥) → IsHeldBy (xs ++ o ∷ []) day held
 holds_old xs o day None none not =
     λ p has hp. elim (has_append xs (o ∷ []) p has) [
       | inl old ↦ none p old hp
@@ -82,14 +83,14 @@ holds_old xs o day (Some first) (q, hasq, hq, is_first, least) not = (
 
 -- it is the item at the place, and holds the day
 pub held_by_this : (xs : List Obligation) (i : ℕ) (o : Obligation) (day : ℕ) (held : Option ℕ)
-    → i < length xs → o ≡ get_or xs i o → IsHeldBy (take i xs) day held → Holds o day
+    → i < length xs → o ≡ get_or xs i o → IsHeldBy (take i xs) day held → Covers o day
     → IsHeldBy (take (i + 1) xs) day (Some (earlier held o.first))
 held_by_this xs i o day held some is so_far h =
     rw (taken xs i o some is) (holds_new (take i xs) o day held so_far h)
 
 -- it is the item at the place, and does not hold the day
 pub held_before : (xs : List Obligation) (i : ℕ) (o : Obligation) (day : ℕ) (held : Option ℕ)
-    → i < length xs → o ≡ get_or xs i o → IsHeldBy (take i xs) day held → (Holds o day → ⊥)
+    → i < length xs → o ≡ get_or xs i o → IsHeldBy (take i xs) day held → (Covers o day → ⊥)
     → IsHeldBy (take (i + 1) xs) day held
 held_before xs i o day held some is so_far not =
     rw (taken xs i o some is) (holds_old (take i xs) o day held so_far not)

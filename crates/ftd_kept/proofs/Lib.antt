@@ -1,6 +1,7 @@
+pub mod Items
 mod KeptOrder
 mod KeptRuns
-mod KeptPayments
+pub mod KeptPayments
 mod KeptTotals
 mod KeptMore
 mod KeptHeld

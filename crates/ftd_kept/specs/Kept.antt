@@ -1,6 +1,6 @@
 -- Rows of what is kept, as they are told, and what is known of them by what the tables have.
 use Rattle.std.specs.Prelude.{◌≡◌, ◌==◌, ◌&&◌, ◌||◌, ◌↔◌, ℕ, nat_lt, Bool, List, [], ◌∷◌, drop, zip}
-use Rattle.std.specs.Prelude.{string_bytes, Option, None, Some, min}
+use Rattle.std.specs.Prelude.{string_bytes, Option, None, Some, min, not}
 use Rattle.std.specs.List.{list_all}
 use Rattle.std.specs.Ordering.{is_lt, nat_cmp}
 use Rattle.std.specs.Cmp.Lexicographic.{slice_cmp}
@@ -16,7 +16,8 @@ use Rattle.ftd_rows.specs.declared.kept.QuarterTotal.{QuarterTotal}
 use Rattle.ftd_rows.specs.declared.kept.YearTotal.{YearTotal}
 use Rattle.ftd_machine.specs.Agenda.{EachToLater}
 use Rattle.ftd_machine.specs.Kept.{IsAccountBefore, IsEnrolled, IsHeldBy, IsTotal, IsTotalBefore}
-use Rattle.ftd_machine.specs.Kept.{period_of}
+use Rattle.ftd_machine.specs.Kept.{IsPaymentBefore, period_of}
+use Rattle.ftd_machine.specs.Explaining.{IsPaymentOf}
 use Rattle.ftd_machine.specs.Sound.{IsSound}
 use Rattle.ftd_machine.specs.State.{State, entries_of}
 use Rattle.ftd_machine.specs.declared.kept.KeptAccount.{KeptAccount}
@@ -108,6 +109,22 @@ pub record IsKeptPayment (owed : List Obligation) (row : NumberedPayment) (x : K
   pub payment : x.payment ≡ row.payment.value
   pub voided : x.voided ≡ row.payment.voided
   pub obligation : IsHeldBy owed row.payment.value.for_day x.obligation
+
+-- the payment is not void
+abbrev pub is_live_payment : NumberedPayment → Bool
+is_live_payment row = not row.payment.voided
+
+-- a payment that counts for the obligation that begins on the day
+abbrev pub IsPaymentFor : ℕ → NumberedPayment → KeptPayment → Type 0
+IsPaymentFor first row x = x ≡ kept_payment row (Some first)
+
+-- they are the payments that count for the obligation, by the day that they are for and number, in
+-- each sound state for which the tables stand
+pub record KnowsPaymentsOf (name : List ℕ) (o : Obligation) (rows : List KeptPayment) (t : Tables)
+    : Type 0 where
+  pub in_order : EachToLater IsPaymentBefore rows
+  pub all : (s : State) → StandsFor t s → IsSound s → (x : KeptPayment)
+      → Has rows x ↔ IsPaymentOf (entries_of s name) o x
 
 abbrev pub is_payment_before : KeptPayment → KeptPayment → Bool
 is_payment_before a b =

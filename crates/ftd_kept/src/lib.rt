@@ -1,8 +1,9 @@
 //! The question what is kept: accounts, open years, reported totals, holidays, pay runs and
-//! payments. It is one function on a transaction, whose contract is the machine's step.
+//! payments. It is one function on a transaction, whose contract is the machine's step. All
+//! accounts are listed for other questions too.
 #![tactic(auto)]
 
 mod lists;
 mod rows;
 
-pub use crate::lists::kept;
+pub use crate::lists::{all_accounts, kept, obligation_payments};

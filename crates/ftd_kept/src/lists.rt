@@ -5,17 +5,17 @@ ghost use Rattle.ftd_machine.specs.declared.requests.Kept.TheVariants as kept;
 ghost use Rattle.ftd_machine.specs.declared.requests.Question.TheVariants as questions;
 ghost use Rattle.ftd_machine.specs.declared.requests.Request.TheVariants.{Question};
 ghost use Rattle.ftd_entries.specs.Words.{Serves};
-ghost use Rattle.ftd_kept.specs.Kept.{KnowsAccounts, KnowsTotals};
+ghost use Rattle.ftd_kept.specs.Kept.{KnowsAccounts, KnowsTotals, KnowsPaymentsOf};
 
-use crate::rows::{told_accounts, told_payments, told_quarters, told_runs, told_years};
+use crate::rows::{told_accounts, told_for, told_payments, told_quarters, told_runs, told_years};
 use ftd_days::{Day, Quarter};
 use ftd_entries::known;
 use ftd_machine::{
-    Answer, Days, Kept, KeptAccount, KeptAccounts, KeptPayments, KeptRows, KeptRuns, KeptTotal,
-    KeptTotals, KeptYears, Refusal, Reply, are_rising, holidays_check, kept_in_quarter_check,
-    kept_of_check,
+    Answer, Days, Kept, KeptAccount, KeptAccounts, KeptPayment, KeptPayments, KeptRows, KeptRuns,
+    KeptTotal, KeptTotals, KeptYears, Refusal, Reply, are_rising, holidays_check,
+    kept_in_quarter_check, kept_of_check,
 };
-use ftd_rules::Form;
+use ftd_rules::{Form, Obligation};
 use ftd_store::{StoreFault, Tx};
 use sqlite::Alter;
 use std::alloc::Global;
@@ -37,7 +37,10 @@ pub fn kept<S: Alter>(tx: &mut Tx<'_, S>, alloc: Global, asked: &Kept) -> Result
 
 /// All accounts, by name. `Failed` also where the tables of accounts and of forms differ, or do not
 /// go on by name.
-fn all_accounts<S: Alter>(tx: &mut Tx<'_, S>, alloc: Global) -> Result<Vec<KeptAccount>, StoreFault>
+pub fn all_accounts<S: Alter>(
+    tx: &mut Tx<'_, S>,
+    alloc: Global,
+) -> Result<Vec<KeptAccount>, StoreFault>
     ensures call { Reads S.Store tx.old tx.new result (λ rows. KnowsAccounts rows.items) }
 {
     let named = tx.enrolled(alloc)?;
@@ -173,6 +176,24 @@ fn payments<S: Alter>(
     }
     match told_payments(alloc, &found, &owed) {
         Ok(rows) => Ok(Ok(Reply::Kept(KeptRows::Payments(KeptPayments::from_vec(rows))))),
+        Err(fault) => tx.give_up(fault),
+    }
+}
+
+/// The payments that count for an obligation of the account: those for its days that are not void,
+/// by the day that they are for and number. `Failed` also where they do not go on so.
+pub fn obligation_payments<S: Alter>(
+    tx: &mut Tx<'_, S>,
+    alloc: Global,
+    name: &str,
+    obligation: &Obligation,
+) -> Result<Vec<KeptPayment>, StoreFault>
+    ensures call { Reads S.Store tx.old tx.new result
+        (λ rows. KnowsPaymentsOf name.now obligation.now rows.items) }
+{
+    let found = tx.kept_payments(alloc, name, obligation.first, obligation.last)?;
+    match told_for(alloc, &found, obligation.first) {
+        Ok(rows) => Ok(rows),
         Err(fault) => tx.give_up(fault),
     }
 }

@@ -1,14 +1,15 @@
 //! Rows of what is kept, as they are told.
 
-ghost use Rattle.std.specs.Prelude.{◌≡◌, ◌↔◌, IfOk, IsTrue, map};
+ghost use Rattle.std.specs.Prelude.{◌≡◌, ◌↔◌, IfOk, IsTrue, filter, map};
+ghost use Rattle.ftd_rules.specs.Laws.{Covers};
 ghost use Rattle.ftd_machine.specs.Agenda.{EachToLater};
 ghost use Rattle.ftd_machine.specs.Kept.{IsAccountBefore, IsTotalBefore, IsRunBefore};
-ghost use Rattle.ftd_machine.specs.Kept.{IsPaymentBefore, IsHeldBy, Holds, period_of};
+ghost use Rattle.ftd_machine.specs.Kept.{IsPaymentBefore, IsHeldBy, period_of};
 ghost use Rattle.ftd_rows.specs.Lists.{Pairs};
 ghost use Rattle.ftd_kept.specs.Kept.{kept_run, kept_quarter, kept_year, is_account_before};
 ghost use Rattle.ftd_kept.specs.Kept.{is_run_before, is_payment_before, is_total_before};
 ghost use Rattle.ftd_kept.specs.Kept.{are_in_order, JoinsTo, AreJoined, IsKeptPayment, earlier};
-ghost use Rattle.ftd_kept.specs.Kept.{kept_payment};
+ghost use Rattle.ftd_kept.specs.Kept.{kept_payment, is_live_payment, IsPaymentFor};
 
 use ftd_days::Day;
 use ftd_machine::{Account, AccountName, KeptAccount, KeptPayment, KeptRun, KeptTotal};
@@ -227,7 +228,7 @@ pub(crate) fn told_years(alloc: Global, rows: &[YearTotal]) -> Result<Vec<KeptTo
 
 /// Whether the deposit period of the obligation holds the day.
 fn holds(obligation: &Obligation, day: Day) -> bool
-    ensures { IsTrue result ↔ Holds obligation.now day }
+    ensures { IsTrue result ↔ Covers obligation.now day }
 {
     obligation.first <= day && day <= obligation.last
 }
@@ -318,6 +319,44 @@ pub(crate) fn told_payments(
     ensures in_order { IfOk result (λ payments. EachToLater IsPaymentBefore payments.items) }
 {
     let payments = kept_payments(alloc, rows, owed)?;
+    if !are_payments_in_order(&payments) {
+        return Err(StoreFault::Failed);
+    }
+    Ok(payments)
+}
+
+/// The payments that are not void, as they are told for the obligation that begins on the day.
+fn live_payments(
+    alloc: Global,
+    rows: &[NumberedPayment],
+    first: Day,
+) -> Result<Vec<KeptPayment>, AllocError>
+    ensures { IfOk result (λ payments.
+        Pairs (IsPaymentFor first) (filter is_live_payment rows.now) payments.items) }
+{
+    let mut payments = Vec::new(alloc);
+    for row in rows {
+        if !row.payment.voided {
+            payments.push(kept_payment(row, Some(first)))?;
+        }
+    }
+    Ok(payments)
+}
+
+/// The payments that are not void, as they are told for the obligation that begins on the day.
+/// `Failed` where they do not go on by the day that they are for and number, and `Memory` where
+/// there was no memory.
+#[tactic(auto, using(crate::proofs::KeptOrder::payments_in_order))]
+pub(crate) fn told_for(
+    alloc: Global,
+    rows: &[NumberedPayment],
+    first: Day,
+) -> Result<Vec<KeptPayment>, StoreFault>
+    ensures told { IfOk result (λ payments.
+        Pairs (IsPaymentFor first) (filter is_live_payment rows.now) payments.items) }
+    ensures in_order { IfOk result (λ payments. EachToLater IsPaymentBefore payments.items) }
+{
+    let payments = live_payments(alloc, rows, first)?;
     if !are_payments_in_order(&payments) {
         return Err(StoreFault::Failed);
     }

@@ -2,7 +2,6 @@
 use Rattle.std.proofs.Common.{◌≡◌, ℕ, List, [], ◌∷◌, ◌++◌, sym, ap, ◌∙◌, append_assoc}
 use Rattle.std.proofs.Common.{append-nil}
 use Rattle.std.specs.List.{join_with_byte, concat}
-use Rattle.ftd_reports.proofs.FormFacts.{field, amount_field}
 use Rattle.ftd_reports.proofs.LineFacts.{column, three}
 
 -- the last column, and the end of the line
@@ -39,12 +38,16 @@ pub payment_parts : (q s d c p h k end : List ℕ) →
 payment_parts q s d c p h k end =
     column q _ _ _ (three s d c _ _ _ (column p _ _ _ (column h _ _ _ (last k end))))
 
-pub record_parts : (a n p d c e g l m : List ℕ) →
-    join_with_byte 44 (a ∷ n ∷ p ∷ (d ++ c) ∷ (e ++ g) ∷ (l ++ m) ∷ []) ++ (10 ∷ [])
-    ≡ concat (a ∷ (44 ∷ []) ∷ n ∷ (44 ∷ []) ∷ p ∷ (44 ∷ []) ∷ d ∷ c ∷ (44 ∷ []) ∷ e ∷ g
-    ∷ (44 ∷ []) ∷ l ∷ m ∷ (10 ∷ []) ∷ [])
-record_parts a n p d c e g l m =
-    field a _ _ _
-    (field n _ _ _
-    (field p _ _ _
-    (amount_field d c _ _ _ (amount_field e g _ _ _ (append_assoc l m (10 ∷ []))))))
+pub payday_parts : (q s d c t e f : List ℕ) →
+    join_with_byte 32 (q ∷ (s ++ d ++ c) ∷ (t ++ e ++ f) ∷ []) ++ (10 ∷ [])
+    ≡ concat (q ∷ (32 ∷ []) ∷ s ∷ d ∷ c ∷ (32 ∷ []) ∷ t ∷ e ∷ f ∷ (10 ∷ []) ∷ [])
+payday_parts q s d c t e f =
+    column q _ _ _ (three s d c _ _ _
+    (append_assoc (t ++ e) f (10 ∷ []) ∙ append_assoc t e (f ++ (10 ∷ []))))
+
+pub obligation_parts : (f l r s d c u : List ℕ) →
+    join_with_byte 32 (f ∷ l ∷ r ∷ (s ++ d ++ c) ∷ u ∷ []) ++ (10 ∷ [])
+    ≡ concat (f ∷ (32 ∷ []) ∷ l ∷ (32 ∷ []) ∷ r ∷ (32 ∷ []) ∷ s ∷ d ∷ c ∷ (32 ∷ []) ∷ u
+    ∷ (10 ∷ []) ∷ [])
+obligation_parts f l r s d c u =
+    column f _ _ _ (column l _ _ _ (column r _ _ _ (three s d c _ _ _ (last u (10 ∷ [])))))

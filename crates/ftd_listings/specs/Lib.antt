@@ -1,2 +1,4 @@
 pub mod Listings
+pub mod KeptForms
+pub mod Explanations
 pub use Rattle.ftd_ports.specs.Writing

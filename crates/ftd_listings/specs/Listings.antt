@@ -1,9 +1,8 @@
 -- The texts of what is kept.
 use Rattle.std.specs.Prelude.{ℕ, Bool, true, false, List, [], ◌∷◌, ◌++◌, codes, Option, Some, None}
-use Rattle.std.specs.Prelude.{if◌then◌else◌}
 use Rattle.std.specs.Fmt.{decimal}
 use Rattle.std.specs.List.{flat_map, join_with_byte, concat}
-use Rattle.ftd_days.specs.Text.{day_text, quarter_text, cents_text}
+use Rattle.ftd_days.specs.Text.{day_text, quarter_text}
 use Rattle.ftd_rules.specs.declared.Kind.{Kind}
 use Rattle.ftd_rules.specs.declared.Kind.TheVariants.{Monthly, Semiweekly}
 use Rattle.ftd_rules.specs.declared.YearLine.{YearLine}
@@ -18,10 +17,7 @@ use Rattle.ftd_machine.specs.declared.kept.KeptRows.TheVariants as rows
 use Rattle.ftd_machine.specs.declared.requests.Kept.{Kept}
 use Rattle.ftd_machine.specs.declared.requests.Kept.TheVariants as kept
 use Rattle.ftd_reports.specs.Agendas.{form_number}
-use Rattle.ftd_reports.specs.AgendaForms.{comma}
 use Rattle.ftd_reports.specs.Columns.{space, line_end, left_in, amount_in}
-use Rattle.ftd_reports.specs.declared.formats.Format.{Format}
-use Rattle.ftd_reports.specs.declared.formats.Format.TheVariants as format
 
 -- ---- the first line: what is listed, of what
 
@@ -88,12 +84,13 @@ abbrev pub total_line : KeptTotal → List ℕ
 total_line (OfQuarter quarter cents) = total_text (quarter_text quarter) cents.0
 total_line (OfYear year cents) = total_text (decimal year) cents.0
 
--- a holiday, and one that was added to its year
-abbrev pub given_line : ℕ → List ℕ
-given_line day = concat (day_text day ∷ codes "\n" ∷ [])
+-- a holiday, and whether it was added to its year
+abbrev pub added_end : Bool → List ℕ
+added_end true = codes " added\n"
+added_end false = codes "\n"
 
-abbrev pub added_line : ℕ → List ℕ
-added_line day = concat (day_text day ∷ codes " added\n" ∷ [])
+abbrev pub holiday_line : Bool → ℕ → List ℕ
+holiday_line added day = day_text day ++ added_end added
 
 -- whether it was voided
 abbrev pub void_end : Bool → List ℕ
@@ -126,36 +123,11 @@ unfoldable pub rows_text : KeptRows → List ℕ
 rows_text (rows.Accounts listed) = flat_map account_line listed
 rows_text (rows.Years listed) = flat_map year_line listed
 rows_text (rows.Reported listed) = flat_map total_line listed
-rows_text (rows.Holidays given added) = flat_map given_line given ++ flat_map added_line added
+rows_text (rows.Holidays given added) =
+    flat_map (holiday_line false) given ++ flat_map (holiday_line true) added
 rows_text (rows.Runs listed) = flat_map run_line listed
 rows_text (rows.Payments listed) = flat_map payment_line listed
 
 -- the first line, and a line for each row
 unfoldable pub kept_text : Kept → KeptRows → List ℕ
 kept_text asked told = head_text asked ++ rows_text told
-
--- ---- runs as they are imported
-
--- the header, the names of the fields
-abbrev pub records_head : List ℕ
-records_head = codes "employer,run,payday,fit,ss,medicare\n"
-
--- the record of a run of the account
-unfoldable pub run_record : List ℕ → KeptRun → List ℕ
-run_record account x =
-    join_with_byte comma (account ∷ decimal x.number ∷ day_text x.run.payday
-    ∷ cents_text x.run.fit.0 ∷ cents_text x.run.ss.0 ∷ cents_text x.run.medicare.0 ∷ [])
-    ++ (line_end ∷ [])
-
--- a run that was voided has none
-abbrev pub live_record : List ℕ → KeptRun → List ℕ
-live_record account x = if x.voided then [] else run_record account x
-
-unfoldable pub runs_csv : List ℕ → List KeptRun → List ℕ
-runs_csv account listed = records_head ++ flat_map (live_record account) listed
-
--- ---- in a format: runs as CSV, and all else as text
-
-abbrev pub kept_as : Format → Kept → KeptRows → List ℕ
-kept_as format.Csv (kept.Runs account quarter) (rows.Runs listed) = runs_csv account listed
-kept_as format asked told = kept_text asked told

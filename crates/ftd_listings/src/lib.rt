@@ -1,11 +1,16 @@
 //! The texts of what is kept: accounts, open years, reported totals, holidays, pay runs and
-//! payments.
+//! payments; of the deposit schedule of a day; and of why an obligation is so.
 #![tactic(auto)]
 
+mod explanations;
+mod fields;
 mod lines;
 mod listings;
+mod objects;
 mod records;
 
-pub use crate::lines::{Line, write_lines};
+pub use crate::explanations::{write_explanation, write_schedule};
+pub use crate::lines::{Columns, HolidayColumns};
 pub use crate::listings::{write_kept, write_kept_as};
-pub use crate::records::write_records;
+pub use crate::objects::write_kept_json;
+pub use crate::records::write_kept_csv;

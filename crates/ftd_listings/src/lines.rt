@@ -1,7 +1,6 @@
 //! What is kept, told in a line each.
 
-ghost use Rattle.std.specs.Prelude.{◌≡◌, ℕ, List, true, OnOk, OnErr};
-ghost use Rattle.std.specs.List.{flat_map};
+ghost use Rattle.std.specs.Prelude.{◌≡◌, true, OnOk, OnErr};
 ghost use Rattle.std.specs.Fmt.{decimal};
 ghost use Rattle.std.specs.Io.KnownBytes.{Appends};
 ghost use Rattle.ftd_days.specs.Text.{quarter_text};
@@ -10,43 +9,24 @@ ghost use Rattle.ftd_listings.specs.Listings.{name_text, enrolled_text, account_
 ghost use Rattle.ftd_listings.specs.Listings.{opening_text, carried_text};
 ghost use Rattle.ftd_listings.specs.Listings.{year_text, turn_end, year_line, total_text, total_line};
 ghost use Rattle.ftd_listings.specs.Listings.{void_end, run_line, held_text};
-ghost use Rattle.ftd_listings.specs.Listings.{payment_line};
+ghost use Rattle.ftd_listings.specs.Listings.{added_end, holiday_line, payment_line};
 
 use ftd_days::{Cents, Day, Quarter};
+use ftd_formats::RowFormat;
 use ftd_machine::{Account, KeptAccount, KeptPayment, KeptRun, KeptTotal};
 use ftd_ports::{Target, WriteFault, write_all, write_pieces};
 use ftd_reports::{amount_column, day_bytes, form_bytes, quarter_bytes, spaces_after};
 use ftd_rules::{Kind, YearLine};
 use itoa::Buffer;
 
-/// A row that is told in a line of its own.
-pub trait Line {
-    /// The line, with its end.
-    ghost text: { Self → List ℕ };
+/// What is kept, in lines of columns.
+#[derive(Drop)]
+pub struct Columns;
 
-    /// Writes the line. Where the target fails, a prefix of it was written, and it fails nowhere
-    /// else.
-    fn write_line<W: Target>(&self, target: &mut W) -> Result<(), WriteFault>
-        ensures ok { OnOk result
-            (Appends (W.taken target.old) (W.taken target.new) (text self.now)) }
-        ensures err { OnErr result
-            (WritesPrefix (W.taken target.old) (W.taken target.new) (text self.now)) }
-        ensures fault { OnErr result (W.failed target.new ≡ true) };
-}
-
-/// Writes the lines of the rows. Where the target fails, a prefix of them was written, and it fails
-/// nowhere else.
-pub fn write_lines<L: Line, W: Target>(rows: &[L], target: &mut W) -> Result<(), WriteFault>
-    ensures ok { OnOk result
-        (Appends (W.taken target.old) (W.taken target.new) (flat_map L.text rows.now)) }
-    ensures err { OnErr result
-        (WritesPrefix (W.taken target.old) (W.taken target.new) (flat_map L.text rows.now)) }
-    ensures fault { OnErr result (W.failed target.new ≡ true) }
-{
-    for row in rows {
-        row.write_line(target)?;
-    }
-    Ok(())
+/// Holidays, each in a line of its own: those that were added to their year, or the others.
+#[derive(Drop)]
+pub struct HolidayColumns {
+    pub added: bool,
 }
 
 /// The end of the line of an account.
@@ -61,6 +41,13 @@ fn void_end(voided: bool) -> &'static [u8]
     ensures { result.now ≡ void_end voided }
 {
     if voided { b" void\n" } else { b"\n" }
+}
+
+/// The end of the line of a holiday.
+fn added_end(added: bool) -> &'static [u8]
+    ensures { result.now ≡ added_end added }
+{
+    if added { b" added\n" } else { b"\n" }
 }
 
 /// Whether an account is carried into a year.
@@ -116,13 +103,13 @@ fn write_enrolled<W: Target>(account: &Account, target: &mut W) -> Result<(), Wr
 }
 
 // Name, form and first day.
-impl Line for KeptAccount {
-    ghost text = { account_line };
+impl RowFormat<KeptAccount> for Columns {
+    ghost row_text = { λ columns row. account_line row };
 
     #[tactic(auto, unfolding(crate::specs::Listings::account_line))]
-    fn write_line<W: Target>(&self, target: &mut W) -> Result<(), WriteFault> {
-        write_name(self.name.as_str(), target)?;
-        write_enrolled(&self.account, target)
+    fn write_row<W: Target>(&self, row: &KeptAccount, target: &mut W) -> Result<(), WriteFault> {
+        write_name(row.name.as_str(), target)?;
+        write_enrolled(&row.account, target)
     }
 }
 
@@ -169,13 +156,13 @@ fn write_turn<W: Target>(turn: Option<Day>, target: &mut W) -> Result<(), WriteF
 }
 
 // Year, lookback total, opening, whether the account is carried, and turn.
-impl Line for YearLine {
-    ghost text = { year_line };
+impl RowFormat<YearLine> for Columns {
+    ghost row_text = { λ columns row. year_line row };
 
     #[tactic(auto, unfolding(crate::specs::Listings::year_line))]
-    fn write_line<W: Target>(&self, target: &mut W) -> Result<(), WriteFault> {
-        write_year(self, target)?;
-        write_turn(self.turn, target)
+    fn write_row<W: Target>(&self, row: &YearLine, target: &mut W) -> Result<(), WriteFault> {
+        write_year(row, target)?;
+        write_turn(row.turn, target)
     }
 }
 
@@ -221,11 +208,11 @@ fn write_year_total<W: Target>(year: u32, cents: Cents, target: &mut W) -> Resul
 }
 
 // Quarter or year, and amount.
-impl Line for KeptTotal {
-    ghost text = { total_line };
+impl RowFormat<KeptTotal> for Columns {
+    ghost row_text = { λ columns row. total_line row };
 
-    fn write_line<W: Target>(&self, target: &mut W) -> Result<(), WriteFault> {
-        match self {
+    fn write_row<W: Target>(&self, row: &KeptTotal, target: &mut W) -> Result<(), WriteFault> {
+        match row {
             KeptTotal::OfQuarter(quarter, cents) => write_quarter_total(*quarter, *cents, target),
             KeptTotal::OfYear(year, cents) => write_year_total(*year, *cents, target),
         }
@@ -233,18 +220,18 @@ impl Line for KeptTotal {
 }
 
 // Payday, the three amounts, and number.
-impl Line for KeptRun {
-    ghost text = { run_line };
+impl RowFormat<KeptRun> for Columns {
+    ghost row_text = { λ columns row. run_line row };
 
-    fn write_line<W: Target>(&self, target: &mut W) -> Result<(), WriteFault> {
+    fn write_row<W: Target>(&self, row: &KeptRun, target: &mut W) -> Result<(), WriteFault> {
         let (mut fit_dollars, mut ss_dollars) = (Buffer::new(), Buffer::new());
         let (mut medicare_dollars, mut digits) = (Buffer::new(), Buffer::new());
-        let fit = amount_column(self.run.fit, &mut fit_dollars);
-        let ss = amount_column(self.run.ss, &mut ss_dollars);
-        let medicare = amount_column(self.run.medicare, &mut medicare_dollars);
-        let number = digits.format(self.number).as_bytes();
+        let fit = amount_column(row.run.fit, &mut fit_dollars);
+        let ss = amount_column(row.run.ss, &mut ss_dollars);
+        let medicare = amount_column(row.run.medicare, &mut medicare_dollars);
+        let number = digits.format(row.number).as_bytes();
         let pieces: [&[u8]; 16] = [
-            &day_bytes(self.run.payday),
+            &day_bytes(row.run.payday),
             b" ",
             fit.spaces,
             fit.dollars,
@@ -259,34 +246,44 @@ impl Line for KeptRun {
             &medicare.cents,
             b" ",
             number,
-            void_end(self.voided),
+            void_end(row.voided),
         ];
         write_pieces(target, &pieces)
     }
 }
 
 // The day that it is for, amount, the day on which it was paid, obligation, and number.
-impl Line for KeptPayment {
-    ghost text = { payment_line };
+impl RowFormat<KeptPayment> for Columns {
+    ghost row_text = { λ columns row. payment_line row };
 
-    fn write_line<W: Target>(&self, target: &mut W) -> Result<(), WriteFault> {
+    fn write_row<W: Target>(&self, row: &KeptPayment, target: &mut W) -> Result<(), WriteFault> {
         let (mut dollars, mut digits) = (Buffer::new(), Buffer::new());
-        let amount = amount_column(self.payment.cents, &mut dollars);
-        let number = digits.format(self.number).as_bytes();
+        let amount = amount_column(row.payment.cents, &mut dollars);
+        let number = digits.format(row.number).as_bytes();
         let pieces: [&[u8]; 12] = [
-            &day_bytes(self.payment.for_day),
+            &day_bytes(row.payment.for_day),
             b" ",
             amount.spaces,
             amount.dollars,
             &amount.cents,
             b" ",
-            &day_bytes(self.payment.paid),
+            &day_bytes(row.payment.paid),
             b" ",
-            &held_text(self.obligation),
+            &held_text(row.obligation),
             b" ",
             number,
-            void_end(self.voided),
+            void_end(row.voided),
         ];
         write_pieces(target, &pieces)
+    }
+}
+
+// The day, and whether it was added.
+impl RowFormat<Day> for HolidayColumns {
+    ghost row_text = { λ columns row. holiday_line columns.added row };
+
+    fn write_row<W: Target>(&self, row: &Day, target: &mut W) -> Result<(), WriteFault> {
+        let day = day_bytes(*row);
+        write_pieces(target, &[&day, added_end(self.added)])
     }
 }

@@ -1,25 +1,28 @@
 //! Lists of what is kept.
 
-ghost use Rattle.std.specs.Prelude.{◌≡◌, ◌++◌, true, OnOk, OnErr};
+ghost use Rattle.std.specs.Prelude.{◌≡◌, ◌++◌, false, true, OnOk, OnErr};
 ghost use Rattle.std.specs.List.{flat_map};
 ghost use Rattle.std.specs.Io.KnownBytes.{Appends};
 ghost use Rattle.ftd_ports.specs.Writing.{WritesPrefix};
-ghost use Rattle.ftd_listings.specs.Listings.{added_line, given_line, head_text, kept_as};
-ghost use Rattle.ftd_listings.specs.Listings.{kept_text, of_account, of_quarter, rows_text};
+ghost use Rattle.ftd_listings.specs.KeptForms.{account_of, kept_as};
+ghost use Rattle.ftd_listings.specs.Listings.{head_text, holiday_line, kept_text, of_account};
+ghost use Rattle.ftd_listings.specs.Listings.{of_quarter, rows_text};
 
-use crate::lines::write_lines;
-use crate::records::write_records;
+use crate::lines::{Columns, HolidayColumns};
+use crate::objects::write_kept_json;
+use crate::records::write_kept_csv;
 use ftd_days::{Day, Quarter};
+use ftd_formats::{ListFormat, write_rows};
 use ftd_machine::{Kept, KeptRows};
 use ftd_ports::{Target, WriteFault, write_all, write_pieces};
-use ftd_reports::{Format, day_bytes, quarter_bytes};
+use ftd_reports::quarter_bytes;
 use itoa::Buffer;
 
-/// Writes what is kept, as far as it was asked for, in a format: runs as CSV as they are imported,
-/// and all else as text. Where the target fails, a prefix of the text was written, and it fails
-/// nowhere else.
+/// Writes what is kept, as far as it was asked for, in a format: as CSV without what was voided, so
+/// that another desk takes it over. It takes no memory but what the target takes. Where the target
+/// fails, a prefix of the text was written, and it fails nowhere else.
 pub fn write_kept_as<W: Target>(
-    format: Format,
+    format: ListFormat,
     asked: &Kept,
     rows: &KeptRows,
     target: &mut W,
@@ -32,22 +35,22 @@ pub fn write_kept_as<W: Target>(
     ensures fault { OnErr result (W.failed target.new ≡ true) }
 {
     match format {
-        Format::Csv => match asked {
-            Kept::Runs { account, .. } => match rows {
-                KeptRows::Runs(runs) => write_records(account.as_str(), runs.as_slice(), target),
-                KeptRows::Accounts(_)
-                | KeptRows::Years(_)
-                | KeptRows::Reported(_)
-                | KeptRows::Holidays { .. }
-                | KeptRows::Payments(_) => write_kept(asked, rows, target),
-            },
-            Kept::Accounts
-            | Kept::Years { .. }
-            | Kept::Reported { .. }
-            | Kept::Holidays { .. }
-            | Kept::Payments { .. } => write_kept(asked, rows, target),
-        },
-        Format::Text | Format::Json | Format::Calendar => write_kept(asked, rows, target),
+        ListFormat::Text => write_kept(asked, rows, target),
+        ListFormat::Csv => write_kept_csv(account_of(asked), rows, target),
+        ListFormat::Json => write_kept_json(account_of(asked), rows, target),
+    }
+}
+
+/// The account of which a list was asked; empty where it is of none.
+fn account_of(asked: &Kept) -> &str
+    ensures { result.now ≡ account_of asked.now }
+{
+    match asked {
+        Kept::Accounts | Kept::Holidays { .. } => "",
+        Kept::Years { account }
+        | Kept::Reported { account }
+        | Kept::Runs { account, .. }
+        | Kept::Payments { account, .. } => account.as_str(),
     }
 }
 
@@ -67,7 +70,7 @@ pub fn write_kept<W: Target>(
     ensures fault { OnErr result (W.failed target.new ≡ true) }
 {
     write_head(asked, target)?;
-    write_rows(rows, target)
+    write_lines(rows, target)
 }
 
 /// Writes the first line.
@@ -129,7 +132,7 @@ fn write_of_quarter<W: Target>(
 
 /// Writes the lines of the rows.
 #[tactic(auto, unfolding(crate::specs::Listings::rows_text))]
-fn write_rows<W: Target>(rows: &KeptRows, target: &mut W) -> Result<(), WriteFault>
+fn write_lines<W: Target>(rows: &KeptRows, target: &mut W) -> Result<(), WriteFault>
     ensures ok { OnOk result
         (Appends (W.taken target.old) (W.taken target.new) (rows_text rows.now)) }
     ensures err { OnErr result
@@ -137,14 +140,14 @@ fn write_rows<W: Target>(rows: &KeptRows, target: &mut W) -> Result<(), WriteFau
     ensures fault { OnErr result (W.failed target.new ≡ true) }
 {
     match rows {
-        KeptRows::Accounts(accounts) => write_lines(accounts.as_slice(), target),
-        KeptRows::Years(years) => write_lines(years.as_slice(), target),
-        KeptRows::Reported(totals) => write_lines(totals.as_slice(), target),
+        KeptRows::Accounts(accounts) => write_rows(&Columns, accounts.as_slice(), target),
+        KeptRows::Years(years) => write_rows(&Columns, years.as_slice(), target),
+        KeptRows::Reported(totals) => write_rows(&Columns, totals.as_slice(), target),
         KeptRows::Holidays { given, added } => {
             write_holidays(given.as_slice(), added.as_slice(), target)
         }
-        KeptRows::Runs(runs) => write_lines(runs.as_slice(), target),
-        KeptRows::Payments(payments) => write_lines(payments.as_slice(), target),
+        KeptRows::Runs(runs) => write_rows(&Columns, runs.as_slice(), target),
+        KeptRows::Payments(payments) => write_rows(&Columns, payments.as_slice(), target),
     }
 }
 
@@ -152,64 +155,12 @@ fn write_rows<W: Target>(rows: &KeptRows, target: &mut W) -> Result<(), WriteFau
 fn write_holidays<W: Target>(given: &[Day], added: &[Day], target: &mut W) -> Result<(), WriteFault>
     ensures ok { OnOk result
         (Appends (W.taken target.old) (W.taken target.new)
-        (flat_map given_line given.now ++ flat_map added_line added.now)) }
+        (flat_map (holiday_line false) given.now ++ flat_map (holiday_line true) added.now)) }
     ensures err { OnErr result
         (WritesPrefix (W.taken target.old) (W.taken target.new)
-        (flat_map given_line given.now ++ flat_map added_line added.now)) }
+        (flat_map (holiday_line false) given.now ++ flat_map (holiday_line true) added.now)) }
     ensures fault { OnErr result (W.failed target.new ≡ true) }
 {
-    write_given(given, target)?;
-    write_added(added, target)
-}
-
-/// Writes the holidays that were given.
-fn write_given<W: Target>(days: &[Day], target: &mut W) -> Result<(), WriteFault>
-    ensures ok { OnOk result
-        (Appends (W.taken target.old) (W.taken target.new) (flat_map given_line days.now)) }
-    ensures err { OnErr result
-        (WritesPrefix (W.taken target.old) (W.taken target.new) (flat_map given_line days.now)) }
-    ensures fault { OnErr result (W.failed target.new ≡ true) }
-{
-    for day in days {
-        write_given_day(*day, target)?;
-    }
-    Ok(())
-}
-
-/// Writes the line of a holiday that was given.
-fn write_given_day<W: Target>(day: Day, target: &mut W) -> Result<(), WriteFault>
-    ensures ok { OnOk result
-        (Appends (W.taken target.old) (W.taken target.new) (given_line day)) }
-    ensures err { OnErr result
-        (WritesPrefix (W.taken target.old) (W.taken target.new) (given_line day)) }
-    ensures fault { OnErr result (W.failed target.new ≡ true) }
-{
-    let day = day_bytes(day);
-    write_pieces(target, &[&day, b"\n"])
-}
-
-/// Writes the holidays that were added.
-fn write_added<W: Target>(days: &[Day], target: &mut W) -> Result<(), WriteFault>
-    ensures ok { OnOk result
-        (Appends (W.taken target.old) (W.taken target.new) (flat_map added_line days.now)) }
-    ensures err { OnErr result
-        (WritesPrefix (W.taken target.old) (W.taken target.new) (flat_map added_line days.now)) }
-    ensures fault { OnErr result (W.failed target.new ≡ true) }
-{
-    for day in days {
-        write_added_day(*day, target)?;
-    }
-    Ok(())
-}
-
-/// Writes the line of a holiday that was added.
-fn write_added_day<W: Target>(day: Day, target: &mut W) -> Result<(), WriteFault>
-    ensures ok { OnOk result
-        (Appends (W.taken target.old) (W.taken target.new) (added_line day)) }
-    ensures err { OnErr result
-        (WritesPrefix (W.taken target.old) (W.taken target.new) (added_line day)) }
-    ensures fault { OnErr result (W.failed target.new ≡ true) }
-{
-    let day = day_bytes(day);
-    write_pieces(target, &[&day, b" added\n"])
+    write_rows(&HolidayColumns { added: false }, given, target)?;
+    write_rows(&HolidayColumns { added: true }, added, target)
 }

@@ -1,61 +1,70 @@
-//! Pay runs as they are imported.
+//! What is kept as CSV.
 
-ghost use Rattle.std.specs.Prelude.{◌≡◌, true, OnOk, OnErr};
+ghost use Rattle.std.specs.Prelude.{◌≡◌, ◌++◌, false, true, OnOk, OnErr};
 ghost use Rattle.std.specs.List.{flat_map};
 ghost use Rattle.std.specs.Io.KnownBytes.{Appends};
 ghost use Rattle.ftd_ports.specs.Writing.{WritesPrefix};
-ghost use Rattle.ftd_listings.specs.Listings.{live_record, run_record, runs_csv};
+ghost use Rattle.ftd_formats.specs.Fields.{record_told};
+ghost use Rattle.ftd_listings.specs.KeptForms.{account_fields, holiday_fields, holidays_head};
+ghost use Rattle.ftd_listings.specs.KeptForms.{live_payment, live_record, payment_fields};
+ghost use Rattle.ftd_listings.specs.KeptForms.{rows_csv, run_record};
+ghost use Rattle.ftd_listings.specs.KeptForms.{total_fields, year_fields};
 
-use ftd_machine::KeptRun;
-use ftd_ports::{Target, WriteFault, write_all, write_pieces};
-use ftd_reports::{amount_text, day_bytes};
-use itoa::Buffer;
+use crate::fields::{
+    account_fields, holiday_fields, payment_fields, run_fields, total_fields, year_fields,
+};
+use ftd_days::Day;
+use ftd_formats::{RowFormat, write_record, write_rows, write_table};
+use ftd_machine::{KeptAccount, KeptPayment, KeptRows, KeptRun, KeptTotal};
+use ftd_ports::{Target, WriteFault};
+use ftd_rules::YearLine;
 
-/// Writes the runs of an account as they are imported: CSV, a header with the names of the fields
-/// and a record for each run. A run that was voided has none. Where the target fails, a prefix of
-/// the text was written, and it fails nowhere else.
-#[tactic(auto, unfolding(crate::specs::Listings::runs_csv))]
-pub fn write_records<W: Target>(
-    account: &str,
-    runs: &[KeptRun],
-    target: &mut W,
-) -> Result<(), WriteFault>
-    ensures ok { OnOk result
-        (Appends (W.taken target.old) (W.taken target.new) (runs_csv account.now runs.now)) }
-    ensures err { OnErr result
-        (WritesPrefix (W.taken target.old) (W.taken target.new) (runs_csv account.now runs.now)) }
-    ensures fault { OnErr result (W.failed target.new ≡ true) }
-{
-    write_all(target, b"employer,run,payday,fit,ss,medicare\n")?;
-    write_live_records(account, runs, target)
+/// Records of an account.
+#[derive(Drop)]
+struct Records<'a> {
+    account: &'a str,
 }
 
-/// Writes the records of the runs that were not voided.
-fn write_live_records<W: Target>(
-    account: &str,
-    runs: &[KeptRun],
-    target: &mut W,
-) -> Result<(), WriteFault>
-    ensures ok { OnOk result
-        (Appends (W.taken target.old) (W.taken target.new)
-        (flat_map (live_record account.now) runs.now)) }
-    ensures err { OnErr result
-        (WritesPrefix (W.taken target.old) (W.taken target.new)
-        (flat_map (live_record account.now) runs.now)) }
-    ensures fault { OnErr result (W.failed target.new ≡ true) }
-{
-    for run in runs {
-        write_live_record(account, run, target)?;
+/// Records of holidays: of those that were added to their year, or of the others.
+#[derive(Drop)]
+struct HolidayRecords {
+    added: bool,
+}
+
+impl<'a> RowFormat<KeptAccount> for Records<'a> {
+    ghost row_text = { λ records row. record_told (account_fields row) };
+
+    fn write_row<W: Target>(&self, row: &KeptAccount, target: &mut W) -> Result<(), WriteFault> {
+        write_record(&account_fields(row), target)
     }
-    Ok(())
+}
+
+impl<'a> RowFormat<YearLine> for Records<'a> {
+    ghost row_text = { λ records row. record_told (year_fields records.account.now row) };
+
+    fn write_row<W: Target>(&self, row: &YearLine, target: &mut W) -> Result<(), WriteFault> {
+        write_record(&year_fields(self.account, row), target)
+    }
+}
+
+impl<'a> RowFormat<KeptTotal> for Records<'a> {
+    ghost row_text = { λ records row. record_told (total_fields records.account.now row) };
+
+    fn write_row<W: Target>(&self, row: &KeptTotal, target: &mut W) -> Result<(), WriteFault> {
+        write_record(&total_fields(self.account, row), target)
+    }
+}
+
+impl RowFormat<Day> for HolidayRecords {
+    ghost row_text = { λ records row. record_told (holiday_fields records.added row) };
+
+    fn write_row<W: Target>(&self, row: &Day, target: &mut W) -> Result<(), WriteFault> {
+        write_record(&holiday_fields(self.added, *row), target)
+    }
 }
 
 /// Writes the record of a run, nothing where it was voided.
-fn write_live_record<W: Target>(
-    account: &str,
-    run: &KeptRun,
-    target: &mut W,
-) -> Result<(), WriteFault>
+fn write_live_run<W: Target>(account: &str, run: &KeptRun, target: &mut W) -> Result<(), WriteFault>
     ensures ok { OnOk result
         (Appends (W.taken target.old) (W.taken target.new) (live_record account.now run.now)) }
     ensures err { OnErr result
@@ -65,39 +74,145 @@ fn write_live_record<W: Target>(
     if run.voided {
         return Ok(());
     }
-    write_record(account, run, target)
+    write_run(account, run, target)
 }
 
 /// Writes the record of a run.
-fn write_record<W: Target>(account: &str, run: &KeptRun, target: &mut W) -> Result<(), WriteFault>
+fn write_run<W: Target>(account: &str, run: &KeptRun, target: &mut W) -> Result<(), WriteFault>
     ensures ok { OnOk result
         (Appends (W.taken target.old) (W.taken target.new) (run_record account.now run.now)) }
     ensures err { OnErr result
         (WritesPrefix (W.taken target.old) (W.taken target.new) (run_record account.now run.now)) }
     ensures fault { OnErr result (W.failed target.new ≡ true) }
 {
-    let (mut fit_dollars, mut ss_dollars) = (Buffer::new(), Buffer::new());
-    let (mut medicare_dollars, mut digits) = (Buffer::new(), Buffer::new());
-    let fit = amount_text(u128::from(run.run.fit.0), &mut fit_dollars);
-    let ss = amount_text(u128::from(run.run.ss.0), &mut ss_dollars);
-    let medicare = amount_text(u128::from(run.run.medicare.0), &mut medicare_dollars);
-    let number = digits.format(run.number).as_bytes();
-    let pieces: [&[u8]; 15] = [
-        account.as_bytes(),
-        b",",
-        number,
-        b",",
-        &day_bytes(run.run.payday),
-        b",",
-        fit.dollars,
-        &fit.cents,
-        b",",
-        ss.dollars,
-        &ss.cents,
-        b",",
-        medicare.dollars,
-        &medicare.cents,
-        b"\n",
-    ];
-    write_pieces(target, &pieces)
+    write_record(&run_fields(account, run), target)
+}
+
+/// Writes the record of a payment, nothing where it was voided.
+fn write_live_payment<W: Target>(
+    account: &str,
+    payment: &KeptPayment,
+    target: &mut W,
+) -> Result<(), WriteFault>
+    ensures ok { OnOk result
+        (Appends (W.taken target.old) (W.taken target.new)
+        (live_payment account.now payment.now)) }
+    ensures err { OnErr result
+        (WritesPrefix (W.taken target.old) (W.taken target.new)
+        (live_payment account.now payment.now)) }
+    ensures fault { OnErr result (W.failed target.new ≡ true) }
+{
+    if payment.voided {
+        return Ok(());
+    }
+    write_payment(account, payment, target)
+}
+
+/// Writes the record of a payment.
+fn write_payment<W: Target>(
+    account: &str,
+    payment: &KeptPayment,
+    target: &mut W,
+) -> Result<(), WriteFault>
+    ensures ok { OnOk result
+        (Appends (W.taken target.old) (W.taken target.new)
+        (record_told (payment_fields account.now payment.now))) }
+    ensures err { OnErr result
+        (WritesPrefix (W.taken target.old) (W.taken target.new)
+        (record_told (payment_fields account.now payment.now))) }
+    ensures fault { OnErr result (W.failed target.new ≡ true) }
+{
+    write_record(&payment_fields(account, payment), target)
+}
+
+// Nothing of a run that was voided.
+impl<'a> RowFormat<KeptRun> for Records<'a> {
+    ghost row_text = { λ records row. live_record records.account.now row };
+
+    fn write_row<W: Target>(&self, row: &KeptRun, target: &mut W) -> Result<(), WriteFault> {
+        write_live_run(self.account, row, target)
+    }
+}
+
+// Nothing of a payment that was voided.
+impl<'a> RowFormat<KeptPayment> for Records<'a> {
+    ghost row_text = { λ records row. live_payment records.account.now row };
+
+    fn write_row<W: Target>(&self, row: &KeptPayment, target: &mut W) -> Result<(), WriteFault> {
+        write_live_payment(self.account, row, target)
+    }
+}
+
+/// Writes what is kept of an account as CSV: a first line with the names of the fields, and a
+/// record for each row that was not voided. It takes no memory but what the target takes. Where the
+/// target fails, a prefix of the text was written, and it fails nowhere else.
+#[tactic(auto, unfolding(crate::specs::KeptForms::rows_csv, crate::specs::KeptForms::runs_csv))]
+pub fn write_kept_csv<W: Target>(
+    account: &str,
+    rows: &KeptRows,
+    target: &mut W,
+) -> Result<(), WriteFault>
+    ensures ok { OnOk result
+        (Appends (W.taken target.old) (W.taken target.new) (rows_csv account.now rows.now)) }
+    ensures err { OnErr result
+        (WritesPrefix (W.taken target.old) (W.taken target.new) (rows_csv account.now rows.now)) }
+    ensures fault { OnErr result (W.failed target.new ≡ true) }
+{
+    let records = Records { account };
+    match rows {
+        KeptRows::Accounts(accounts) => write_table(
+            b"employer,first_day,carried,form\n",
+            &records,
+            accounts.as_slice(),
+            target,
+        ),
+        KeptRows::Years(years) => write_table(
+            b"employer,year,lookback,opening,carried,turned\n",
+            &records,
+            years.as_slice(),
+            target,
+        ),
+        KeptRows::Reported(totals) => write_table(
+            b"employer,period,amount\n",
+            &records,
+            totals.as_slice(),
+            target,
+        ),
+        KeptRows::Holidays { given, added } => {
+            write_holidays(given.as_slice(), added.as_slice(), target)
+        }
+        KeptRows::Runs(runs) => write_table(
+            b"employer,run,payday,fit,ss,medicare\n",
+            &records,
+            runs.as_slice(),
+            target,
+        ),
+        KeptRows::Payments(payments) => write_table(
+            b"employer,payment,paid,for,amount\n",
+            &records,
+            payments.as_slice(),
+            target,
+        ),
+    }
+}
+
+/// Writes the holidays that were given, and those that were added.
+fn write_holidays<W: Target>(given: &[Day], added: &[Day], target: &mut W) -> Result<(), WriteFault>
+    ensures ok { OnOk result
+        (Appends (W.taken target.old) (W.taken target.new) (holidays_head
+        ++ (flat_map (λ day. record_told (holiday_fields false day)) given.now
+        ++ flat_map (λ day. record_told (holiday_fields true day)) added.now))) }
+    ensures err { OnErr result
+        (WritesPrefix (W.taken target.old) (W.taken target.new) (holidays_head
+        ++ (flat_map (λ day. record_told (holiday_fields false day)) given.now
+        ++ flat_map (λ day. record_told (holiday_fields true day)) added.now))) }
+    ensures fault { OnErr result (W.failed target.new ≡ true) }
+{
+    write_table(
+        b"day,added\n",
+        &HolidayRecords { added: false },
+        given,
+        target,
+    )?;
+    write_rows(&HolidayRecords { added: true }, added, target)
 }

@@ -304,7 +304,7 @@ row_some holidays own rows quarter as_of o has begins =
       },
     )
 
-like : (a b : Cents) → a.0 ≡ b.0 → a ≡ b
+pub like : (a b : Cents) → a.0 ≡ b.0 → a ≡ b
 like a b e = ap (λ n. record { 0 = n }) e
 
 case_one : (holidays : List ℕ) (own : Entries) (rows : List Obligation) (quarter as_of : ℕ)

@@ -4,12 +4,16 @@ use Rattle.std.proofs.Common.{Option, None, Some, refl}
 use Rattle.std.specs.Prelude.{◌↔◌}
 use Rattle.ftd_rules.specs.declared.Obligation.{Obligation}
 use Rattle.ftd_rules.specs.Lists.{Has}
-use Rattle.ftd_machine.specs.State.{State, Entries, entries_of, holidays}
+use Rattle.ftd_machine.specs.State.{State, Entries, entries_of, holidays, kept_at}
+use Rattle.ftd_rules.specs.declared.payment.Payment.{Payment}
+use Rattle.ftd_rules.specs.declared.run.PayRun.{PayRun}
+use Rattle.ftd_rules.specs.declared.run.Voidable.{Voidable}
 use Rattle.ftd_machine.specs.Checks.{Answer}
 use Rattle.ftd_machine.specs.Agenda.{EachToLater}
 use Rattle.ftd_machine.specs.Kept.{told_rows, IsAccountBefore, AreAccounts, AreYears, IsTotalBefore}
 use Rattle.ftd_machine.specs.Kept.{AreTotals, IsDayBefore, AreHolidays, IsRunBefore, AreRuns}
-use Rattle.ftd_machine.specs.Kept.{IsHeldBy, IsPaymentIn, IsPaymentBefore, ArePayments, TellsKept}
+use Rattle.ftd_machine.specs.Kept.{IsEnrolled, IsRunIn, IsHeldBy, IsPaymentIn, IsPaymentBefore, ArePayments, TellsKept}
+use Rattle.ftd_machine.specs.declared.kept.KeptAccount.{KeptAccount}
 use Rattle.ftd_machine.specs.declared.kept.KeptPayment.{KeptPayment}
 use Rattle.ftd_machine.specs.declared.kept.KeptRun.{KeptRun}
 use Rattle.ftd_machine.specs.declared.kept.KeptRows.TheVariants as rows
@@ -21,7 +25,7 @@ use Rattle.ftd_machine.proofs.Ordered.{ordered_one}
 use Rattle.ftd_machine.proofs.AgendaOrder.{inside, names_once, three}
 
 -- lists in one order that have the same members
-listed_one : {X : Type 0} (R : X → X → Type 0) → ((x y : X) → R x y → R y x → ⊥)
+pub listed_one : {X : Type 0} (R : X → X → Type 0) → ((x y : X) → R x y → R y x → ⊥)
     → (P : X → Type 0) (xs ys : List X) → EachToLater R xs → EachToLater R ys
     → ((x : X) → Has xs x ↔ P x) → ((x : X) → Has ys x ↔ P x) → xs ≡ ys
 listed_one R not_both P xs ys g h are also = ordered_one R not_both xs ys g h
@@ -89,6 +93,54 @@ held_one owed day (Some a) (Some b) g h =
     let low : a ≤ b = subst (λ n. a ≤ n) h.3 (g.4 h.0 h.1 h.2) in
     let high : b ≤ a = subst (λ n. b ≤ n) g.3 (h.4 g.0 g.1 g.2) in
     ap Some (not_less a b low high)
+
+-- ---- rows of one key
+
+pub account_one : (s : State) (x y : KeptAccount) → x.name ≡ y.name → IsEnrolled s x → IsEnrolled s y
+    → x ≡ y
+account_one s x y named g h =
+    let account : x.account ≡ y.account = inside x.account y.account
+    (sym g ∙ subst (λ n. (entries_of s n).account ≡ Some y.account) (sym named) h) in
+    rw (named, account) refl
+
+pub run_one : (own : Entries) (quarter : ℕ) (x y : KeptRun) → IsRunIn own quarter x
+    → IsRunIn own quarter y → x.number ≡ y.number → x ≡ y
+run_one own quarter x y g h same =
+    let kept : record { value = x.run; voided = x.voided } ≡ record {
+      value = y.run;
+      voided = y.voided;
+    } = inside (record { value = x.run; voided = x.voided }) (record {
+      value = y.run;
+      voided = y.voided;
+    }) (sym g.0 ∙ subst (λ k. kept_at k own.runs ≡ Some (record {
+      value = y.run;
+      voided = y.voided;
+    })) (sym same) h.0) in
+    let run : x.run ≡ y.run = ap (λ (v : Voidable PayRun). v.value) kept in
+    let voided : x.voided ≡ y.voided = ap (λ (v : Voidable PayRun). v.voided) kept in
+    rw (same, run, voided) refl
+
+pub payment_one : (owed : List Obligation) (own : Entries) (quarter : ℕ) (x y : KeptPayment)
+    → IsPaymentIn owed own quarter x → IsPaymentIn owed own quarter y → x.number ≡ y.number → x ≡ y
+payment_one owed own quarter x y g h same =
+    let kept : record { value = x.payment; voided = x.voided } ≡ record {
+      value = y.payment;
+      voided = y.voided;
+    } = inside (record { value = x.payment; voided = x.voided }) (record {
+      value = y.payment;
+      voided = y.voided;
+    }) (sym g.0 ∙ subst (λ k. kept_at k own.payments ≡ Some (record {
+      value = y.payment;
+      voided = y.voided;
+    })) (sym same) h.0) in
+    let payment : x.payment ≡ y.payment = ap (λ (v : Voidable Payment). v.value) kept in
+    let voided : x.voided ≡ y.voided = ap (λ (v : Voidable Payment). v.voided) kept in
+    let day : y.payment.for_day ≡ x.payment.for_day =
+    ap (λ (p : Payment). p.for_day) (sym payment) in
+    let obligation : x.obligation ≡ y.obligation =
+    held_one owed x.payment.for_day x.obligation y.obligation g.2
+    (subst (λ d. IsHeldBy owed d y.obligation) day h.2) in
+    rw (same, payment, voided, obligation) refl
 
 -- ---- answers
 

@@ -10,8 +10,8 @@ use Rattle.ftd_machine.specs.Step.{Step}
 use Rattle.ftd_machine.specs.Sound.{IsSound}
 use Rattle.ftd_machine.specs.declared.replies.Reply.{Reply}
 use Rattle.ftd_machine.specs.declared.requests.Question.{Question as Questions}
-use Rattle.ftd_machine.specs.declared.requests.Question.TheVariants.{Status, DueList, ScheduleB}
-use Rattle.ftd_machine.specs.declared.requests.Question.TheVariants.{Agenda, Owed, Kept}
+use Rattle.ftd_machine.specs.declared.requests.Question.TheVariants.{Status, Explain, DueList}
+use Rattle.ftd_machine.specs.declared.requests.Question.TheVariants.{ScheduleB, Agenda, Owed, Kept}
 use Rattle.ftd_machine.specs.declared.requests.Kept.{Kept as WhatIsKept}
 use Rattle.ftd_machine.specs.declared.requests.Kept.TheVariants.{Accounts, Years, Reported}
 use Rattle.ftd_machine.specs.declared.requests.Kept.TheVariants.{Holidays, Runs, Payments}
@@ -52,6 +52,8 @@ kept_bounded s (Payments name quarter) answer told = subst AnswersBounded (sym t
 question_brief : (s : State) (question : Questions) → AreBrief (question_checks s question)
 question_brief s (Status name day) =
     brief_needs _ _ _ (brief_needs _ _ _ (brief_finds _ _ _ (brief_needs _ _ [] brief_none)))
+question_brief s (Explain name day) =
+    brief_needs _ _ _ (brief_needs _ _ _ (brief_finds _ _ _ (brief_needs _ _ [] brief_none)))
 question_brief s (DueList name quarter as_of) =
     brief_needs _ _ _
     (brief_needs _ _ _ (brief_needs _ _ _ (brief_finds _ _ _ (brief_needs _ _ [] brief_none))))
@@ -65,6 +67,7 @@ question_brief s (Kept kept) = kept_brief s kept
 tells_bounded : (s : State) (question : Questions) (answer : Answer) → IsSound s
     → Tells s question answer → AnswersBounded answer
 tells_bounded s (Status name day) answer sound told = subst AnswersBounded (sym told.told) tt
+tells_bounded s (Explain name day) answer sound told = subst AnswersBounded (sym told.told) tt
 tells_bounded s (DueList name quarter as_of) answer sound told =
     subst AnswersBounded (sym told.told) (due_list_small s name sound quarter as_of answer told)
 tells_bounded s (ScheduleB name quarter) answer sound told =

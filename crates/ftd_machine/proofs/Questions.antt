@@ -6,8 +6,8 @@ use Rattle.ftd_machine.specs.Checks.{Answer}
 use Rattle.ftd_machine.specs.Laws.{is_change}
 use Rattle.ftd_machine.specs.Questions.{question_checks, question_of, Tells}
 use Rattle.ftd_machine.specs.declared.requests.Question.{Question}
-use Rattle.ftd_machine.specs.declared.requests.Question.TheVariants.{Status, DueList, ScheduleB}
-use Rattle.ftd_machine.specs.declared.requests.Question.TheVariants.{Agenda, Owed, Kept}
+use Rattle.ftd_machine.specs.declared.requests.Question.TheVariants.{Status, Explain, DueList}
+use Rattle.ftd_machine.specs.declared.requests.Question.TheVariants.{ScheduleB, Agenda, Owed, Kept}
 use Rattle.ftd_machine.specs.declared.requests.Request.{Request}
 use Rattle.ftd_machine.specs.declared.requests.Request.TheVariants as request
 use Rattle.ftd_machine.proofs.Heads.{Quiet, quiet_none, quiet_needs, quiet_finds}
@@ -17,6 +17,8 @@ use Rattle.ftd_machine.proofs.Heads.{Firm, firm_none, firm_needs, firm_finds}
 -- the checks of a question answer no change
 pub question_quiet : (s : State) (question : Question) → Quiet (question_checks s question)
 question_quiet s (Status name day) =
+    quiet_needs _ _ _ (quiet_needs _ _ _ (quiet_finds _ _ _ (quiet_needs _ _ [] quiet_none)))
+question_quiet s (Explain name day) =
     quiet_needs _ _ _ (quiet_needs _ _ _ (quiet_finds _ _ _ (quiet_needs _ _ [] quiet_none)))
 question_quiet s (DueList name quarter as_of) =
     quiet_needs _ _ _
@@ -32,6 +34,8 @@ question_quiet s (Kept kept) = kept_quiet s kept
 pub question_firm : (s : State) (question : Question) → Firm (question_checks s question)
 question_firm s (Status name day) =
     firm_needs _ _ _ (firm_needs _ _ _ (firm_finds _ _ _ (firm_needs _ _ [] firm_none)))
+question_firm s (Explain name day) =
+    firm_needs _ _ _ (firm_needs _ _ _ (firm_finds _ _ _ (firm_needs _ _ [] firm_none)))
 question_firm s (DueList name quarter as_of) =
     firm_needs _ _ _
     (firm_needs _ _ _ (firm_needs _ _ _ (firm_finds _ _ _ (firm_needs _ _ [] firm_none))))
@@ -46,6 +50,7 @@ question_firm s (Kept kept) = kept_firm s kept
 pub told_is : (s : State) (question : Question) (answer : Answer) → Tells s question answer
     → is_change answer ≡ false
 told_is s (Status name day) answer told = ap is_change told.told
+told_is s (Explain name day) answer told = ap is_change told.told
 told_is s (DueList name quarter as_of) answer told = ap is_change told.told
 told_is s (ScheduleB name quarter) answer told = ap is_change told.told
 told_is s (Agenda from to as_of) answer told = ap is_change told.told

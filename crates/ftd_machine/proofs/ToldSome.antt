@@ -311,23 +311,23 @@ reason_some own lines line day kind.Semiweekly h has is =
     not_both kind.Monthly e f = absurd cc
     not_both kind.Semiweekly e f = absurd cc
 
-pub status_some : (own : Entries) (lines : List YearLine) (day : ℕ) → AreLinesOf own lines
-    → is_open own (year_of day) ≡ true → (answer : Answer) × IsStatus own day answer
-status_some own lines day h there =
-    let line = line_of_year own lines (year_of day) h there in
-    let status : (status : Kind) × HasStatusOn line.0 day status =
-    elim (status_or line.0 day) [
+pub status_on_line : (own : Entries) (lines : List YearLine) (line : YearLine) (day : ℕ)
+    → AreLinesOf own lines → Has lines line → line.year ≡ year_of day
+    → (answer : Answer) × IsStatus own day answer
+status_on_line own lines line day h has of_day =
+    let status : (status : Kind) × HasStatusOn line day status =
+    elim (status_or line day) [
       | inl is ↦ (kind.Semiweekly, is)
       | inr not ↦ (kind.Monthly, not)
     ] in
-    let why = reason_some own lines line.0 day status.0 h line.1 status.1 in (
+    let why = reason_some own lines line day status.0 h has status.1 in (
       Ok (Status status.0 why.0),
       record {
         lines = lines;
         are_lines = h;
-        line = line.0;
-        open_year = line.1;
-        of_day = line.2;
+        line = line;
+        open_year = has;
+        of_day = of_day;
         status = status.0;
         has_status = status.1;
         why = why.0;
@@ -335,6 +335,12 @@ status_some own lines day h there =
         told = refl;
       },
     )
+
+pub status_some : (own : Entries) (lines : List YearLine) (day : ℕ) → AreLinesOf own lines
+    → is_open own (year_of day) ≡ true → (answer : Answer) × IsStatus own day answer
+status_some own lines day h there =
+    let line = line_of_year own lines (year_of day) h there in
+    status_on_line own lines line.0 day h line.1 line.2
 
 -- ---- the liability of a quarter by day
 

@@ -1,10 +1,11 @@
 -- What the desk answers to the question what is kept.
-use Rattle.std.specs.Prelude.{◌≡◌, ◌⊎◌, ◌≤◌, ◌<◌, ◌↔◌, ℕ, Bool, List, [], Option, None, Some, Ok}
+use Rattle.std.specs.Prelude.{◌≡◌, ◌⊎◌, ◌≤◌, ◌<◌, ◌↔◌, ℕ, List, [], Option, None, Some, Ok}
 use Rattle.ftd_days.specs.Calendar.{year_of, quarter_of}
 use Rattle.ftd_rules.specs.declared.Form.{Form}
 use Rattle.ftd_rules.specs.declared.Form.TheVariants.{F941, F943}
 use Rattle.ftd_rules.specs.declared.Obligation.{Obligation}
 use Rattle.ftd_rules.specs.declared.YearLine.{YearLine}
+use Rattle.ftd_rules.specs.Laws.{Covers}
 use Rattle.ftd_rules.specs.Lists.{Has}
 use Rattle.ftd_machine.specs.State.{State, Entries, entries_of, holidays, calendar_at, is_given}
 use Rattle.ftd_machine.specs.State.{kept_at}
@@ -116,16 +117,12 @@ pub record AreRuns (own : Entries) (quarter : ℕ) (answer : Answer) : Type 0 wh
 
 -- ---- payments
 
--- the deposit period of the obligation holds the day
-abbrev pub Holds : Obligation → ℕ → Type 0
-Holds o day = (o.first ≤ day) × (day ≤ o.last)
-
 -- this is the first day of the obligation whose deposit period holds the day, or there is none
 abbrev pub IsHeldBy : List Obligation → ℕ → Option ℕ → Type 0
-IsHeldBy owed day None = (o : Obligation) → Has owed o → Holds o day → ⊥
+IsHeldBy owed day None = (o : Obligation) → Has owed o → Covers o day → ⊥
 IsHeldBy owed day (Some first) =
-    (o : Obligation) × Has owed o × Holds o day × (o.first ≡ first)
-    × ((p : Obligation) → Has owed p → Holds p day → first ≤ p.first)
+    (o : Obligation) × Has owed o × Covers o day × (o.first ≡ first)
+    × ((p : Obligation) → Has owed p → Covers p day → first ≤ p.first)
 
 -- it is the payment of its number, for a day of the quarter, with the obligation that holds that day
 abbrev pub IsPaymentIn : List Obligation → Entries → ℕ → KeptPayment → Type 0

@@ -20,6 +20,7 @@ is_change (Ok (reply.Status kind reason)) = false
 is_change (Ok (reply.Due rows)) = false
 is_change (Ok (reply.Days sums)) = false
 is_change (Ok (reply.Agenda rows)) = false
+is_change (Ok (reply.Explained explained)) = false
 is_change (Ok (reply.Kept rows)) = false
 is_change (Err refusal) = false
 

@@ -8,6 +8,7 @@ pub mod Posting
 pub mod Asking
 pub mod Agenda
 pub mod Kept
+pub mod Explaining
 pub mod Questions
 pub mod Step
 pub mod Runs

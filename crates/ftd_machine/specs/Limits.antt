@@ -8,7 +8,7 @@ use Rattle.ftd_rules.specs.Verdicts.{amount_of}
 use Rattle.ftd_rules.specs.declared.run.PayRun.{PayRun}
 use Rattle.ftd_machine.specs.declared.replies.Reply.{Reply}
 use Rattle.ftd_machine.specs.declared.replies.Reply.TheVariants.{Done, Already, Posted, Status}
-use Rattle.ftd_machine.specs.declared.replies.Reply.TheVariants.{Due, Days, Agenda, Kept}
+use Rattle.ftd_machine.specs.declared.replies.Reply.TheVariants.{Due, Days, Agenda, Explained, Kept}
 
 -- the year is one of these
 abbrev pub is_between : ℕ → ℕ → ℕ → Bool
@@ -58,5 +58,6 @@ IsBounded Done = ⊤
 IsBounded Already = ⊤
 IsBounded (Posted from to removed added) = ⊤
 IsBounded (Status kind reason) = ⊤
+IsBounded (Explained explained) = ⊤
 IsBounded (Agenda rows) = ⊤
 IsBounded (Kept rows) = ⊤

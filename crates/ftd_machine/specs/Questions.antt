@@ -7,16 +7,20 @@ use Rattle.ftd_machine.specs.Requests.{status_checks, due_list_checks, schedule_
 use Rattle.ftd_machine.specs.Requests.{agenda_checks, owed_checks}
 use Rattle.ftd_machine.specs.Asking.{IsStatus, IsDueList, IsScheduleB}
 use Rattle.ftd_machine.specs.Agenda.{IsDueBetween, IsLeftBy, IsAgenda}
+use Rattle.ftd_machine.specs.Explaining.{IsExplanation}
 use Rattle.ftd_machine.specs.Kept.{kept_checks, TellsKept, KeptOf}
 use Rattle.ftd_machine.specs.declared.requests.Question.{Question}
-use Rattle.ftd_machine.specs.declared.requests.Question.TheVariants.{Status, DueList, ScheduleB}
-use Rattle.ftd_machine.specs.declared.requests.Question.TheVariants.{Agenda, Owed, Kept}
+use Rattle.ftd_machine.specs.declared.requests.Question.TheVariants.{Status, Explain, DueList}
+use Rattle.ftd_machine.specs.declared.requests.Question.TheVariants.{ScheduleB, Agenda, Owed, Kept}
 use Rattle.ftd_machine.specs.declared.requests.Request.{Request}
 use Rattle.ftd_machine.specs.declared.requests.Request.TheVariants as request
 
 -- the checks of a question, in their order
 abbrev pub question_checks : State → Question → List (Option Answer)
 question_checks s (Status name day) =
+    let own = entries_of s name in
+    status_checks name day own.account (is_open own (year_of day))
+question_checks s (Explain name day) =
     let own = entries_of s name in
     status_checks name day own.account (is_open own (year_of day))
 question_checks s (DueList name quarter as_of) =
@@ -29,11 +33,12 @@ question_checks s (Agenda from to as_of) = agenda_checks from to as_of
 question_checks s (Owed until as_of) = owed_checks until as_of
 question_checks s (Kept kept) = kept_checks s kept
 
--- where they pass, this is the answer: the deposit schedule of a day, the due list of a quarter,
--- its liability by day, what is due between two days over all accounts, what of it is not paid, or
--- what is kept
+-- where they pass, this is the answer: the deposit schedule of a day, why the obligation that holds it
+-- is so, the due list of a quarter, its liability by day, what is due between two days over all
+-- accounts, what of it is not paid, or what is kept
 abbrev pub Tells : State → Question → Answer → Type 0
 Tells s (Status name day) answer = IsStatus (entries_of s name) day answer
+Tells s (Explain name day) answer = IsExplanation (holidays s) (entries_of s name) day answer
 Tells s (DueList name quarter as_of) answer =
     IsDueList (holidays s) (entries_of s name) quarter as_of answer
 Tells s (ScheduleB name quarter) answer = IsScheduleB (entries_of s name) quarter answer
@@ -45,6 +50,7 @@ Tells s (Kept kept) answer = TellsKept s kept answer
 -- nor do all accounts and the holidays of a year
 abbrev pub AsksOf : Question → List ℕ → Type 0
 AsksOf (Status name day) account = name ≡ account
+AsksOf (Explain name day) account = name ≡ account
 AsksOf (DueList name quarter as_of) account = name ≡ account
 AsksOf (ScheduleB name quarter) account = name ≡ account
 AsksOf (Agenda from to as_of) account = ⊥

@@ -7,8 +7,8 @@
 
 mod checks;
 mod entries;
+mod explained;
 mod kept;
-pub mod laws;
 mod limits;
 mod lists;
 mod replies;
@@ -21,6 +21,9 @@ pub use crate::checks::{
     void_payment_check,
 };
 pub use crate::entries::Account;
+pub use crate::explained::{
+    CountedDay, CountedDays, DayKind, Explanation, RunningSum, RunningSums,
+};
 pub use crate::kept::{
     KeptAccount, KeptAccounts, KeptPayment, KeptPayments, KeptRows, KeptRun, KeptRuns, KeptTotal,
     KeptTotals, KeptYears,

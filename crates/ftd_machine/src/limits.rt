@@ -90,6 +90,7 @@ pub fn is_bounded(reply: &Reply) -> bool
         | Reply::Posted { .. }
         | Reply::Status { .. }
         | Reply::Agenda(_)
+        | Reply::Explained(_)
         | Reply::Kept(_) => true,
     }
 }

@@ -2,6 +2,7 @@
 
 ghost use Rattle.std.specs.Prelude.{◌≡◌};
 
+use crate::explained::Explanation;
 use crate::kept::KeptRows;
 use crate::lists::{AgendaRows, DaySums, DueRows};
 use ftd_days::{Day, Quarter};
@@ -39,6 +40,8 @@ pub enum Reply {
         kind: Kind,
         reason: Reason,
     },
+    /// Why the obligation is so, or nothing where no obligation's deposit period holds the day.
+    Explained(Option<Explanation>),
     /// The rows of a due list, by first day.
     Due(DueRows),
     /// The days of a quarter that have liability, by day.

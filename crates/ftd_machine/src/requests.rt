@@ -105,6 +105,11 @@ pub enum Question {
         account: AccountName,
         day: Day,
     },
+    /// Why is the obligation so whose deposit period holds a day?
+    Explain {
+        account: AccountName,
+        day: Day,
+    },
     /// What must be deposited for a quarter, and how does each deposit stand as of a day?
     DueList {
         account: AccountName,

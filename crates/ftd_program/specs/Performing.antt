@@ -13,8 +13,8 @@ use Rattle.ftd_machine.specs.declared.replies.Refusal.{Refusal}
 use Rattle.ftd_machine.specs.declared.requests.Request.{Request}
 use Rattle.ftd_machine.specs.Questions.{question_of}
 use Rattle.ftd_machine.specs.declared.requests.Question.{Question as Questions}
-use Rattle.ftd_machine.specs.declared.requests.Question.TheVariants.{Status, DueList, ScheduleB}
-use Rattle.ftd_machine.specs.declared.requests.Question.TheVariants.{Agenda, Owed, Kept}
+use Rattle.ftd_machine.specs.declared.requests.Question.TheVariants.{Status, Explain, DueList}
+use Rattle.ftd_machine.specs.declared.requests.Question.TheVariants.{ScheduleB, Agenda, Owed, Kept}
 use Rattle.ftd_machine.specs.declared.requests.Request.TheVariants.{Question}
 use Rattle.ftd_questions.specs.Shown.{ShowsRows}
 use Rattle.ftd_questions.specs.Telling.{Replies, Refuses}
@@ -34,7 +34,10 @@ use Rattle.ftd_replies.specs.Hints.{told_text}
 use Rattle.ftd_replies.specs.Putting.{IsPut}
 use Rattle.ftd_replies.specs.Refusals.{refusal_status}
 use Rattle.ftd_replies.specs.Replies.{reply_text}
-use Rattle.ftd_reports.specs.declared.formats.Format.{Format}
+use Rattle.ftd_formats.specs.Formats.{list_format}
+use Rattle.ftd_formats.specs.declared.formats.Format.{Format}
+use Rattle.ftd_formats.specs.declared.formats.ListFormat.{ListFormat}
+use Rattle.ftd_formats.specs.declared.formats.ListFormat.TheVariants.{Text, Csv, Json}
 use Rattle.ftd_replies.specs.declared.hints.Known.{Known}
 use Rattle.ftd_replies.specs.declared.hints.Known.TheVariants.{Nothing}
 use Rattle.ftd_program.specs.Mending.{KnowsAfter, KnowsOf, or_nothing}
@@ -169,14 +172,25 @@ module _ {O E : Type 0} (o_taken : O → Option (List ℕ)) (o_failed : O → Bo
     pub shows : HasCleanDisk new.db → p.status ≡ 0 → (t : Tables) → StandIfOpen old.db t
         → ShowsDue account quarter as_of t
 
-  -- a due list is printed row by row, and every other reply when it is there
+  -- a due list is printed row by row as text, and in the other formats when it is there
+  abbrev pub AsksDue : Held → Held → List ℕ → ListFormat → Format → Request → List ℕ → ℕ → ℕ
+      → Type 0
+  AsksDue old new db Text format request account quarter as_of =
+      PerformsDue old new db account quarter as_of
+  AsksDue old new db Csv format request account quarter as_of = Performs old new db format request
+  AsksDue old new db Json format request account quarter as_of = Performs old new db format request
+
+  -- every other reply is printed when it is there
   abbrev pub AsksBy : Held → Held → List ℕ → Format → Request → Option Questions → Type 0
   AsksBy old new db format request None = Performs old new db format request
   AsksBy old new db format request (Some (Status account day)) = Performs old new db format request
+  AsksBy old new db format request (Some (Explain account day)) = Performs old new db format request
   AsksBy old new db format request (Some (DueList account quarter as_of)) =
-      PerformsDue old new db account quarter as_of
-  AsksBy old new db format request (Some (ScheduleB account quarter)) = Performs old new db format request
-  AsksBy old new db format request (Some (Agenda from to as_of)) = Performs old new db format request
+      AsksDue old new db (list_format format) format request account quarter as_of
+  AsksBy old new db format request (Some (ScheduleB account quarter)) =
+      Performs old new db format request
+  AsksBy old new db format request (Some (Agenda from to as_of)) =
+      Performs old new db format request
   AsksBy old new db format request (Some (Owed until as_of)) = Performs old new db format request
   AsksBy old new db format request (Some (Kept asked)) = Performs old new db format request
 

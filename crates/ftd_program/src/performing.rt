@@ -3,7 +3,8 @@
 ghost use Rattle.std.specs.Prelude.{◌≡◌, codes};
 ghost use Rattle.std.specs.String.{string_bytes};
 ghost use Rattle.ftd_desk.specs.Desks.{IsStopped, held};
-ghost use Rattle.ftd_program.specs.Performing.{Asks, Does, Performs, PerformsDue};
+ghost use Rattle.ftd_formats.specs.Formats.{list_format};
+ghost use Rattle.ftd_program.specs.Performing.{Asks, AsksDue, Does, Performs, PerformsDue};
 ghost use Rattle.ftd_program.specs.Performing.{PerformsImport, PrintsRefusal, PrintsReply};
 ghost use Rattle.ftd_program.specs.Performing.{PrintsStop, PrintsSummary};
 ghost use Rattle.ftd_machine.specs.Limits.{IsBounded};
@@ -19,12 +20,13 @@ use crate::mending::{known_for, or_nothing};
 use crate::summaries::{write_bad_header, write_summary};
 use ftd_days::{Day, Quarter};
 use ftd_desk::{Desk, DueFault};
+use ftd_formats::{Format, ListFormat};
 use ftd_hints::write_record_hints;
 use ftd_import::{Progress, StopCause, Stopped, Summary, import};
 use ftd_machine::{Question, Refusal, Reply, Request};
 use ftd_ports::Target;
 use ftd_replies::{Known, put, status_of, write_reply, write_told};
-use ftd_reports::{Format, LateDueText, Unwritten};
+use ftd_reports::{LateDueText, Unwritten};
 use ftd_words::{Job, LocalTask};
 use sqlite::Alter;
 use std::alloc::Global;
@@ -63,8 +65,8 @@ pub fn perform<S: Alter, O: Target, E: Target, P: Progress>(
     }
 }
 
-/// Asks the request of the desk. A due list is printed row by row, as it comes, and what is due over
-/// all accounts in a format.
+/// Asks the request of the desk. A list is printed in a format; a due list as text is printed row
+/// by row, as it comes.
 fn ask<S: Alter, O: Target, E: Target>(
     desk: &mut Desk<S>,
     db: &str,
@@ -83,9 +85,10 @@ fn ask<S: Alter, O: Target, E: Target>(
                 quarter,
                 as_of,
             },
-        ) => list_due(
+        ) => ask_due(
             desk,
             db,
+            format,
             request,
             account.as_str(),
             *quarter,
@@ -95,12 +98,37 @@ fn ask<S: Alter, O: Target, E: Target>(
         ),
         Some(
             Question::Status { .. }
+            | Question::Explain { .. }
             | Question::ScheduleB { .. }
             | Question::Agenda { .. }
             | Question::Owed { .. }
             | Question::Kept(_),
         )
         | None => answer(desk, db, format, request, out, err),
+    }
+}
+
+/// Asks the due list of an account's quarter as of a day. As text it is printed row by row, as it
+/// comes; in another format when it is there.
+fn ask_due<S: Alter, O: Target, E: Target>(
+    desk: &mut Desk<S>,
+    db: &str,
+    format: Format,
+    request: &Request,
+    account: &str,
+    quarter: Quarter,
+    as_of: Day,
+    out: O,
+    err: E,
+) -> Performed<O, E>
+    requires asked { request.now ≡ requests.Question (DueList account.now quarter as_of) }
+    ensures { AsksDue O.taken O.failed E.taken E.failed out err result
+        (held S.Store desk.old) (held S.Store desk.new) db.now (list_format format) format
+        request.now account.now quarter as_of }
+{
+    match format.of_list() {
+        ListFormat::Text => list_due(desk, db, request, account, quarter, as_of, out, err),
+        ListFormat::Csv | ListFormat::Json => answer(desk, db, format, request, out, err),
     }
 }
 
@@ -280,7 +308,7 @@ fn print_line<O, E: Target>(status: u8, line: &[u8], out: O, err: E) -> Performe
     Performed { status, out, err }
 }
 
-/// Prints the text of a reply, in a format where it tells of all accounts.
+/// Prints the text of a reply, in a format where it is a list.
 fn print_reply<O: Target, E: Target>(
     format: Format,
     request: &Request,

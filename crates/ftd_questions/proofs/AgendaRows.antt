@@ -1,7 +1,7 @@
 -- The rows of an agenda, one by one.
 use Rattle.std.proofs.Common.{◌≡◌, ◌∙◌, sym, ap, subst, ℕ, ◌+◌, ◌<◌, List, [], ◌∷◌, ◌++◌}
 use Rattle.std.proofs.Common.{length, take, get_or, Option, None, Some, Ok}
-use Rattle.std.specs.Prelude.{filter, string_bytes}
+use Rattle.std.specs.Prelude.{string_bytes}
 use Rattle.ftd_days.specs.Calendar.{quarter_of}
 use Rattle.ftd_rules.specs.declared.Form.{Form}
 use Rattle.ftd_rules.specs.declared.verdict.DueRow.{DueRow}
@@ -10,14 +10,9 @@ use Rattle.ftd_rules.specs.declared.verdict.Verdict.TheVariants.{Met, WithReturn
 use Rattle.ftd_rules.specs.declared.verdict.Verdict.TheVariants.{Short, Late}
 use Rattle.ftd_rules.specs.Lists.{Has}
 use Rattle.ftd_rules.specs.Returns.{IsReturnDue}
-use Rattle.ftd_schema.specs.Orders.{AccountsRise}
 use Rattle.ftd_schema.specs.Standing.{Tables}
-use Rattle.ftd_schema.specs.Tests.{is_due_between}
-use Rattle.ftd_schema.specs.declared.TableName.TheVariants.{Obligations}
-use Rattle.ftd_rows.specs.Cells.{day_number}
-use Rattle.ftd_rows.specs.Lists.{Lists, Pairs}
+use Rattle.ftd_rows.specs.Lists.{Pairs}
 use Rattle.ftd_rows.specs.declared.obligations.AccountObligation.{AccountObligation}
-use Rattle.ftd_store.specs.Finds.{IsAccountObligation}
 use Rattle.ftd_store.proofs.Items.{taken, pairs_more}
 use Rattle.ftd_machine.specs.State.{State, entries_of, holidays}
 use Rattle.ftd_machine.specs.History.{AreOwed}
@@ -27,7 +22,8 @@ use Rattle.ftd_machine.specs.Checks.{Answer}
 use Rattle.ftd_machine.specs.declared.lists.AgendaRow.{AgendaRow}
 use Rattle.ftd_machine.specs.declared.replies.Reply.TheVariants.{Due}
 use Rattle.ftd_questions.specs.Agendas.{IsListOf, KnowsList, KnowsLast, IsLast, day_for, IsRowOf}
-use Rattle.ftd_questions.specs.Agendas.{AddsRow, KnowsRow}
+use Rattle.ftd_questions.specs.Agendas.{AddsRow, KnowsLastYears, KnowsRow}
+use Rattle.ftd_questions.specs.Listing.{KnowsDue}
 use Rattle.ftd_questions.specs.declared.agenda_rows.AccountList.{AccountList}
 use Rattle.ftd_questions.specs.declared.agenda_rows.QuarterList.{QuarterList}
 
@@ -100,29 +96,31 @@ row_known as_of t owed name quarter list x named its knows r = record {
 
 -- of the obligations that were listed, these have their rows, and the due list that was read last
 -- is known
-pub record SoFar (from to as_of : ℕ) (listed done : List AccountObligation) (rows : List AgendaRow)
-    (last : Option QuarterList) (t : Tables) : Type 0 where
-  pub lists : Lists AccountsRise IsAccountObligation
-      (filter (is_due_between (day_number from) (day_number to)) (t Obligations)) listed
+pub record SoFar (unpaid : Option ℕ) (from to as_of : ℕ) (listed done : List AccountObligation)
+    (rows : List AgendaRow) (last : Option QuarterList) (t : Tables) : Type 0 where
+  pub lists : KnowsDue unpaid from to listed t
   pub are_rows : Pairs (KnowsRow as_of t) done rows
   pub last_is : KnowsLast as_of last t
+  pub years_are : KnowsLastYears last t
 
-module _ (from to as_of : ℕ) (listed : List AccountObligation) where
+module _ (unpaid : Option ℕ) (from to as_of : ℕ) (listed : List AccountObligation) where
   -- with the row of one obligation more
   pub so_far_more : (i : ℕ) (x : AccountObligation) (rows after : List AgendaRow)
       (last new : Option QuarterList) (t : Tables) → i < length listed → x ≡ get_or listed i x
       → IsLast x new → AddsRow x new rows after
-      → SoFar from to as_of listed (take i listed) rows last t → KnowsLast as_of new t
-      → SoFar from to as_of listed (take (i + 1) listed) after new t
+      → SoFar unpaid from to as_of listed (take i listed) rows last t
+      → KnowsLast as_of new t × KnowsLastYears new t
+      → SoFar unpaid from to as_of listed (take (i + 1) listed) after new t
   so_far_more i x rows after last None t some is its adds so_far knows = absurd its
   so_far_more i x rows after last (Some new) t some is its adds so_far knows =
       let row = adds.0 in
       let known = row_known as_of t x (string_bytes new.account) new.quarter new.list row its.0
-      its.1 knows adds.1 in
+      its.1 knows.0 adds.1 in
       record {
         lists = so_far.lists;
         are_rows = subst (λ os. Pairs (KnowsRow as_of t) os after) (sym (taken listed i x some is))
             (subst (Pairs (KnowsRow as_of t) (take i listed ++ x ∷ [])) (sym adds.2)
             (pairs_more (KnowsRow as_of t) (take i listed) rows x row so_far.are_rows known));
-        last_is = knows;
+        last_is = knows.0;
+        years_are = knows.1;
       }

@@ -38,14 +38,15 @@ use Rattle.ftd_machine.specs.declared.replies.Reply.TheVariants.{Due}
 use Rattle.ftd_machine.proofs.Members.{has_filtered}
 use Rattle.ftd_entries.specs.Standing.{StandsFor, IsSettled}
 use Rattle.ftd_entries.proofs.YearHolidays.{holiday_read}
-use Rattle.ftd_questions.specs.Returns.{KnowsPeriod}
+use Rattle.ftd_reasons.specs.Returns.{KnowsPeriod}
 use Rattle.ftd_questions.specs.DueRows.{begins_in, IsReturnBy, IsRowBy, KnowsReturnDue}
 use Rattle.ftd_questions.specs.Walks.{begun}
-use Rattle.ftd_questions.specs.declared.return_periods.ReturnPeriod.{ReturnPeriod}
+use Rattle.ftd_reasons.specs.declared.return_periods.ReturnPeriod.{ReturnPeriod}
 use Rattle.ftd_questions.specs.declared.due_rows.QuarterReturn.{QuarterReturn}
 use Rattle.ftd_questions.proofs.OneVerdict.{same_test, verdict_one}
 use Rattle.ftd_entries.proofs.OwedRows.{kept_by_first_day}
-use Rattle.ftd_questions.proofs.ReturnDates.{AgreeIn, return_same, makeup_same, makeup_one}
+use Rattle.ftd_reasons.proofs.YearsRead.{years_agree}
+use Rattle.ftd_reasons.proofs.ReturnDates.{AgreeIn, return_same, makeup_same, makeup_one}
 use Rattle.ftd_questions.proofs.OwedDays.{quarter_begins, piece, period_days, some_days}
 use Rattle.ftd_store.proofs.Items.{paired_from, paired_to}
 use Rattle.ftd_store.proofs.Sifted.{keeps_has}
@@ -84,20 +85,7 @@ same_return F943 a b e = omega arith
 
 -- ---- the holidays of two years
 
--- those that were read agree with all in the year and the next
-years_agree : (read : List ℕ) (year : ℕ) → 2001 ≤ year → year ≤ 2098 → (t : Tables) (s : State)
-    → StandsFor t s → IsSound s → HasYears year (year + 1) read t → AgreeIn year read (holidays s)
-years_agree read year from_2001 to_2098 t s stands sound years day low high =
-    elim (lt_or_le day (year_start (year + 1))) [
-      | inl this ↦ holiday_read t s stands sound read year day
-          (years year (omega arith) (omega arith))
-          (year_is year day (omega arith) (omega arith) low this)
-      | inr next ↦ holiday_read t s stands sound read (year + 1) day
-          (years (year + 1) (omega arith) (omega arith))
-          (year_is (year + 1) day (omega arith) (omega arith) next high)
-    ]
-
--- so the return is due on the day by all of them
+-- by those that were read the return is due on the day by all
 pub return_known : (form : Form) (quarter : ℕ) (read : List ℕ) (day : ℕ)
     → 2001 ≤ quarter_year quarter → quarter_year quarter ≤ 2098
     → IsReturnDue form read quarter day → (t : Tables)

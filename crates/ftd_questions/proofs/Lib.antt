@@ -1,14 +1,3 @@
-mod Items
-mod KeptSums
-mod Rising
-mod LiableDays
-mod Searching
-mod Scheduling
-mod Billing
-mod PaymentsRead
-mod LiabilityRead
-mod ReturnDates
-mod Preceding
 mod OneVerdict
 mod OwedDays
 mod NextDays
@@ -23,5 +12,7 @@ mod Unreported
 mod Shown
 mod AgendaRows
 mod ByDueDate
-mod TableOrder
+mod DueYears
+mod OwnDue
+mod ByAccount
 mod AgendaTold

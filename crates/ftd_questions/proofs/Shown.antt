@@ -1,6 +1,6 @@
 -- The rows of a due list beside those of the tables, whatever else these hold.
 use Rattle.std.proofs.Common.{◌≡◌, ℕ, ◌+◌, ◌-◌, ◌*◌, ◌/◌, ◌≤◌, ◌<◌, inl, inr, List, [], ◌∷◌, map}
-use Rattle.std.proofs.Common.{Bool, true, false, Option, Some, None, Ok}
+use Rattle.std.proofs.Common.{Bool, true, false, Option, Some, None, Ok, Err}
 use Rattle.sqlite.specs.Store as store
 use Rattle.std.proofs.Common.{◌&&◌, refl, sym, ap, ◌∙◌, subst, arith}
 use Rattle.std.specs.Prelude.{filter, nat_le, int_le, bytes_eq}
@@ -9,7 +9,7 @@ use Rattle.std.specs.List.Sorted.{IsPermutation}
 use Rattle.std.proofs.lemmas.Bool.{cases_Bool, true≢false, leb-true, le-leb}
 use Rattle.std.proofs.lemmas.Bool.Decides.{eqb_tells}
 use Rattle.ftd_days.specs.Calendar.{last_day, month_of, month_start, quarter_of, quarter_start}
-use Rattle.ftd_days.specs.Calendar.{quarter_year}
+use Rattle.ftd_days.specs.Calendar.{quarter_year, year_of}
 use Rattle.ftd_days.proofs.Months.{month_start-end, month_start-mono, month_start_grows}
 use Rattle.ftd_rules.specs.declared.Obligation.{Obligation}
 use Rattle.ftd_rules.specs.declared.verdict.DueRow.{DueRow}
@@ -35,6 +35,10 @@ use Rattle.ftd_machine.specs.Asking.{return_period, first_of_row}
 use Rattle.ftd_machine.specs.Checks.{Answer, first_of, needs, finds}
 use Rattle.ftd_machine.specs.Requests.{due_list_checks}
 use Rattle.ftd_machine.specs.declared.replies.Refusal.{Refusal}
+use Rattle.ftd_machine.specs.declared.replies.Refusal.TheVariants.{BadName, BadYear, BadDay}
+use Rattle.ftd_machine.specs.declared.replies.Refusal.TheVariants.{UnknownAccount, YearNotOpen}
+use Rattle.ftd_machine.specs.Limits.{is_between}
+use Rattle.ftd_rules.specs.Accounts.{is_account_name}
 use Rattle.ftd_machine.specs.declared.replies.Reply.{Reply}
 use Rattle.ftd_machine.specs.declared.replies.Reply.TheVariants.{Due}
 use Rattle.ftd_machine.specs.declared.requests.Question.{Question}
@@ -328,6 +332,41 @@ due_list_refuses name quarter as_of known =
     refuses_needs _ _ _
     (refuses_needs _ _ _
     (refuses_needs _ _ _ (refuses_finds _ _ _ (refuses_needs _ _ [] refuses_none))))
+
+-- where no refusal decides, no check does
+pub due_list_passed : (name : List ℕ) (quarter as_of : ℕ) (known : KnownForDue)
+    → ((refusal : Refusal) → first_of (due_list_checks name quarter as_of known.account
+    known.is_open) ≡ Some (Err refusal) → ⊥)
+    → first_of (due_list_checks name quarter as_of known.account known.is_open) ≡ None
+due_list_passed name quarter as_of known none =
+    by (first_of (due_list_checks name quarter as_of known.account known.is_open)) refl
+  where
+    by : (o : Option Answer)
+        → first_of (due_list_checks name quarter as_of known.account known.is_open) ≡ o
+        → first_of (due_list_checks name quarter as_of known.account known.is_open) ≡ None
+    by None e = e
+    by (Some (Err refusal)) e = absurd (none refusal e)
+    by (Some (Ok reply)) e = absurd ((due_list_refuses name quarter as_of known).never reply e)
+
+-- an account that is not known is refused
+needs_refused : (b : Bool) (refusal : Refusal) (checks : List (Option Answer))
+    → (r : Refusal) × (first_of checks ≡ Some (Err r))
+    → (r : Refusal) × (first_of (needs b refusal ∷ checks) ≡ Some (Err r))
+needs_refused true refusal checks rest = rest
+needs_refused false refusal checks rest = (refusal, refl)
+
+pub unknown_refused : (name : List ℕ) (quarter as_of : ℕ) (known : KnownForDue)
+    → known.account ≡ None
+    → ((refusal : Refusal) → first_of (due_list_checks name quarter as_of known.account
+    known.is_open) ≡ Some (Err refusal) → ⊥) → ⊥
+unknown_refused name quarter as_of known unknown none =
+    let rest : (r : Refusal) × (first_of (finds known.account UnknownAccount
+    ∷ needs known.is_open (YearNotOpen (quarter_year quarter)) ∷ []) ≡ Some (Err r)) =
+    (UnknownAccount, rw unknown refl) in
+    let is = needs_refused (is_account_name name) BadName _
+    (needs_refused (is_between 2001 2098 (quarter_year quarter)) BadYear _
+    (needs_refused (is_between 2001 2099 (year_of as_of)) BadDay _ rest)) in
+    none is.0 is.1
 
 -- ---- answers
 

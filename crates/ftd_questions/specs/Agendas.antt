@@ -1,6 +1,6 @@
 -- What is known of the rows of an agenda, by what the tables have.
-use Rattle.std.specs.Prelude.{◌≡◌, ◌++◌, ℕ, Bool, nat_lt, List, [], ◌∷◌, Option, None, Some, Ok, ⊤}
-use Rattle.std.specs.Prelude.{filter, string_bytes}
+use Rattle.std.specs.Prelude.{◌≡◌, ◌++◌, ℕ, List, [], ◌∷◌, Option, None, Some, Ok, ⊤}
+use Rattle.std.specs.Prelude.{string_bytes}
 use Rattle.ftd_days.specs.Calendar.{quarter_of}
 use Rattle.ftd_rules.specs.declared.verdict.DueRow.{DueRow}
 use Rattle.ftd_rules.specs.declared.verdict.Verdict.{Verdict}
@@ -8,14 +8,9 @@ use Rattle.ftd_rules.specs.declared.verdict.Verdict.TheVariants.{Met, WithReturn
 use Rattle.ftd_rules.specs.declared.verdict.Verdict.TheVariants.{Short, Late}
 use Rattle.ftd_rules.specs.Lists.{Has}
 use Rattle.ftd_rules.specs.Returns.{IsReturnDue}
-use Rattle.ftd_schema.specs.Orders.{AccountsRise}
 use Rattle.ftd_schema.specs.Standing.{Tables}
-use Rattle.ftd_schema.specs.Tests.{is_due_between}
-use Rattle.ftd_schema.specs.declared.TableName.TheVariants.{Obligations}
-use Rattle.ftd_rows.specs.Cells.{day_number}
-use Rattle.ftd_rows.specs.Lists.{Lists, Pairs}
+use Rattle.ftd_rows.specs.Lists.{Pairs}
 use Rattle.ftd_rows.specs.declared.obligations.AccountObligation.{AccountObligation}
-use Rattle.ftd_store.specs.Finds.{IsAccountObligation}
 use Rattle.ftd_machine.specs.State.{State, entries_of, holidays}
 use Rattle.ftd_machine.specs.Sound.{IsSound}
 use Rattle.ftd_machine.specs.Asking.{IsDueList}
@@ -24,6 +19,8 @@ use Rattle.ftd_machine.specs.declared.entries.Account.{Account}
 use Rattle.ftd_machine.specs.declared.lists.AgendaRow.{AgendaRow}
 use Rattle.ftd_machine.specs.declared.replies.Reply.TheVariants.{Due}
 use Rattle.ftd_entries.specs.Standing.{StandsFor}
+use Rattle.ftd_questions.specs.DueRows.{KnowsYears}
+use Rattle.ftd_questions.specs.Listing.{KnowsDue}
 use Rattle.ftd_questions.specs.declared.agenda_rows.AccountList.{AccountList}
 use Rattle.ftd_questions.specs.declared.agenda_rows.QuarterList.{QuarterList}
 
@@ -48,6 +45,11 @@ KnowsList name quarter as_of list t =
 abbrev pub KnowsLast : ℕ → Option QuarterList → Tables → Type 0
 KnowsLast as_of None t = ⊤
 KnowsLast as_of (Some last) t = KnowsList (string_bytes last.account) last.quarter as_of last.list t
+
+-- so are the holidays of the year of its quarter and of the next
+abbrev pub KnowsLastYears : Option QuarterList → Tables → Type 0
+KnowsLastYears None t = ⊤
+KnowsLastYears (Some last) t = KnowsYears last.quarter last.holidays t
 
 -- the obligation of an account is on the list
 abbrev pub IsLast : AccountObligation → Option QuarterList → Type 0
@@ -92,15 +94,12 @@ pub record KnowsRow (as_of : ℕ) (t : Tables) (owed : AccountObligation) (x : A
   pub first : x.row.obligation.first ≡ owed.obligation.first
   pub is_row : (s : State) → StandsFor t s → IsSound s → IsAgendaRow s as_of x
 
--- something is left to pay of it
-abbrev pub is_left : AgendaRow → Bool
-is_left x = nat_lt x.row.paid.0 x.row.obligation.cents.0
-
 -- ---- the rows
 
--- these are the rows of the obligations that are due on one of the days, by account and first day
-pub record KnowsRowsDue (from to as_of : ℕ) (rows : List AgendaRow) (t : Tables) : Type 0 where
+-- these are the rows of the obligations that are due on one of the days and not paid, by account
+-- and first day
+pub record KnowsRowsDue (unpaid : Option ℕ) (from to as_of : ℕ) (rows : List AgendaRow) (t : Tables)
+    : Type 0 where
   pub owed : List AccountObligation
-  pub listed : Lists AccountsRise IsAccountObligation
-      (filter (is_due_between (day_number from) (day_number to)) (t Obligations)) owed
+  pub listed : KnowsDue unpaid from to owed t
   pub are_rows : Pairs (KnowsRow as_of t) owed rows

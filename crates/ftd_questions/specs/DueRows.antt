@@ -1,5 +1,5 @@
 -- The rows of a due list, by what is known of the quarter's return.
-use Rattle.std.specs.Prelude.{◌≡◌, ◌≤◌, ◌==◌, ◌↔◌, ℕ, Bool, List, IsTrue, Ok}
+use Rattle.std.specs.Prelude.{◌≡◌, ◌≤◌, ◌==◌, ◌↔◌, ◌+◌, ℕ, Bool, List, IsTrue, Ok}
 use Rattle.ftd_days.specs.Calendar.{quarter_of, quarter_year}
 use Rattle.ftd_days.specs.Holidays.{YearDays, holidays_of}
 use Rattle.ftd_rules.specs.declared.Form.{Form}
@@ -10,6 +10,7 @@ use Rattle.ftd_rules.specs.Payments.{paid_by}
 use Rattle.ftd_rules.specs.Returns.{IsReturnDue, IsMakeup, IsSmallQuarter}
 use Rattle.ftd_rules.specs.Verdicts.{IsVerdict}
 use Rattle.ftd_schema.specs.Standing.{Tables}
+use Rattle.ftd_store.specs.Holidays.{HasYears}
 use Rattle.ftd_machine.specs.State.{State, entries_of, holidays}
 use Rattle.ftd_machine.specs.History.{form_of}
 use Rattle.ftd_machine.specs.Sound.{IsSound}
@@ -17,7 +18,7 @@ use Rattle.ftd_machine.specs.Asking.{is_next_day, IsDueList}
 use Rattle.ftd_machine.specs.declared.replies.Reply.TheVariants.{Due}
 use Rattle.ftd_entries.specs.Known.{KnowsAccount, KnowsYear}
 use Rattle.ftd_entries.specs.Standing.{StandsFor}
-use Rattle.ftd_questions.specs.declared.return_periods.ReturnPeriod.{ReturnPeriod}
+use Rattle.ftd_reasons.specs.declared.return_periods.ReturnPeriod.{ReturnPeriod}
 use Rattle.ftd_questions.specs.declared.due_rows.QuarterReturn.{QuarterReturn}
 use Rattle.ftd_questions.specs.declared.due.KnownForDue.{KnownForDue}
 
@@ -71,6 +72,11 @@ pub record KnowsForDue (name : List ℕ) (quarter : ℕ) (known : KnownForDue) (
     : Type 0 where
   pub account : KnowsAccount name known.account t
   pub is_open : KnowsYear name (quarter_year quarter) known.is_open t
+
+-- these are the holidays of the year of the quarter and of the next
+abbrev pub KnowsYears : ℕ → List YearDays → Tables → Type 0
+KnowsYears quarter given t =
+    HasYears (quarter_year quarter) (quarter_year quarter + 1) (holidays_of given) t
 
 -- the rows are the due list of each sound state for which the tables stand, and in which the
 -- account has the form

@@ -1,5 +1,3 @@
-pub mod Schedules
-pub mod Returns
 pub mod DueRows
 pub mod Walks
 pub mod Faults
@@ -27,3 +25,4 @@ pub use Rattle.ftd_store.specs.Frame
 pub use Rattle.ftd_store.specs.Seen
 pub use Rattle.ftd_store.specs.Walking
 pub mod Agendas
+pub mod Listing

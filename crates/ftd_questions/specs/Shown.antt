@@ -14,8 +14,8 @@ use Rattle.ftd_machine.specs.declared.replies.Reply.TheVariants.{Due}
 use Rattle.ftd_questions.specs.DueRows.{KnowsDueList, KnowsReturnDue}
 use Rattle.ftd_questions.specs.declared.due.QuarterRows.{QuarterRows}
 use Rattle.ftd_machine.specs.declared.requests.Question.{Question}
-use Rattle.ftd_machine.specs.declared.requests.Question.TheVariants.{Status, DueList, ScheduleB}
-use Rattle.ftd_machine.specs.declared.requests.Question.TheVariants.{Agenda, Owed, Kept}
+use Rattle.ftd_machine.specs.declared.requests.Question.TheVariants.{Status, Explain, DueList}
+use Rattle.ftd_machine.specs.declared.requests.Question.TheVariants.{ScheduleB, Agenda, Owed, Kept}
 
 -- the account's obligation of a row, as it stands in the tables
 abbrev pub row_shown : List ℕ → DueRow → ObligationRow
@@ -44,6 +44,7 @@ KnowsQuarter name form quarter as_of found t =
 -- a due list that is answered shows the tables' rows as they stand
 abbrev pub Shows : Question → Answer → Tables → Type 0
 Shows (Status name day) answer t = ⊤
+Shows (Explain name day) answer t = ⊤
 Shows (DueList name quarter as_of) answer t =
     (rows : List DueRow) → answer ≡ Ok (Due rows) → ShowsRows name quarter rows t
 Shows (ScheduleB name quarter) answer t = ⊤

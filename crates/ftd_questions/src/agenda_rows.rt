@@ -1,18 +1,22 @@
 //! What is due between two days, over all accounts, by what the tables have: the rows, by account
 //! and first day.
 
-ghost use Rattle.std.specs.Prelude.{◌≡◌, IfOk, IfSome, IsTrue, OnOk};
+ghost use Rattle.std.specs.Prelude.{◌≡◌, ◌≤◌, IfOk, IfSome, IsTrue, OnOk, Some};
 ghost use Rattle.std.specs.Prelude.{string_bytes};
-ghost use Rattle.ftd_days.specs.Calendar.{quarter_of};
+ghost use Rattle.ftd_days.specs.Calendar.{quarter_of, quarter_year};
 ghost use Rattle.ftd_rules.specs.Lists.{Has};
+ghost use Rattle.ftd_schema.specs.Standing.{Tables};
 ghost use Rattle.ftd_store.specs.Frame.{Reads};
+ghost use Rattle.ftd_entries.specs.Known.{KnowsAccount};
 ghost use Rattle.ftd_questions.specs.Agendas.{day_for, KnowsList, KnowsLast, IsLast, IsRowOf};
-ghost use Rattle.ftd_questions.specs.Agendas.{AddsRow, KnowsRowsDue};
+ghost use Rattle.ftd_questions.specs.Agendas.{AddsRow, KnowsLastYears, KnowsRowsDue};
+ghost use Rattle.ftd_questions.specs.DueRows.{KnowsYears};
 
 use crate::due::{QuarterRows, rows_of_quarter};
-use ftd_days::{Day, Quarter};
+use crate::listing::due_between;
+use ftd_days::{Day, Holidays, Quarter};
 use ftd_entries::known;
-use ftd_machine::{AccountName, AgendaRow};
+use ftd_machine::{Account, AccountName, AgendaRow};
 use ftd_rows::AccountObligation;
 use ftd_rules::{DueRow, Form, Verdict};
 use ftd_store::{StoreFault, Tx};
@@ -39,6 +43,8 @@ pub(crate) struct QuarterList {
     pub quarter: Quarter,
     /// Its due list.
     pub list: AccountList,
+    /// The holidays of the year of the quarter and of the next.
+    pub holidays: Holidays,
 }
 
 /// The row of the obligation with this first day.
@@ -64,50 +70,98 @@ fn day_to_pay(row: &DueRow, return_due: Day) -> Day
     }
 }
 
-/// The account's due list of the quarter. `Failed` also where the account is not enrolled, and
-/// where the quarter is not one of 2001 to 2098.
+/// The holidays of the due list that was read last, where it is one of the year of the quarter.
+fn last_years(last: Option<QuarterList>, quarter: Quarter) -> Option<Holidays>
+    ensures { IfSome result (λ holidays. (t : Tables) → KnowsLastYears last t
+        → KnowsYears quarter holidays t) }
+{
+    let last = last?;
+    if last.quarter.year() == quarter.year() {
+        Some(last.holidays)
+    } else {
+        None
+    }
+}
+
+/// The account, and the holidays of the year of the quarter and of the next, which are those of the
+/// due list that was read last where it is one of that year. `Failed` also where the account is not
+/// enrolled.
+fn account_and_years<S: Alter>(
+    tx: &mut Tx<'_, S>,
+    alloc: Global,
+    name: &str,
+    quarter: Quarter,
+    last: Option<QuarterList>,
+) -> Result<(Account, Holidays), StoreFault>
+    requires { quarter_year quarter ≤ 2098 }
+    ensures call { Reads S.Store tx.old tx.new result (λ found t.
+        KnowsAccount name.now (Some found.0) t
+        × (KnowsLastYears last t → KnowsYears quarter found.1 t)) }
+{
+    let Some(account) = known(tx, name)? else {
+        return tx.give_up(StoreFault::Failed);
+    };
+    if let Some(holidays) = last_years(last, quarter) {
+        return Ok((account, holidays));
+    }
+    let year = quarter.year();
+    let holidays = tx.holidays(alloc, year, year + 1)?;
+    Ok((account, holidays))
+}
+
+/// The account's due list of the quarter, and the holidays that it rests on. `Failed` also where
+/// the account is not enrolled, and where the quarter is not one of 2001 to 2098.
 fn list_of<S: Alter>(
     tx: &mut Tx<'_, S>,
     alloc: Global,
     name: &str,
     quarter: Quarter,
     as_of: Day,
-) -> Result<AccountList, StoreFault>
-    ensures call { Reads S.Store tx.old tx.new result (KnowsList name.now quarter as_of) }
+    last: Option<QuarterList>,
+) -> Result<(AccountList, Holidays), StoreFault>
+    ensures call { Reads S.Store tx.old tx.new result (λ found t. KnowsLastYears last t
+        → KnowsList name.now quarter as_of found.0 t × KnowsYears quarter found.1 t) }
 {
-    let Some(account) = known(tx, name)? else {
-        return tx.give_up(StoreFault::Failed);
-    };
     if quarter.year() < 2001 || quarter.year() > 2098 {
         return tx.give_up(StoreFault::Failed);
     }
+    let (account, years) = account_and_years(tx, alloc, name, quarter, last)?;
     let form = account.form;
-    let QuarterRows { return_due, rows } = rows_of_quarter(tx, alloc, name, form, quarter, as_of)?;
-    Ok(AccountList {
+    let QuarterRows {
+        return_due,
+        rows,
+        holidays,
+    } = rows_of_quarter(tx, alloc, name, form, quarter, as_of, years)?;
+    let list = AccountList {
         form,
         return_due,
         rows,
-    })
+    };
+    Ok((list, holidays))
 }
 
-/// The due list that the obligation of an account is on. `Failed` also where there is none.
+/// The due list that the obligation of an account is on, where this one was read last. `Failed`
+/// also where there is none.
 fn its_list<S: Alter>(
     tx: &mut Tx<'_, S>,
     alloc: Global,
     owed: &AccountObligation,
     as_of: Day,
+    last: Option<QuarterList>,
 ) -> Result<Option<QuarterList>, StoreFault>
-    ensures call { Reads S.Store tx.old tx.new result (KnowsLast as_of) }
-    ensures is { IfOk result (λ last. IsLast owed.now last) }
+    ensures call { Reads S.Store tx.old tx.new result
+        (λ its t. KnowsLastYears last t → KnowsLast as_of its t × KnowsLastYears its t) }
+    ensures is { IfOk result (λ its. IsLast owed.now its) }
 {
     let account: &str = &owed.account;
     let quarter = owed.obligation.first.quarter();
-    let list = list_of(tx, alloc, account, quarter, as_of)?;
+    let (list, holidays) = list_of(tx, alloc, account, quarter, as_of, last)?;
     match String::from_str(alloc, account) {
         Ok(account) => Ok(Some(QuarterList {
             account,
             quarter,
             list,
+            holidays,
         })),
         Err(_) => tx.give_up(StoreFault::Memory),
     }
@@ -163,23 +217,25 @@ fn add_row(
     Ok(())
 }
 
-/// The rows of what is due between the days, both included, as of a day, by account and first day.
+/// The rows of what is due between the days, both included, as of a day, by account and first day;
+/// without what is paid in full as of another day, where one is given.
 pub(crate) fn rows_due<S: Alter>(
     tx: &mut Tx<'_, S>,
     alloc: Global,
     from: Day,
     to: Day,
     as_of: Day,
+    unpaid: Option<Day>,
 ) -> Result<Vec<AgendaRow>, StoreFault>
     ensures call { Reads S.Store tx.old tx.new result
-        (λ rows. KnowsRowsDue from to as_of rows.items) }
+        (λ rows. KnowsRowsDue unpaid from to as_of rows.items) }
 {
-    let listed = tx.due_between(alloc, from, to)?;
+    let listed = due_between(tx, alloc, from, to, unpaid)?;
     let mut rows: Vec<AgendaRow> = Vec::new(alloc);
     let mut last: Option<QuarterList> = None;
     for owed in &listed {
         if !is_last(&last, owed) {
-            last = its_list(tx, alloc, owed, as_of)?;
+            last = its_list(tx, alloc, owed, as_of, last)?;
         }
         if let Err(fault) = add_row(alloc, owed, &last, &mut rows) {
             return tx.give_up(fault);

@@ -1,13 +1,12 @@
 //! What is due over all accounts, and what of it is not paid.
 
-ghost use Rattle.std.specs.Prelude.{◌≡◌, filter, IfOk};
+ghost use Rattle.std.specs.Prelude.{IfOk};
 ghost use Rattle.std.specs.List.Sorted.{IsPermutation};
 ghost use Rattle.ftd_store.specs.Frame.{Calls};
 ghost use Rattle.ftd_machine.specs.Agenda.{EachToLater, IsOwnBefore, ComesBefore};
 ghost use Rattle.ftd_machine.specs.declared.requests.Question.TheVariants.{Agenda, Owed};
 ghost use Rattle.ftd_machine.specs.declared.requests.Request.TheVariants.{Question};
 ghost use Rattle.ftd_entries.specs.Words.{Serves};
-ghost use Rattle.ftd_questions.specs.Agendas.{is_left};
 
 use crate::agenda_rows::rows_due;
 use ftd_days::Day;
@@ -27,22 +26,6 @@ fn by_due_date(rows: Vec<AgendaRow>) -> Result<Vec<AgendaRow>, AllocError>
     Ok(rows)
 }
 
-/// Whether something is left to pay of a row.
-fn is_left(row: &AgendaRow) -> bool
-    ensures { result ≡ is_left row.now }
-{
-    row.row.paid < row.row.obligation.cents
-}
-
-/// The rows of which something is left to pay.
-fn left_rows(rows: Vec<AgendaRow>) -> Vec<AgendaRow>
-    ensures { result.items ≡ filter is_left rows.items }
-{
-    let mut rows = rows;
-    rows.retain(|row| is_left(row));
-    rows
-}
-
 /// Tells what is due between the days, both included, over all accounts, as of a day. The rows are
 /// read before the days are checked, as what is known of an account is for the other questions.
 pub(crate) fn agenda<S: Alter>(
@@ -54,7 +37,7 @@ pub(crate) fn agenda<S: Alter>(
 ) -> Result<Answer, StoreFault>
     ensures call { Calls S.Store tx.old tx.new result (Serves (Question (Agenda from to as_of))) }
 {
-    let rows = rows_due(tx, alloc, from, to, as_of)?;
+    let rows = rows_due(tx, alloc, from, to, as_of, None)?;
     if let Some(answer) = agenda_check(from, to, as_of) {
         return Ok(answer);
     }
@@ -73,11 +56,12 @@ pub(crate) fn owed<S: Alter>(
 ) -> Result<Answer, StoreFault>
     ensures call { Calls S.Store tx.old tx.new result (Serves (Question (Owed until as_of))) }
 {
-    let rows = rows_due(tx, alloc, Day::first_of_month(0), until, as_of)?;
+    let from = Day::first_of_month(0);
+    let rows = rows_due(tx, alloc, from, until, as_of, Some(as_of))?;
     if let Some(answer) = owed_check(until, as_of) {
         return Ok(answer);
     }
-    match by_due_date(left_rows(rows)) {
+    match by_due_date(rows) {
         Ok(rows) => Ok(Ok(Reply::Agenda(AgendaRows::from_vec(rows)))),
         Err(_) => tx.give_up(StoreFault::Memory),
     }

@@ -7,10 +7,9 @@ ghost use Rattle.ftd_questions.specs.Shown.{Shows};
 
 use crate::agendas::{agenda, owed};
 use crate::due::due_list;
-use crate::liable::schedule_b;
-use crate::schedules::status;
 use ftd_kept::kept;
 use ftd_machine::{Answer, Question};
+use ftd_reasons::{explain, schedule_b, status};
 use ftd_store::{StoreFault, Tx};
 use sqlite::Alter;
 use std::alloc::Global;
@@ -28,6 +27,7 @@ pub fn ask<S: Alter>(
 {
     match question {
         Question::Status { account, day } => status(tx, alloc, account.as_str(), *day),
+        Question::Explain { account, day } => explain(tx, alloc, account.as_str(), *day),
         Question::DueList {
             account,
             quarter,

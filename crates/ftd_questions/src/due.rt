@@ -1,19 +1,19 @@
 //! What must be deposited for a quarter, and how it stands as of a day.
 
-ghost use Rattle.std.specs.Prelude.{◌≤◌};
+ghost use Rattle.std.specs.Prelude.{◌≡◌, ◌≤◌, IfOk};
 ghost use Rattle.ftd_days.specs.Calendar.{quarter_year};
 ghost use Rattle.ftd_store.specs.Frame.{Calls, Reads};
 ghost use Rattle.ftd_machine.specs.declared.requests.Question.TheVariants.{DueList};
 ghost use Rattle.ftd_machine.specs.declared.requests.Request.TheVariants.{Question};
 ghost use Rattle.ftd_entries.specs.Words.{Serves};
-ghost use Rattle.ftd_questions.specs.DueRows.{KnowsForDue};
+ghost use Rattle.ftd_questions.specs.DueRows.{KnowsForDue, KnowsYears};
 ghost use Rattle.ftd_questions.specs.Shown.{KnowsQuarter, Shows};
 
 use crate::due_rows::{due_rows, has_next_day, quarter_return};
-use crate::return_periods::return_period;
-use ftd_days::{Day, Quarter};
+use ftd_days::{Day, Holidays, Quarter};
 use ftd_entries::{is_open, known};
 use ftd_machine::{Account, Answer, DueRows, Refusal, Reply, due_list_check};
+use ftd_reasons::return_period;
 use ftd_rules::{DueRow, Form};
 use ftd_store::{StoreFault, Tx};
 use sqlite::Alter;
@@ -35,6 +35,8 @@ pub(crate) struct QuarterRows {
     pub return_due: Day,
     /// The rows.
     pub rows: Vec<DueRow>,
+    /// The holidays that they rest on.
+    pub holidays: Holidays,
 }
 
 /// What is known of an account before its due list of the quarter is told.
@@ -51,8 +53,9 @@ pub(crate) fn known_for_due<S: Alter>(
     Ok(KnownForDue { account, is_open })
 }
 
-/// The rows of the account's due list, and when the return is due, by what the tables have.
-/// `Failed` also where they are not those of a desk.
+/// The rows of the account's due list, and when the return is due, by what the tables have and the
+/// holidays of the year of the quarter and of the next. `Failed` also where they are not those of a
+/// desk.
 pub(crate) fn rows_of_quarter<S: Alter>(
     tx: &mut Tx<'_, S>,
     alloc: Global,
@@ -60,13 +63,14 @@ pub(crate) fn rows_of_quarter<S: Alter>(
     form: Form,
     quarter: Quarter,
     as_of: Day,
+    holidays: Holidays,
 ) -> Result<QuarterRows, StoreFault>
     requires from { 2001 ≤ quarter_year quarter }
     requires to { quarter_year quarter ≤ 2098 }
-    ensures call { Reads S.Store tx.old tx.new result (KnowsQuarter name.now form quarter as_of) }
+    ensures call { Reads S.Store tx.old tx.new result (λ found t.
+        KnowsYears quarter holidays t → KnowsQuarter name.now form quarter as_of found t) }
+    ensures same { IfOk result (λ found. found.holidays ≡ holidays) }
 {
-    let year = quarter.year();
-    let holidays = tx.holidays(alloc, year, year + 1)?;
     let period = return_period(tx, alloc, name, form, quarter)?;
     let obligations = tx.obligations(alloc, name, period.first, period.last)?;
     let next_day = has_next_day(&obligations);
@@ -75,6 +79,7 @@ pub(crate) fn rows_of_quarter<S: Alter>(
         Ok(rows) => Ok(QuarterRows {
             return_due: of_return.due,
             rows,
+            holidays: of_return.holidays,
         }),
         Err(fault) => tx.give_up(fault),
     }
@@ -102,6 +107,9 @@ pub(crate) fn due_list<S: Alter>(
     let Some(account) = &before.account else {
         return Ok(Err(Refusal::UnknownAccount));
     };
-    let found = rows_of_quarter(tx, alloc, name, account.form, quarter, as_of)?;
+    let form = account.form;
+    let year = quarter.year();
+    let holidays = tx.holidays(alloc, year, year + 1)?;
+    let found = rows_of_quarter(tx, alloc, name, form, quarter, as_of, holidays)?;
     Ok(Ok(Reply::Due(DueRows::from_vec(found.rows))))
 }

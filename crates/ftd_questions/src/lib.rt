@@ -11,10 +11,8 @@ mod asking;
 mod due;
 mod due_rows;
 mod faults;
-mod liable;
+mod listing;
 mod missing;
-mod return_periods;
-mod schedules;
 mod telling;
 mod walking;
 

@@ -50,6 +50,7 @@ account_kept (kept.Payments account quarter) = account
 
 abbrev pub account_asked : Question → List ℕ
 account_asked (question.Status account day) = account
+account_asked (question.Explain account day) = account
 account_asked (question.DueList account quarter as_of) = account
 account_asked (question.ScheduleB account quarter) = account
 account_asked (question.Agenda from to as_of) = []
@@ -104,6 +105,7 @@ years_kept (kept.Payments account quarter) = paydays_years
 
 abbrev pub years_asked : Question → List ℕ
 years_asked (question.Status account day) = paydays_years
+years_asked (question.Explain account day) = paydays_years
 years_asked (question.DueList account quarter as_of) = paydays_years
 years_asked (question.ScheduleB account quarter) = paydays_years
 years_asked (question.Agenda from to as_of) = paydays_years
@@ -131,6 +133,7 @@ agenda_days = codes "hint: an agenda is of days of 2001 to 2099\n"
 
 abbrev pub days_asked : Question → List ℕ
 days_asked (question.Status account day) = paydays_days
+days_asked (question.Explain account day) = paydays_days
 days_asked (question.DueList account quarter as_of) =
     codes "hint: a due list is as of a day of 2001 to 2099\n"
 days_asked (question.ScheduleB account quarter) = paydays_days

@@ -119,6 +119,7 @@ fn account_asked(question: &Question) -> &str
 {
     match question {
         Question::Status { account, .. } => account.as_str(),
+        Question::Explain { account, .. } => account.as_str(),
         Question::DueList { account, .. } => account.as_str(),
         Question::ScheduleB { account, .. } => account.as_str(),
         Question::Agenda { .. } | Question::Owed { .. } => "",
@@ -217,6 +218,7 @@ fn years_asked(question: &Question) -> &'static [u8]
             | Kept::Payments { .. },
         )
         | Question::Status { .. }
+        | Question::Explain { .. }
         | Question::DueList { .. }
         | Question::ScheduleB { .. }
         | Question::Agenda { .. }
@@ -233,9 +235,10 @@ fn days_asked(question: &Question) -> &'static [u8]
         Question::Agenda { .. } | Question::Owed { .. } => {
             b"hint: an agenda is of days of 2001 to 2099\n"
         }
-        Question::Status { .. } | Question::ScheduleB { .. } | Question::Kept(_) => {
-            b"hint: the days of paydays are those of 2001 to 2098\n"
-        }
+        Question::Status { .. }
+        | Question::Explain { .. }
+        | Question::ScheduleB { .. }
+        | Question::Kept(_) => { b"hint: the days of paydays are those of 2001 to 2098\n" }
     }
 }
 

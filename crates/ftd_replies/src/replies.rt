@@ -7,19 +7,20 @@ ghost use Rattle.ftd_ports.specs.Writing.{WritesPrefix};
 ghost use Rattle.ftd_rules.specs.Liability.{cents_of};
 ghost use Rattle.ftd_machine.specs.Limits.{IsBounded, amounts_end};
 ghost use Rattle.ftd_machine.specs.Questions.{question_of};
-ghost use Rattle.ftd_replies.specs.Replies.{agenda_told, days_told, kept_told, kind_text};
-ghost use Rattle.ftd_replies.specs.Replies.{posted_text, reply_text, status_told, status_text};
+ghost use Rattle.ftd_rules.specs.Verdicts.{amount_of};
+ghost use Rattle.ftd_replies.specs.Replies.{agenda_told, days_told, due_told, kept_told};
+ghost use Rattle.ftd_replies.specs.Replies.{posted_text, reply_text, status_told, why_told};
 
 use ftd_days::Day;
-use ftd_listings::write_kept_as;
-use ftd_machine::{AgendaRow, KeptRows, Question, Reason, Reply, Request};
+use ftd_formats::{Format, write_agenda_as, write_b_as, write_due_as, write_owed_as};
+use ftd_listings::{write_explanation, write_kept_as, write_schedule};
+use ftd_machine::{AgendaRow, Explanation, KeptRows, Question, Reason, Reply, Request};
 use ftd_ports::{Target, WriteFault, write_all, write_pieces};
-use ftd_reports::{Format, day_bytes, schedule_b, write_agenda_as, write_owed_as};
-use ftd_rules::{DaySum, Kind};
+use ftd_reports::day_bytes;
+use ftd_rules::{DaySum, DueRow, Kind};
 use itoa::Buffer;
 
-/// Writes the text of the reply to a request, in a format where it tells of all accounts. A due
-/// list has none here: it is printed row by row.
+/// Writes the text of the reply to a request, in a format where it is a list.
 pub fn write_reply<W: Target>(
     format: Format,
     request: &Request,
@@ -44,8 +45,9 @@ pub fn write_reply<W: Target>(
             added,
         } => write_posted(*from, *to, *removed, *added, target),
         Reply::Status { kind, reason } => write_status(request, *kind, *reason, target),
-        Reply::Due(_) => write_all(target, b""),
-        Reply::Days(sums) => write_days(request, sums.as_slice(), target),
+        Reply::Explained(explained) => write_why(request, explained, target),
+        Reply::Due(rows) => write_due(format, request, rows.as_slice(), target),
+        Reply::Days(sums) => write_days(format, request, sums.as_slice(), target),
         Reply::Agenda(rows) => write_rows(format, request, rows.as_slice(), target),
         Reply::Kept(rows) => write_kept_rows(format, request, rows, target),
     }
@@ -86,16 +88,6 @@ fn write_posted<W: Target>(
     )
 }
 
-/// The deposit schedule, after a space.
-fn kind_bytes(kind: Kind) -> &'static [u8]
-    ensures { result.now ≡ kind_text kind }
-{
-    match kind {
-        Kind::Monthly => b" monthly",
-        Kind::Semiweekly => b" semiweekly",
-    }
-}
-
 /// Writes the deposit schedule of the day that was asked for.
 fn write_status<W: Target>(
     request: &Request,
@@ -114,7 +106,8 @@ fn write_status<W: Target>(
     match request.question() {
         Some(Question::Status { day, .. }) => write_schedule(*day, kind, reason, target),
         Some(
-            Question::DueList { .. }
+            Question::Explain { .. }
+            | Question::DueList { .. }
             | Question::ScheduleB { .. }
             | Question::Agenda { .. }
             | Question::Owed { .. }
@@ -124,50 +117,76 @@ fn write_status<W: Target>(
     }
 }
 
-/// Writes the deposit schedule of a day.
-fn write_schedule<W: Target>(
-    day: Day,
-    kind: Kind,
-    reason: Reason,
+/// Writes the due list that was asked for, in a format.
+fn write_due<W: Target>(
+    format: Format,
+    request: &Request,
+    rows: &[DueRow],
     target: &mut W,
 ) -> Result<(), WriteFault>
+    requires bounded { sum_by amount_of rows.now < amounts_end }
     ensures ok { OnOk result
-        (Appends (W.taken target.old) (W.taken target.new) (status_text day kind reason)) }
+        (Appends (W.taken target.old) (W.taken target.new)
+        (due_told format (question_of request.now) rows.now)) }
     ensures err { OnErr result
-        (WritesPrefix (W.taken target.old) (W.taken target.new) (status_text day kind reason)) }
+        (WritesPrefix (W.taken target.old) (W.taken target.new)
+        (due_told format (question_of request.now) rows.now)) }
     ensures fault { OnErr result (W.failed target.new ≡ true) }
 {
-    let day = day_bytes(day);
-    let kind = kind_bytes(kind);
-    match reason {
-        Reason::Lookback => write_pieces(target, &[&day, kind, b" lookback", b"\n"]),
-        Reason::Turned(turn) => {
-            let turn = day_bytes(turn);
-            write_pieces(target, &[&day, kind, b" turned ", &turn, b"\n"])
-        }
-        Reason::Carried => write_pieces(target, &[&day, kind, b" carried", b"\n"]),
+    match request.question() {
+        Some(
+            Question::DueList {
+                account,
+                quarter,
+                as_of,
+            },
+        ) => write_due_as(
+            format.of_list(),
+            account.as_str(),
+            *quarter,
+            *as_of,
+            rows,
+            target,
+        ),
+        Some(
+            Question::Status { .. }
+            | Question::Explain { .. }
+            | Question::ScheduleB { .. }
+            | Question::Agenda { .. }
+            | Question::Owed { .. }
+            | Question::Kept(_),
+        )
+        | None => write_all(target, b""),
     }
 }
 
-/// Writes the Schedule B that was asked for.
+/// Writes the Schedule B that was asked for, in a format.
 fn write_days<W: Target>(
+    format: Format,
     request: &Request,
     sums: &[DaySum],
     target: &mut W,
 ) -> Result<(), WriteFault>
     requires bounded { sum_by cents_of sums.now < amounts_end }
     ensures ok { OnOk result
-        (Appends (W.taken target.old) (W.taken target.new) (days_told (question_of request.now) sums.now)) }
+        (Appends (W.taken target.old) (W.taken target.new)
+        (days_told format (question_of request.now) sums.now)) }
     ensures err { OnErr result
-        (WritesPrefix (W.taken target.old) (W.taken target.new) (days_told (question_of request.now) sums.now)) }
+        (WritesPrefix (W.taken target.old) (W.taken target.new)
+        (days_told format (question_of request.now) sums.now)) }
     ensures fault { OnErr result (W.failed target.new ≡ true) }
 {
     match request.question() {
-        Some(Question::ScheduleB { account, quarter }) => {
-            schedule_b(account.as_str(), *quarter, sums, target)
-        }
+        Some(Question::ScheduleB { account, quarter }) => write_b_as(
+            format.of_list(),
+            account.as_str(),
+            *quarter,
+            sums,
+            target,
+        ),
         Some(
             Question::Status { .. }
+            | Question::Explain { .. }
             | Question::DueList { .. }
             | Question::Agenda { .. }
             | Question::Owed { .. }
@@ -201,6 +220,7 @@ fn write_rows<W: Target>(
         ),
         Some(
             Question::Status { .. }
+            | Question::Explain { .. }
             | Question::DueList { .. }
             | Question::ScheduleB { .. }
             | Question::Kept(_),
@@ -225,13 +245,44 @@ fn write_kept_rows<W: Target>(
     ensures fault { OnErr result (W.failed target.new ≡ true) }
 {
     match request.question() {
-        Some(Question::Kept(asked)) => write_kept_as(format, asked, rows, target),
+        Some(Question::Kept(asked)) => write_kept_as(format.of_list(), asked, rows, target),
+        Some(
+            Question::Status { .. }
+            | Question::Explain { .. }
+            | Question::DueList { .. }
+            | Question::ScheduleB { .. }
+            | Question::Agenda { .. }
+            | Question::Owed { .. },
+        )
+        | None => write_all(target, b""),
+    }
+}
+
+/// Writes why the obligation is so that was asked for.
+fn write_why<W: Target>(
+    request: &Request,
+    explained: &Option<Explanation>,
+    target: &mut W,
+) -> Result<(), WriteFault>
+    ensures ok { OnOk result
+        (Appends (W.taken target.old) (W.taken target.new)
+        (why_told (question_of request.now) explained.now)) }
+    ensures err { OnErr result
+        (WritesPrefix (W.taken target.old) (W.taken target.new)
+        (why_told (question_of request.now) explained.now)) }
+    ensures fault { OnErr result (W.failed target.new ≡ true) }
+{
+    match request.question() {
+        Some(Question::Explain { account, day }) => {
+            write_explanation(account.as_str(), *day, explained, target)
+        }
         Some(
             Question::Status { .. }
             | Question::DueList { .. }
             | Question::ScheduleB { .. }
             | Question::Agenda { .. }
-            | Question::Owed { .. },
+            | Question::Owed { .. }
+            | Question::Kept(_),
         )
         | None => write_all(target, b""),
     }

@@ -64,7 +64,7 @@ fn asked_bytes(word: Word) -> &'static [u8]
         Word::Port => b"a port of 0 to 65535",
         Word::Wait => b"a number of seconds of 0 to 3600",
         Word::Format => b"a format: text, csv, json or ics",
-        Word::RunsFormat => b"a format: text or csv",
+        Word::ListFormat => b"a format: text, csv or json",
         _ => b"a value that is taken here",
     }
 }

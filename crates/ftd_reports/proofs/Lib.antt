@@ -3,4 +3,3 @@ pub mod MonthFacts
 pub mod RowFacts
 pub mod LateFacts
 pub mod AgendaFacts
-pub mod FormFacts

@@ -4,8 +4,6 @@ pub mod DueTexts
 pub mod SchedulesB
 pub mod LateTexts
 pub mod Agendas
-pub mod AgendaForms
-pub mod Formats
 pub use Rattle.ftd_days.specs.Digits
 pub use Rattle.ftd_days.specs.Text
 pub use Rattle.ftd_ports.specs.Writing

@@ -6,7 +6,6 @@ ghost use Rattle.ftd_days.specs.Text.{day_text, point, quarter_text};
 ghost use Rattle.ftd_days.specs.Digits.{digit, two_digits};
 ghost use Rattle.ftd_rules.specs.Text.{rule_text};
 ghost use Rattle.ftd_rules.specs.Verdicts.{verdict_text};
-ghost use Rattle.ftd_reports.specs.AgendaForms.{plain_day};
 ghost use Rattle.ftd_reports.specs.Columns.{left_in, amount_in};
 ghost use Rattle.ftd_reports.specs.SchedulesB.{month_text};
 
@@ -85,23 +84,6 @@ pub fn day_bytes(day: Day) -> [u8; 10]
         last_digit(month / 10),
         last_digit(month),
         b'-',
-        last_digit(of_month / 10),
-        last_digit(of_month),
-    ]
-}
-
-/// A day as YYYYMMDD.
-pub fn plain_day(day: Day) -> [u8; 8]
-    ensures { result ≡ plain_day day }
-{
-    let (year, month, of_month) = (day.year(), day.month(), day.day_of_month());
-    [
-        last_digit(year / 1000),
-        last_digit(year / 100),
-        last_digit(year / 10),
-        last_digit(year),
-        last_digit(month / 10),
-        last_digit(month),
         last_digit(of_month / 10),
         last_digit(of_month),
     ]

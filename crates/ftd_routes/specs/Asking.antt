@@ -2,8 +2,9 @@
 use Rattle.std.specs.Prelude.{List, ℕ, Option, Some, None, codes, if◌then◌else◌}
 use Rattle.std.specs.Str.{is_utf8, bytes_eq}
 use Rattle.ftd_machine.specs.declared.requests.Request.{Request}
-use Rattle.ftd_reports.specs.declared.formats.Format.{Format}
-use Rattle.ftd_reports.specs.declared.formats.Format.TheVariants as format
+use Rattle.ftd_formats.specs.declared.formats.Format.{Format}
+use Rattle.ftd_formats.specs.declared.formats.Format.TheVariants as format
+use Rattle.ftd_formats.specs.declared.formats.ListFormat.TheVariants.{Text}
 use Rattle.ftd_routes.specs.Routes.{route_of}
 use Rattle.ftd_routes.specs.Requests.{request_of}
 use Rattle.ftd_routes.specs.declared.route.Ask.{Ask}
@@ -32,40 +33,42 @@ method_of ask.Void = Delete
 method_of ask.Pay = Post
 method_of ask.VoidPay = Delete
 method_of ask.Status = Get
-method_of ask.DueList = Get
-method_of ask.ScheduleB = Get
+method_of ask.Explain = Get
+method_of (ask.DueList format) = Get
+method_of (ask.ScheduleB format) = Get
 method_of (ask.Agenda format) = Get
 method_of (ask.Owed format) = Get
-method_of ask.ListAccounts = Get
-method_of ask.ListYears = Get
-method_of ask.ListReported = Get
-method_of ask.ListHolidays = Get
+method_of (ask.ListAccounts format) = Get
+method_of (ask.ListYears format) = Get
+method_of (ask.ListReported format) = Get
+method_of (ask.ListHolidays format) = Get
 method_of (ask.ListRuns format) = Get
-method_of ask.ListPayments = Get
+method_of (ask.ListPayments format) = Get
 
--- the format in which a route tells of all accounts, or of runs
+-- the format in which a route tells a list
 abbrev pub format_of : Ask → Format
-format_of ask.Enrol = format.Text
-format_of ask.Calendar = format.Text
-format_of ask.AddHoliday = format.Text
-format_of ask.Report = format.Text
-format_of ask.ReportYear = format.Text
-format_of ask.OpenYear = format.Text
-format_of ask.Post = format.Text
-format_of ask.Void = format.Text
-format_of ask.Pay = format.Text
-format_of ask.VoidPay = format.Text
-format_of ask.Status = format.Text
-format_of ask.DueList = format.Text
-format_of ask.ScheduleB = format.Text
+format_of ask.Enrol = format.List Text
+format_of ask.Calendar = format.List Text
+format_of ask.AddHoliday = format.List Text
+format_of ask.Report = format.List Text
+format_of ask.ReportYear = format.List Text
+format_of ask.OpenYear = format.List Text
+format_of ask.Post = format.List Text
+format_of ask.Void = format.List Text
+format_of ask.Pay = format.List Text
+format_of ask.VoidPay = format.List Text
+format_of ask.Status = format.List Text
+format_of ask.Explain = format.List Text
+format_of (ask.DueList asked) = format.List asked
+format_of (ask.ScheduleB asked) = format.List asked
 format_of (ask.Agenda asked) = asked
 format_of (ask.Owed asked) = asked
-format_of ask.ListAccounts = format.Text
-format_of ask.ListYears = format.Text
-format_of ask.ListReported = format.Text
-format_of ask.ListHolidays = format.Text
-format_of (ask.ListRuns asked) = asked
-format_of ask.ListPayments = format.Text
+format_of (ask.ListAccounts asked) = format.List asked
+format_of (ask.ListYears asked) = format.List asked
+format_of (ask.ListReported asked) = format.List asked
+format_of (ask.ListHolidays asked) = format.List asked
+format_of (ask.ListRuns asked) = format.List asked
+format_of (ask.ListPayments asked) = format.List asked
 
 -- what a message of the right method asks
 abbrev pub formed : Format → Option Request → Asked

@@ -100,6 +100,11 @@ status_in target = do
   day ← day_of (part 4 target)
   Some (request.Question (question.Status (account_in target) day))
 
+unfoldable pub explain_in : List ℕ → Option Request
+explain_in target = do
+  day ← day_of (part 4 target)
+  Some (request.Question (question.Explain (account_in target) day))
+
 unfoldable pub due_list_in : List ℕ → Option Request
 due_list_in target = do
   quarter ← spelled_quarter (part 4 target)
@@ -159,14 +164,16 @@ request_of ask.Void target body = void_in target
 request_of ask.Pay target body = pay_in target body
 request_of ask.VoidPay target body = void_payment_in target
 request_of ask.Status target body = status_in target
-request_of ask.DueList target body = due_list_in target
-request_of ask.ScheduleB target body = schedule_b_in target
+request_of ask.Explain target body = explain_in target
+request_of (ask.DueList format) target body = due_list_in target
+request_of (ask.ScheduleB format) target body = schedule_b_in target
 request_of (ask.Agenda format) target body = agenda_in target
 request_of (ask.Owed format) target body = owed_in target
-request_of ask.ListAccounts target body = Some (kept_asked kept.Accounts)
-request_of ask.ListYears target body = Some (kept_asked (kept.Years (listed_account target)))
-request_of ask.ListReported target body =
+request_of (ask.ListAccounts format) target body = Some (kept_asked kept.Accounts)
+request_of (ask.ListYears format) target body =
+    Some (kept_asked (kept.Years (listed_account target)))
+request_of (ask.ListReported format) target body =
     Some (kept_asked (kept.Reported (listed_account target)))
-request_of ask.ListHolidays target body = holidays_in target
+request_of (ask.ListHolidays format) target body = holidays_in target
 request_of (ask.ListRuns format) target body = runs_in target
-request_of ask.ListPayments target body = payments_in target
+request_of (ask.ListPayments format) target body = payments_in target

@@ -6,7 +6,8 @@ use Rattle.matchit.specs.Route.{Scan, parse_route}
 use Rattle.matchit.specs.Order.{placed}
 use Rattle.matchit.specs.Seek.{first}
 use Rattle.matchit.specs.declared.error.InsertError.{InsertError}
-use Rattle.ftd_reports.specs.declared.formats.Format.TheVariants as format
+use Rattle.ftd_formats.specs.declared.formats.Format.TheVariants as format
+use Rattle.ftd_formats.specs.declared.formats.ListFormat.TheVariants as list_format
 use Rattle.ftd_routes.specs.declared.route.Ask.{Ask}
 use Rattle.ftd_routes.specs.declared.route.Ask.TheVariants as ask
 
@@ -37,23 +38,39 @@ table =
     ∷ (codes "/accounts/{account}/payments", ask.Pay)
     ∷ (codes "/accounts/{account}/payments/{payment}", ask.VoidPay)
     ∷ (codes "/accounts/{account}/status/{day}", ask.Status)
-    ∷ (codes "/accounts/{account}/due/{quarter}/{asof}", ask.DueList)
-    ∷ (codes "/accounts/{account}/schedule-b/{quarter}", ask.ScheduleB)
-    ∷ (codes "/agenda/{from}/{to}/{asof}", ask.Agenda format.Text)
-    ∷ (codes "/agenda/{from}/{to}/{asof}/csv", ask.Agenda format.Csv)
-    ∷ (codes "/agenda/{from}/{to}/{asof}/json", ask.Agenda format.Json)
+    ∷ (codes "/accounts/{account}/explain/{day}", ask.Explain)
+    ∷ (codes "/accounts/{account}/due/{quarter}/{asof}", ask.DueList list_format.Text)
+    ∷ (codes "/accounts/{account}/due/{quarter}/{asof}/csv", ask.DueList list_format.Csv)
+    ∷ (codes "/accounts/{account}/due/{quarter}/{asof}/json", ask.DueList list_format.Json)
+    ∷ (codes "/accounts/{account}/schedule-b/{quarter}", ask.ScheduleB list_format.Text)
+    ∷ (codes "/accounts/{account}/schedule-b/{quarter}/csv", ask.ScheduleB list_format.Csv)
+    ∷ (codes "/accounts/{account}/schedule-b/{quarter}/json", ask.ScheduleB list_format.Json)
+    ∷ (codes "/agenda/{from}/{to}/{asof}", ask.Agenda (format.List list_format.Text))
+    ∷ (codes "/agenda/{from}/{to}/{asof}/csv", ask.Agenda (format.List list_format.Csv))
+    ∷ (codes "/agenda/{from}/{to}/{asof}/json", ask.Agenda (format.List list_format.Json))
     ∷ (codes "/agenda/{from}/{to}/{asof}/ics", ask.Agenda format.Calendar)
-    ∷ (codes "/owed/{asof}/{until}", ask.Owed format.Text)
-    ∷ (codes "/owed/{asof}/{until}/csv", ask.Owed format.Csv)
-    ∷ (codes "/owed/{asof}/{until}/json", ask.Owed format.Json)
+    ∷ (codes "/owed/{asof}/{until}", ask.Owed (format.List list_format.Text))
+    ∷ (codes "/owed/{asof}/{until}/csv", ask.Owed (format.List list_format.Csv))
+    ∷ (codes "/owed/{asof}/{until}/json", ask.Owed (format.List list_format.Json))
     ∷ (codes "/owed/{asof}/{until}/ics", ask.Owed format.Calendar)
-    ∷ (codes "/lists/accounts", ask.ListAccounts)
-    ∷ (codes "/lists/accounts/{account}/years", ask.ListYears)
-    ∷ (codes "/lists/accounts/{account}/reported", ask.ListReported)
-    ∷ (codes "/lists/holidays/{year}", ask.ListHolidays)
-    ∷ (codes "/lists/accounts/{account}/runs/{quarter}", ask.ListRuns format.Text)
-    ∷ (codes "/lists/accounts/{account}/runs/{quarter}/csv", ask.ListRuns format.Csv)
-    ∷ (codes "/lists/accounts/{account}/payments/{quarter}", ask.ListPayments)
+    ∷ (codes "/lists/accounts", ask.ListAccounts list_format.Text)
+    ∷ (codes "/lists/accounts/csv", ask.ListAccounts list_format.Csv)
+    ∷ (codes "/lists/accounts/json", ask.ListAccounts list_format.Json)
+    ∷ (codes "/lists/accounts/{account}/years", ask.ListYears list_format.Text)
+    ∷ (codes "/lists/accounts/{account}/years/csv", ask.ListYears list_format.Csv)
+    ∷ (codes "/lists/accounts/{account}/years/json", ask.ListYears list_format.Json)
+    ∷ (codes "/lists/accounts/{account}/reported", ask.ListReported list_format.Text)
+    ∷ (codes "/lists/accounts/{account}/reported/csv", ask.ListReported list_format.Csv)
+    ∷ (codes "/lists/accounts/{account}/reported/json", ask.ListReported list_format.Json)
+    ∷ (codes "/lists/holidays/{year}", ask.ListHolidays list_format.Text)
+    ∷ (codes "/lists/holidays/{year}/csv", ask.ListHolidays list_format.Csv)
+    ∷ (codes "/lists/holidays/{year}/json", ask.ListHolidays list_format.Json)
+    ∷ (codes "/lists/accounts/{account}/runs/{quarter}", ask.ListRuns list_format.Text)
+    ∷ (codes "/lists/accounts/{account}/runs/{quarter}/csv", ask.ListRuns list_format.Csv)
+    ∷ (codes "/lists/accounts/{account}/runs/{quarter}/json", ask.ListRuns list_format.Json)
+    ∷ (codes "/lists/accounts/{account}/payments/{quarter}", ask.ListPayments list_format.Text)
+    ∷ (codes "/lists/accounts/{account}/payments/{quarter}/csv", ask.ListPayments list_format.Csv)
+    ∷ (codes "/lists/accounts/{account}/payments/{quarter}/json", ask.ListPayments list_format.Json)
     ∷ []
 
 unfoldable pub all_routes : RowsOf (RouteOf Ask)

@@ -7,8 +7,8 @@ ghost use Rattle.ftd_routes.specs.Asking.{method_text, method_of, format_of, for
 
 use crate::request::make_request;
 use crate::route::{Ask, look_up};
+use ftd_formats::{Format, ListFormat};
 use ftd_machine::Request;
-use ftd_reports::Format;
 use matchit::Router;
 use std::alloc::{AllocError, Global};
 
@@ -32,8 +32,7 @@ pub enum Asked {
     OtherMethod(Method),
     /// A part of the path, or the body, is not of the route's form.
     BadForm,
-    /// A request to the desk. What its reply tells over all accounts, or of runs, is told in this
-    /// format.
+    /// A request to the desk. A reply that is a list is told in this format.
     Asks { format: Format, request: Request },
 }
 
@@ -54,9 +53,10 @@ fn method_of(route: Ask) -> Method
 {
     match route {
         Ask::Void | Ask::VoidPay => Method::Delete,
-        Ask::Status | Ask::DueList | Ask::ScheduleB | Ask::Agenda(_) | Ask::Owed(_) => Method::Get,
-        Ask::ListAccounts | Ask::ListYears | Ask::ListReported => Method::Get,
-        Ask::ListHolidays | Ask::ListRuns(_) | Ask::ListPayments => Method::Get,
+        Ask::Status | Ask::Explain | Ask::DueList(_) | Ask::ScheduleB(_) => Method::Get,
+        Ask::Agenda(_) | Ask::Owed(_) | Ask::ListAccounts(_) | Ask::ListYears(_) => Method::Get,
+        Ask::ListReported(_) | Ask::ListHolidays(_) => Method::Get,
+        Ask::ListRuns(_) | Ask::ListPayments(_) => Method::Get,
         Ask::Enrol
         | Ask::Calendar
         | Ask::AddHoliday
@@ -68,12 +68,20 @@ fn method_of(route: Ask) -> Method
     }
 }
 
-/// The format in which a route tells of all accounts, or of runs.
+/// The format in which a route tells a list.
 fn format_of(route: Ask) -> Format
     ensures { result ≡ format_of route }
 {
     match route {
-        Ask::Agenda(format) | Ask::Owed(format) | Ask::ListRuns(format) => format,
+        Ask::Agenda(format) | Ask::Owed(format) => format,
+        Ask::DueList(format)
+        | Ask::ScheduleB(format)
+        | Ask::ListAccounts(format)
+        | Ask::ListYears(format)
+        | Ask::ListReported(format)
+        | Ask::ListHolidays(format)
+        | Ask::ListRuns(format)
+        | Ask::ListPayments(format) => Format::List(format),
         Ask::Enrol
         | Ask::Calendar
         | Ask::AddHoliday
@@ -85,13 +93,7 @@ fn format_of(route: Ask) -> Format
         | Ask::Pay
         | Ask::VoidPay
         | Ask::Status
-        | Ask::DueList
-        | Ask::ScheduleB
-        | Ask::ListAccounts
-        | Ask::ListYears
-        | Ask::ListReported
-        | Ask::ListHolidays
-        | Ask::ListPayments => Format::Text,
+        | Ask::Explain => Format::List(ListFormat::Text),
     }
 }
 

@@ -3,7 +3,8 @@
 ghost use Rattle.std.specs.Prelude.{◌≡◌, IfOk, Some};
 ghost use Rattle.ftd_routes.specs.Requests.{enrol_in, calendar_in, add_holiday_in, report_in};
 ghost use Rattle.ftd_routes.specs.Requests.{report_year_in, open_year_in, post_in, pay_in, void_in};
-ghost use Rattle.ftd_routes.specs.Requests.{void_payment_in, status_in, due_list_in, schedule_b_in};
+ghost use Rattle.ftd_routes.specs.Requests.{void_payment_in, status_in, explain_in, due_list_in};
+ghost use Rattle.ftd_routes.specs.Requests.{schedule_b_in};
 ghost use Rattle.ftd_machine.specs.declared.requests.Kept.TheVariants as kept;
 ghost use Rattle.ftd_routes.specs.Requests.{agenda_in, owed_in, request_of, kept_asked};
 ghost use Rattle.ftd_routes.specs.Requests.{listed_account, holidays_in, runs_in, payments_in};
@@ -31,16 +32,17 @@ pub fn make_request(
         Ask::Void => void(alloc, target),
         Ask::VoidPay => void_payment(alloc, target),
         Ask::Status => status(alloc, target),
-        Ask::DueList => due_list(alloc, target),
-        Ask::ScheduleB => schedule_b(alloc, target),
+        Ask::Explain => explain(alloc, target),
+        Ask::DueList(_) => due_list(alloc, target),
+        Ask::ScheduleB(_) => schedule_b(alloc, target),
         Ask::Agenda(_) => Ok(agenda(target)),
         Ask::Owed(_) => Ok(owed(target)),
-        Ask::ListAccounts => Ok(Some(Request::Question(Question::Kept(Kept::Accounts)))),
-        Ask::ListYears => years(alloc, target),
-        Ask::ListReported => reported(alloc, target),
-        Ask::ListHolidays => Ok(holidays(target)),
+        Ask::ListAccounts(_) => Ok(Some(Request::Question(Question::Kept(Kept::Accounts)))),
+        Ask::ListYears(_) => years(alloc, target),
+        Ask::ListReported(_) => reported(alloc, target),
+        Ask::ListHolidays(_) => Ok(holidays(target)),
         Ask::ListRuns(_) => runs(alloc, target),
-        Ask::ListPayments => payments(alloc, target),
+        Ask::ListPayments(_) => payments(alloc, target),
         Ask::Enrol => enrol(alloc, body),
         Ask::Calendar => calendar(alloc, body),
         Ask::AddHoliday => add_holiday(alloc, body),
@@ -272,6 +274,18 @@ fn status(alloc: Global, target: &str) -> Result<Option<Request>, AllocError>
     };
     let account = name(alloc, part(target, 2))?;
     Ok(Some(Request::Question(Question::Status { account, day })))
+}
+
+/// Why the obligation of a day is so.
+#[tactic(auto, unfolding(crate::specs::Requests::explain_in))]
+fn explain(alloc: Global, target: &str) -> Result<Option<Request>, AllocError>
+    ensures { IfOk result (λ request. request ≡ explain_in target.now) }
+{
+    let Some(day) = Day::read(part(target, 4).as_bytes()) else {
+        return Ok(None);
+    };
+    let account = name(alloc, part(target, 2))?;
+    Ok(Some(Request::Question(Question::Explain { account, day })))
 }
 
 /// What is due for a quarter.

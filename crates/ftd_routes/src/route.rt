@@ -4,7 +4,7 @@ ghost use Rattle.std.specs.Prelude.{◌≡◌, IfOk, OnOk, map, option_map};
 ghost use Rattle.matchit.specs.Seek.{first};
 ghost use Rattle.ftd_routes.specs.Routes.{all_routes, with_route, with_routes};
 
-use ftd_reports::Format;
+use ftd_formats::{Format, ListFormat};
 use matchit::{InsertError, Router};
 use std::alloc::Global;
 
@@ -33,26 +33,28 @@ pub enum Ask {
     VoidPay,
     /// The schedule of a day.
     Status,
-    /// What is due for a quarter.
-    DueList,
-    /// The liability of a quarter by day.
-    ScheduleB,
+    /// Why the obligation of a day is so.
+    Explain,
+    /// What is due for a quarter, in this format.
+    DueList(ListFormat),
+    /// The liability of a quarter by day, in this format.
+    ScheduleB(ListFormat),
     /// What is due between two days, in this format.
     Agenda(Format),
     /// What is due until a day and not paid, in this format.
     Owed(Format),
-    /// The accounts.
-    ListAccounts,
-    /// The open years of an account.
-    ListYears,
-    /// The totals that an account reported.
-    ListReported,
-    /// The holidays of a year.
-    ListHolidays,
+    /// The accounts, in this format.
+    ListAccounts(ListFormat),
+    /// The open years of an account, in this format.
+    ListYears(ListFormat),
+    /// The totals that an account reported, in this format.
+    ListReported(ListFormat),
+    /// The holidays of a year, in this format.
+    ListHolidays(ListFormat),
     /// The pay runs of a quarter, in this format.
-    ListRuns(Format),
-    /// The payments of a quarter.
-    ListPayments,
+    ListRuns(ListFormat),
+    /// The payments of a quarter, in this format.
+    ListPayments(ListFormat),
 }
 
 /// Puts in one more route.
@@ -64,7 +66,7 @@ fn put(router: &mut Router<Ask>, route: &str, ask: Ask) -> Result<(), InsertErro
 }
 
 /// The routes and what they ask.
-const ROUTES: [(&str, Ask); 28] = [
+const ROUTES: [(&str, Ask); 44] = [
     ("/accounts", Ask::Enrol),
     ("/calendars", Ask::Calendar),
     ("/holidays", Ask::AddHoliday),
@@ -76,34 +78,122 @@ const ROUTES: [(&str, Ask); 28] = [
     ("/accounts/{account}/payments", Ask::Pay),
     ("/accounts/{account}/payments/{payment}", Ask::VoidPay),
     ("/accounts/{account}/status/{day}", Ask::Status),
-    ("/accounts/{account}/due/{quarter}/{asof}", Ask::DueList),
-    ("/accounts/{account}/schedule-b/{quarter}", Ask::ScheduleB),
-    ("/agenda/{from}/{to}/{asof}", Ask::Agenda(Format::Text)),
-    ("/agenda/{from}/{to}/{asof}/csv", Ask::Agenda(Format::Csv)),
-    ("/agenda/{from}/{to}/{asof}/json", Ask::Agenda(Format::Json)),
+    ("/accounts/{account}/explain/{day}", Ask::Explain),
+    (
+        "/accounts/{account}/due/{quarter}/{asof}",
+        Ask::DueList(ListFormat::Text),
+    ),
+    (
+        "/accounts/{account}/due/{quarter}/{asof}/csv",
+        Ask::DueList(ListFormat::Csv),
+    ),
+    (
+        "/accounts/{account}/due/{quarter}/{asof}/json",
+        Ask::DueList(ListFormat::Json),
+    ),
+    (
+        "/accounts/{account}/schedule-b/{quarter}",
+        Ask::ScheduleB(ListFormat::Text),
+    ),
+    (
+        "/accounts/{account}/schedule-b/{quarter}/csv",
+        Ask::ScheduleB(ListFormat::Csv),
+    ),
+    (
+        "/accounts/{account}/schedule-b/{quarter}/json",
+        Ask::ScheduleB(ListFormat::Json),
+    ),
+    (
+        "/agenda/{from}/{to}/{asof}",
+        Ask::Agenda(Format::List(ListFormat::Text)),
+    ),
+    (
+        "/agenda/{from}/{to}/{asof}/csv",
+        Ask::Agenda(Format::List(ListFormat::Csv)),
+    ),
+    (
+        "/agenda/{from}/{to}/{asof}/json",
+        Ask::Agenda(Format::List(ListFormat::Json)),
+    ),
     (
         "/agenda/{from}/{to}/{asof}/ics",
         Ask::Agenda(Format::Calendar),
     ),
-    ("/owed/{asof}/{until}", Ask::Owed(Format::Text)),
-    ("/owed/{asof}/{until}/csv", Ask::Owed(Format::Csv)),
-    ("/owed/{asof}/{until}/json", Ask::Owed(Format::Json)),
+    (
+        "/owed/{asof}/{until}",
+        Ask::Owed(Format::List(ListFormat::Text)),
+    ),
+    (
+        "/owed/{asof}/{until}/csv",
+        Ask::Owed(Format::List(ListFormat::Csv)),
+    ),
+    (
+        "/owed/{asof}/{until}/json",
+        Ask::Owed(Format::List(ListFormat::Json)),
+    ),
     ("/owed/{asof}/{until}/ics", Ask::Owed(Format::Calendar)),
-    ("/lists/accounts", Ask::ListAccounts),
-    ("/lists/accounts/{account}/years", Ask::ListYears),
-    ("/lists/accounts/{account}/reported", Ask::ListReported),
-    ("/lists/holidays/{year}", Ask::ListHolidays),
+    ("/lists/accounts", Ask::ListAccounts(ListFormat::Text)),
+    ("/lists/accounts/csv", Ask::ListAccounts(ListFormat::Csv)),
+    ("/lists/accounts/json", Ask::ListAccounts(ListFormat::Json)),
+    (
+        "/lists/accounts/{account}/years",
+        Ask::ListYears(ListFormat::Text),
+    ),
+    (
+        "/lists/accounts/{account}/years/csv",
+        Ask::ListYears(ListFormat::Csv),
+    ),
+    (
+        "/lists/accounts/{account}/years/json",
+        Ask::ListYears(ListFormat::Json),
+    ),
+    (
+        "/lists/accounts/{account}/reported",
+        Ask::ListReported(ListFormat::Text),
+    ),
+    (
+        "/lists/accounts/{account}/reported/csv",
+        Ask::ListReported(ListFormat::Csv),
+    ),
+    (
+        "/lists/accounts/{account}/reported/json",
+        Ask::ListReported(ListFormat::Json),
+    ),
+    (
+        "/lists/holidays/{year}",
+        Ask::ListHolidays(ListFormat::Text),
+    ),
+    (
+        "/lists/holidays/{year}/csv",
+        Ask::ListHolidays(ListFormat::Csv),
+    ),
+    (
+        "/lists/holidays/{year}/json",
+        Ask::ListHolidays(ListFormat::Json),
+    ),
     (
         "/lists/accounts/{account}/runs/{quarter}",
-        Ask::ListRuns(Format::Text),
+        Ask::ListRuns(ListFormat::Text),
     ),
     (
         "/lists/accounts/{account}/runs/{quarter}/csv",
-        Ask::ListRuns(Format::Csv),
+        Ask::ListRuns(ListFormat::Csv),
+    ),
+    (
+        "/lists/accounts/{account}/runs/{quarter}/json",
+        Ask::ListRuns(ListFormat::Json),
     ),
     (
         "/lists/accounts/{account}/payments/{quarter}",
-        Ask::ListPayments,
+        Ask::ListPayments(ListFormat::Text),
+    ),
+    (
+        "/lists/accounts/{account}/payments/{quarter}/csv",
+        Ask::ListPayments(ListFormat::Csv),
+    ),
+    (
+        "/lists/accounts/{account}/payments/{quarter}/json",
+        Ask::ListPayments(ListFormat::Json),
     ),
 ];
 

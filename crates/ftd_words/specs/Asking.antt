@@ -8,8 +8,9 @@ use Rattle.ftd_machine.specs.declared.requests.Kept.TheVariants as kept
 use Rattle.ftd_machine.specs.declared.requests.Question.TheVariants as question
 use Rattle.ftd_machine.specs.declared.requests.Request.{Request}
 use Rattle.ftd_machine.specs.declared.requests.Request.TheVariants as request
-use Rattle.ftd_reports.specs.declared.formats.Format.{Format}
-use Rattle.ftd_reports.specs.declared.formats.Format.TheVariants as formats
+use Rattle.ftd_formats.specs.declared.formats.Format.{Format}
+use Rattle.ftd_formats.specs.declared.formats.Format.TheVariants as formats
+use Rattle.ftd_formats.specs.declared.formats.ListFormat.TheVariants as list_formats
 use Rattle.ftd_rules.specs.Accounts.{is_account_name}
 use Rattle.ftd_words.specs.declared.fault.WordFault.{WordFault}
 use Rattle.ftd_words.specs.declared.fault.WordFault.TheVariants as fault
@@ -17,7 +18,7 @@ use Rattle.ftd_commands.specs.declared.table.Name.{Name}
 use Rattle.ftd_commands.specs.declared.table.Name.TheVariants as name
 use Rattle.ftd_commands.specs.declared.table.Word.TheVariants as word
 use Rattle.ftd_words.specs.Values.{cents_in, day_in, day_or, days_in, form_in, is_given, port_in}
-use Rattle.ftd_words.specs.Values.{format_in, runs_format_in}
+use Rattle.ftd_words.specs.Values.{format_in, list_format_in}
 use Rattle.ftd_words.specs.Values.{quarter_in, text_in, whole_in}
 
 -- what follows from a value, or its fault
@@ -112,6 +113,12 @@ status_of rows =
     then_with (text_in word.Account rows) (λ account.
     then_with (day_in word.Day rows) (λ day.
     Ok (request.Question (question.Status account day))))
+
+unfoldable pub explain_of : List Row → Result Request WordFault
+explain_of rows =
+    then_with (text_in word.Account rows) (λ account.
+    then_with (day_in word.Day rows) (λ day.
+    Ok (request.Question (question.Explain account day))))
 
 unfoldable pub due_of : List Row → Result Request WordFault
 due_of rows =
@@ -229,16 +236,16 @@ asked_as rows format request =
 
 -- told as text, or in the format that is asked for
 abbrev pub asked : List Row → Request → Result Wanted WordFault
-asked rows request = asked_as rows formats.Text request
+asked rows request = asked_as rows (formats.List list_formats.Text) request
 
 abbrev pub formatted : List Row → Request → Result Wanted WordFault
 formatted rows request =
     then_with (format_in rows) (λ format. asked_as rows format request)
 
--- told as text, or as the CSV that is imported
-abbrev pub runs_formatted : List Row → Request → Result Wanted WordFault
-runs_formatted rows request =
-    then_with (runs_format_in rows) (λ format. asked_as rows format request)
+-- told as a list, in the format that is asked for
+abbrev pub listed : List Row → Request → Result Wanted WordFault
+listed rows request =
+    then_with (list_format_in rows) (λ format. asked_as rows (formats.List format) request)
 
 -- what the subcommand asks with these values
 unfoldable pub wanted_of : Name → List Row → Result Wanted WordFault
@@ -256,13 +263,14 @@ wanted_of name.Void rows = then_with (void_of rows) (asked rows)
 wanted_of name.Pay rows = then_with (pay_of rows) (asked rows)
 wanted_of name.VoidPay rows = then_with (void_pay_of rows) (asked rows)
 wanted_of name.Status rows = then_with (status_of rows) (asked rows)
-wanted_of name.Due rows = then_with (due_of rows) (asked rows)
+wanted_of name.Explain rows = then_with (explain_of rows) (asked rows)
+wanted_of name.Due rows = then_with (due_of rows) (listed rows)
 wanted_of name.Agenda rows = then_with (agenda_of rows) (formatted rows)
 wanted_of name.Owed rows = then_with (owed_of rows) (formatted rows)
-wanted_of name.ScheduleB rows = then_with (schedule_b_of rows) (asked rows)
-wanted_of name.Accounts rows = asked rows (kept_asked kept.Accounts)
-wanted_of name.Years rows = then_with (years_of rows) (asked rows)
-wanted_of name.Reported rows = then_with (reported_of rows) (asked rows)
-wanted_of name.Holidays rows = then_with (holidays_of rows) (asked rows)
-wanted_of name.Runs rows = then_with (runs_of rows) (runs_formatted rows)
-wanted_of name.Payments rows = then_with (payments_of rows) (asked rows)
+wanted_of name.ScheduleB rows = then_with (schedule_b_of rows) (listed rows)
+wanted_of name.Accounts rows = listed rows (kept_asked kept.Accounts)
+wanted_of name.Years rows = then_with (years_of rows) (listed rows)
+wanted_of name.Reported rows = then_with (reported_of rows) (listed rows)
+wanted_of name.Holidays rows = then_with (holidays_of rows) (listed rows)
+wanted_of name.Runs rows = then_with (runs_of rows) (listed rows)
+wanted_of name.Payments rows = then_with (payments_of rows) (listed rows)

@@ -9,8 +9,10 @@ use Rattle.ftd_days.specs.Spelling.{cents_of, day_of, days_of, spelled_quarter, 
 use Rattle.ftd_days.specs.declared.cents.Cents.{Cents}
 use Rattle.ftd_rules.specs.declared.Form.{Form}
 use Rattle.ftd_rules.specs.declared.Form.TheVariants.{F941, F943}
-use Rattle.ftd_reports.specs.declared.formats.Format.{Format}
-use Rattle.ftd_reports.specs.declared.formats.Format.TheVariants as format
+use Rattle.ftd_formats.specs.declared.formats.Format.{Format}
+use Rattle.ftd_formats.specs.declared.formats.Format.TheVariants as format
+use Rattle.ftd_formats.specs.declared.formats.ListFormat.{ListFormat}
+use Rattle.ftd_formats.specs.declared.formats.ListFormat.TheVariants.{Text as Lines, Csv, Json}
 use Rattle.ftd_words.specs.declared.fault.WordFault.{WordFault}
 use Rattle.ftd_words.specs.declared.fault.WordFault.TheVariants as fault
 use Rattle.ftd_commands.specs.declared.table.Word.{Word}
@@ -85,27 +87,25 @@ bad_value word rows =
     (if takes_many (takes_of word) then first_no_day (texts_of (all_of (word_text word) rows))
     else first_of (word_text word) rows) []
 
--- the format that is named so
+-- the format of a list that is named so
+abbrev pub list_format_of : Text → Option ListFormat
+list_format_of text =
+    if bytes_eq text (codes "text") then Some Lines
+    else if bytes_eq text (codes "csv") then Some Csv
+    else if bytes_eq text (codes "json") then Some Json
+    else None
+
+abbrev pub list_format_in : List Row → Result ListFormat WordFault
+list_format_in rows = spelled_in list_format_of word.ListFormat rows
+
+-- the format of what is due over all accounts: a calendar too
 abbrev pub format_of : Text → Option Format
 format_of text =
-    if bytes_eq text (codes "text") then Some format.Text
-    else if bytes_eq text (codes "csv") then Some format.Csv
-    else if bytes_eq text (codes "json") then Some format.Json
-    else if bytes_eq text (codes "ics") then Some format.Calendar
-    else None
+    if bytes_eq text (codes "ics") then Some format.Calendar
+    else option_map (λ of_list. format.List of_list) (list_format_of text)
 
 abbrev pub format_in : List Row → Result Format WordFault
 format_in rows = spelled_in format_of word.Format rows
-
--- the format of a list of runs
-abbrev pub runs_format_of : Text → Option Format
-runs_format_of text =
-    if bytes_eq text (codes "text") then Some format.Text
-    else if bytes_eq text (codes "csv") then Some format.Csv
-    else None
-
-abbrev pub runs_format_in : List Row → Result Format WordFault
-runs_format_in rows = spelled_in runs_format_of word.RunsFormat rows
 
 -- the form of an account
 abbrev pub form_of : Option Text → Result Form WordFault

@@ -5,7 +5,7 @@ ghost use Rattle.std.specs.Prelude.{◌≡◌};
 ghost use Rattle.clap.specs.Words.{found_of, rows_of};
 ghost use Rattle.ftd_words.specs.Asking.{Tells, enrol_of, calendar_of, add_holiday_of, report_of};
 ghost use Rattle.ftd_words.specs.Asking.{report_year_of, open_year_of, post_of, void_of, pay_of};
-ghost use Rattle.ftd_words.specs.Asking.{void_pay_of, status_of, due_of, agenda_of, week_after};
+ghost use Rattle.ftd_words.specs.Asking.{void_pay_of, status_of, explain_of, due_of, agenda_of, week_after};
 ghost use Rattle.ftd_words.specs.Asking.{owed_of, schedule_b_of, years_of, reported_of};
 ghost use Rattle.ftd_words.specs.Asking.{holidays_of, runs_of, payments_of};
 ghost use Rattle.ftd_words.specs.Values.{text_in};
@@ -174,6 +174,16 @@ pub fn status(alloc: Global, inner: &ArgMatches<'_>) -> Result<Request, WordFaul
     let account = account_at(alloc, inner)?;
     let day = day_at(inner, Word::Day)?;
     Ok(Request::Question(Question::Status { account, day }))
+}
+
+/// What `explain` asks.
+#[tactic(auto, unfolding(crate::specs::Asking::explain_of))]
+pub fn explain(alloc: Global, inner: &ArgMatches<'_>) -> Result<Request, WordFault>
+    ensures { Tells result (explain_of (rows_of (found_of inner.now))) }
+{
+    let account = account_at(alloc, inner)?;
+    let day = day_at(inner, Word::Day)?;
+    Ok(Request::Question(Question::Explain { account, day }))
 }
 
 /// What `due` asks.

@@ -8,27 +8,27 @@ ghost use Rattle.ftd_words.specs.declared.fault.WordFault.TheVariants.{BadWord};
 ghost use Rattle.ftd_words.specs.Apps.{ftd_app};
 ghost use Rattle.ftd_words.specs.Values.{bad_value};
 ghost use Rattle.ftd_words.specs.Asking.{Tells, TellsAs, Wanted, account_in, asked, asked_as};
-ghost use Rattle.ftd_words.specs.Asking.{formatted, import_of, plain_of, runs_formatted, serve_of};
+ghost use Rattle.ftd_words.specs.Asking.{formatted, import_of, listed, plain_of, serve_of};
 ghost use Rattle.ftd_words.specs.Asking.{wanted_of, year_in};
 ghost use Rattle.ftd_words.specs.Tasks.{Fails, Gives, IsUsage, Refused, ShowsValue, command_named};
 ghost use Rattle.ftd_words.specs.Tasks.{rows_in, task_of, task_view, value, wanted_in, words};
 
 use crate::asking::{
-    account_at, add_holiday, agenda, calendar, due, enrol, holidays, open_year, owed, pay,
+    account_at, add_holiday, agenda, calendar, due, enrol, explain, holidays, open_year, owed, pay,
     payments, post, report, report_year, reported, runs, schedule_b, status, void, void_pay, years,
 };
 use crate::escape::{escaped, escaped_word};
 use crate::fault::WordFault;
 use crate::parse::{ParseFault, parsed};
 use crate::reading::{
-    bad_value, days_at, format_at, owned_text, port_at, runs_format_at, whole_at,
+    bad_value, days_at, format_at, list_format_at, owned_text, port_at, whole_at,
 };
 use crate::tasks::{CliFault, Job, LocalTask, PlainTask, ServeTask, Task};
 use clap::error::ErrorKind;
 use clap::{ArgMatches, Error};
 use ftd_commands::{NAMES, Name, Word};
+use ftd_formats::{Format, ListFormat};
 use ftd_machine::{AccountName, Kept, Question, Request};
-use ftd_reports::Format;
 use ftd_rules::is_account_name;
 use std::alloc::Global;
 
@@ -144,7 +144,7 @@ fn local_as(
 fn local(alloc: Global, inner: &ArgMatches<'_>, request: Request) -> Result<Task, WordFault>
     ensures { TellsAs task_view result (asked (rows_of (found_of inner.now)) request) }
 {
-    local_as(alloc, inner, Format::Text, request)
+    local_as(alloc, inner, Format::List(ListFormat::Text), request)
 }
 
 /// The request, to the desk in the database, whose reply is told in the format that is asked for.
@@ -155,17 +155,13 @@ fn formatted(alloc: Global, inner: &ArgMatches<'_>, request: Request) -> Result<
     local_as(alloc, inner, format, request)
 }
 
-/// The request, to the desk in the database, whose reply is told as text, or as the CSV that is
-/// imported where that is asked for.
-fn runs_formatted(
-    alloc: Global,
-    inner: &ArgMatches<'_>,
-    request: Request,
-) -> Result<Task, WordFault>
-    ensures { TellsAs task_view result (runs_formatted (rows_of (found_of inner.now)) request) }
+/// The request, to the desk in the database, whose reply is a list, told in the format that is
+/// asked for.
+fn listed(alloc: Global, inner: &ArgMatches<'_>, request: Request) -> Result<Task, WordFault>
+    ensures { TellsAs task_view result (listed (rows_of (found_of inner.now)) request) }
 {
-    let format = runs_format_at(inner)?;
-    local_as(alloc, inner, format, request)
+    let format = list_format_at(inner)?;
+    local_as(alloc, inner, Format::List(format), request)
 }
 
 /// What the subcommand asks.
@@ -188,20 +184,21 @@ fn task_for(alloc: Global, name: Name, inner: &ArgMatches<'_>) -> Result<Task, W
         Name::Pay => local(alloc, inner, pay(alloc, inner)?),
         Name::VoidPay => local(alloc, inner, void_pay(alloc, inner)?),
         Name::Status => local(alloc, inner, status(alloc, inner)?),
-        Name::Due => local(alloc, inner, due(alloc, inner)?),
+        Name::Explain => local(alloc, inner, explain(alloc, inner)?),
+        Name::Due => listed(alloc, inner, due(alloc, inner)?),
         Name::Agenda => formatted(alloc, inner, agenda(inner)?),
         Name::Owed => formatted(alloc, inner, owed(inner)?),
-        Name::ScheduleB => local(alloc, inner, schedule_b(alloc, inner)?),
-        Name::Accounts => local(
+        Name::ScheduleB => listed(alloc, inner, schedule_b(alloc, inner)?),
+        Name::Accounts => listed(
             alloc,
             inner,
             Request::Question(Question::Kept(Kept::Accounts)),
         ),
-        Name::Years => local(alloc, inner, years(alloc, inner)?),
-        Name::Reported => local(alloc, inner, reported(alloc, inner)?),
-        Name::Holidays => local(alloc, inner, holidays(inner)?),
-        Name::Runs => runs_formatted(alloc, inner, runs(alloc, inner)?),
-        Name::Payments => local(alloc, inner, payments(alloc, inner)?),
+        Name::Years => listed(alloc, inner, years(alloc, inner)?),
+        Name::Reported => listed(alloc, inner, reported(alloc, inner)?),
+        Name::Holidays => listed(alloc, inner, holidays(inner)?),
+        Name::Runs => listed(alloc, inner, runs(alloc, inner)?),
+        Name::Payments => listed(alloc, inner, payments(alloc, inner)?),
     }
 }
 

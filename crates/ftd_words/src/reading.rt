@@ -8,7 +8,7 @@ ghost use Rattle.ftd_commands.specs.Table.{word_text};
 ghost use Rattle.ftd_words.specs.Values.{bad_value, cents_in, day_in, day_or, days_in};
 ghost use Rattle.ftd_words.specs.Values.{first_no_day};
 ghost use Rattle.ftd_words.specs.Values.{form_in, format_in, format_of, is_given, needed};
-ghost use Rattle.ftd_words.specs.Values.{runs_format_in, runs_format_of};
+ghost use Rattle.ftd_words.specs.Values.{list_format_in, list_format_of};
 ghost use Rattle.ftd_words.specs.Values.{port_in, quarter_in, text_in};
 ghost use Rattle.ftd_words.specs.Values.{whole_in};
 ghost use Rattle.ftd_words.specs.Asking.{Tells, TellsAs};
@@ -18,8 +18,8 @@ use clap::ArgMatches;
 use ftd_commands::Word;
 use ftd_days::digits::whole_number;
 use ftd_days::{Cents, Day, Quarter};
+use ftd_formats::{Format, ListFormat};
 use ftd_machine::Days;
-use ftd_reports::Format;
 use ftd_rules::Form;
 use std::alloc::Global;
 
@@ -112,24 +112,45 @@ pub fn port_at(inner: &ArgMatches<'_>, word: Word) -> Result<u16, WordFault>
     u16::try_from(number).or(Err(WordFault::BadWord(word)))
 }
 
-/// The format that is named so.
-fn format_named(text: &str) -> Option<Format>
-    ensures { result ≡ format_of text.now }
+/// The format of a list that is named so.
+fn list_format_named(text: &str) -> Option<ListFormat>
+    ensures { result ≡ list_format_of text.now }
 {
     if text == "text" {
-        Some(Format::Text)
+        Some(ListFormat::Text)
     } else if text == "csv" {
-        Some(Format::Csv)
+        Some(ListFormat::Csv)
     } else if text == "json" {
-        Some(Format::Json)
-    } else if text == "ics" {
-        Some(Format::Calendar)
+        Some(ListFormat::Json)
     } else {
         None
     }
 }
 
-/// The format that is asked for.
+/// The format of a list that is asked for.
+pub fn list_format_at(inner: &ArgMatches<'_>) -> Result<ListFormat, WordFault>
+    ensures { result ≡ list_format_in (rows_of (found_of inner.now)) }
+{
+    let Some(text) = text_at(inner, Word::ListFormat) else {
+        return Err(WordFault::BadWord(Word::ListFormat));
+    };
+    list_format_named(text).ok_or(WordFault::BadWord(Word::ListFormat))
+}
+
+/// The format of what is due over all accounts that is named so.
+fn format_named(text: &str) -> Option<Format>
+    ensures { result ≡ format_of text.now }
+{
+    if text == "ics" {
+        return Some(Format::Calendar);
+    }
+    match list_format_named(text) {
+        Some(format) => Some(Format::List(format)),
+        None => None,
+    }
+}
+
+/// The format of what is due over all accounts that is asked for.
 pub fn format_at(inner: &ArgMatches<'_>) -> Result<Format, WordFault>
     ensures { result ≡ format_in (rows_of (found_of inner.now)) }
 {
@@ -137,29 +158,6 @@ pub fn format_at(inner: &ArgMatches<'_>) -> Result<Format, WordFault>
         return Err(WordFault::BadWord(Word::Format));
     };
     format_named(text).ok_or(WordFault::BadWord(Word::Format))
-}
-
-/// The format of a list of runs that is named so.
-fn runs_format_named(text: &str) -> Option<Format>
-    ensures { result ≡ runs_format_of text.now }
-{
-    if text == "text" {
-        Some(Format::Text)
-    } else if text == "csv" {
-        Some(Format::Csv)
-    } else {
-        None
-    }
-}
-
-/// The format of a list of runs that is asked for.
-pub fn runs_format_at(inner: &ArgMatches<'_>) -> Result<Format, WordFault>
-    ensures { result ≡ runs_format_in (rows_of (found_of inner.now)) }
-{
-    let Some(text) = text_at(inner, Word::RunsFormat) else {
-        return Err(WordFault::BadWord(Word::RunsFormat));
-    };
-    runs_format_named(text).ok_or(WordFault::BadWord(Word::RunsFormat))
 }
 
 /// The form of an account.

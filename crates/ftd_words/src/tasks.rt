@@ -3,8 +3,8 @@
 ghost use Rattle.std.specs.Prelude.{◌≤◌};
 
 use ftd_commands::Word;
+use ftd_formats::Format;
 use ftd_machine::{AccountName, Days, Request};
-use ftd_reports::Format;
 
 /// The deposits of an account in a year, from pay runs on standard input.
 #[derive(Drop)]
@@ -24,7 +24,7 @@ pub struct PlainTask {
 pub enum Job {
     /// The pay runs of this CSV file are posted; `-` is standard input.
     Import(String),
-    /// A request. What its reply tells over all accounts is told in this format.
+    /// A request. A reply that is a list is told in this format.
     Ask { format: Format, request: Request },
 }
 

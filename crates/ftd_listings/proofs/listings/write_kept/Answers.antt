@@ -10,6 +10,6 @@ returns-in_err-write_head-clause-err g c = on_err c.from_residual.result
 
 pub returns-clause-err : goal.returns-clause-err
 unfolding kept_text
-returns-clause-err g c = last_broken c.write_rows.result _ _ _ _ _
+returns-clause-err g c = last_broken c.write_lines.result _ _ _ _ _
     (goes_on _ _ _ _ _ _ _ (begins _ _) refl c.in_ok-write_head.ensures.ok)
-    c.write_rows.ensures.err
+    c.write_lines.ensures.err

@@ -1,8 +1,9 @@
-use Rattle.std.proofs.Common.{refl, ap, ◌∙◌}
+use Rattle.std.proofs.Common.{refl, ap, sym, subst, Some}
 use Rattle.ftd_store.proofs.Telling.{then_reads}
 use Rattle.ftd_machine.specs.History.{form_of}
 use Rattle.ftd_entries.specs.Known.{KnowsAccount}
-use Rattle.ftd_questions.specs.Agendas.{KnowsList}
+use Rattle.ftd_questions.specs.Agendas.{KnowsLastYears, KnowsList}
+use Rattle.ftd_questions.specs.DueRows.{KnowsYears}
 use Rattle.ftd_questions.specs.Shown.{KnowsQuarter}
 use Rattle.ftd_questions.proofs.agenda_rows.list_of.Goals as goal
 
@@ -11,19 +12,30 @@ returns g c =
     let name = c.args.name.now in
     let quarter = c.args.quarter in
     let as_of = c.args.as_of in
-    let account = c.in-Some.account in
+    let last = c.args.last in
+    let account = c.in_ok-account.account in
+    let given = c.in_ok-account.years in
+    let found = c.in_ok-return_due.field-0 in
     record {
-      call = then_reads g.S.Store c.args.tx.now c.known.new.tx c.rows_of_quarter.new.tx
-          c.in_ok-account.field-0 c.in_ok-return_due.field-0 _ (KnowsAccount name)
-          (KnowsQuarter name account.form quarter as_of) (KnowsList name quarter as_of)
-          (λ t known lists s stands sound.
-          (let is = known s stands ∙ c.in-Some.is in
-          record {
-            account = account;
-            enrolled = is;
-            form_is = refl;
-            due_list = lists.0.0 s stands sound (ap form_of is);
-            return_due = lists.1 s stands sound;
-          }))
+      call = then_reads g.S.Store c.args.tx.now c.account_and_years.new.tx c.rows_of_quarter.new.tx
+          (account, given) found _
+          (λ of t. KnowsAccount name (Some of.0) t
+          × (KnowsLastYears last t → KnowsYears quarter of.1 t))
+          (λ q t. KnowsYears quarter given t → KnowsQuarter name account.form quarter as_of q t)
+          (λ of t. KnowsLastYears last t
+          → KnowsList name quarter as_of of.0 t × KnowsYears quarter of.1 t)
+          (λ t before lists last_is.
+          (let years = before.1 last_is in (
+            (λ s stands sound.
+                (let is = before.0 s stands in
+                record {
+                  account = account;
+                  enrolled = is;
+                  form_is = refl;
+                  due_list = (lists years).0.0 s stands sound (ap form_of is);
+                  return_due = (lists years).1 s stands sound;
+                })),
+            subst (λ hs. KnowsYears quarter hs t) (sym c.in_ok-return_due.ensures.same) years,
+          )))
           c.in_ok-account.ensures.call c.in_ok-return_due.ensures.call;
     }

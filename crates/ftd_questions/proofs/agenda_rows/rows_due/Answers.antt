@@ -1,19 +1,15 @@
 use Rattle.std.proofs.Common.{◌<◌, ℕ, List, [], take, length, None, Ok, rules, sym, subst}
 use Rattle.std.proofs.Common.{arith}
-use Rattle.std.specs.Prelude.{filter}
-use Rattle.ftd_schema.specs.Orders.{AccountsRise}
-use Rattle.ftd_schema.specs.Tests.{is_due_between}
-use Rattle.ftd_schema.specs.declared.TableName.TheVariants.{Obligations}
-use Rattle.ftd_rows.specs.Cells.{day_number}
-use Rattle.ftd_rows.specs.Lists.{Lists, Pairs}
+use Rattle.ftd_rows.specs.Lists.{Pairs}
 use Rattle.ftd_rows.specs.declared.obligations.AccountObligation.{AccountObligation}
-use Rattle.ftd_store.specs.Finds.{IsAccountObligation, ListsDueBetween}
 use Rattle.ftd_store.specs.Frame.{Frame}
 use Rattle.ftd_store.proofs.Going.{then_goes}
 use Rattle.ftd_store.proofs.Replaced.{all_taken}
 use Rattle.ftd_store.proofs.Telling.{reads_on, then_reads}
 use Rattle.ftd_store.proofs.Turning.{gave_up_after}
-use Rattle.ftd_questions.specs.Agendas.{KnowsLast, IsLast, KnowsRow, KnowsRowsDue}
+use Rattle.ftd_questions.specs.Agendas.{KnowsLast, KnowsLastYears, IsLast, KnowsRow}
+use Rattle.ftd_questions.specs.Agendas.{KnowsRowsDue}
+use Rattle.ftd_questions.specs.Listing.{KnowsDue}
 use Rattle.ftd_questions.proofs.AgendaRows.{SoFar, so_far_more}
 use Rattle.ftd_questions.proofs.agenda_rows.rows_due.Goals.{then-not-is_last+in_ok-last}
 use Rattle.ftd_questions.proofs.agenda_rows.rows_due.Goals.{else-not-is_last}
@@ -21,18 +17,20 @@ use Rattle.ftd_questions.proofs.agenda_rows.rows_due.Goals as goal
 
 pub loop-owed-init : goal.loop-owed-init
 loop-owed-init g c =
+    let unpaid = c.args.unpaid in
     let from = c.args.from in
     let to = c.args.to in
     let items : List AccountObligation = c.deref-owed-items.result.now in
     rw c.new-rows.ensures.items
-    (reads_on g.S.Store c.args.tx.now c.due_between.new.self c.in_ok-listed.listed tt
-    (ListsDueBetween from to) (λ done. SoFar from to c.args.as_of items [] [] None)
+    (reads_on g.S.Store c.args.tx.now c.due_between.new.tx c.in_ok-listed.listed tt
+    (λ listed. KnowsDue unpaid from to listed.items)
+    (λ done. SoFar unpaid from to c.args.as_of items [] [] None)
     (λ t lists. record {
-      lists = subst (Lists AccountsRise IsAccountObligation
-          (filter (is_due_between (day_number from) (day_number to)) (t Obligations)))
-          (sym c.deref-owed-items.ensures.value) lists;
+      lists = subst (λ xs. KnowsDue unpaid from to xs t) (sym c.deref-owed-items.ensures.value)
+          lists;
       are_rows = tt;
       last_is = tt;
+      years_are = tt;
     }) c.in_ok-listed.ensures.call)
 
 pub returns-in-Err : goal.returns-in-Err
@@ -51,6 +49,7 @@ returns-in-Err g c =
 
 pub loop-owed-preserved : goal.loop-owed-preserved
 loop-owed-preserved g c =
+    let unpaid = c.args.unpaid in
     let from = c.args.from in
     let to = c.args.to in
     let as_of = c.args.as_of in
@@ -65,24 +64,28 @@ loop-owed-preserved g c =
       | then-not-is_last+in_ok-last w ↦
           (let its : IsLast x new = subst (IsLast x) (sym w.last-is) w.in_ok-last.ensures.is in
           rw w.tx-is (then_reads g.S.Store c.args.tx.now c.loop-owed.tx w.its_list.new.tx tt _ tt
-          (λ done. SoFar from to as_of items (take i items) before last) (KnowsLast as_of) _
-          (λ t so_far knows. so_far_more from to as_of items i x before _ last new t some
+          (λ done. SoFar unpaid from to as_of items (take i items) before last)
+          (λ l t. KnowsLastYears last t → KnowsLast as_of l t × KnowsLastYears l t) _
+          (λ t so_far knows. so_far_more unpaid from to as_of items i x before _ last new t some
           c.owed-item.is its c.in_default.ensures so_far
-          (subst (λ l. KnowsLast as_of l t) (sym w.last-is) knows))
+          (subst (λ l. KnowsLast as_of l t × KnowsLastYears l t) (sym w.last-is)
+          (knows so_far.years_are)))
           c.loop-owed.invariant w.in_ok-last.ensures.call))
       | else-not-is_last w ↦
           (let its : IsLast x new = subst (IsLast x) (sym w.last-is)
           (c.is_last.ensures (search (rules, w.if-not-is_last.false))) in
           rw w.tx-is (reads_on g.S.Store c.args.tx.now c.loop-owed.tx tt tt
-          (λ done. SoFar from to as_of items (take i items) before last) _
-          (λ t so_far. so_far_more from to as_of items i x before _ last new t some
+          (λ done. SoFar unpaid from to as_of items (take i items) before last) _
+          (λ t so_far. so_far_more unpaid from to as_of items i x before _ last new t some
           c.owed-item.is its c.in_default.ensures so_far
-          (subst (λ l. KnowsLast as_of l t) (sym w.last-is) so_far.last_is))
+          (subst (λ l. KnowsLast as_of l t × KnowsLastYears l t) (sym w.last-is)
+          (so_far.last_is, so_far.years_are)))
           c.loop-owed.invariant))
     ]
 
 pub returns : goal.returns
 returns g c =
+    let unpaid = c.args.unpaid in
     let from = c.args.from in
     let to = c.args.to in
     let as_of = c.args.as_of in
@@ -92,8 +95,9 @@ returns g c =
     let all = all_taken items i (omega arith) in
     record {
       call = reads_on g.S.Store c.args.tx.now c.loop-owed.tx tt c.loop-owed.rows
-          (λ done. SoFar from to as_of items (take i items) c.loop-owed.rows.items c.loop-owed.last)
-          (λ rows. KnowsRowsDue from to as_of rows.items)
+          (λ done. SoFar unpaid from to as_of items (take i items) c.loop-owed.rows.items
+          c.loop-owed.last)
+          (λ rows. KnowsRowsDue unpaid from to as_of rows.items)
           (λ t so_far. record {
             owed = items;
             listed = so_far.lists;

@@ -1,4 +1,4 @@
-use Rattle.std.proofs.Common.{Ok, rules, sym}
+use Rattle.std.proofs.Common.{None, Ok, refl, rules, sym}
 use Rattle.ftd_store.proofs.Turning.{gave_up_after}
 use Rattle.ftd_machine.specs.declared.requests.Question.TheVariants as asked
 use Rattle.ftd_machine.specs.declared.requests.Request.TheVariants.{Question}
@@ -16,7 +16,7 @@ returns-in-Some g c =
     record {
       call = served_looked g.S.Store (Question (asked.Agenda from to as_of)) c.args.tx.now
           c.rows_due.new.tx c.in_ok-rows.rows c.in-Some.answer
-          (λ rows. KnowsRowsDue from to as_of rows.items) c.in_ok-rows.ensures.call
+          (λ rows. KnowsRowsDue None from to as_of rows.items) c.in_ok-rows.ensures.call
           (λ t s stands sound knows. agenda_refused from to as_of c.in-Some.answer (search rules)
           s);
     }
@@ -30,9 +30,9 @@ returns-in-Ok g c =
     record {
       call = served_looked g.S.Store (Question (asked.Agenda from to as_of)) c.args.tx.now
           c.rows_due.new.tx rows (Ok (Agenda c.from_vec.result))
-          (λ rs. KnowsRowsDue from to as_of rs.items) c.in_ok-rows.ensures.call
+          (λ rs. KnowsRowsDue None from to as_of rs.items) c.in_ok-rows.ensures.call
           (λ t s stands sound knows. rw (sym c.from_vec.ensures) at
-          (agenda_answered from to as_of rows.items t s stands sound knows (search rules)
+          (agenda_answered None from to as_of rows.items t s stands sound knows refl (search rules)
           c.in-Ok.rows.items c.in-Ok.ensures.same c.in-Ok.ensures.in_order));
     }
 

@@ -1,4 +1,4 @@
-use Rattle.std.proofs.Common.{◌≡◌, ◌∙◌, Ok, rules, sym}
+use Rattle.std.proofs.Common.{◌≡◌, ◌∙◌, Ok, Some, refl, rules, sym}
 use Rattle.ftd_store.proofs.Turning.{gave_up_after}
 use Rattle.ftd_machine.specs.declared.requests.Question.TheVariants.{Owed}
 use Rattle.ftd_machine.specs.declared.requests.Request.TheVariants.{Question}
@@ -15,7 +15,7 @@ returns-in-Some g c =
     record {
       call = served_looked g.S.Store (Question (Owed until as_of)) c.args.tx.now
           c.rows_due.new.tx c.in_ok-rows.rows c.in-Some.answer
-          (λ rows. KnowsRowsDue c.first_of_month.result until as_of rows.items)
+          (λ rows. KnowsRowsDue (Some as_of) c.first_of_month-from.result until as_of rows.items)
           c.in_ok-rows.ensures.call
           (λ t s stands sound knows. owed_refused until as_of c.in-Some.answer (search rules) s);
     }
@@ -25,16 +25,16 @@ returns-in-Ok g c =
     let until = c.args.until in
     let as_of = c.args.as_of in
     let rows = c.in_ok-rows.rows in
-    let first : c.first_of_month.result ≡ 0 = c.first_of_month.ensures.value ∙ first_month in
+    let first : c.first_of_month-from.result ≡ 0 =
+    c.first_of_month-from.ensures.value ∙ first_month in
     record {
       call = served_looked g.S.Store (Question (Owed until as_of)) c.args.tx.now
           c.rows_due.new.tx rows (Ok (Agenda c.from_vec.result))
-          (λ rs. KnowsRowsDue c.first_of_month.result until as_of rs.items)
+          (λ rs. KnowsRowsDue (Some as_of) c.first_of_month-from.result until as_of rs.items)
           c.in_ok-rows.ensures.call
           (λ t s stands sound knows. rw (sym c.from_vec.ensures) at
-          (owed_answered c.first_of_month.result until as_of rows.items t s stands sound knows first
-          (search rules) c.left_rows.result.items c.in-Ok.rows.items c.left_rows.ensures
-          c.in-Ok.ensures.same c.in-Ok.ensures.in_order));
+          (owed_answered (Some as_of) c.first_of_month-from.result until as_of rows.items t s stands
+          sound knows refl first (search rules) c.in-Ok.rows.items c.in-Ok.ensures.same c.in-Ok.ensures.in_order));
     }
 
 pub returns-in-Err : goal.returns-in-Err

@@ -1,10 +1,12 @@
-use Rattle.std.proofs.Common.{◌≡◌, ◌∙◌, Some, None, Ok, rules, sym, ap}
+use Rattle.std.proofs.Common.{◌≡◌, ◌+◌, ◌∙◌, Some, None, Ok, rules, sym, ap, subst}
+use Rattle.ftd_days.specs.Holidays.{holidays_of}
+use Rattle.ftd_store.specs.Holidays.{HasYears}
 use Rattle.ftd_store.proofs.Telling.{then_reads}
 use Rattle.ftd_machine.specs.declared.requests.Question.TheVariants.{DueList}
 use Rattle.ftd_machine.specs.declared.requests.Request.TheVariants.{Question}
 use Rattle.ftd_machine.specs.declared.replies.Reply.TheVariants.{Due}
 use Rattle.ftd_entries.proofs.Serving.{served_looked}
-use Rattle.ftd_questions.specs.DueRows.{KnowsForDue}
+use Rattle.ftd_questions.specs.DueRows.{KnowsForDue, KnowsYears}
 use Rattle.ftd_questions.specs.Shown.{KnowsQuarter}
 use Rattle.ftd_questions.proofs.DueTold.{checks, due_decided, due_told}
 use Rattle.ftd_questions.proofs.Shown.{due_list_refuses, shown_by, told_rows}
@@ -34,14 +36,23 @@ returns g c =
     let as_of = c.args.as_of in
     let known = c.in_ok-before.before in
     let account = c.in-Some-account.account in
+    let given = c.in_ok-holidays.holidays in
     let found = c.in_ok-found.found in
     let rows = found.rows in
     let passed : checks name quarter as_of known ≡ None = search rules in
-    let read = then_reads g.S.Store c.args.tx.now c.known_for_due.new.tx c.rows_of_quarter.new.tx
-    known found found (KnowsForDue name quarter) (KnowsQuarter name account.form quarter as_of)
+    let years = then_reads g.S.Store c.args.tx.now c.known_for_due.new.tx c.holidays.new.self known
+    given given (KnowsForDue name quarter) (λ hs. HasYears c.year-year.result
+    (c.year-year.result + 1) (holidays_of hs))
+    (λ hs t. KnowsForDue name quarter known t × KnowsYears quarter hs t)
+    (λ t knows has. (
+      knows,
+      subst (λ year. HasYears year (year + 1) (holidays_of given) t) c.year-year.ensures has,
+    )) c.in_ok-before.ensures.call c.in_ok-holidays.ensures.call in
+    let read = then_reads g.S.Store c.args.tx.now c.holidays.new.self c.rows_of_quarter.new.tx
+    given found found (λ hs t. KnowsForDue name quarter known t × KnowsYears quarter hs t)
+    (λ q t. KnowsYears quarter given t → KnowsQuarter name account.form quarter as_of q t)
     (λ q t. KnowsForDue name quarter known t × KnowsQuarter name account.form quarter as_of q t)
-    (λ t knows lists. (knows, lists)) c.in_ok-before.ensures.call
-    c.in_ok-found.ensures.call in
+    (λ t knows lists. (knows.0, lists knows.1)) years c.in_ok-found.ensures.call in
     record {
       call = served_looked g.S.Store (Question (DueList name quarter as_of)) c.args.tx.now
           c.rows_of_quarter.new.tx found (Ok (Due c.from_vec.result)) _ read

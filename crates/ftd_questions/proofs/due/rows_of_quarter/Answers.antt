@@ -1,16 +1,15 @@
-use Rattle.std.proofs.Common.{◌≡◌, ◌+◌, List, ◌∙◌, ap, subst}
+use Rattle.std.proofs.Common.{◌≡◌, List, ◌∙◌, ap, subst}
 use Rattle.std.specs.Prelude.{filter}
 use Rattle.std.specs.List.{list_any}
 use Rattle.ftd_days.specs.Holidays.{holidays_of}
 use Rattle.ftd_rules.specs.declared.Obligation.{Obligation}
 use Rattle.ftd_rows.specs.Lists.{Pairs}
 use Rattle.ftd_store.specs.Finds.{ListsObligations}
-use Rattle.ftd_store.specs.Holidays.{HasYears}
 use Rattle.ftd_store.proofs.Going.{then_goes}
 use Rattle.ftd_store.proofs.Telling.{then_reads}
 use Rattle.ftd_store.proofs.Turning.{gave_up_after}
-use Rattle.ftd_questions.specs.Returns.{KnowsPeriod}
-use Rattle.ftd_questions.specs.DueRows.{IsRowBy, begins_in, is_next_day_row}
+use Rattle.ftd_reasons.specs.Returns.{KnowsPeriod}
+use Rattle.ftd_questions.specs.DueRows.{IsRowBy, KnowsYears, begins_in, is_next_day_row}
 use Rattle.ftd_questions.specs.Shown.{KnowsQuarter}
 use Rattle.ftd_questions.proofs.DueListed.{return_known}
 use Rattle.ftd_questions.proofs.DueTold.{due_known}
@@ -24,7 +23,7 @@ returns-in-Ok g c =
     let form = c.args.form in
     let quarter = c.args.quarter in
     let as_of = c.args.as_of in
-    let given = c.in_ok-holidays.holidays in
+    let given = c.args.holidays in
     let period = c.in_ok-period.period in
     let found = c.in_ok-obligations.obligations in
     let rows = c.in-Ok.rows in
@@ -36,47 +35,34 @@ returns-in-Ok g c =
     rows.items =
     subst (λ (os : List Obligation). Pairs (IsRowBy of_return as_of) (filter (begins_in quarter) os)
     rows.items) c.deref-2.ensures.value c.in-Ok.ensures in
-    let read = then_reads g.S.Store c.args.tx.now c.holidays.new.self c.return_period.new.tx given
-    period period (λ holidays. HasYears c.year-year.result (c.year-year.result + 1)
-    (holidays_of holidays)) (KnowsPeriod name form quarter)
-    (λ p t. HasYears c.year-year.result (c.year-year.result + 1) (holidays_of given) t
-    × KnowsPeriod name form quarter p t) (λ t years known. (years, known))
-    c.in_ok-holidays.ensures.call c.in_ok-period.ensures.call in
     record {
       call = then_reads g.S.Store c.args.tx.now c.return_period.new.tx c.obligations.new.self period
-          found _ (λ p t. HasYears c.year-year.result (c.year-year.result + 1)
-          (holidays_of given) t × KnowsPeriod name form quarter p t)
+          found _ (KnowsPeriod name form quarter)
           (ListsObligations name period.first period.last)
-          (KnowsQuarter name form quarter as_of)
-          (λ t knows lists.
-          (let years = subst (λ year. HasYears year (year + 1) (holidays_of given) t)
-          c.year-year.ensures knows.0 in (
+          (λ quarter_rows t. KnowsYears quarter given t
+          → KnowsQuarter name form quarter as_of quarter_rows t)
+          (λ t knows lists years. (
             (
               due_known name form quarter as_of given period c.has_next_day-next_day.result
                   found.items of_return rows.items c.requires.from c.requires.to
-                  c.quarter_return-of_return.ensures.stands next_day are_rows t years knows.1
+                  c.quarter_return-of_return.ensures.stands next_day are_rows t years knows
                   (obligations_known name period.first period.last found t lists),
               rows_shown name quarter form period.first period.last as_of found.items of_return
-                  rows.items t c.requires.from c.requires.to knows.1.first knows.1.last lists
+                  rows.items t c.requires.from c.requires.to knows.first knows.last lists
                   are_rows,
             ),
             return_known form quarter (holidays_of given) of_return.due c.requires.from
                 c.requires.to c.quarter_return-of_return.ensures.stands.due t years,
-          )))
-          read
-          c.in_ok-obligations.ensures.call;
+          ))
+          c.in_ok-period.ensures.call c.in_ok-obligations.ensures.call;
+      same = c.quarter_return-of_return.ensures.stands.holidays_are;
     }
 
-pub returns : goal.returns
-returns g c =
-    let given = c.in_ok-holidays.holidays in
+pub returns-clause-call : goal.returns-clause-call
+returns-clause-call g c =
     let period = c.in_ok-period.period in
     let found = c.in_ok-obligations.obligations in
-    let two = then_goes g.S.Store c.args.tx.now c.holidays.new.self c.return_period.new.tx given
-    period period c.in_ok-holidays.ensures.call.frame c.in_ok-period.ensures.call.frame in
-    let three = then_goes g.S.Store c.args.tx.now c.return_period.new.tx c.obligations.new.self
-    period found found two c.in_ok-obligations.ensures.call.frame in
-    record {
-      call = gave_up_after g.S.Store c.args.tx.now c.obligations.new.self c.give_up.new.self found
-          c.give_up.result _ three c.give_up.ensures.frame c.give_up.ensures.fails;
-    }
+    let two = then_goes g.S.Store c.args.tx.now c.return_period.new.tx c.obligations.new.self
+    period found found c.in_ok-period.ensures.call.frame c.in_ok-obligations.ensures.call.frame in
+    gave_up_after g.S.Store c.args.tx.now c.obligations.new.self c.give_up.new.self found
+    c.give_up.result _ two c.give_up.ensures.frame c.give_up.ensures.fails

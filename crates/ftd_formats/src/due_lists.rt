@@ -1,0 +1,133 @@
+//! Due lists as CSV and as JSON.
+
+ghost use Rattle.std.specs.Prelude.{◌≡◌, true, OnOk, OnErr, map};
+ghost use Rattle.std.specs.List.{sum_by};
+ghost use Rattle.std.specs.Io.KnownBytes.{Appends};
+ghost use Rattle.ftd_ports.specs.Writing.{WritesPrefix};
+ghost use Rattle.ftd_machine.specs.Agenda.{left_of};
+ghost use Rattle.ftd_rules.specs.Verdicts.{amount_of};
+ghost use Rattle.ftd_formats.specs.Dues.{due_csv, due_fields, due_json};
+ghost use Rattle.ftd_formats.specs.Fields.{member_of, members_of, object_told, plain_of};
+ghost use Rattle.ftd_formats.specs.Fields.{plain_texts, record_told};
+
+use crate::fields::{Value, write_list_with, write_object, write_record};
+use crate::rows::{RowFormat, write_table};
+use ftd_ports::{Target, WriteFault};
+use ftd_reports::left_of;
+use ftd_rules::DueRow;
+
+/// The rows of an account's due list as records of CSV.
+#[derive(Drop)]
+struct Records<'a> {
+    account: &'a str,
+}
+
+/// The rows of an account's due list as objects of JSON.
+#[derive(Drop)]
+struct Objects<'a> {
+    account: &'a str,
+}
+
+/// The fields of a row of the account.
+fn fields_of<'a>(account: &'a str, row: &DueRow) -> [(&'a str, Value<'a>); 10]
+    ensures plain { map plain_of result ≡ plain_texts (due_fields account.now row.now) }
+    ensures members { map member_of result ≡ members_of (due_fields account.now row.now) }
+{
+    let obligation = row.obligation;
+    [
+        ("due", Value::Day(obligation.due)),
+        ("account", Value::Text(account)),
+        ("first", Value::Day(obligation.first)),
+        ("last", Value::Day(obligation.last)),
+        ("rule", Value::Rule(obligation.rule)),
+        ("amount", Value::Amount(obligation.cents)),
+        ("paid", Value::Amount(row.paid)),
+        ("left", Value::Amount(left_of(row))),
+        ("makeup", Value::Day(row.makeup)),
+        ("verdict", Value::Verdict(row.verdict)),
+    ]
+}
+
+impl<'a> RowFormat<DueRow> for Records<'a> {
+    ghost row_text = { λ records row. record_told (due_fields records.account.now row) };
+
+    #[tactic(auto, unfolding(crate::specs::Fields::record_told))]
+    fn write_row<W: Target>(&self, row: &DueRow, target: &mut W) -> Result<(), WriteFault> {
+        write_record(&fields_of(self.account, row), target)
+    }
+}
+
+impl<'a> RowFormat<DueRow> for Objects<'a> {
+    ghost row_text = { λ objects row. object_told (due_fields objects.account.now row) };
+
+    #[tactic(auto, unfolding(crate::specs::Fields::object_told))]
+    fn write_row<W: Target>(&self, row: &DueRow, target: &mut W) -> Result<(), WriteFault> {
+        write_object(&fields_of(self.account, row), target)
+    }
+}
+
+/// The amounts of the rows together, in cents.
+fn total_amount(rows: &[DueRow]) -> u128
+    ensures { result ≡ sum_by amount_of rows.now }
+{
+    let mut total = 0;
+    for row in rows {
+        total += u128::from(row.obligation.cents.0);
+    }
+    total
+}
+
+/// What is left to pay of the rows together, in cents.
+fn total_left(rows: &[DueRow]) -> u128
+    ensures { result ≡ sum_by left_of rows.now }
+{
+    let mut total = 0;
+    for row in rows {
+        total += u128::from(left_of(row).0);
+    }
+    total
+}
+
+/// Writes the rows of an account's due list as CSV: a first line with the names of the fields, and
+/// a record for each row. It takes no memory but what the target takes. Where the target fails, a
+/// prefix of the text was written, and it fails nowhere else.
+#[tactic(auto, unfolding(crate::specs::Dues::due_csv))]
+pub fn write_due_csv<W: Target>(
+    account: &str,
+    rows: &[DueRow],
+    target: &mut W,
+) -> Result<(), WriteFault>
+    ensures ok { OnOk result
+        (Appends (W.taken target.old) (W.taken target.new) (due_csv account.now rows.now)) }
+    ensures err { OnErr result
+        (WritesPrefix (W.taken target.old) (W.taken target.new) (due_csv account.now rows.now)) }
+    ensures fault { OnErr result (W.failed target.new ≡ true) }
+{
+    write_table(
+        b"due,account,first,last,rule,amount,paid,left,makeup,verdict\n",
+        &Records { account },
+        rows,
+        target,
+    )
+}
+
+/// Writes an account's due list as JSON: an object with the rows, with the sum of their amounts,
+/// and with the sum of what is left to pay of each. It takes no memory but what the target takes.
+/// Where the target fails, a prefix of the text was written, and it fails nowhere else.
+pub fn write_due_json<W: Target>(
+    account: &str,
+    rows: &[DueRow],
+    target: &mut W,
+) -> Result<(), WriteFault>
+    ensures ok { OnOk result
+        (Appends (W.taken target.old) (W.taken target.new) (due_json account.now rows.now)) }
+    ensures err { OnErr result
+        (WritesPrefix (W.taken target.old) (W.taken target.new) (due_json account.now rows.now)) }
+    ensures fault { OnErr result (W.failed target.new ≡ true) }
+{
+    let sums = [
+        ("amount", Value::Sum(total_amount(rows))),
+        ("left", Value::Sum(total_left(rows))),
+    ];
+    write_list_with(&Objects { account }, rows, &sums, target)
+}

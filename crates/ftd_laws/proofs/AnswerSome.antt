@@ -1,0 +1,146 @@
+-- Each request has an answer, where each account has lines.
+use Rattle.std.proofs.Common.{◌≡◌, inl, inr, refl, ℕ, Bool, true}
+use Rattle.std.proofs.Common.{List, [], Option, None, Some, Ok, Err}
+use Rattle.std.specs.Prelude.{is_some}
+use Rattle.ftd_days.specs.Calendar.{year_of}
+use Rattle.ftd_rules.specs.declared.run.PayRun.{PayRun}
+use Rattle.ftd_rules.specs.declared.run.Voidable.{Voidable}
+use Rattle.ftd_rules.specs.declared.YearLine.{YearLine}
+use Rattle.ftd_machine.specs.declared.entries.Account.{Account}
+use Rattle.ftd_machine.specs.State.{State, entries_of, holidays, kept_at, is_open}
+use Rattle.ftd_machine.specs.History.{form_of, AreLinesOf}
+use Rattle.ftd_machine.specs.Limits.{is_between, is_number}
+use Rattle.ftd_rules.specs.Accounts.{is_account_name}
+use Rattle.ftd_machine.specs.Requests.{status_checks, void_checks, is_voided}
+use Rattle.ftd_machine.specs.Checks.{Answer, first_of, meets, Decides}
+use Rattle.ftd_machine.specs.Posting.{IsPosted}
+use Rattle.ftd_machine.specs.Agenda.{IsDueBetween, IsLeftBy}
+use Rattle.ftd_machine.specs.Questions.{question_checks, Tells}
+use Rattle.ftd_machine.specs.Step.{Step, OpensNext, may_open, with_entry, with_voided, taken}
+use Rattle.ftd_machine.specs.declared.replies.Reply.TheVariants.{Done}
+use Rattle.ftd_machine.specs.declared.replies.Refusal.TheVariants.{BadName, BadDay, BadNumber}
+use Rattle.ftd_machine.specs.declared.replies.Refusal.TheVariants.{UnknownAccount, YearNotOpen}
+use Rattle.ftd_machine.specs.declared.replies.Refusal.TheVariants.{UnknownRun}
+use Rattle.ftd_machine.specs.declared.requests.Question.{Question as Questions}
+use Rattle.ftd_machine.specs.declared.requests.Question.TheVariants.{Status, Explain, DueList}
+use Rattle.ftd_machine.specs.declared.requests.Question.TheVariants.{ScheduleB, Agenda, Owed, Kept}
+use Rattle.ftd_machine.specs.declared.requests.Request.{Request}
+use Rattle.ftd_machine.specs.declared.requests.Request.TheVariants.{Enrol, Calendar, AddHoliday}
+use Rattle.ftd_machine.specs.declared.requests.Request.TheVariants.{Report, ReportYear, OpenYear}
+use Rattle.ftd_machine.specs.declared.requests.Request.TheVariants.{Post, Void, Pay, VoidPay}
+use Rattle.ftd_machine.specs.declared.requests.Request.TheVariants.{Question}
+use Rattle.ftd_machine.specs.Sound.{IsSound}
+use Rattle.ftd_machine.proofs.Members.{some_of}
+use Rattle.ftd_machine.proofs.Heads.{gives_needs, gives_finds, skip_needs, skip_finds, skip_done}
+use Rattle.ftd_machine.proofs.Lined.{lines_of_sound}
+use Rattle.ftd_laws.proofs.PostedSome.{posted_some}
+use Rattle.ftd_machine.proofs.ToldSome.{total_or, status_some, schedule_some}
+use Rattle.ftd_machine.proofs.DueSome.{due_list_some}
+use Rattle.ftd_laws.proofs.KeptSome.{kept_told}
+use Rattle.ftd_laws.proofs.ExplainSome.{explanation_some}
+use Rattle.ftd_laws.proofs.AgendaSome.{agenda_some, between_or, left_or}
+use Rattle.ftd_machine.proofs.Single.{IsOnce}
+use Rattle.ftd_machine.proofs.Soundness.{sound_once}
+
+module _ (s : State) where
+  -- the checks decide, or there is an answer where they pass
+  decides : (check : Option Answer) (Else : Answer → State → Type 0)
+      → (check ≡ None → (a : Answer) × (n : State) × Else a n)
+      → (a : Answer) × (n : State) × Decides check s a n (Else a n)
+  decides (Some given) Else f = (given, s, (refl, refl))
+  decides None Else f = f refl
+
+  done : (check : Option Answer) (after : State)
+      → (a : Answer) × (n : State) × Decides check s a n ((a ≡ Ok Done) × (n ≡ after))
+  done check after = decides check (λ a n. (a ≡ Ok Done) × (n ≡ after))
+      (λ e. (Ok Done, after, (refl, refl)))
+
+open_of_status : (name : List ℕ) (day : ℕ) (account : Option Account) (there : Bool)
+    → first_of (status_checks name day account there) ≡ None → there ≡ true
+open_of_status name day account there e =
+    (skip_needs (is_account_name name) BadName _ _
+    (skip_needs (is_between 2001 2098 (year_of day)) BadDay _ _
+    (skip_finds account UnknownAccount _ _
+    (gives_needs there (YearNotOpen (year_of day)) [])))).fact e
+
+known_of_void : (name : List ℕ) (number : ℕ) (account : Option Account)
+    (known : Option (Voidable PayRun))
+    → first_of (void_checks name number account known) ≡ None → is_some known ≡ true
+known_of_void name number account known e =
+    (skip_needs (is_account_name name) BadName _ _
+    (skip_needs (is_number number) BadNumber _ _
+    (skip_finds account UnknownAccount _ _
+    (skip_done (meets is_voided known) _ _
+    (gives_finds known UnknownRun []))))).fact e
+
+-- where each account has lines and the checks pass, something is told
+tells_some : (s : State) (question : Questions)
+    → ((name : List ℕ) → IsOnce (entries_of s name))
+    → ((name : List ℕ) → (lines : List YearLine) × AreLinesOf (entries_of s name) lines)
+    → first_of (question_checks s question) ≡ None
+    → (answer : Answer) × Tells s question answer
+tells_some s (Status name day) once lines e =
+    let own = entries_of s name in
+    status_some own (lines name).0 day (lines name).1
+    (open_of_status name day own.account (is_open own (year_of day)) e)
+tells_some s (Explain name day) once lines e =
+    explanation_some (holidays s) (entries_of s name) (lines name).0 (lines name).1 day
+tells_some s (DueList name quarter as_of) once lines e =
+    due_list_some (holidays s) (entries_of s name) (lines name).0 quarter as_of (lines name).1
+tells_some s (ScheduleB name quarter) once lines e = schedule_some (entries_of s name) quarter
+tells_some s (Agenda from to as_of) once lines e =
+    agenda_some s as_of once lines (IsDueBetween from to) (between_or from to)
+tells_some s (Owed until as_of) once lines e =
+    agenda_some s as_of once lines (IsLeftBy until) (left_or until)
+tells_some s (Kept kept) once lines e = kept_told s kept lines e
+
+-- where each account has lines, each request has an answer and a next state
+lines_answer : (s : State) (request : Request)
+    → ((name : List ℕ) → IsOnce (entries_of s name))
+    → ((name : List ℕ) → (lines : List YearLine) × AreLinesOf (entries_of s name) lines)
+    → (answer : Answer) × (next : State) × Step s request answer next
+lines_answer s (Enrol name start carried form) once lines = done s _ _
+lines_answer s (Calendar year days) once lines = done s _ _
+lines_answer s (AddHoliday day) once lines = done s _ _
+lines_answer s (Report name quarter cents) once lines = done s _ _
+lines_answer s (ReportYear name year cents) once lines = done s _ _
+lines_answer s (OpenYear name year) once lines =
+    let own = entries_of s name in
+    decides s _ (λ a n. OpensNext s a n name year)
+    (λ e. elim (total_or (form_of own.account) own year) [
+      | inl gap ↦ (Err gap.0, s, inl (gap.0, gap.1, (refl, refl)))
+      | inr total ↦ (let d = done s (first_of (may_open own year))
+          (record s { open_years = with_entry s.open_years name year tt }) in
+          (d.0, d.1, inr (total.0, total.1, d.2)))
+    ])
+lines_answer s (Post name number payday fit ss medicare) once lines =
+    let own = entries_of s name in
+    let run : PayRun = record { payday = payday; fit = fit; ss = ss; medicare = medicare } in
+    let after = record s { runs = with_entry s.runs name number (taken run) } in
+    decides s _ (λ a n. (n ≡ after) × IsPosted (holidays s) own (entries_of n name) payday a) (λ e.
+    (let p = posted_some (holidays s) own (entries_of after name) payday (lines name).0
+    (record { account = refl; reported = refl; reported_years = refl; open_years = refl })
+    (lines name).1 in
+    (p.0, after, (refl, p.1))))
+lines_answer s (Void name number) once lines =
+    let own = entries_of s name in
+    let known = kept_at number own.runs in
+    let after = record s { runs = with_voided s.runs name number } in
+    decides s _ (λ a n. (run : Voidable PayRun) × (known ≡ Some run) × (n ≡ after)
+    × IsPosted (holidays s) own (entries_of n name) run.value.payday a) (λ e.
+    (let run = some_of known (known_of_void name number own.account known e) in
+    let p = posted_some (holidays s) own (entries_of after name) run.0.value.payday (lines name).0
+    (record { account = refl; reported = refl; reported_years = refl; open_years = refl })
+    (lines name).1 in
+    (p.0, after, (run.0, run.1, refl, p.1))))
+lines_answer s (Pay name number paid for_day cents) once lines = done s _ _
+lines_answer s (VoidPay name number) once lines = done s _ _
+lines_answer s (Question question) once lines =
+    decides s _ (λ a n. (n ≡ s) × Tells s question a) (λ e.
+    (let p = tells_some s question once lines e in (p.0, s, (refl, p.1))))
+
+-- in each sound state, each request has an answer and a next state
+pub each_request_is_answered : (s : State) (request : Request) → IsSound s
+    → (answer : Answer) × (next : State) × Step s request answer next
+each_request_is_answered s request sound =
+    lines_answer s request (sound_once s sound) (λ name. lines_of_sound s name sound)

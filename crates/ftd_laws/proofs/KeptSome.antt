@@ -1,0 +1,379 @@
+-- What is kept can be listed.
+use Rattle.std.proofs.Common.{◌≡◌, ◌∙◌, ◌⊎◌, inl, inr, refl, sym, ap, subst, ℕ, true}
+use Rattle.std.proofs.Common.{List, [], ◌∷◌, Option, None, Some, arith}
+use Rattle.std.specs.Prelude.{◌↔◌}
+use Rattle.std.proofs.lemmas.Bool.Decides.{eqb_tells}
+use Rattle.ftd_days.specs.Calendar.{year_of, quarter_of}
+use Rattle.ftd_days.specs.declared.cents.Cents.{Cents}
+use Rattle.ftd_rules.specs.declared.Form.{Form}
+use Rattle.ftd_rules.specs.declared.Form.TheVariants.{F941, F943}
+use Rattle.ftd_rules.specs.declared.Obligation.{Obligation}
+use Rattle.ftd_rules.specs.declared.YearLine.{YearLine}
+use Rattle.ftd_rules.specs.declared.payment.Payment.{Payment}
+use Rattle.ftd_rules.specs.declared.run.PayRun.{PayRun}
+use Rattle.ftd_rules.specs.declared.run.Voidable.{Voidable}
+use Rattle.ftd_rules.specs.Lists.{Has}
+use Rattle.ftd_rules.proofs.Cuts.{lt_or_le}
+use Rattle.ftd_rules.specs.Laws.{Covers}
+use Rattle.ftd_machine.specs.State.{State, Enrolled, Entries, entries_of, holidays, calendar_at}
+use Rattle.ftd_machine.specs.State.{is_given, kept_at, account_of, is_named}
+use Rattle.ftd_machine.specs.History.{form_of, AreLinesOf}
+use Rattle.ftd_machine.specs.Checks.{Answer, first_of}
+use Rattle.ftd_machine.specs.Agenda.{EachToLater}
+use Rattle.ftd_machine.specs.Limits.{is_between}
+use Rattle.ftd_machine.specs.Kept.{told_rows, IsEnrolled, IsAccountBefore, AreAccounts}
+use Rattle.ftd_machine.specs.Kept.{IsTotal, period_of, IsTotalBefore, AreTotals, IsAdded}
+use Rattle.ftd_machine.specs.Kept.{IsDayBefore, AreHolidays, IsRunIn, IsRunBefore, AreRuns}
+use Rattle.ftd_machine.specs.Kept.{IsHeldBy, IsPaymentIn, IsPaymentBefore, ArePayments}
+use Rattle.ftd_machine.specs.Kept.{kept_checks, TellsKept}
+use Rattle.ftd_machine.specs.declared.kept.KeptAccount.{KeptAccount}
+use Rattle.ftd_machine.specs.declared.kept.KeptPayment.{KeptPayment}
+use Rattle.ftd_machine.specs.declared.kept.KeptRun.{KeptRun}
+use Rattle.ftd_machine.specs.declared.kept.KeptTotal.{KeptTotal}
+use Rattle.ftd_machine.specs.declared.kept.KeptTotal.TheVariants.{OfQuarter, OfYear}
+use Rattle.ftd_machine.specs.declared.kept.KeptRows.TheVariants as rows
+use Rattle.ftd_machine.specs.declared.replies.Refusal.TheVariants.{BadYear, CalendarMissing}
+use Rattle.ftd_machine.specs.declared.requests.Kept.{Kept}
+use Rattle.ftd_machine.specs.declared.requests.Kept.TheVariants.{Accounts, Years, Reported}
+use Rattle.ftd_machine.specs.declared.requests.Kept.TheVariants.{Holidays, Runs, Payments}
+use Rattle.ftd_machine.proofs.Adding.{same_name}
+use Rattle.ftd_machine.proofs.Heads.{gives_needs, skip_needs}
+use Rattle.ftd_machine.proofs.Members.{found_some, some_of}
+use Rattle.ftd_machine.proofs.Lined.{owed_some}
+use Rattle.ftd_machine.proofs.DueSome.{Or, both_or, le_or}
+use Rattle.ftd_laws.proofs.Choosing.{chosen, made_some, kept_some}
+use Rattle.ftd_machine.proofs.Ordered.{ordered_some}
+use Rattle.ftd_machine.proofs.AgendaOrder.{inside, names_total, three}
+use Rattle.ftd_machine.proofs.AgendaOrder.{names_then}
+use Rattle.ftd_machine.proofs.KeptOne.{held_one, payday_of, run_number, day_paid_for}
+use Rattle.ftd_machine.proofs.KeptOne.{payment_number, two_then, two_total, account_one, run_one}
+use Rattle.ftd_machine.proofs.KeptOne.{payment_one}
+
+same_or : (a b : ℕ) → Or (a ≡ b)
+same_or a b = elim (eqb_tells a b) [ inl here ↦ inl here.1 | inr apart ↦ inr apart.1 ]
+
+-- all that meet a condition, in order, where they are among these
+module _ {X : Type 0} (R : X → X → Type 0) (P : X → Type 0)
+    (then : (x y z : X) → R x y → R y z → R x z)
+    (total : (x y : X) → P x → P y → R x y ⊎ ((x ≡ y) ⊎ R y x)) where
+  pub all_in_order : (xs : List X) → ((x : X) → Has xs x ↔ P x)
+      → (ys : List X) × EachToLater R ys × ((x : X) → Has ys x ↔ P x)
+  all_in_order xs are =
+      let some = ordered_some R P then total xs (λ x has. (are x).0 has) in (
+        some.0,
+        some.1,
+        λ x. (
+          (λ has. (are x).0 ((some.2 x).0 has)),
+          (λ p. (some.2 x).1 ((are x).1 p)),
+        ),
+      )
+
+-- ---- accounts
+
+accounts_total : (s : State) (x y : KeptAccount) → IsEnrolled s x → IsEnrolled s y
+    → IsAccountBefore x y ⊎ ((x ≡ y) ⊎ IsAccountBefore y x)
+accounts_total s x y g h = elim (names_total x.name y.name) [
+  | inl less ↦ inl less
+  | inr not ↦ elim not [
+    | inl same ↦ inr (inl (account_one s x y same g h))
+    | inr more ↦ inr (inr more)
+  ]
+]
+
+accounts_some : (s : State) → (answer : Answer) × AreAccounts s answer
+accounts_some s =
+    let made = made_some (λ (e : Enrolled). (entries_of s e.name).account)
+    (λ (e : Enrolled) account. record { name = e.name; account = account }) s.accounts in
+    let are : (x : KeptAccount) → Has made.0 x ↔ IsEnrolled s x = λ x. (
+      (λ has.
+          (let h = (made.1 x).0 has in
+          subst (IsEnrolled s) (sym h.2.2) h.2.1)),
+      (λ is.
+          (let found = found_some account_of (is_named x.name) s.accounts x.account is in
+          let named : x.name ≡ found.0.name = sym (same_name found.0.name x.name found.2) in
+          (made.1 x).1 (
+            found.0,
+            found.1,
+            (
+              x.account,
+              subst (λ n. (entries_of s n).account ≡ Some x.account) named is,
+              ap (λ n. record { name = n; account = x.account }) named,
+            ),
+          ))),
+    ) in
+    let listed = all_in_order IsAccountBefore (IsEnrolled s)
+    (λ x y z. names_then x.name y.name z.name) (accounts_total s) made.0 are in (
+      told_rows (rows.Accounts listed.0),
+      record { listed = listed.0; by_name = listed.1; all = listed.2; told = refl },
+    )
+
+-- ---- reported totals
+
+total_one : (form : Form) (own : Entries) (x y : KeptTotal) → period_of x ≡ period_of y
+    → IsTotal form own x → IsTotal form own y → x ≡ y
+total_one F941 own (OfQuarter a c) (OfQuarter b d) same g h =
+    let cents : c ≡ d = inside c d
+    (sym g ∙ subst (λ k. kept_at k own.reported ≡ Some d) (sym same) h) in
+    rw (same, cents) refl
+total_one F941 own (OfQuarter a c) (OfYear b d) same g h = absurd h
+total_one F941 own (OfYear a c) y same g h = absurd g
+total_one F943 own (OfYear a c) (OfYear b d) same g h =
+    let cents : c ≡ d = inside c d
+    (sym g ∙ subst (λ k. kept_at k own.reported_years ≡ Some d) (sym same) h) in
+    rw (same, cents) refl
+total_one F943 own (OfYear a c) (OfQuarter b d) same g h = absurd h
+total_one F943 own (OfQuarter a c) y same g h = absurd g
+
+totals_are : (form : Form) (own : Entries)
+    → (xs : List KeptTotal) × ((x : KeptTotal) → Has xs x ↔ IsTotal form own x)
+totals_are F941 own =
+    let made = kept_some OfQuarter own.reported in (
+      made.0,
+      λ x. (
+        (λ has. (let h = (made.1 x).0 has in subst (IsTotal F941 own) (sym h.3) h.2)),
+        (λ is. (made.1 x).1 (back x is)),
+      ),
+    )
+  where
+    back : (x : KeptTotal) → IsTotal F941 own x → (k : ℕ) × (c : Cents)
+        × (kept_at k own.reported ≡ Some c) × (x ≡ OfQuarter k c)
+    back (OfQuarter quarter cents) is = (quarter, cents, is, refl)
+    back (OfYear year cents) is = absurd is
+totals_are F943 own =
+    let made = kept_some OfYear own.reported_years in (
+      made.0,
+      λ x. (
+        (λ has. (let h = (made.1 x).0 has in subst (IsTotal F943 own) (sym h.3) h.2)),
+        (λ is. (made.1 x).1 (back x is)),
+      ),
+    )
+  where
+    back : (x : KeptTotal) → IsTotal F943 own x → (k : ℕ) × (c : Cents)
+        × (kept_at k own.reported_years ≡ Some c) × (x ≡ OfYear k c)
+    back (OfYear year cents) is = (year, cents, is, refl)
+    back (OfQuarter quarter cents) is = absurd is
+
+totals_some : (own : Entries) → (answer : Answer) × AreTotals own answer
+totals_some own =
+    let form = form_of own.account in
+    let made = totals_are form own in
+    let listed = all_in_order IsTotalBefore (IsTotal form own) (λ x y z g h. omega arith)
+    (λ x y g h. elim (three (period_of x) (period_of y)) [
+      | inl less ↦ inl less
+      | inr not ↦ elim not [
+        | inl same ↦ inr (inl (total_one form own x y same g h))
+        | inr more ↦ inr (inr more)
+      ]
+    ]) made.0 made.1 in (
+      told_rows (rows.Reported listed.0),
+      record { listed = listed.0; by_period = listed.1; all = listed.2; told = refl },
+    )
+
+-- ---- holidays
+
+holidays_some : (s : State) (year : ℕ) → is_given s year ≡ true
+    → (answer : Answer) × AreHolidays s year answer
+holidays_some s year there =
+    let given = some_of (calendar_at s year) there in
+    let added = chosen (λ day. year_of day ≡ year) (λ day. same_or (year_of day) year)
+    s.added_days in
+    let listed = all_in_order IsDayBefore (IsAdded s year) (λ x y z g h. omega arith)
+    (λ x y g h. elim (three x y) [
+      | inl less ↦ inl less
+      | inr not ↦ inr not
+    ]) added.0 added.1 in (
+      told_rows (rows.Holidays given.0 listed.0),
+      record {
+        given = given.0;
+        is_given = given.1;
+        added = listed.0;
+        rising = listed.1;
+        all = listed.2;
+        told = refl;
+      },
+    )
+
+-- ---- runs
+
+runs_some : (own : Entries) (quarter : ℕ) → (answer : Answer) × AreRuns own quarter answer
+runs_some own quarter =
+    let made = kept_some
+    (λ number (v : Voidable PayRun). record { number = number; run = v.value; voided = v.voided })
+    own.runs in
+    let in_quarter = chosen (λ (x : KeptRun). quarter_of x.run.payday ≡ quarter)
+    (λ x. same_or (quarter_of x.run.payday) quarter) made.0 in
+    let are : (x : KeptRun) → Has in_quarter.0 x ↔ IsRunIn own quarter x = λ x. (
+      (λ has.
+          (let h = (in_quarter.1 x).0 has in
+          let k = (made.1 x).0 h.0 in (
+            subst (λ (r : KeptRun). kept_at r.number own.runs
+                ≡ Some (record { value = r.run; voided = r.voided })) (sym k.3) k.2,
+            h.1,
+          ))),
+      (λ is. (in_quarter.1 x).1 (
+        (made.1 x).1 (x.number, record { value = x.run; voided = x.voided }, is.0, refl),
+        is.1,
+      )),
+    ) in
+    let listed = all_in_order IsRunBefore (IsRunIn own quarter) (two_then payday_of run_number)
+    (λ x y g h. two_total payday_of run_number x y (run_one own quarter x y g h))
+    in_quarter.0 are in (
+      told_rows (rows.Runs listed.0),
+      record { listed = listed.0; in_order = listed.1; all = listed.2; told = refl },
+    )
+
+-- ---- payments
+
+holds_or : (o : Obligation) (day : ℕ) → Or (Covers o day)
+holds_or o day = both_or (le_or o.first day) (le_or day o.last)
+
+held_more : (o : Obligation) (os : List Obligation) (day : ℕ) → Or (Covers o day)
+    → (found : Option ℕ) → IsHeldBy os day found
+    → (found : Option ℕ) × IsHeldBy (o ∷ os) day found
+held_more o os day (inr not) None none = (
+  None,
+  λ p has holds. elim has [
+    | inl is ↦ not (subst (λ (q : Obligation). Covers q day) is holds)
+    | inr more ↦ none p more holds
+  ],
+)
+held_more o os day (inr not) (Some first) held = (
+  Some first,
+  (
+    held.0,
+    inr held.1,
+    held.2,
+    held.3,
+    λ p has holds. elim has [
+      | inl is ↦ absurd (not (subst (λ (q : Obligation). Covers q day) is holds))
+      | inr more ↦ held.4 p more holds
+    ],
+  ),
+)
+held_more o os day (inl holds) None none = (
+  Some o.first,
+  (
+    o,
+    inl refl,
+    holds,
+    refl,
+    λ p has also. elim has [
+      | inl is ↦ (let same : p.first ≡ o.first = ap (λ (q : Obligation). q.first) is in omega arith)
+      | inr more ↦ absurd (none p more also)
+    ],
+  ),
+)
+held_more o os day (inl holds) (Some first) held = elim (lt_or_le o.first first) [
+  | inl less ↦ (
+    Some o.first,
+    (
+      o,
+      inl refl,
+      holds,
+      refl,
+      λ p has also. elim has [
+        | inl is ↦
+            (let same : p.first ≡ o.first = ap (λ (q : Obligation). q.first) is in omega arith)
+        | inr more ↦ (let least = held.4 p more also in omega arith)
+      ],
+    ),
+  )
+  | inr not ↦ (
+    Some first,
+    (
+      held.0,
+      inr held.1,
+      held.2,
+      held.3,
+      λ p has also. elim has [
+        | inl is ↦
+            (let same : p.first ≡ o.first = ap (λ (q : Obligation). q.first) is in omega arith)
+        | inr more ↦ held.4 p more also
+      ],
+    ),
+  )
+]
+
+held_some : (owed : List Obligation) (day : ℕ) → (found : Option ℕ) × IsHeldBy owed day found
+held_some [] day = (None, λ o has holds. has)
+held_some (o ∷ os) day =
+    let rest = held_some os day in held_more o os day (holds_or o day) rest.0 rest.1
+
+payments_some : (hs : List ℕ) (own : Entries) (lines : List YearLine) (quarter : ℕ)
+    → AreLinesOf own lines → (answer : Answer) × ArePayments hs own quarter answer
+payments_some hs own lines quarter are_lines =
+    let owed = owed_some hs own lines are_lines in
+    let made = kept_some
+    (λ number (v : Voidable Payment). record {
+      number = number;
+      payment = v.value;
+      voided = v.voided;
+      obligation = (held_some owed.0 v.value.for_day).0;
+    }) own.payments in
+    let in_quarter = chosen (λ (x : KeptPayment). quarter_of x.payment.for_day ≡ quarter)
+    (λ x. same_or (quarter_of x.payment.for_day) quarter) made.0 in
+    let are : (x : KeptPayment) → Has in_quarter.0 x ↔ IsPaymentIn owed.0 own quarter x = λ x. (
+      (λ has.
+          (let h = (in_quarter.1 x).0 has in
+          let k = (made.1 x).0 h.0 in (
+            subst (λ (r : KeptPayment). kept_at r.number own.payments
+                ≡ Some (record { value = r.payment; voided = r.voided })) (sym k.3) k.2,
+            h.1,
+            subst (λ (r : KeptPayment). IsHeldBy owed.0 r.payment.for_day r.obligation) (sym k.3)
+                (held_some owed.0 k.1.value.for_day).1,
+          ))),
+      (λ is.
+          (let held : x.obligation ≡ (held_some owed.0 x.payment.for_day).0 =
+          held_one owed.0 x.payment.for_day x.obligation (held_some owed.0 x.payment.for_day).0 is.2
+          (held_some owed.0 x.payment.for_day).1 in
+          (in_quarter.1 x).1 (
+            (made.1 x).1 (
+              x.number,
+              record { value = x.payment; voided = x.voided },
+              is.0,
+              ap (λ o. record {
+                number = x.number;
+                payment = x.payment;
+                voided = x.voided;
+                obligation = o;
+              }) held,
+            ),
+            is.1,
+          ))),
+    ) in
+    let listed = all_in_order IsPaymentBefore (IsPaymentIn owed.0 own quarter)
+    (two_then day_paid_for payment_number)
+    (λ x y g h. two_total day_paid_for payment_number x y
+    (payment_one owed.0 own quarter x y g h)) in_quarter.0 are in (
+      told_rows (rows.Payments listed.0),
+      record {
+        owed = owed.0;
+        are_owed = owed.1;
+        listed = listed.0;
+        in_order = listed.1;
+        all = listed.2;
+        told = refl;
+      },
+    )
+
+-- ---- the question
+
+given_of_holidays : (s : State) (year : ℕ) → first_of (kept_checks s (Holidays year)) ≡ None
+    → is_given s year ≡ true
+given_of_holidays s year e =
+    (skip_needs (is_between 2001 2099 year) BadYear _ _
+    (gives_needs (is_given s year) (CalendarMissing year) [])).fact e
+
+pub kept_told : (s : State) (kept : Kept)
+    → ((name : List ℕ) → (lines : List YearLine) × AreLinesOf (entries_of s name) lines)
+    → first_of (kept_checks s kept) ≡ None → (answer : Answer) × TellsKept s kept answer
+kept_told s Accounts lines e = accounts_some s
+kept_told s (Years name) lines e = (
+  told_rows (rows.Years (lines name).0),
+  record { lines = (lines name).0; are_lines = (lines name).1; told = refl },
+)
+kept_told s (Reported name) lines e = totals_some (entries_of s name)
+kept_told s (Holidays year) lines e = holidays_some s year (given_of_holidays s year e)
+kept_told s (Runs name quarter) lines e = runs_some (entries_of s name) quarter
+kept_told s (Payments name quarter) lines e =
+    payments_some (holidays s) (entries_of s name) (lines name).0 quarter (lines name).1

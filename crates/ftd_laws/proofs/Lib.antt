@@ -1,0 +1,14 @@
+pub mod Own
+pub mod Answered
+pub mod Alike
+pub mod PostedSome
+pub mod Choosing
+pub mod KeptSome
+mod ExplainOne
+mod ExplainSome
+pub mod OneTold
+pub mod AgendaSome
+pub mod Agendas
+pub mod AnswerSome
+pub mod Examples
+pub mod Deposit

@@ -1,0 +1,18 @@
+use Rattle.std.proofs.Common.{refl}
+use Rattle.ftd_ports.proofs.WritingFacts.{begins, goes_on, prefix_more, last_piece}
+use Rattle.ftd_ports.proofs.WritingFacts.{last_broken, on_err}
+use Rattle.ftd_listings.proofs.records.write_holidays.Goals as goal
+
+pub returns-in_err-write_table-clause-err : goal.returns-in_err-write_table-clause-err
+returns-in_err-write_table-clause-err g c =
+    on_err c.from_residual.result (prefix_more _ _ _ _ _ refl c.in_err-write_table.ensures.err)
+
+pub returns-clause-ok : goal.returns-clause-ok
+returns-clause-ok g c =
+    let so_1 = goes_on _ _ _ _ _ _ _ (begins _ _) refl c.in_ok-write_table.ensures.ok in
+    last_piece c.write_rows.result _ _ _ _ _ so_1 c.write_rows.ensures.ok
+
+pub returns-clause-err : goal.returns-clause-err
+returns-clause-err g c =
+    let so_1 = goes_on _ _ _ _ _ _ _ (begins _ _) refl c.in_ok-write_table.ensures.ok in
+    last_broken c.write_rows.result _ _ _ _ _ so_1 c.write_rows.ensures.err

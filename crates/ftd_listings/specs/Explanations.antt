@@ -1,0 +1,97 @@
+-- The deposit schedule of a day, and why an obligation is so, told in lines.
+use Rattle.std.specs.Prelude.{ℕ, List, [], ◌∷◌, ◌++◌, codes, Option, None, Some}
+use Rattle.std.specs.List.{concat, flat_map, join_with_byte}
+use Rattle.ftd_days.specs.Text.{day_text}
+use Rattle.ftd_rules.specs.declared.Kind.{Kind}
+use Rattle.ftd_rules.specs.declared.Kind.TheVariants.{Monthly, Semiweekly}
+use Rattle.ftd_rules.specs.declared.Obligation.{Obligation}
+use Rattle.ftd_rules.specs.Text.{rule_text}
+use Rattle.ftd_machine.specs.declared.explained.CountedDay.{CountedDay}
+use Rattle.ftd_machine.specs.declared.explained.DayKind.{DayKind}
+use Rattle.ftd_machine.specs.declared.explained.DayKind.TheVariants.{Business, Saturday, Sunday}
+use Rattle.ftd_machine.specs.declared.explained.DayKind.TheVariants.{Holiday}
+use Rattle.ftd_machine.specs.declared.explained.Explanation.{Explanation}
+use Rattle.ftd_machine.specs.declared.explained.RunningSum.{RunningSum}
+use Rattle.ftd_machine.specs.declared.replies.Reason.{Reason}
+use Rattle.ftd_machine.specs.declared.replies.Reason.TheVariants.{Lookback, Turned, Carried}
+use Rattle.ftd_reports.specs.Columns.{space, line_end, left_in, amount_in}
+use Rattle.ftd_listings.specs.Listings.{payment_line}
+
+-- ---- the deposit schedule of a day
+
+abbrev pub kind_text : Kind → List ℕ
+kind_text Monthly = codes " monthly"
+kind_text Semiweekly = codes " semiweekly"
+
+-- `2024-05-11 semiweekly turned 2024-05-10`
+unfoldable pub status_text : ℕ → Kind → Reason → List ℕ
+status_text day kind Lookback =
+    concat (day_text day ∷ kind_text kind ∷ codes " lookback" ∷ (10 ∷ []) ∷ [])
+status_text day kind (Turned turn) =
+    concat (day_text day ∷ kind_text kind ∷ codes " turned " ∷ day_text turn ∷ (10 ∷ []) ∷ [])
+status_text day kind Carried =
+    concat (day_text day ∷ kind_text kind ∷ codes " carried" ∷ (10 ∷ []) ∷ [])
+
+-- ---- the lines of an obligation
+
+-- its first and last day, rule, amount and due date
+unfoldable pub obligation_line : Obligation → List ℕ
+obligation_line o =
+    join_with_byte space (day_text o.first ∷ day_text o.last ∷ left_in 10 (rule_text o.rule)
+    ∷ amount_in o.cents.0 ∷ day_text o.due ∷ [])
+    ++ (line_end ∷ [])
+
+-- a payday, its liability, and that of the days up to it
+unfoldable pub payday_line : RunningSum → List ℕ
+payday_line x =
+    join_with_byte space (day_text x.day ∷ amount_in x.cents.0 ∷ amount_in x.total.0 ∷ [])
+    ++ (line_end ∷ [])
+
+-- a day that is counted to its due date, and what it is
+abbrev pub day_kind_text : DayKind → List ℕ
+day_kind_text Business = codes " business\n"
+day_kind_text Saturday = codes " Saturday\n"
+day_kind_text Sunday = codes " Sunday\n"
+day_kind_text Holiday = codes " holiday\n"
+
+abbrev pub counted_line : CountedDay → List ℕ
+counted_line x = day_text x.day ++ day_kind_text x.kind
+
+-- when the return is due
+abbrev pub return_line : ℕ → List ℕ
+return_line day = concat (codes "RETURN " ∷ day_text day ∷ (line_end ∷ []) ∷ [])
+
+-- ---- the text
+
+-- the obligation, and the schedule of its first day; its paydays and the days that are counted; the
+-- return and its payments
+unfoldable pub why_text : Explanation → List ℕ
+why_text e = obligation_line e.obligation ++ status_text e.obligation.first e.kind e.reason
+
+unfoldable pub days_text : Explanation → List ℕ
+days_text e =
+    (codes "PAYDAYS\n" ++ flat_map payday_line e.paydays)
+    ++ (codes "DAYS\n" ++ flat_map counted_line e.days)
+
+unfoldable pub paid_text : Explanation → List ℕ
+paid_text e =
+    return_line e.return_due ++ (codes "PAYMENTS\n" ++ flat_map payment_line e.payments)
+
+unfoldable pub rest_text : Explanation → List ℕ
+rest_text e = days_text e ++ paid_text e
+
+unfoldable pub explanation_text : Explanation → List ℕ
+explanation_text e = why_text e ++ rest_text e
+
+-- the first line, which tells what was asked for
+abbrev pub explanation_head : List ℕ → ℕ → List ℕ
+explanation_head account day =
+    concat (codes "OBLIGATION " ∷ account ∷ codes " " ∷ day_text day ∷ (line_end ∷ []) ∷ [])
+
+-- what explains the obligation, if there is one
+abbrev pub explained_text : Option Explanation → List ℕ
+explained_text None = codes "none\n"
+explained_text (Some e) = explanation_text e
+
+unfoldable pub explanation_told : List ℕ → ℕ → Option Explanation → List ℕ
+explanation_told account day explained = explanation_head account day ++ explained_text explained

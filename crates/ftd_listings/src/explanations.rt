@@ -1,0 +1,259 @@
+//! The deposit schedule of a day, and why an obligation is so, told in lines.
+
+ghost use Rattle.std.specs.Prelude.{◌≡◌, true, OnOk, OnErr};
+ghost use Rattle.std.specs.Io.KnownBytes.{Appends};
+ghost use Rattle.ftd_ports.specs.Writing.{WritesPrefix};
+ghost use Rattle.ftd_listings.specs.Explanations.{counted_line, day_kind_text, days_text};
+ghost use Rattle.ftd_listings.specs.Explanations.{explained_text, explanation_head};
+ghost use Rattle.ftd_listings.specs.Explanations.{explanation_text, explanation_told, kind_text};
+ghost use Rattle.ftd_listings.specs.Explanations.{obligation_line, paid_text, payday_line};
+ghost use Rattle.ftd_listings.specs.Explanations.{rest_text, return_line, status_text, why_text};
+
+use crate::lines::Columns;
+use ftd_days::Day;
+use ftd_formats::{RowFormat, write_table};
+use ftd_machine::{CountedDay, DayKind, Explanation, Reason, RunningSum};
+use ftd_ports::{Target, WriteFault, write_all, write_pieces};
+use ftd_reports::{amount_column, day_bytes, rule_column};
+use ftd_rules::{Kind, Obligation};
+use itoa::Buffer;
+
+/// The deposit schedule, after a space.
+fn kind_bytes(kind: Kind) -> &'static [u8]
+    ensures { result.now ≡ kind_text kind }
+{
+    match kind {
+        Kind::Monthly => b" monthly",
+        Kind::Semiweekly => b" semiweekly",
+    }
+}
+
+/// Writes the deposit schedule of a day. Where the target fails, a prefix of the line was written,
+/// and it fails nowhere else.
+pub fn write_schedule<W: Target>(
+    day: Day,
+    kind: Kind,
+    reason: Reason,
+    target: &mut W,
+) -> Result<(), WriteFault>
+    ensures ok { OnOk result
+        (Appends (W.taken target.old) (W.taken target.new) (status_text day kind reason)) }
+    ensures err { OnErr result
+        (WritesPrefix (W.taken target.old) (W.taken target.new) (status_text day kind reason)) }
+    ensures fault { OnErr result (W.failed target.new ≡ true) }
+{
+    let day = day_bytes(day);
+    let kind = kind_bytes(kind);
+    match reason {
+        Reason::Lookback => write_pieces(target, &[&day, kind, b" lookback", b"\n"]),
+        Reason::Turned(turn) => {
+            let turn = day_bytes(turn);
+            write_pieces(target, &[&day, kind, b" turned ", &turn, b"\n"])
+        }
+        Reason::Carried => write_pieces(target, &[&day, kind, b" carried", b"\n"]),
+    }
+}
+
+/// Writes the line of an obligation.
+fn write_obligation<W: Target>(o: &Obligation, target: &mut W) -> Result<(), WriteFault>
+    ensures ok { OnOk result
+        (Appends (W.taken target.old) (W.taken target.new) (obligation_line o.now)) }
+    ensures err { OnErr result
+        (WritesPrefix (W.taken target.old) (W.taken target.new) (obligation_line o.now)) }
+    ensures fault { OnErr result (W.failed target.new ≡ true) }
+{
+    let mut dollars = Buffer::new();
+    let amount = amount_column(o.cents, &mut dollars);
+    let pieces: [&[u8]; 12] = [
+        &day_bytes(o.first),
+        b" ",
+        &day_bytes(o.last),
+        b" ",
+        rule_column(o.rule),
+        b" ",
+        amount.spaces,
+        amount.dollars,
+        &amount.cents,
+        b" ",
+        &day_bytes(o.due),
+        b"\n",
+    ];
+    write_pieces(target, &pieces)
+}
+
+// Payday, liability, and that of the days up to it.
+impl RowFormat<RunningSum> for Columns {
+    ghost row_text = { λ columns row. payday_line row };
+
+    fn write_row<W: Target>(&self, row: &RunningSum, target: &mut W) -> Result<(), WriteFault> {
+        let (mut dollars, mut total_dollars) = (Buffer::new(), Buffer::new());
+        let amount = amount_column(row.cents, &mut dollars);
+        let total = amount_column(row.total, &mut total_dollars);
+        let pieces: [&[u8]; 10] = [
+            &day_bytes(row.day),
+            b" ",
+            amount.spaces,
+            amount.dollars,
+            &amount.cents,
+            b" ",
+            total.spaces,
+            total.dollars,
+            &total.cents,
+            b"\n",
+        ];
+        write_pieces(target, &pieces)
+    }
+}
+
+/// What a day is, and the end of its line.
+fn day_kind_text(kind: DayKind) -> &'static [u8]
+    ensures { result.now ≡ day_kind_text kind }
+{
+    match kind {
+        DayKind::Business => b" business\n",
+        DayKind::Saturday => b" Saturday\n",
+        DayKind::Sunday => b" Sunday\n",
+        DayKind::Holiday => b" holiday\n",
+    }
+}
+
+// Day, and what it is.
+impl RowFormat<CountedDay> for Columns {
+    ghost row_text = { λ columns row. counted_line row };
+
+    fn write_row<W: Target>(&self, row: &CountedDay, target: &mut W) -> Result<(), WriteFault> {
+        let day = day_bytes(row.day);
+        write_pieces(target, &[&day, day_kind_text(row.kind)])
+    }
+}
+
+/// Writes when the return is due.
+fn write_return<W: Target>(day: Day, target: &mut W) -> Result<(), WriteFault>
+    ensures ok { OnOk result
+        (Appends (W.taken target.old) (W.taken target.new) (return_line day)) }
+    ensures err { OnErr result
+        (WritesPrefix (W.taken target.old) (W.taken target.new) (return_line day)) }
+    ensures fault { OnErr result (W.failed target.new ≡ true) }
+{
+    let day = day_bytes(day);
+    write_pieces(target, &[b"RETURN ", &day, b"\n"])
+}
+
+/// Writes the obligation, and the deposit schedule of its first day.
+#[tactic(auto, unfolding(crate::specs::Explanations::why_text))]
+fn write_why<W: Target>(e: &Explanation, target: &mut W) -> Result<(), WriteFault>
+    ensures ok { OnOk result
+        (Appends (W.taken target.old) (W.taken target.new) (why_text e.now)) }
+    ensures err { OnErr result
+        (WritesPrefix (W.taken target.old) (W.taken target.new) (why_text e.now)) }
+    ensures fault { OnErr result (W.failed target.new ≡ true) }
+{
+    write_obligation(&e.obligation, target)?;
+    write_schedule(e.obligation.first, e.kind, e.reason, target)
+}
+
+/// Writes the paydays, and the days that are counted.
+#[tactic(auto, unfolding(crate::specs::Explanations::days_text))]
+fn write_days<W: Target>(e: &Explanation, target: &mut W) -> Result<(), WriteFault>
+    ensures ok { OnOk result
+        (Appends (W.taken target.old) (W.taken target.new) (days_text e.now)) }
+    ensures err { OnErr result
+        (WritesPrefix (W.taken target.old) (W.taken target.new) (days_text e.now)) }
+    ensures fault { OnErr result (W.failed target.new ≡ true) }
+{
+    write_table(b"PAYDAYS\n", &Columns, e.paydays.as_slice(), target)?;
+    write_table(b"DAYS\n", &Columns, e.days.as_slice(), target)
+}
+
+/// Writes when the return is due, and the payments.
+#[tactic(auto, unfolding(crate::specs::Explanations::paid_text))]
+fn write_paid<W: Target>(e: &Explanation, target: &mut W) -> Result<(), WriteFault>
+    ensures ok { OnOk result
+        (Appends (W.taken target.old) (W.taken target.new) (paid_text e.now)) }
+    ensures err { OnErr result
+        (WritesPrefix (W.taken target.old) (W.taken target.new) (paid_text e.now)) }
+    ensures fault { OnErr result (W.failed target.new ≡ true) }
+{
+    write_return(e.return_due, target)?;
+    write_table(b"PAYMENTS\n", &Columns, e.payments.as_slice(), target)
+}
+
+/// Writes all days and payments.
+#[tactic(auto, unfolding(crate::specs::Explanations::rest_text))]
+fn write_rest<W: Target>(e: &Explanation, target: &mut W) -> Result<(), WriteFault>
+    ensures ok { OnOk result
+        (Appends (W.taken target.old) (W.taken target.new) (rest_text e.now)) }
+    ensures err { OnErr result
+        (WritesPrefix (W.taken target.old) (W.taken target.new) (rest_text e.now)) }
+    ensures fault { OnErr result (W.failed target.new ≡ true) }
+{
+    write_days(e, target)?;
+    write_paid(e, target)
+}
+
+/// Writes what explains an obligation.
+#[tactic(auto, unfolding(crate::specs::Explanations::explanation_text))]
+fn write_explained<W: Target>(e: &Explanation, target: &mut W) -> Result<(), WriteFault>
+    ensures ok { OnOk result
+        (Appends (W.taken target.old) (W.taken target.new) (explanation_text e.now)) }
+    ensures err { OnErr result
+        (WritesPrefix (W.taken target.old) (W.taken target.new) (explanation_text e.now)) }
+    ensures fault { OnErr result (W.failed target.new ≡ true) }
+{
+    write_why(e, target)?;
+    write_rest(e, target)
+}
+
+/// Writes the first line.
+fn write_head<W: Target>(account: &str, day: Day, target: &mut W) -> Result<(), WriteFault>
+    ensures ok { OnOk result
+        (Appends (W.taken target.old) (W.taken target.new) (explanation_head account.now day)) }
+    ensures err { OnErr result
+        (WritesPrefix (W.taken target.old) (W.taken target.new) (explanation_head account.now day)) }
+    ensures fault { OnErr result (W.failed target.new ≡ true) }
+{
+    let day = day_bytes(day);
+    write_pieces(
+        target,
+        &[b"OBLIGATION ", account.as_bytes(), b" ", &day, b"\n"],
+    )
+}
+
+/// Writes what explains the obligation, if there is one.
+fn write_found<W: Target>(found: &Option<Explanation>, target: &mut W) -> Result<(), WriteFault>
+    ensures ok { OnOk result
+        (Appends (W.taken target.old) (W.taken target.new) (explained_text found.now)) }
+    ensures err { OnErr result
+        (WritesPrefix (W.taken target.old) (W.taken target.new) (explained_text found.now)) }
+    ensures fault { OnErr result (W.failed target.new ≡ true) }
+{
+    match found {
+        Some(e) => write_explained(e, target),
+        None => write_all(target, b"none\n"),
+    }
+}
+
+/// Writes why the obligation of an account is so whose deposit period holds a day: a first line that
+/// says what was asked for; the obligation; the deposit schedule of its first day; its paydays, each
+/// with the liability of the obligation's days up to it; the days that are counted to its due date;
+/// when the return is due; and its payments. Where no obligation's deposit period holds the day, the
+/// second line is `none`. It takes no memory but what the target takes. Where the target fails, a
+/// prefix of the text was written, and it fails nowhere else.
+#[tactic(auto, unfolding(crate::specs::Explanations::explanation_told))]
+pub fn write_explanation<W: Target>(
+    account: &str,
+    day: Day,
+    found: &Option<Explanation>,
+    target: &mut W,
+) -> Result<(), WriteFault>
+    ensures ok { OnOk result
+        (Appends (W.taken target.old) (W.taken target.new)
+        (explanation_told account.now day found.now)) }
+    ensures err { OnErr result
+        (WritesPrefix (W.taken target.old) (W.taken target.new)
+        (explanation_told account.now day found.now)) }
+    ensures fault { OnErr result (W.failed target.new ≡ true) }
+{
+    write_head(account, day, target)?;
+    write_found(found, target)
+}
