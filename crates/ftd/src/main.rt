@@ -35,7 +35,7 @@ fn told(rt: &HostRuntime, fault: ProgramFault, db: &str, input: &str) -> u8 {
 /// The file that a task reads. The empty text where it reads none.
 fn input_of(task: &LocalTask) -> &str {
     match &task.job {
-        Job::Import(file) => file,
+        Job::Import { file, .. } => file,
         Job::Ask { .. } => "",
     }
 }
@@ -118,17 +118,28 @@ fn tells_after(request: &Request) -> bool {
 fn tells_of_new_file(task: &LocalTask) -> bool {
     match &task.job {
         Job::Ask { request, .. } => tells_after(request),
-        Job::Import(_) => true,
+        Job::Import { .. } => true,
+    }
+}
+
+/// Whether a task only tries an import, for which no file is made.
+fn is_trial(task: &LocalTask) -> bool {
+    match &task.job {
+        Job::Import { is_trial, .. } => *is_trial,
+        Job::Ask { .. } => false,
     }
 }
 
 /// Does the job of the task, and tells that its file was made, below what else is told.
 fn local(rt: &HostRuntime, task: &LocalTask) -> Result<u8, ProgramFault> {
     let input = match &task.job {
-        Job::Import(file) => import_input(rt, file)?,
+        Job::Import { file, .. } => import_input(rt, file)?,
         Job::Ask { .. } => Vec::new(rt.alloc()),
     };
     let is_new = is_new(rt, &task.db)?;
+    if is_new && is_trial(task) {
+        return Err(ProgramFault::Missing);
+    }
     let conn = opened(rt, &task.db, task.wait)?;
     let status = over_files(rt, conn, task, &input)?;
     if is_new && tells_of_new_file(task) {

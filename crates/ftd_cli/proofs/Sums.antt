@@ -2,7 +2,7 @@
 use Rattle.std.proofs.Common.{◌≡◌, ◌⊎◌, inl, inr, ℕ, ◌+◌, ◌-◌, ◌*◌, ◌<◌, ◌≤◌, List, [], ◌∷◌, length}
 use Rattle.std.proofs.Common.{map, get_or, Option, Some, None, Bool, true, false, cond, refl, sym}
 use Rattle.std.proofs.Common.{ap, ◌∙◌, arith}
-use Rattle.std.specs.Prelude.{All, ◌&&◌, ◌==◌, if◌then◌else◌}
+use Rattle.std.specs.Prelude.{All, ◌&&◌, ◌==◌, if◌then◌else◌, option_and_then, IfSome}
 use Rattle.std.specs.List.{cons_option, sum_by}
 use Rattle.std.specs.Map.{values_of}
 use Rattle.std.specs.Str.{bytes_eq}
@@ -18,18 +18,17 @@ use Rattle.ftd_rules.specs.Liability.{cents_of}
 use Rattle.ftd_rules.specs.Lists.{Has}
 use Rattle.ftd_rules.specs.Years.{LiesInYears, basis_of, year_last}
 use Rattle.ftd_csv.specs.Answers.{RecordsFail, most_bytes}
-use Rattle.ftd_csv.specs.declared.record.RecordFault.{RecordFault}
-use Rattle.ftd_csv.specs.declared.record.RecordFault.TheVariants as records
+use Rattle.ftd_csv.specs.declared.reading.RecordFault.{RecordFault}
+use Rattle.ftd_csv.specs.declared.reading.RecordFault.TheVariants as records
 use Rattle.ftd_cli.specs.Faults.{text_fault}
-use Rattle.ftd_csv.specs.Fields.{run_number_of}
-use Rattle.ftd_rules.specs.Accounts.{is_account_name}
+use Rattle.ftd_csv.specs.Fields.{name_of, numbered_field, run_number_of}
 use Rattle.ftd_days.specs.Spelling.{day_of, cents_of as amount_of}
 use Rattle.ftd_cli.specs.Plain.{AtFault, FirstFault, IsCalendar, IsLookedAt, PlainFails, day_sum}
 use Rattle.ftd_cli.specs.Plain.{is_taken, most_runs, taken, taken_run}
 use Rattle.ftd_cli.specs.declared.fault.PlainFault.{PlainFault}
 use Rattle.ftd_cli.specs.declared.fault.PlainFault.TheVariants as fault
-use Rattle.ftd_csv.specs.Records.{Run, Said, pay_run, malformed, said_of, six_of, field}
-use Rattle.ftd_csv.specs.Records.{under_first, records_of}
+use Rattle.ftd_csv.specs.declared.sheets.Sheet.TheVariants.{Runs}
+use Rattle.ftd_csv.specs.Records.{Run, Said, SaidRun, enters, from, malformed, run_in, run_records}
 use Rattle.ftd_cli.specs.Taking.{CalendarFails, IsSmall, TakesAll, StopsAtFault, run_of, runs_of}
 use Rattle.ftd_cli.specs.Taking.{sum_of}
 use Rattle.ftd_rules.specs.declared.run.PayRun.{PayRun}
@@ -61,62 +60,85 @@ pub record SmallRun (run : Run) : Type 0 where
   pub ss : run.ss < 100_000_000_000
   pub medicare : run.medicare < 100_000_000_000
 
-run_same : (a b : Run) → pay_run a ≡ pay_run b → a ≡ b
+run_same : (a b : Run) → enters a ≡ enters b → a ≡ b
 run_same a b e = cc
 
-field_some : (o : Option ℕ) (place : ℕ) (next : ℕ → Said) (run : Run)
-    → field o place next ≡ pay_run run → (value : ℕ) × (o ≡ Some value) × (next value ≡ pay_run run)
-field_some None place next run e = cc e
-field_some (Some value) place next run e = (value, refl, e)
+as_wide : {A : Type 0} (is : Bool) (said : Said A) (it : A)
+    → (if is then said else malformed 0) ≡ enters it → said ≡ enters it
+as_wide true said it e = e
+as_wide false said it e = cc e
 
-six_small : (employer number payday fit ss medicare : List ℕ) (run : Run)
-    → six_of employer number payday fit ss medicare ≡ pay_run run → SmallRun run
-six_small employer number payday fit ss medicare run e =
-    let (_, _, e1) = field_some (if is_account_name employer then Some 0 else None) 1 _ run e in
-    let (n, _, e2) = field_some (run_number_of number) 2 _ run e1 in
-    let (p, _, e3) = field_some (day_of payday) 3 _ run e2 in
-    let (f, ef, e4) = field_some (amount_of fit) 4 _ run e3 in
-    let (s, es, e5) = field_some (amount_of ss) 5 _ run e4 in
-    let (m, em, e6) = field_some (amount_of medicare) 6 _ run e5 in
-    let same = run_same _ run e6 in
-    let a = cents_small fit f ef in
-    let b = cents_small ss s es in
-    let c = cents_small medicare m em in
-    rw (← same) (record { fit = a; ss = b; medicare = c })
+-- the run that six fields say, by what they spell
+abbrev six_said : Option (List ℕ) → Option ℕ → Option ℕ → Option ℕ → Option ℕ → Option ℕ → SaidRun
+six_said name number payday fit ss medicare =
+    from name 1 (λ employer. from number 2 (λ number. from payday 3 (λ payday. from fit 4 (λ fit.
+    from ss 5 (λ ss. from medicare 6 (λ medicare. enters (record {
+      employer = employer;
+      number = number;
+      payday = payday;
+      fit = fit;
+      ss = ss;
+      medicare = medicare;
+    })))))))
 
-said_small : (row : List (List ℕ)) (run : Run) → said_of row ≡ pay_run run → SmallRun run
-unfolding said_of
-said_small [] run e = cc e
-said_small (a ∷ []) run e = cc e
-said_small (a ∷ b ∷ []) run e = cc e
-said_small (a ∷ b ∷ c ∷ []) run e = cc e
-said_small (a ∷ b ∷ c ∷ d ∷ []) run e = cc e
-said_small (a ∷ b ∷ c ∷ d ∷ f ∷ []) run e = cc e
-said_small (a ∷ b ∷ c ∷ d ∷ f ∷ g ∷ []) run e = six_small a b c d f g run e
-said_small (a ∷ b ∷ c ∷ d ∷ f ∷ g ∷ h ∷ rest) run e = cc e
+abbrev IsSmallAmount : Option ℕ → Type 0
+IsSmallAmount o = IfSome o (λ amount. amount < 100_000_000_000)
+
+amount_small : (o : Option (List ℕ)) → IsSmallAmount (option_and_then amount_of o)
+amount_small None = tt
+amount_small (Some text) = spelled (amount_of text) refl
+  where
+    spelled : (found : Option ℕ) → amount_of text ≡ found → IsSmallAmount found
+    spelled None e = tt
+    spelled (Some amount) e = cents_small text amount e
+
+six_small : (name : Option (List ℕ)) (number payday fit ss medicare : Option ℕ) (run : Run)
+    → IsSmallAmount fit → IsSmallAmount ss → IsSmallAmount medicare
+    → six_said name number payday fit ss medicare ≡ enters run → SmallRun run
+six_small None number payday fit ss medicare run f s m e = cc e
+six_small (Some x) None payday fit ss medicare run f s m e = cc e
+six_small (Some x) (Some n) None fit ss medicare run f s m e = cc e
+six_small (Some x) (Some n) (Some p) None ss medicare run f s m e = cc e
+six_small (Some x) (Some n) (Some p) (Some a) None medicare run f s m e = cc e
+six_small (Some x) (Some n) (Some p) (Some a) (Some b) None run f s m e = cc e
+six_small (Some x) (Some n) (Some p) (Some a) (Some b) (Some c) run f s m e =
+    let same = run_same _ run e in rw (← same) (record { fit = f; ss = s; medicare = m })
+
+said_small : (row : List (List ℕ)) (run : Run) → run_in row ≡ enters run → SmallRun run
+unfolding run_in
+said_small row run e =
+    let name = option_and_then name_of (numbered_field row 1) in
+    let number = option_and_then run_number_of (numbered_field row 2) in
+    let payday = option_and_then day_of (numbered_field row 3) in
+    let fit = option_and_then amount_of (numbered_field row 4) in
+    let ss = option_and_then amount_of (numbered_field row 5) in
+    let medicare = option_and_then amount_of (numbered_field row 6) in
+    six_small name number payday fit ss medicare run (amount_small (numbered_field row 4))
+    (amount_small (numbered_field row 5)) (amount_small (numbered_field row 6))
+    (as_wide (length row == 6) (six_said name number payday fit ss medicare) run e)
 
 -- ---- a run that is taken
-taken_of : (account : List ℕ) (year : ℕ) (said : Said) (run : Run)
-    → taken_run account year said ≡ Some run → (said ≡ pay_run run)
+taken_of : (account : List ℕ) (year : ℕ) (said : SaidRun) (run : Run)
+    → taken_run account year said ≡ Some run → (said ≡ enters run)
     × (is_taken account year run ≡ true)
 taken_of account year (malformed place) run e = cc e
-taken_of account year (pay_run r) run e = go (is_taken account year r) refl e
+taken_of account year (enters r) run e = go (is_taken account year r) refl e
   where
     go : (b : Bool) → is_taken account year r ≡ b → cond b (Some r) None ≡ Some run
-        → (pay_run r ≡ pay_run run) × (is_taken account year run ≡ true)
-    go true is f = let same = some_same r run f in (ap (λ (z : Run). pay_run z) same, rw same at is)
+        → (enters r ≡ enters run) × (is_taken account year run ≡ true)
+    go true is f = let same = some_same r run f in (ap (λ (z : Run). enters z) same, rw same at is)
     go false is f = cc f
 
-one_taken : (account : List ℕ) (year : ℕ) (said : Said) (o : Option Run) (run : Run)
+one_taken : (account : List ℕ) (year : ℕ) (said : SaidRun) (o : Option Run) (run : Run)
     (rest : List Run) → taken_run account year said ≡ o → Has (cons_option o rest) run
-    → ((said ≡ pay_run run) × (is_taken account year run ≡ true)) ⊎ Has rest run
+    → ((said ≡ enters run) × (is_taken account year run ≡ true)) ⊎ Has rest run
 one_taken account year said None run rest e h = inr h
 one_taken account year said (Some r) run rest e (inl same) =
     inl (taken_of account year said run (e ∙ ap Some (sym same)))
 one_taken account year said (Some r) run rest e (inr h) = inr h
 
-taken_said : (account : List ℕ) (year : ℕ) (records : List Said) (run : Run)
-    → Has (taken account year records) run → (said : Said) × Has records said × (said ≡ pay_run run)
+taken_said : (account : List ℕ) (year : ℕ) (records : List SaidRun) (run : Run)
+    → Has (taken account year records) run → (said : SaidRun) × Has records said × (said ≡ enters run)
     × (is_taken account year run ≡ true)
 taken_said account year [] run h = absurd h
 taken_said account year (said ∷ records) run h =
@@ -149,25 +171,20 @@ values_has (e ∷ entries) kept (inl same) = (e, inl refl, same)
 values_has (e ∷ entries) kept (inr h) = let (x, there, is) = values_has entries kept h in
     (x, inr there, is)
 
-said_row : (rows : List (List (List ℕ))) (said : Said) → Has (under_first rows) said
-    → (row : List (List ℕ)) × (said ≡ said_of row)
-said_row [] said h = absurd h
-said_row (first ∷ rows) said h = let (row, there, is) = map_has said_of rows said h in (row, is)
-
 kept_run : (account : List ℕ) (year : ℕ) (rows : List (List (List ℕ))) (entries : List (ℕ × PayRun))
-    (e : ℕ × PayRun) → TakesAll account year (under_first rows) entries → Has entries e
+    (e : ℕ × PayRun) → TakesAll account year (map run_in rows) entries → Has entries e
     → SmallRun (run_of account e) × (year_of e.1.payday ≡ year)
 kept_run account year rows entries e all there =
     let run = run_of account e in
-    let mine = has_from_contains (taken account year (under_first rows)) run
+    let mine = has_from_contains (taken account year (map run_in rows)) run
     ((all.same run).0 (contains_from_has (runs_of account entries) run
     (has_map (run_of account) entries e there))) in
-    let (said, at, is, taken_it) = taken_said account year (under_first rows) run mine in
-    let (row, says) = said_row rows said at in
+    let (said, at, is, taken_it) = taken_said account year (map run_in rows) run mine in
+    let (row, there, says) = map_has run_in rows said at in
     (said_small row run (sym says ∙ is), year_is account year run taken_it)
 
 pub kept_small : (account : List ℕ) (year : ℕ) (rows : List (List (List ℕ)))
-    (entries : List (ℕ × PayRun)) → TakesAll account year (under_first rows) entries
+    (entries : List (ℕ × PayRun)) → TakesAll account year (map run_in rows) entries
     → All IsSmall (values_of entries)
 kept_small account year rows entries all =
     all_from_has IsSmall (values_of entries) (λ kept h.
@@ -176,7 +193,7 @@ kept_small account year rows entries all =
     rw is (record { fit = small.fit; ss = small.ss; medicare = small.medicare }))
 
 kept_year : (account : List ℕ) (year : ℕ) (rows : List (List (List ℕ)))
-    (entries : List (ℕ × PayRun)) → TakesAll account year (under_first rows) entries
+    (entries : List (ℕ × PayRun)) → TakesAll account year (map run_in rows) entries
     → All (λ (kept : PayRun). year_of kept.payday ≡ year) (values_of entries)
 kept_year account year rows entries all =
     all_from_has (λ (kept : PayRun). year_of kept.payday ≡ year) (values_of entries) (λ kept h.
@@ -185,7 +202,7 @@ kept_year account year rows entries all =
 
 pub sums_in_year : (account : List ℕ) (year : ℕ) (rows : List (List (List ℕ)))
     (entries : List (ℕ × PayRun)) (sums : List DaySum)
-    → TakesAll account year (under_first rows) entries → sums ≡ map sum_of (values_of entries)
+    → TakesAll account year (map run_in rows) entries → sums ≡ map sum_of (values_of entries)
     → All (λ (sum : DaySum). year_of sum.day ≡ year) sums
 sums_in_year account year rows entries sums all e =
     rw e (All-map (λ (sum : DaySum). year_of sum.day ≡ year) sum_of (values_of entries)
@@ -197,7 +214,7 @@ sum_small kept small = let a = small.fit in let b = small.ss in let c = small.me
 
 pub sums_small : (account : List ℕ) (year : ℕ) (rows : List (List (List ℕ)))
     (entries : List (ℕ × PayRun)) (sums : List DaySum)
-    → TakesAll account year (under_first rows) entries → sums ≡ map sum_of (values_of entries)
+    → TakesAll account year (map run_in rows) entries → sums ≡ map sum_of (values_of entries)
     → All (λ (sum : DaySum). sum.cents.0 ≤ 299_999_999_997) sums
 sums_small account year rows entries sums all e =
     rw e (All-map (λ (sum : DaySum). sum.cents.0 ≤ 299_999_999_997) sum_of (values_of entries)
@@ -242,23 +259,23 @@ only_line (one ∷ []) year lookback carried e =
 only_line (one ∷ other ∷ lines) year lookback carried e = cc e
 
 -- ---- the faults of a text that is short enough, and whose holidays are a calendar
-never_length : (account : List ℕ) (year : ℕ) (before : List Said) (said : Said)
+never_length : (account : List ℕ) (year : ℕ) (before : List SaidRun) (said : SaidRun)
     → AtFault account year before said fault.TooLong → ⊥
 never_length account year before (malformed place) h = cc h
-never_length account year before (pay_run run) h = h.1
+never_length account year before (enters run) h = h.1
 
-never_calendar : (account : List ℕ) (year : ℕ) (before : List Said) (said : Said)
+never_calendar : (account : List ℕ) (year : ℕ) (before : List SaidRun) (said : SaidRun)
     → AtFault account year before said fault.BadCalendar → ⊥
 never_calendar account year before (malformed place) h = cc h
-never_calendar account year before (pay_run run) h = h.1
+never_calendar account year before (enters run) h = h.1
 
-never_header : (account : List ℕ) (year : ℕ) (before : List Said) (said : Said)
+never_header : (account : List ℕ) (year : ℕ) (before : List SaidRun) (said : SaidRun)
     → AtFault account year before said fault.BadHeader → ⊥
 never_header account year before (malformed place) h = cc h
-never_header account year before (pay_run run) h = h.1
+never_header account year before (enters run) h = h.1
 
 record_fault : (csv account : List ℕ) (year : ℕ) (holidays : List ℕ) (f : PlainFault)
-    → IsLookedAt csv year holidays → FirstFault account year (records_of csv) f
+    → IsLookedAt csv year holidays → FirstFault account year (run_records csv) f
     → PlainFails csv account year holidays f
 record_fault csv account year holidays fault.BadHeader at h =
     absurd (never_header account year h.before h.record_at h.at_fault)
@@ -273,7 +290,7 @@ record_fault csv account year holidays fault.Memory at h = tt
 
 -- why the text has no records
 pub text_fails : (csv account : List ℕ) (year : ℕ) (holidays : List ℕ) (f : RecordFault)
-    → length csv ≤ most_bytes → IsCalendar year holidays → RecordsFail csv f
+    → length csv ≤ most_bytes → IsCalendar year holidays → RecordsFail Runs csv f
     → PlainFails csv account year holidays (text_fault f)
 text_fails csv account year holidays records.BadHeader short calendar (_, header) =
     (short, calendar, header)
@@ -282,7 +299,7 @@ text_fails csv account year holidays records.Memory short calendar h = tt
 
 -- why the runs are not taken
 pub stops_fault : (csv account : List ℕ) (year : ℕ) (holidays : List ℕ) (f : PlainFault)
-    → IsLookedAt csv year holidays → StopsAtFault account year (records_of csv) f
+    → IsLookedAt csv year holidays → StopsAtFault account year (run_records csv) f
     → PlainFails csv account year holidays f
 stops_fault csv account year holidays f at (inl memory) = rw memory tt
 stops_fault csv account year holidays f at (inr first) = record_fault csv account year holidays f at

@@ -14,7 +14,7 @@ use Rattle.std.proofs.lemmas.Map.Keys.{below_from_sorted}
 use Rattle.std.proofs.lemmas.Slice.Eq.{bytes_eq-Decides}
 use Rattle.ftd_days.specs.Calendar.{year_of}
 use Rattle.ftd_rules.specs.Lists.{Has}
-use Rattle.ftd_csv.specs.Records.{Run, Said, pay_run, malformed}
+use Rattle.ftd_csv.specs.Records.{Run, SaidRun, enters, malformed}
 use Rattle.ftd_cli.specs.Plain.{AreCounted, AtFault, NoneAtFault, RunFault, is_taken, most_runs}
 use Rattle.ftd_cli.specs.Plain.{taken, taken_run}
 use Rattle.ftd_cli.specs.Taking.{HasTaken, RefusesRecord, RefusesRun, StopsAtFault, TakesAll}
@@ -56,7 +56,7 @@ part_of_push (z ∷ xs) last (y ∷ before) x after e =
 none_at_first : (account : List ℕ) (year : ℕ) → NoneAtFault account year []
 none_at_first account year before x after f e h = no_part before x after e
 
-none_more : (account : List ℕ) (year : ℕ) (before : List Said) (said : Said)
+none_more : (account : List ℕ) (year : ℕ) (before : List SaidRun) (said : SaidRun)
     → NoneAtFault account year before → ((f : PlainFault) → AtFault account year before said f → ⊥)
     → NoneAtFault account year (before ++ said ∷ [])
 none_more account year records said none not before x after f e h =
@@ -66,17 +66,17 @@ none_more account year records said none not before x after f e h =
     ]
 
 -- ---- the runs taken of one more record
-taken_more : (account : List ℕ) (year : ℕ) (before : List Said) (said : Said)
+taken_more : (account : List ℕ) (year : ℕ) (before : List SaidRun) (said : SaidRun)
     → taken account year (before ++ said ∷ []) ≡ taken account year before ++ taken account year
     (said ∷ [])
 taken_more account year before said = filter_map-append (taken_run account year) before (said ∷ [])
 
 taken_one : (account : List ℕ) (year : ℕ) (run : Run) → is_taken account year run ≡ true
-    → taken account year (pay_run run ∷ []) ≡ run ∷ []
+    → taken account year (enters run ∷ []) ≡ run ∷ []
 taken_one account year run e = rw e refl
 
 taken_none : (account : List ℕ) (year : ℕ) (run : Run) → is_taken account year run ≡ false
-    → taken account year (pay_run run ∷ []) ≡ []
+    → taken account year (enters run ∷ []) ≡ []
 taken_none account year run e = rw e refl
 
 and_left : (a b : Bool) → (a && b) ≡ true → a ≡ true
@@ -121,7 +121,7 @@ keys_rise account entries sorted i j d before within =
     sym (ap (λ (r : Run). r.number) first) ∙ e ∙ ap (λ (r : Run). r.number) second in
     absurd (omega arith)
 
-pub counted_of : (account : List ℕ) (year : ℕ) (before : List Said) (entries : List (ℕ × PayRun))
+pub counted_of : (account : List ℕ) (year : ℕ) (before : List SaidRun) (entries : List (ℕ × PayRun))
     → IsStrictlySortedBy nat_cmp (keys_of entries)
     → ((run : Run) → Contains (runs_of account entries) run ↔ Contains (taken account year before)
     run) → AreCounted (taken account year before) (runs_of account entries)
@@ -249,7 +249,7 @@ run_at_no_fault account year entries new runs run sorted same mine takes fault.B
 run_at_no_fault account year entries new runs run sorted same mine takes fault.Memory h = h
 
 -- ---- a record that is refused is at fault
-run_at_fault : (account : List ℕ) (year : ℕ) (before : List Said) (entries : List (ℕ × PayRun))
+run_at_fault : (account : List ℕ) (year : ℕ) (before : List SaidRun) (entries : List (ℕ × PayRun))
     (run : Run) → IsStrictlySortedBy nat_cmp (keys_of entries)
     → Same account entries (taken account year before)
     → run.employer ≡ account → (f : PlainFault) → RefusesRun entries run f → (f ≡ fault.Memory)
@@ -282,7 +282,7 @@ run_at_fault account year before entries run sorted same mine (fault.Malformed n
 run_at_fault account year before entries run sorted same mine fault.BadCalendar h = absurd h
 
 -- ---- the steps of the loop
-pub taken_first : (account : List ℕ) (year : ℕ) (records : List Said)
+pub taken_first : (account : List ℕ) (year : ℕ) (records : List SaidRun)
     → HasTaken account year records records 2 []
 taken_first account year records = record {
   before = [];
@@ -293,15 +293,15 @@ taken_first account year records = record {
   few = omega arith;
 }
 
-pub taken_all : (account : List ℕ) (year : ℕ) (records : List Said) (number : ℕ)
+pub taken_all : (account : List ℕ) (year : ℕ) (records : List SaidRun) (number : ℕ)
     (entries : List (ℕ × PayRun)) → HasTaken account year records [] number entries
     → TakesAll account year records entries
 taken_all account year records number entries h =
     let all : records ≡ h.before = h.parts ∙ append-nil h.before in
     record { none_at_fault = rw all h.none_at_fault; same = rw all h.same; few = h.few }
 
-pub taken_stops : (account : List ℕ) (year : ℕ) (records : List Said) (said : Said)
-    (left : List Said) (number : ℕ) (entries : List (ℕ × PayRun)) (f : PlainFault)
+pub taken_stops : (account : List ℕ) (year : ℕ) (records : List SaidRun) (said : SaidRun)
+    (left : List SaidRun) (number : ℕ) (entries : List (ℕ × PayRun)) (f : PlainFault)
     → IsStrictlySortedBy nat_cmp (keys_of entries)
     → HasTaken account year records (said ∷ left) number entries
     → RefusesRecord account year number entries said f → StopsAtFault account year records f
@@ -314,13 +314,13 @@ taken_stops account year records (malformed place) left number entries f sorted 
       none_before = h.none_at_fault;
       at_fault = refuses ∙ ap (λ n. fault.Malformed n place) h.count;
     })
-taken_stops account year records (pay_run run) left number entries f sorted h refuses =
+taken_stops account year records (enters run) left number entries f sorted h refuses =
     elim (run_at_fault account year h.before entries run sorted h.same
     (employer_is account year run refuses.0) f refuses.1) [
       | inl memory ↦ inl memory
       | inr at ↦ inr (record {
         before = h.before;
-        record_at = pay_run run;
+        record_at = enters run;
         after = left;
         parts = h.parts;
         none_before = h.none_at_fault;
@@ -344,36 +344,36 @@ same_more account entries new runs run same mine (inl (found, keeps)) =
 same_more account entries new runs run same mine (inr (none, fewer, adds)) =
     rw adds (same_new account entries runs run same mine none)
 
-parts_more : (records before : List Said) (said : Said) (left : List Said)
+parts_more : (records before : List SaidRun) (said : SaidRun) (left : List SaidRun)
     → records ≡ before ++ said ∷ left → records ≡ (before ++ said ∷ []) ++ left
 parts_more records before said left e = e ∙ sym (append_assoc before (said ∷ []) left)
 
-pub taken_next : (account : List ℕ) (year : ℕ) (records : List Said) (said : Said)
-    (left : List Said) (number : ℕ) (entries new : List (ℕ × PayRun)) → IsStrictlySortedBy nat_cmp
+pub taken_next : (account : List ℕ) (year : ℕ) (records : List SaidRun) (said : SaidRun)
+    (left : List SaidRun) (number : ℕ) (entries new : List (ℕ × PayRun)) → IsStrictlySortedBy nat_cmp
     (keys_of entries)
     → HasTaken account year records (said ∷ left) number entries
     → TakesRecord account year entries said new → HasTaken account year records left
     (number + 1) new
 taken_next account year records (malformed place) left number entries new sorted h takes =
     absurd takes
-taken_next account year records (pay_run run) left number entries new sorted h takes =
+taken_next account year records (enters run) left number entries new sorted h takes =
     go (is_taken account year run) refl takes
   where
-    long : number + 1 ≡ 2 + length (h.before ++ pay_run run ∷ [])
-    long = let count = h.count in let one = length-append h.before (pay_run run ∷ []) in omega arith
+    long : number + 1 ≡ 2 + length (h.before ++ enters run ∷ [])
+    long = let count = h.count in let one = length-append h.before (enters run ∷ []) in omega arith
 
     go : (b : Bool) → is_taken account year run ≡ b → MatchBool b (TakesRun entries run new)
         (new ≡ entries) → HasTaken account year records left (number + 1) new
     go true mine takes =
         let employer = employer_is account year run mine in
-        let runs : taken account year (h.before ++ pay_run run ∷ []) ≡ taken account year h.before
-        ++ run ∷ [] = taken_more account year h.before (pay_run run)
+        let runs : taken account year (h.before ++ enters run ∷ []) ≡ taken account year h.before
+        ++ run ∷ [] = taken_more account year h.before (enters run)
         ∙ ap (λ zs. taken account year h.before ++ zs) (taken_one account year run mine) in
         record {
-          before = h.before ++ pay_run run ∷ [];
-          parts = parts_more records h.before (pay_run run) left h.parts;
+          before = h.before ++ enters run ∷ [];
+          parts = parts_more records h.before (enters run) left h.parts;
           count = long;
-          none_at_fault = none_more account year h.before (pay_run run) h.none_at_fault
+          none_at_fault = none_more account year h.before (enters run) h.none_at_fault
               (λ f at. run_at_no_fault account year entries new (taken account year h.before) run
               sorted h.same employer takes f at.1);
           same = rw runs (same_more account entries new (taken account year h.before) run h.same
@@ -381,15 +381,15 @@ taken_next account year records (pay_run run) left number entries new sorted h t
           few = few_more entries new run h.few takes;
         }
     go false other takes =
-        let runs : taken account year (h.before ++ pay_run run ∷ []) ≡ taken account year h.before =
-        taken_more account year h.before (pay_run run)
+        let runs : taken account year (h.before ++ enters run ∷ []) ≡ taken account year h.before =
+        taken_more account year h.before (enters run)
         ∙ ap (λ zs. taken account year h.before ++ zs) (taken_none account year run other)
         ∙ append-nil (taken account year h.before) in
         record {
-          before = h.before ++ pay_run run ∷ [];
-          parts = parts_more records h.before (pay_run run) left h.parts;
+          before = h.before ++ enters run ∷ [];
+          parts = parts_more records h.before (enters run) left h.parts;
           count = long;
-          none_at_fault = none_more account year h.before (pay_run run) h.none_at_fault
+          none_at_fault = none_more account year h.before (enters run) h.none_at_fault
               (λ f at. false≢true (sym other ∙ at.0));
           same = rw (runs, takes) h.same;
           few = rw takes h.few;

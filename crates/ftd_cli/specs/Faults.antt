@@ -3,8 +3,8 @@ use Rattle.std.specs.Prelude.{ℕ, List, ◌++◌, codes}
 use Rattle.std.specs.Fmt.{decimal}
 use Rattle.ftd_days.specs.declared.holidays.CalendarFault.{CalendarFault}
 use Rattle.ftd_days.specs.declared.holidays.CalendarFault.TheVariants as calendar
-use Rattle.ftd_csv.specs.declared.record.RecordFault.{RecordFault}
-use Rattle.ftd_csv.specs.declared.record.RecordFault.TheVariants as records
+use Rattle.ftd_csv.specs.declared.reading.RecordFault.{RecordFault}
+use Rattle.ftd_csv.specs.declared.reading.RecordFault.TheVariants as records
 use Rattle.ftd_cli.specs.declared.fault.PlainFault.{PlainFault}
 use Rattle.ftd_cli.specs.declared.fault.PlainFault.TheVariants as fault
 

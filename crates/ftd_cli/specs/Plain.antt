@@ -15,7 +15,8 @@ use Rattle.ftd_rules.specs.Years.{AreLines}
 use Rattle.ftd_rules.specs.Obligations.{AreObligations}
 use Rattle.ftd_rules.specs.Text.{obligation_text}
 use Rattle.ftd_csv.specs.Answers.{most_bytes}
-use Rattle.ftd_csv.specs.Records.{Run, Said, pay_run, malformed, HasHeader, records_of}
+use Rattle.ftd_csv.specs.declared.sheets.Sheet.TheVariants.{Runs}
+use Rattle.ftd_csv.specs.Records.{Run, SaidRun, enters, malformed, HasHeader, run_records}
 use Rattle.ftd_cli.specs.declared.fault.PlainFault.{PlainFault}
 use Rattle.ftd_cli.specs.declared.fault.PlainFault.TheVariants as fault
 
@@ -35,11 +36,11 @@ pub record IsCalendar (year : ℕ) (holidays : List ℕ) : Type 0 where
 abbrev pub is_taken : List ℕ → ℕ → Run → Bool
 is_taken account year run = bytes_eq run.employer account && (year_of run.payday == year)
 
-abbrev pub taken_run : List ℕ → ℕ → Said → Option Run
-taken_run account year (pay_run run) = if is_taken account year run then Some run else None
+abbrev pub taken_run : List ℕ → ℕ → SaidRun → Option Run
+taken_run account year (enters run) = if is_taken account year run then Some run else None
 taken_run account year (malformed place) = None
 
-abbrev pub taken : List ℕ → ℕ → List Said → List Run
+abbrev pub taken : List ℕ → ℕ → List SaidRun → List Run
 taken account year records = filter_map (taken_run account year) records
 
 -- these runs count: no two have one number, and they are exactly the taken ones. So a run that was
@@ -65,23 +66,23 @@ RunFault before run fault.Memory = ⊥
 
 -- a record is at fault, given the records before it. Records are numbered from 1, and the header is
 -- record 1.
-abbrev pub AtFault : List ℕ → ℕ → List Said → Said → PlainFault → Type 0
+abbrev pub AtFault : List ℕ → ℕ → List SaidRun → SaidRun → PlainFault → Type 0
 AtFault account year before (malformed place) f = f ≡ fault.Malformed (2 + length before) place
-AtFault account year before (pay_run run) f =
+AtFault account year before (enters run) f =
     IsTrue (is_taken account year run) × RunFault (taken account year before) run f
 
 -- no record is at fault, each given the records before it
-abbrev pub NoneAtFault : List ℕ → ℕ → List Said → Type 0
+abbrev pub NoneAtFault : List ℕ → ℕ → List SaidRun → Type 0
 NoneAtFault account year records =
-    (before : List Said) (record_at : Said) (after : List Said) (f : PlainFault)
+    (before : List SaidRun) (record_at : SaidRun) (after : List SaidRun) (f : PlainFault)
     → records ≡ before ++ record_at ∷ after → AtFault account year before record_at f → ⊥
 
 -- the first record that is at fault, and its fault
-pub record FirstFault (account : List ℕ) (year : ℕ) (records : List Said)
+pub record FirstFault (account : List ℕ) (year : ℕ) (records : List SaidRun)
     (f : PlainFault) : Type 0 where
-  pub before : List Said
-  pub record_at : Said
-  pub after : List Said
+  pub before : List SaidRun
+  pub record_at : SaidRun
+  pub after : List SaidRun
   pub parts : records ≡ before ++ record_at ∷ after
   pub none_before : NoneAtFault account year before
   pub at_fault : AtFault account year before record_at f
@@ -109,7 +110,7 @@ pub record Prints (year : ℕ) (holidays : List ℕ) (sums : List DaySum) (text 
   pub printed : text ≡ flat_map line_text rows
 
 -- the text of the deposits of the records, of which none is at fault
-pub record Deposits (account : List ℕ) (year : ℕ) (holidays : List ℕ) (records : List Said)
+pub record Deposits (account : List ℕ) (year : ℕ) (holidays : List ℕ) (records : List SaidRun)
     (text : List ℕ) : Type 0 where
   pub none_at_fault : NoneAtFault account year records
   pub counted : List Run
@@ -121,7 +122,7 @@ pub record Deposits (account : List ℕ) (year : ℕ) (holidays : List ℕ) (rec
 pub record IsLookedAt (csv : List ℕ) (year : ℕ) (holidays : List ℕ) : Type 0 where
   pub short : length csv ≤ most_bytes
   pub calendar : IsCalendar year holidays
-  pub header : HasHeader csv
+  pub header : HasHeader Runs csv
 
 -- where each fault of `plain` stands; want of memory may come at any point
 abbrev pub PlainFails : List ℕ → List ℕ → ℕ → List ℕ → PlainFault → Type 0
@@ -129,18 +130,18 @@ PlainFails csv account year holidays fault.TooLong = most_bytes < length csv
 PlainFails csv account year holidays fault.BadCalendar =
     (length csv ≤ most_bytes) × ¬ IsCalendar year holidays
 PlainFails csv account year holidays fault.BadHeader =
-    (length csv ≤ most_bytes) × IsCalendar year holidays × ¬ HasHeader csv
+    (length csv ≤ most_bytes) × IsCalendar year holidays × ¬ HasHeader Runs csv
 PlainFails csv account year holidays (fault.Malformed number field) =
     IsLookedAt csv year holidays
-    × FirstFault account year (records_of csv) (fault.Malformed number field)
+    × FirstFault account year (run_records csv) (fault.Malformed number field)
 PlainFails csv account year holidays (fault.RunDiffers number) =
     IsLookedAt csv year holidays
-    × FirstFault account year (records_of csv) (fault.RunDiffers number)
+    × FirstFault account year (run_records csv) (fault.RunDiffers number)
 PlainFails csv account year holidays fault.TooManyRuns =
-    IsLookedAt csv year holidays × FirstFault account year (records_of csv) fault.TooManyRuns
+    IsLookedAt csv year holidays × FirstFault account year (run_records csv) fault.TooManyRuns
 PlainFails csv account year holidays fault.Memory = ⊤
 
 -- what `plain` gives
 pub record PlainGives (csv account : List ℕ) (year : ℕ) (holidays text : List ℕ) : Type 0 where
   pub looked_at : IsLookedAt csv year holidays
-  pub deposits : Deposits account year holidays (records_of csv) text
+  pub deposits : Deposits account year holidays (run_records csv) text

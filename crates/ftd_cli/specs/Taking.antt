@@ -8,7 +8,7 @@ use Rattle.std.specs.Ordering.{nat_cmp}
 use Rattle.ftd_rules.specs.declared.DaySum.{DaySum}
 use Rattle.ftd_rules.specs.declared.run.PayRun.{PayRun}
 use Rattle.ftd_rules.specs.Liability.{run_liability}
-use Rattle.ftd_csv.specs.Records.{Run, Said, pay_run, malformed}
+use Rattle.ftd_csv.specs.Records.{Run, SaidRun, enters, malformed}
 use Rattle.ftd_cli.specs.Plain.{FirstFault, IsCalendar, NoneAtFault, is_taken, most_runs, taken}
 use Rattle.ftd_cli.specs.declared.fault.PlainFault.{PlainFault}
 use Rattle.ftd_cli.specs.declared.fault.PlainFault.TheVariants as fault
@@ -54,20 +54,20 @@ RefusesRun old run fault.TooLong = ⊥
 RefusesRun old run (fault.Malformed number field) = ⊥
 RefusesRun old run fault.BadCalendar = ⊥
 
-abbrev pub TakesRecord : List ℕ → ℕ → List (ℕ × PayRun) → Said → List (ℕ × PayRun) → Type 0
+abbrev pub TakesRecord : List ℕ → ℕ → List (ℕ × PayRun) → SaidRun → List (ℕ × PayRun) → Type 0
 TakesRecord account year old (malformed place) new = ⊥
-TakesRecord account year old (pay_run run) new =
+TakesRecord account year old (enters run) new =
     MatchBool (is_taken account year run) (TakesRun old run new) (new ≡ old)
 
-abbrev pub RefusesRecord : List ℕ → ℕ → ℕ → List (ℕ × PayRun) → Said → PlainFault → Type 0
+abbrev pub RefusesRecord : List ℕ → ℕ → ℕ → List (ℕ × PayRun) → SaidRun → PlainFault → Type 0
 RefusesRecord account year number old (malformed place) f = f ≡ fault.Malformed number place
-RefusesRecord account year number old (pay_run run) f =
+RefusesRecord account year number old (enters run) f =
     (is_taken account year run ≡ true) × RefusesRun old run f
 
 -- the records that were read, the runs taken of them, and those that are left
-pub record HasTaken (account : List ℕ) (year : ℕ) (records left : List Said) (number : ℕ)
+pub record HasTaken (account : List ℕ) (year : ℕ) (records left : List SaidRun) (number : ℕ)
     (entries : List (ℕ × PayRun)) : Type 0 where
-  pub before : List Said
+  pub before : List SaidRun
   pub parts : records ≡ before ++ left
   pub count : number ≡ 2 + length before
   pub none_at_fault : NoneAtFault account year before
@@ -90,7 +90,7 @@ pub record IsSmall (kept : PayRun) : Type 0 where
   pub medicare : kept.medicare.0 < 100_000_000_000
 
 -- all records were read
-pub record TakesAll (account : List ℕ) (year : ℕ) (records : List Said)
+pub record TakesAll (account : List ℕ) (year : ℕ) (records : List SaidRun)
     (entries : List (ℕ × PayRun)) : Type 0 where
   pub none_at_fault : NoneAtFault account year records
   pub same : (run : Run)
@@ -103,5 +103,5 @@ CalendarFails year holidays f =
     (f ≡ fault.Memory) ⊎ ((f ≡ fault.BadCalendar) × ¬ IsCalendar year holidays)
 
 -- the taking stopped at the first record that is at fault, or for want of memory
-abbrev pub StopsAtFault : List ℕ → ℕ → List Said → PlainFault → Type 0
+abbrev pub StopsAtFault : List ℕ → ℕ → List SaidRun → PlainFault → Type 0
 StopsAtFault account year records f = (f ≡ fault.Memory) ⊎ FirstFault account year records f

@@ -11,7 +11,7 @@ ghost use Rattle.ftd_cli.specs.Taking.{IsSmall, sum_of};
 use crate::calendar::calendar;
 use crate::fault::PlainFault;
 use crate::runs::take_records;
-use ftd_csv::{MOST_BYTES, Records};
+use ftd_csv::{MOST_BYTES, Records, Sheet};
 use ftd_days::{Cents, Day, Holidays};
 use ftd_rules::{DaySum, Form, Kind, Obligation, PayRun, YearLine, assess};
 use std::alloc::{AllocError, Global};
@@ -42,7 +42,7 @@ pub fn plain(
         return Err(PlainFault::TooLong);
     }
     let calendar = calendar(alloc, year, holidays)?;
-    let mut records = Records::open(alloc, csv)?;
+    let mut records = Records::open(alloc, Sheet::Runs, csv)?;
     let runs = take_records(alloc, &mut records, account, year)?;
     let sums = day_sums(alloc, &runs)?;
     let text = deposits(alloc, year, &sums, &calendar)?;

@@ -4,7 +4,7 @@ ghost use Rattle.std.specs.Prelude.{◌≡◌, ◌≤◌, MatchResult, length};
 ghost use Rattle.std.specs.BTreeMap.{IsOrdered};
 ghost use Rattle.std.specs.Ordering.{nat_cmp};
 ghost use Rattle.ftd_csv.specs.Answers.{run_view};
-ghost use Rattle.ftd_csv.specs.Places.{CanAdvance, number_of, place_of, said_left};
+ghost use Rattle.ftd_csv.specs.Places.{CanAdvance, number_of, run_at, runs_left};
 ghost use Rattle.ftd_cli.specs.Plain.{is_taken, most_runs};
 ghost use Rattle.ftd_cli.specs.Taking.{TakesRun, RefusesRun, TakesRecord, RefusesRecord, TakesAll};
 ghost use Rattle.ftd_cli.specs.Taking.{StopsAtFault};
@@ -56,19 +56,18 @@ fn take_record(
     requires few { length runs.old.entries ≤ most_runs }
     ensures ordered { IsOrdered nat_cmp runs.new }
     ensures takes { MatchResult result
-        (λ _. TakesRecord account.now year runs.old.entries (place_of records.now).1
+        (λ _. TakesRecord account.now year runs.old.entries (run_at records.now)
         runs.new.entries)
         (λ fault. RefusesRecord account.now year (number_of records.now) runs.old.entries
-        (place_of records.now).1 fault) }
+        (run_at records.now) fault) }
 {
-    let record = records.current();
-    match record.content {
+    match records.run() {
         Content::Malformed(field) => Err(PlainFault::Malformed {
-            number: record.number,
+            number: records.number(),
             field,
         }),
-        Content::PayRun(run) if is_taken(&run, account, year) => take_run(runs, &run),
-        Content::PayRun(_) => Ok(()),
+        Content::Entry(run) if is_taken(&run, account, year) => take_run(runs, &run),
+        Content::Entry(_) => Ok(()),
     }
 }
 
@@ -84,8 +83,8 @@ pub fn take_records(
     requires first { number_of records.old ≡ 1 }
     ensures { MatchResult result
         (λ runs. IsOrdered nat_cmp runs
-        × TakesAll account.now year (said_left records.old) runs.entries)
-        (λ fault. StopsAtFault account.now year (said_left records.old) fault) }
+        × TakesAll account.now year (runs_left records.old) runs.entries)
+        (λ fault. StopsAtFault account.now year (runs_left records.old) fault) }
 {
     let mut runs = BTreeMap::new(alloc);
     while records.advance()? {

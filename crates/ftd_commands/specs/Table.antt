@@ -12,6 +12,9 @@ abbrev pub name_text : Name → List ℕ
 name_text name.Plain = codes "plain"
 name_text name.Serve = codes "serve"
 name_text name.Import = codes "import"
+name_text name.ImportAccounts = codes "import-accounts"
+name_text name.ImportReported = codes "import-reported"
+name_text name.ImportPayments = codes "import-payments"
 name_text name.Enrol = codes "enrol"
 name_text name.Calendar = codes "calendar"
 name_text name.Report = codes "report"
@@ -41,7 +44,10 @@ words_of name.Plain = word.Account ∷ word.Year ∷ word.Holidays ∷ []
 words_of name.Serve =
     word.Db ∷ word.Wait ∷ word.Port ∷ word.Connections ∷ word.Idle ∷ word.Silence ∷ word.Duration
     ∷ []
-words_of name.Import = word.Db ∷ word.Wait ∷ word.CsvFile ∷ []
+words_of name.Import = word.Db ∷ word.Wait ∷ word.Check ∷ word.CsvFile ∷ []
+words_of name.ImportAccounts = word.Db ∷ word.Wait ∷ word.Check ∷ word.CsvFile ∷ []
+words_of name.ImportReported = word.Db ∷ word.Wait ∷ word.Check ∷ word.CsvFile ∷ []
+words_of name.ImportPayments = word.Db ∷ word.Wait ∷ word.Check ∷ word.CsvFile ∷ []
 words_of name.Enrol =
     word.Db ∷ word.Wait ∷ word.Account ∷ word.Start ∷ word.Carried ∷ word.Form ∷ []
 words_of name.Calendar = word.Db ∷ word.Wait ∷ word.Year ∷ word.Days ∷ []
@@ -56,7 +62,8 @@ words_of name.Pay =
     word.Db ∷ word.Wait ∷ word.Account ∷ word.Payment ∷ word.Paid ∷ word.For ∷ word.Amount ∷ []
 words_of name.VoidPay = word.Db ∷ word.Wait ∷ word.Account ∷ word.Payment ∷ []
 words_of name.Status = word.Db ∷ word.Wait ∷ word.Account ∷ word.Day ∷ []
-words_of name.Explain = word.Db ∷ word.Wait ∷ word.Account ∷ word.Day ∷ []
+words_of name.Explain =
+    word.Db ∷ word.Wait ∷ word.ExplanationFormat ∷ word.Account ∷ word.Day ∷ []
 words_of name.Due =
     word.Db ∷ word.Wait ∷ word.ListFormat ∷ word.Account ∷ word.Quarter ∷ word.AsOf ∷ []
 words_of name.Agenda =
@@ -81,6 +88,7 @@ word_text word.Idle = codes "idle"
 word_text word.Silence = codes "silence"
 word_text word.Duration = codes "duration"
 word_text word.CsvFile = codes "CSVFILE"
+word_text word.Check = codes "check"
 word_text word.Account = codes "ACCOUNT"
 word_text word.Start = codes "START"
 word_text word.Carried = codes "carried"
@@ -105,6 +113,7 @@ word_text word.To = codes "TO"
 word_text word.Until = codes "UNTIL"
 word_text word.Format = codes "format"
 word_text word.ListFormat = codes "format"
+word_text word.ExplanationFormat = codes "format"
 
 -- a word that stands behind two hyphens
 abbrev pub is_option : Word → Bool
@@ -116,6 +125,7 @@ is_option word.Idle = true
 is_option word.Silence = true
 is_option word.Duration = true
 is_option word.CsvFile = false
+is_option word.Check = true
 is_option word.Account = false
 is_option word.Start = false
 is_option word.Carried = true
@@ -140,6 +150,7 @@ is_option word.To = false
 is_option word.Until = false
 is_option word.Format = true
 is_option word.ListFormat = true
+is_option word.ExplanationFormat = true
 
 -- what the word takes
 abbrev pub takes_of : Word → Takes
@@ -151,6 +162,7 @@ takes_of word.Idle = takes.Idle
 takes_of word.Silence = takes.Silence
 takes_of word.Duration = takes.Duration
 takes_of word.CsvFile = takes.Text
+takes_of word.Check = takes.Nothing
 takes_of word.Account = takes.Text
 takes_of word.Start = takes.Text
 takes_of word.Carried = takes.Nothing
@@ -175,6 +187,7 @@ takes_of word.To = takes.Text
 takes_of word.Until = takes.Optional
 takes_of word.Format = takes.Format
 takes_of word.ListFormat = takes.Format
+takes_of word.ExplanationFormat = takes.Format
 
 -- what takes any number of values
 abbrev pub takes_many : Takes → Bool
@@ -185,7 +198,7 @@ takes_many _ = false
 abbrev pub all_names : List Name
 all_names =
     name.Calendar ∷ name.Enrol ∷ name.Report ∷ name.ReportYear ∷ name.OpenYear ∷ name.Post
-    ∷ name.Import ∷ name.Due
+    ∷ name.ImportAccounts ∷ name.ImportReported ∷ name.Import ∷ name.ImportPayments ∷ name.Due
     ∷ name.Agenda ∷ name.Owed ∷ name.Pay ∷ name.Status ∷ name.Explain ∷ name.ScheduleB
     ∷ name.Accounts ∷ name.Years ∷ name.Reported ∷ name.Holidays ∷ name.Runs ∷ name.Payments ∷ name.Void
     ∷ name.VoidPay ∷ name.AddHoliday ∷ name.Plain ∷ name.Serve ∷ []

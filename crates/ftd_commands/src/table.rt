@@ -5,10 +5,23 @@ ghost use Rattle.ftd_commands.specs.Table.{is_option, name_text, takes_many, tak
 ghost use Rattle.ftd_commands.specs.Table.{words_of};
 
 use Word::{
-    Account, Amount, AsOf, Carried, Connections, CsvFile, Day, Days, Db, Duration, Fit, For, Form,
-    Format, From, Holidays, Idle, ListFormat, Medicare, Paid, Payday, Payment, Port, Quarter, Run,
-    Silence, Ss, Start, To, Until, Wait, Year,
+    Account, Amount, AsOf, Carried, Check, Connections, CsvFile, Day, Days, Db, Duration,
+    ExplanationFormat, Fit, For, Form, Format, From, Holidays, Idle, ListFormat, Medicare, Paid,
+    Payday, Payment, Port, Quarter, Run, Silence, Ss, Start, To, Until, Wait, Year,
 };
+
+// How an import is used, with the header that its file has to have.
+const IMPORT_RUNS: &str = "Example: ftd import --db office.db runs.csv\n\
+    The file's header: employer,run,payday,fit,ss,medicare";
+
+const IMPORT_ACCOUNTS: &str = "Example: ftd import-accounts --db office.db accounts.csv\n\
+    The file's header: employer,first_day,carried,form";
+
+const IMPORT_REPORTED: &str = "Example: ftd import-reported --db office.db totals.csv\n\
+    The file's header: employer,period,amount";
+
+const IMPORT_PAYMENTS: &str = "Example: ftd import-payments --db office.db payments.csv\n\
+    The file's header: employer,payment,paid,for,amount";
 
 /// What a word takes.
 #[derive(Clone, Copy, Debug)]
@@ -43,6 +56,9 @@ pub enum Name {
     Plain,
     Serve,
     Import,
+    ImportAccounts,
+    ImportReported,
+    ImportPayments,
     Enrol,
     Calendar,
     Report,
@@ -78,6 +94,7 @@ pub enum Word {
     Silence,
     Duration,
     CsvFile,
+    Check,
     Account,
     Start,
     Carried,
@@ -102,6 +119,7 @@ pub enum Word {
     Until,
     Format,
     ListFormat,
+    ExplanationFormat,
 }
 
 impl Name {
@@ -113,6 +131,9 @@ impl Name {
             Name::Plain => "plain",
             Name::Serve => "serve",
             Name::Import => "import",
+            Name::ImportAccounts => "import-accounts",
+            Name::ImportReported => "import-reported",
+            Name::ImportPayments => "import-payments",
             Name::Enrol => "enrol",
             Name::Calendar => "calendar",
             Name::Report => "report",
@@ -145,7 +166,10 @@ impl Name {
         match self {
             Name::Plain => &[Account, Year, Holidays],
             Name::Serve => &[Db, Wait, Port, Connections, Idle, Silence, Duration],
-            Name::Import => &[Db, Wait, CsvFile],
+            Name::Import => &[Db, Wait, Check, CsvFile],
+            Name::ImportAccounts => &[Db, Wait, Check, CsvFile],
+            Name::ImportReported => &[Db, Wait, Check, CsvFile],
+            Name::ImportPayments => &[Db, Wait, Check, CsvFile],
             Name::Enrol => &[Db, Wait, Account, Start, Carried, Form],
             Name::Calendar => &[Db, Wait, Year, Days],
             Name::Report => &[Db, Wait, Account, Quarter, Amount],
@@ -156,7 +180,7 @@ impl Name {
             Name::Pay => &[Db, Wait, Account, Payment, Paid, For, Amount],
             Name::VoidPay => &[Db, Wait, Account, Payment],
             Name::Status => &[Db, Wait, Account, Day],
-            Name::Explain => &[Db, Wait, Account, Day],
+            Name::Explain => &[Db, Wait, ExplanationFormat, Account, Day],
             Name::Due => &[Db, Wait, ListFormat, Account, Quarter, AsOf],
             Name::Agenda => &[Db, Wait, Format, From, To, AsOf],
             Name::Owed => &[Db, Wait, Format, AsOf, Until],
@@ -174,9 +198,12 @@ impl Name {
     /// What help says of it, in a line.
     pub fn about<'a>(self) -> &'a str {
         match self {
-            Name::Plain => "Print the deposits of pay runs from standard input; keeps nothing",
+            Name::Plain => "Print the deposits of pay runs from CSV; keeps nothing",
             Name::Serve => "Answer HTTP requests on 127.0.0.1",
             Name::Import => "Post the pay runs of a CSV file",
+            Name::ImportAccounts => "Enrol the accounts of a CSV file",
+            Name::ImportReported => "Report the lookback totals of a CSV file",
+            Name::ImportPayments => "Record the deposits of a CSV file that were paid",
             Name::Enrol => "Enrol an employer's account",
             Name::Calendar => "Give the legal holidays of a year",
             Name::Report => "Report the tax of a lookback quarter, as on its Form 941",
@@ -187,8 +214,8 @@ impl Name {
             Name::Pay => "Record a deposit that was paid",
             Name::VoidPay => "Void a recorded deposit",
             Name::Status => "Say whether an account is a monthly or a semiweekly depositor",
-            Name::Explain => "Say why the deposit for a day is so: its days, amount and due date",
-            Name::Due => "List the deposits of a quarter: how much, by which day, paid or not",
+            Name::Explain => "Say why the deposit for a day is so, and due when it is",
+            Name::Due => "List the deposits of a quarter: how much, by when, if paid",
             Name::Agenda => "List what is due between two days, over all accounts",
             Name::Owed => "List what is due and not paid, over all accounts",
             Name::ScheduleB => "List the liability of a quarter by day, as for Schedule B",
@@ -198,7 +225,7 @@ impl Name {
             Name::Reported => "List the totals that were reported for an account",
             Name::Holidays => "List the legal holidays of a year",
             Name::Runs => "List the pay runs of a quarter, void ones too",
-            Name::Payments => "List the deposits recorded for a quarter, and what each counts for",
+            Name::Payments => "List the deposits paid for a quarter, with what each is for",
         }
     }
 
@@ -207,7 +234,10 @@ impl Name {
         match self {
             Name::Plain => "Example: ftd plain elm 2024 2024-05-27 2024-07-04 < runs.csv",
             Name::Serve => "Example: ftd serve --db office.db --port 8080 --connections 1000",
-            Name::Import => "Example: ftd import --db office.db runs.csv",
+            Name::Import => IMPORT_RUNS,
+            Name::ImportAccounts => IMPORT_ACCOUNTS,
+            Name::ImportReported => IMPORT_REPORTED,
+            Name::ImportPayments => IMPORT_PAYMENTS,
             Name::Enrol => "Example: ftd enrol --db office.db elm 2024-05-01",
             Name::Calendar => "Example: ftd calendar --db office.db 2024 2024-01-01 2024-01-15",
             Name::Report => "Example: ftd report --db office.db elm 2022Q3 12500.00",
@@ -252,6 +282,7 @@ impl Word {
             Word::Silence => "silence",
             Word::Duration => "duration",
             Word::CsvFile => "CSVFILE",
+            Word::Check => "check",
             Word::Account => "ACCOUNT",
             Word::Start => "START",
             Word::Carried => "carried",
@@ -276,6 +307,7 @@ impl Word {
             Word::Until => "UNTIL",
             Word::Format => "format",
             Word::ListFormat => "format",
+            Word::ExplanationFormat => "format",
         }
     }
 
@@ -292,10 +324,12 @@ impl Word {
                 | Word::Idle
                 | Word::Silence
                 | Word::Duration
+                | Word::Check
                 | Word::Carried
                 | Word::Form
                 | Word::Format
                 | Word::ListFormat
+                | Word::ExplanationFormat
         )
     }
 
@@ -312,6 +346,7 @@ impl Word {
             Word::Silence => Takes::Silence,
             Word::Duration => Takes::Duration,
             Word::CsvFile => Takes::Text,
+            Word::Check => Takes::Nothing,
             Word::Account => Takes::Text,
             Word::Start => Takes::Text,
             Word::Carried => Takes::Nothing,
@@ -336,6 +371,7 @@ impl Word {
             Word::Until => Takes::Optional,
             Word::Format => Takes::Format,
             Word::ListFormat => Takes::Format,
+            Word::ExplanationFormat => Takes::Format,
         }
     }
 
@@ -351,7 +387,7 @@ impl Word {
         match self {
             Word::Db => "FILE",
             Word::Form => "FORM",
-            Word::Format | Word::ListFormat => "FORMAT",
+            Word::Format | Word::ListFormat | Word::ExplanationFormat => "FORMAT",
             Word::Port | Word::Connections => "N",
             Word::Wait | Word::Idle | Word::Silence | Word::Duration => "SECONDS",
             word => word.text(),
@@ -368,9 +404,8 @@ impl Word {
             Word::Idle => "How long a client may be idle between two requests, 1 to 3600",
             Word::Silence => "How long a read or a write waits for the client, 1 to 3600",
             Word::Duration => "How long one connection is served in all, 1 to 3600",
-            Word::CsvFile => {
-                "CSV under the header employer,run,payday,fit,ss,medicare; - is standard input"
-            }
+            Word::CsvFile => "The CSV file, under the header below; - is standard input",
+            Word::Check => "Say what the import would answer, and change nothing",
             Word::Account =>
                 "The account's name: a lower-case letter, then letters, digits or hyphens",
             Word::Start => "The employer's first day, YYYY-MM-DD",
@@ -396,19 +431,23 @@ impl Word {
             Word::Until => "The last due date, YYYY-MM-DD; a week after ASOF if it is left out",
             Word::Format => "The format of the list: text, csv, json or ics",
             Word::ListFormat => "The format of the list: text, csv or json",
+            Word::ExplanationFormat => "The format of the answer: text or json",
         }
     }
 }
 
 /// The subcommands, as help lists them: in the order in which an employer needs them.
-pub const NAMES: [Name; 25] = [
+pub const NAMES: [Name; 28] = [
     Name::Calendar,
     Name::Enrol,
     Name::Report,
     Name::ReportYear,
     Name::OpenYear,
     Name::Post,
+    Name::ImportAccounts,
+    Name::ImportReported,
     Name::Import,
+    Name::ImportPayments,
     Name::Due,
     Name::Agenda,
     Name::Owed,

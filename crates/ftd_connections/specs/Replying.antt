@@ -20,8 +20,7 @@ use Rattle.ftd_machine.specs.declared.replies.Reply.{Reply}
 use Rattle.ftd_machine.specs.declared.replies.Reply.TheVariants as reply
 use Rattle.ftd_formats.specs.Formats.{agenda_as, b_as, due_as, list_format, owed_as}
 use Rattle.ftd_formats.specs.declared.formats.Format.{Format}
-use Rattle.ftd_formats.specs.declared.formats.ListFormat.TheVariants.{Text}
-use Rattle.ftd_listings.specs.Explanations.{explanation_told}
+use Rattle.ftd_listings.specs.ExplanationForms.{explanation_as}
 use Rattle.ftd_listings.specs.KeptForms.{kept_as}
 use Rattle.ftd_rules.specs.declared.DaySum.{DaySum}
 use Rattle.ftd_rules.specs.declared.verdict.DueRow.{DueRow}
@@ -115,18 +114,19 @@ kept_said format (Some (Kept asked)) rows =
     told (list_format format) (kept_as (list_format format) asked rows)
 kept_said format None rows = bare status.InternalServerError
 
--- the response to why an obligation is so that a request asked for: its text
-abbrev pub why_said : Option Question → Option Explanation → Said
-why_said (Some (Status account day)) explained = bare status.InternalServerError
-why_said (Some (Explain account day)) explained = told Text (explanation_told account day explained)
-why_said (Some (DueList account quarter as_of)) explained = bare status.InternalServerError
-why_said (Some (ScheduleB account quarter)) explained = bare status.InternalServerError
-why_said (Some (Agenda from to as_of)) explained = bare status.InternalServerError
-why_said (Some (Owed until as_of)) explained = bare status.InternalServerError
-why_said (Some (Kept asked)) explained = bare status.InternalServerError
-why_said None explained = bare status.InternalServerError
+-- the response to why an obligation is so that a request asked for, in a format
+abbrev pub why_said : Format → Option Question → Option Explanation → Said
+why_said format (Some (Status account day)) explained = bare status.InternalServerError
+why_said format (Some (Explain account day)) explained =
+    formatted format (explanation_as format account day explained)
+why_said format (Some (DueList account quarter as_of)) explained = bare status.InternalServerError
+why_said format (Some (ScheduleB account quarter)) explained = bare status.InternalServerError
+why_said format (Some (Agenda from to as_of)) explained = bare status.InternalServerError
+why_said format (Some (Owed until as_of)) explained = bare status.InternalServerError
+why_said format (Some (Kept asked)) explained = bare status.InternalServerError
+why_said format None explained = bare status.InternalServerError
 
--- The response to a reply, in a format where it is a list. One that does not fit its request, which
+-- The response to a reply, in a format where it has several. One that does not fit its request, which
 -- the desk does not give, is a fault of the server.
 abbrev pub replied : Format → Request → Reply → Said
 replied format request reply.Done = json status.Okay (codes "{\"reply\":\"done\"}")
@@ -134,7 +134,7 @@ replied format request reply.Already = json status.Okay (codes "{\"reply\":\"alr
 replied format request (reply.Posted from to removed added) =
     json status.Okay (posted_text from to removed added)
 replied format request (reply.Status kind reason) = scheduled (question_of request) kind reason
-replied format request (reply.Explained explained) = why_said (question_of request) explained
+replied format request (reply.Explained explained) = why_said format (question_of request) explained
 replied format request (reply.Due rows) = listed format (question_of request) rows
 replied format request (reply.Days sums) = summed format (question_of request) sums
 replied format request (reply.Agenda rows) = gathered format (question_of request) rows

@@ -9,7 +9,7 @@ ghost use Rattle.ftd_formats.specs.Formats.{agenda_as, b_as, due_as, owed_as};
 ghost use Rattle.ftd_reports.specs.DueLists.{due_text};
 ghost use Rattle.ftd_connections.specs.Refusals.{refused};
 ghost use Rattle.ftd_connections.specs.Replying.{Responds, answered, replied, scheduled, listed};
-ghost use Rattle.ftd_listings.specs.Explanations.{explanation_told};
+ghost use Rattle.ftd_listings.specs.ExplanationForms.{explanation_as};
 ghost use Rattle.ftd_listings.specs.KeptForms.{kept_as};
 ghost use Rattle.ftd_connections.specs.Replying.{summed, gathered, kept_said, schedule_text, why_said};
 ghost use Rattle.ftd_connections.specs.Replying.{kind_text, reason_text, posted_text};
@@ -21,7 +21,7 @@ use ftd_days::{Day, Quarter};
 use ftd_formats::{
     Format, ListFormat, write_agenda_as, write_b_as, write_due_csv, write_due_json, write_owed_as,
 };
-use ftd_listings::{write_explanation, write_kept_as};
+use ftd_listings::{write_explanation_as, write_kept_as};
 use ftd_machine::{
     AgendaRow, Answer, Explanation, Kept, KeptRows, Question, Reason, Reply, Request,
     are_sums_bounded,
@@ -100,7 +100,7 @@ fn replied(
             added,
         } => posted(alloc, *from, *to, *removed, *added),
         Reply::Status { kind, reason } => scheduled(alloc, request, *kind, *reason),
-        Reply::Explained(explained) => why_said(alloc, request, explained),
+        Reply::Explained(explained) => why_said(alloc, format, request, explained),
         Reply::Due(rows) => listed(alloc, format, request, rows.as_slice()),
         Reply::Days(sums) => summed(alloc, format, request, sums.as_slice()),
         Reply::Agenda(rows) => gathered(alloc, format, request, rows.as_slice()),
@@ -478,19 +478,20 @@ fn kept_text(
     }
 }
 
-/// The response to why an obligation is so.
+/// The response to why an obligation is so that a request asked for, in a format.
 fn why_said(
     alloc: Global,
+    format: Format,
     request: &Request,
     explained: &Option<Explanation>,
 ) -> Result<Response, AllocError>
     ensures { IfOk result
-        (λ response. said_of response ≡ why_said (question_of request.now) explained.now) }
+        (λ response. said_of response ≡ why_said format (question_of request.now) explained.now) }
 {
     match request.question() {
         Some(Question::Explain { account, day }) => {
-            let text = why_text(alloc, account.as_str(), *day, explained)?;
-            Ok(told(ListFormat::Text, text))
+            let text = why_text(alloc, format, account.as_str(), *day, explained)?;
+            Ok(formatted(format, text))
         }
         Some(
             Question::Status { .. }
@@ -504,17 +505,19 @@ fn why_said(
     }
 }
 
-/// The text of why an obligation is so.
+/// The text of why an obligation is so, in a format.
 fn why_text(
     alloc: Global,
+    format: Format,
     account: &str,
     day: Day,
     explained: &Option<Explanation>,
 ) -> Result<Vec<u8>, AllocError>
-    ensures { IfOk result (λ text. text.items ≡ explanation_told account.now day explained.now) }
+    ensures { IfOk result
+        (λ text. text.items ≡ explanation_as format account.now day explained.now) }
 {
     let mut port = Port::new(Vec::new(alloc));
-    match write_explanation(account, day, explained, &mut port) {
+    match write_explanation_as(format, account, day, explained, &mut port) {
         Ok(()) => Ok(port.into_inner()),
         Err(_) => Err(AllocError),
     }

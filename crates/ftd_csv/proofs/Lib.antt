@@ -1,4 +1,6 @@
 pub mod AllRows
+pub mod Headers
+pub mod Left
 pub mod Names
 pub mod ReadRows
-pub mod Said
+pub mod RowCounts

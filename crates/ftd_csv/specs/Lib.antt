@@ -1,3 +1,4 @@
+pub mod Sheets
 pub mod Fields
 pub mod Records
 pub mod Answers

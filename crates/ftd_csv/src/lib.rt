@@ -1,10 +1,14 @@
-//! Pay runs out of CSV.
+//! What an office enters as CSV: pay runs, accounts, reported totals and payments.
 #![tactic(auto)]
 
+mod entries;
 mod fields;
 mod reading;
-mod record;
 mod rows;
+mod sheets;
 
-pub use crate::reading::{MOST_BYTES, Records};
-pub use crate::record::{Content, EmployerRun, Record, RecordFault};
+pub use crate::entries::{
+    Content, EmployerAccount, EmployerPayment, EmployerRun, EmployerTotal, Period, SheetEntry,
+};
+pub use crate::reading::{MOST_BYTES, RecordFault, Records};
+pub use crate::sheets::Sheet;

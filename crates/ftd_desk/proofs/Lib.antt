@@ -5,6 +5,7 @@ mod Handling
 pub mod Running
 mod Booking
 mod Together
+pub mod Tried
 mod Handled
 pub mod Showing
 mod Opened

@@ -2,6 +2,7 @@ pub mod Kept
 pub mod Counted
 pub mod Desks
 pub mod Opened
+pub mod Trials
 pub mod Words
 pub mod Telling
 pub mod Shown

@@ -1,6 +1,7 @@
 //! How far an import is, as it is told.
 
 use crate::desks::{ASH, desk};
+use ftd_csv::Sheet;
 use ftd_desk::Desk;
 use ftd_import::{Progress, import};
 use sqlite::MemStore;
@@ -38,7 +39,7 @@ fn tells(
         counts: Vec::new(alloc),
         ends: 0,
     };
-    let _ = import(alloc, desk, text.as_bytes(), &mut told);
+    let _ = import(alloc, desk, Sheet::Runs, text.as_bytes(), &mut told);
     assert_eq!(rt; told.counts.as_slice(), counts);
     assert_eq!(rt; told.ends, ends);
     Ok(())

@@ -20,8 +20,11 @@ use Rattle.ftd_days.proofs.Spelled.{printed_spells}
 use Rattle.ftd_days.proofs.Spelling.{spelled_cents}
 use Rattle.ftd_rules.specs.Accounts.{is_account_name}
 use Rattle.ftd_rules.specs.Lists.{Has}
-use Rattle.ftd_csv.specs.Fields.{run_number_of}
-use Rattle.ftd_csv.specs.Records.{HasHeader, header_row, records_of, rows_of, said_of}
+use Rattle.csv.specs.Records.{field_at}
+use Rattle.ftd_csv.specs.Fields.{name_of, run_number_of}
+use Rattle.ftd_csv.specs.Records.{HasHeader, entry_in, records_of, rows_of, run_in}
+use Rattle.ftd_csv.specs.Sheets.{header_row}
+use Rattle.ftd_csv.specs.declared.sheets.Sheet.TheVariants.{Runs}
 use Rattle.ftd_formats.specs.Fields.{record_told}
 use Rattle.ftd_listings.specs.KeptForms.{live_record, run_record, runs_csv, records_head}
 use Rattle.ftd_machine.specs.Limits.{is_amount}
@@ -112,8 +115,8 @@ module _ (account : List ℕ) (name : is_account_name account ≡ true) (x : Kep
       spelled_cents (cents_text amount) amount (printed_spells amount (omega arith))
 
   -- and is read as the run
-  pub said : said_of (fields_of account x) ≡ said_as account x
-  unfolding said_of
+  pub said : entry_in Runs (fields_of account x) ≡ said_as account x
+  unfolding run_in name_of field_at
   said =
       let a = amounts_fit.0 in
       let b = amounts_fit.1 in
@@ -157,7 +160,7 @@ module _ (account : List ℕ) (name : is_account_name account ≡ true) where
       ]
 
   says : (listed : List KeptRun) → Fit listed
-      → map said_of (live_rows account listed) ≡ map (said_as account) (filter is_live listed)
+      → map (entry_in Runs) (live_rows account listed) ≡ map (said_as account) (filter is_live listed)
   says [] fit = refl
   says (x ∷ listed) fit =
       let rest = says listed (λ y has. fit y (inr has)) in
@@ -166,14 +169,14 @@ module _ (account : List ℕ) (name : is_account_name account ≡ true) where
         | inr lives ↦ rw (lives, rest, said account name x (fit x (inl refl))) refl
       ]
 
-  header_text : row_text default_writer header_row ≡ records_head
+  header_text : row_text default_writer (header_row Runs) ≡ records_head
   header_text =
-      let own : AreOwn header_row = (refl, (refl, (refl, (refl, (refl, (refl, tt)))))) in
+      let own : AreOwn (header_row Runs) = (refl, (refl, (refl, (refl, (refl, (refl, tt)))))) in
       row_is (codes "employer") (codes "run")
       (codes "payday" ∷ codes "fit" ∷ codes "ss" ∷ codes "medicare" ∷ []) own
 
   whole : (listed : List KeptRun) → Fit listed
-      → rows_text (header_row ∷ live_rows account listed) ≡ runs_csv account listed
+      → rows_text ((header_row Runs) ∷ live_rows account listed) ≡ runs_csv account listed
   unfolding rows_text runs_csv
   whole listed fit =
       ap (λ (text : List ℕ). text ++ rows_text (live_rows account listed)) header_text
@@ -184,16 +187,16 @@ module _ (account : List ℕ) (name : is_account_name account ≡ true) where
   no_mark listed = refl
 
   pub reread : (listed : List KeptRun) → Fit listed
-      → rows_of (runs_csv account listed) ≡ header_row ∷ live_rows account listed
+      → rows_of (runs_csv account listed) ≡ (header_row Runs) ∷ live_rows account listed
   unfolding rows_of
   reread listed fit =
       ap (records default_config) (no_mark listed)
       ∙ ap (records default_config) (sym (whole listed fit))
-      ∙ read_written (header_row ∷ live_rows account listed) (are_rows listed)
+      ∙ read_written ((header_row Runs) ∷ live_rows account listed) (are_rows listed)
 
-  pub has_header : (listed : List KeptRun) → Fit listed → HasHeader (runs_csv account listed)
+  pub has_header : (listed : List KeptRun) → Fit listed → HasHeader Runs (runs_csv account listed)
   has_header listed fit = rw (reread listed fit) refl
 
   pub records_are : (listed : List KeptRun) → Fit listed
-      → records_of (runs_csv account listed) ≡ map (said_as account) (filter is_live listed)
+      → records_of Runs (runs_csv account listed) ≡ map (said_as account) (filter is_live listed)
   records_are listed fit = rw (reread listed fit) (says listed fit)

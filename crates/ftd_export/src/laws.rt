@@ -4,6 +4,7 @@ ghost use Rattle.std.specs.Prelude.{◌≡◌, ℕ, List, true, filter, map};
 ghost use Rattle.ftd_rules.specs.Accounts.{is_account_name};
 ghost use Rattle.ftd_rules.specs.Lists.{Has};
 ghost use Rattle.ftd_csv.specs.Records.{HasHeader, records_of};
+ghost use Rattle.ftd_csv.specs.declared.sheets.Sheet.TheVariants.{Runs};
 ghost use Rattle.ftd_listings.specs.KeptForms.{runs_csv};
 ghost use Rattle.ftd_machine.specs.Kept.{told_rows};
 ghost use Rattle.ftd_machine.specs.Runs.{IsReached};
@@ -21,11 +22,11 @@ ghost use Rattle.ftd_export.specs.Exports.{IsPosted, is_live, said_as};
 /// amounts.
 pub fn exported_runs_are_read_again()
     ensures header { (account : List ℕ) (listed : List KeptRun) → is_account_name account ≡ true
-        → ((x : KeptRun) → Has listed x → IsPosted x) → HasHeader (runs_csv account listed) }
+        → ((x : KeptRun) → Has listed x → IsPosted x) → HasHeader Runs (runs_csv account listed) }
     ensures records { (account : List ℕ) (listed : List KeptRun)
         → is_account_name account ≡ true
         → ((x : KeptRun) → Has listed x → IsPosted x)
-        → records_of (runs_csv account listed) ≡ map (said_as account) (filter is_live listed) }
+        → records_of Runs (runs_csv account listed) ≡ map (said_as account) (filter is_live listed) }
 {}
 
 /// What a desk that requests lead to answers of the runs of an account's quarter, told as CSV, is
@@ -35,6 +36,6 @@ pub fn exported_runs_are_imported()
         → IsReached s
         → Step s (Question (question.Kept (kept.Runs account quarter)))
         (told_rows (rows.Runs listed)) next
-        → HasHeader (runs_csv account listed)
-        × (records_of (runs_csv account listed) ≡ map (said_as account) (filter is_live listed)) }
+        → HasHeader Runs (runs_csv account listed)
+        × (records_of Runs (runs_csv account listed) ≡ map (said_as account) (filter is_live listed)) }
 {}

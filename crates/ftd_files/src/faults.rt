@@ -15,6 +15,9 @@ pub enum ProgramFault {
     /// The database file can't be opened, made or read.
     #[error("failed File")]
     File,
+    /// The database file is not there, and is not to be made.
+    #[error("failed File")]
+    Missing,
     /// The input can't be read, and why.
     #[error("failed File")]
     Input(ErrorKind),

@@ -13,6 +13,7 @@ pub fn tell_fault(rt: &HostRuntime, fault: ProgramFault, db: &str, input: &str) 
     match fault {
         ProgramFault::Input(kind) => tell_file(rt, input, reason(kind)),
         ProgramFault::File => tell_file(rt, db, file_reason(rt, db)),
+        ProgramFault::Missing => tell_file(rt, db, reason(ErrorKind::NotFound)),
         ProgramFault::Busy => tell_file(rt, db, "--wait SECONDS waits until it is closed"),
         ProgramFault::Corrupt => tell_file(
             rt,

@@ -15,7 +15,7 @@ pub fn words(rt: &HostRuntime) -> Result<Vec<String>, ProgramFault> {
     }
 }
 
-/// As many bytes as are looked at: one more than a text of pay runs may have, by which a longer one
+/// As many bytes as are looked at: one more than a text of CSV may have, by which a longer one
 /// is known.
 fn most_input() -> u64 {
     u64::try_from(MOST_BYTES)

@@ -12,7 +12,9 @@ mod schedules_b;
 pub use crate::agendas::{write_agenda_csv, write_agenda_json};
 pub use crate::calendars::write_agenda_calendar;
 pub use crate::due_lists::{write_due_csv, write_due_json};
-pub use crate::fields::{Value, write_list, write_list_with, write_object, write_record};
+pub use crate::fields::{
+    Value, write_array, write_list, write_list_with, write_object, write_record,
+};
 pub use crate::formats::{
     Format, ListFormat, write_agenda_as, write_b_as, write_due_as, write_owed_as,
 };

@@ -1,33 +1,81 @@
 //! The fields of a record: their names, and what is asked for in each.
 
 ghost use Rattle.std.specs.Prelude.{◌≡◌};
-ghost use Rattle.ftd_hints.specs.Fields.{asked_in, field_name};
+ghost use Rattle.ftd_hints.specs.Fields.{amount_asked, asked_by, asked_in, day_asked, field_name};
+ghost use Rattle.ftd_hints.specs.Fields.{name_asked, number_asked};
 
-/// The name of a field by its number, 1 to 6.
-pub fn field_name(field: u8) -> &'static [u8]
-    ensures { result.now ≡ field_name field }
+use ftd_csv::Sheet;
+
+/// What is asked for in the field of an account name, of a number, of a day and of an amount.
+fn name_asked() -> &'static [u8]
+    ensures { result.now ≡ name_asked }
 {
-    match field {
-        1 => b"employer",
-        2 => b"run",
-        3 => b"payday",
-        4 => b"fit",
-        5 => b"ss",
-        _ => b"medicare",
+    b"an account name: 1 to 20 bytes, a lower-case letter, \
+      then lower-case letters, digits or hyphens"
+}
+
+fn number_asked() -> &'static [u8]
+    ensures { result.now ≡ number_asked }
+{
+    b"a number of 1 to 999999999"
+}
+
+fn day_asked() -> &'static [u8]
+    ensures { result.now ≡ day_asked }
+{
+    b"a day of 1900 to 2199 as 2024-05-27"
+}
+
+fn amount_asked() -> &'static [u8]
+    ensures { result.now ≡ amount_asked }
+{
+    b"an amount of at most 999999999.99 as 1234.56"
+}
+
+/// The name of a field of a sheet by its number, which counts from 1. Nothing where its records
+/// have no such field.
+pub fn field_name(sheet: Sheet, field: u8) -> &'static [u8]
+    ensures { result.now ≡ field_name sheet field }
+{
+    match sheet.column(field) {
+        Some(name) => name,
+        None => b"",
     }
 }
 
-/// What is asked for in a field by its number, 1 to 6.
-pub fn asked_in(field: u8) -> &'static [u8]
-    ensures { result.now ≡ asked_in field }
+/// What is asked for in a field behind the first.
+fn asked_by(sheet: Sheet, field: u8) -> &'static [u8]
+    ensures { result.now ≡ asked_by sheet field }
 {
-    match field {
-        1 => {
-            b"an account name: 1 to 20 bytes, a lower-case letter, \
-              then lower-case letters, digits or hyphens"
-        }
-        2 => b"a number of 1 to 999999999",
-        3 => b"a day of 1900 to 2199 as 2024-05-27",
-        _ => b"an amount of at most 999999999.99 as 1234.56",
+    match sheet {
+        Sheet::Runs => match field {
+            2 => number_asked(),
+            3 => day_asked(),
+            _ => amount_asked(),
+        },
+        Sheet::Accounts => match field {
+            2 => day_asked(),
+            3 => b"yes or no",
+            _ => b"941 or 943",
+        },
+        Sheet::Totals => match field {
+            2 => b"a quarter as 2024Q2, or a year as 2024",
+            _ => amount_asked(),
+        },
+        Sheet::Payments => match field {
+            2 => number_asked(),
+            3 | 4 => day_asked(),
+            _ => amount_asked(),
+        },
     }
+}
+
+/// What is asked for in a field of a sheet by its number, which counts from 1.
+pub fn asked_in(sheet: Sheet, field: u8) -> &'static [u8]
+    ensures { result.now ≡ asked_in sheet field }
+{
+    if field == 1 {
+        return name_asked();
+    }
+    asked_by(sheet, field)
 }

@@ -5,38 +5,49 @@ ghost use Rattle.std.specs.List.{position_or_len, prefix_len};
 ghost use Rattle.std.specs.Io.KnownBytes.{Appends};
 ghost use Rattle.csv.specs.Reading.{strip_bom};
 ghost use Rattle.ftd_ports.specs.Writing.{WritesPrefix};
-ghost use Rattle.ftd_hints.specs.Headers.{first_line, from_line, header_hint, is_line_end};
+ghost use Rattle.ftd_hints.specs.Headers.{first_line, from_line, header_hint, header_text};
+ghost use Rattle.ftd_hints.specs.Headers.{is_line_end};
 
 use crate::shown::{MOST_SHOWN, show};
-use ftd_ports::{Target, WriteFault, write_all, write_pieces};
+use ftd_csv::Sheet;
+use ftd_ports::{Target, WriteFault, write_pieces};
 
-/// Writes the hint of a text whose first record is not the header: which header is asked for, and
-/// the first line of the text that is not empty, or that the text is empty. It takes no memory but
-/// what the target takes. Where the target fails, a prefix of the hint was written, and it fails
-/// nowhere else.
-pub fn write_header_hint<W: Target>(text: &[u8], target: &mut W) -> Result<(), WriteFault>
+/// The header of a sheet, as it is written.
+fn header_text(sheet: Sheet) -> &'static [u8]
+    ensures { result.now ≡ header_text sheet }
+{
+    match sheet {
+        Sheet::Runs => b"employer,run,payday,fit,ss,medicare",
+        Sheet::Accounts => b"employer,first_day,carried,form",
+        Sheet::Totals => b"employer,period,amount",
+        Sheet::Payments => b"employer,payment,paid,for,amount",
+    }
+}
+
+/// Writes the hint of a text whose first record is not the header of the sheet: which header is
+/// asked for, and the first line of the text that is not empty, or that the text is empty. It takes
+/// no memory but what the target takes. Where the target fails, a prefix of the hint was written,
+/// and it fails nowhere else.
+pub fn write_header_hint<W: Target>(
+    sheet: Sheet,
+    text: &[u8],
+    target: &mut W,
+) -> Result<(), WriteFault>
     ensures ok { OnOk result
-        (Appends (W.taken target.old) (W.taken target.new) (header_hint text.now)) }
+        (Appends (W.taken target.old) (W.taken target.new) (header_hint sheet text.now)) }
     ensures err { OnErr result
-        (WritesPrefix (W.taken target.old) (W.taken target.new) (header_hint text.now)) }
+        (WritesPrefix (W.taken target.old) (W.taken target.new) (header_hint sheet text.now)) }
     ensures fault { OnErr result (W.failed target.new ≡ true) }
 {
+    let header = header_text(sheet);
     let line = first_line(text);
+    let (before, after) = (b"hint: the header is ", b"\n");
     if line.is_empty() {
-        return write_all(
-            target,
-            b"hint: the header is employer,run,payday,fit,ss,medicare, and the text is empty\n",
-        );
+        return write_pieces(target, &[before, header, b", and the text is empty", after]);
     }
     let mut buffer = [0; MOST_SHOWN];
-    write_pieces(
-        target,
-        &[
-            b"hint: the header is employer,run,payday,fit,ss,medicare, and not ",
-            show(line, &mut buffer),
-            b"\n",
-        ],
-    )
+    let shown = show(line, &mut buffer);
+    write_pieces(target, &[before, header, b", and not ", shown, after])
 }
 
 /// The first line of the text that is not empty, without a byte order mark at the text's start, and

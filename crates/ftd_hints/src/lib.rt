@@ -1,4 +1,4 @@
-//! Hints: lines that say what is wrong with a text of pay runs, and what is asked for.
+//! Hints: lines that say what is wrong with a text of CSV, and what is asked for.
 #![tactic(auto)]
 
 mod fields;

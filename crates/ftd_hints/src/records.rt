@@ -3,15 +3,15 @@
 ghost use Rattle.std.specs.Prelude.{◌≡◌, true, Err, OnOk, OnErr};
 ghost use Rattle.std.specs.Io.KnownBytes.{Appends};
 ghost use Rattle.ftd_csv.specs.Fields.{numbered_field};
-ghost use Rattle.ftd_csv.specs.Places.{CanAdvance, fields_at, number_of};
+ghost use Rattle.ftd_csv.specs.Places.{CanAdvance, fields_at, number_of, sheet_of};
 ghost use Rattle.ftd_ports.specs.Writing.{WritesPrefix};
-ghost use Rattle.ftd_hints.specs.Hints.{and_not_six, field_hint, field_text, record_hints};
+ghost use Rattle.ftd_hints.specs.Hints.{field_hint, field_text, fields_text, record_hints};
 ghost use Rattle.ftd_hints.specs.Hints.{text_hint, width_hint};
 ghost use Rattle.ftd_hints.specs.Places.{hints_left};
 
 use crate::fields::{asked_in, field_name};
 use crate::shown::{MOST_SHOWN, show};
-use ftd_csv::{Content, RecordFault, Records};
+use ftd_csv::{Content, RecordFault, Records, Sheet};
 use ftd_ports::{Target, WriteFault, write_pieces};
 use itoa::Buffer;
 use std::alloc::{AllocError, Global};
@@ -50,24 +50,25 @@ impl From<WriteFault> for HintFault {
     }
 }
 
-/// Writes the hints of the first malformed records of a text of pay runs, of as many at most as
+/// Writes the hints of the first malformed records of a text of the sheet, of as many at most as
 /// `most` says: for each a line with what its least bad field says and what is asked for there, or
-/// with how many fields it has, where these are not six. Nothing is written where the text has more
+/// with how many fields it has, where the header has more or fewer. Nothing is written where the text has more
 /// than 16 MiB or no header. It reads the records again, and beside the text it holds one of them.
 /// Where there is no memory, or the target fails, a prefix of the hints was written.
 pub fn write_record_hints<W: Target>(
     alloc: Global,
+    sheet: Sheet,
     text: &[u8],
     most: usize,
     target: &mut W,
 ) -> Result<(), HintFault>
     ensures ok { OnOk result
-        (Appends (W.taken target.old) (W.taken target.new) (record_hints most text.now)) }
+        (Appends (W.taken target.old) (W.taken target.new) (record_hints sheet most text.now)) }
     ensures err { OnErr result
-        (WritesPrefix (W.taken target.old) (W.taken target.new) (record_hints most text.now)) }
+        (WritesPrefix (W.taken target.old) (W.taken target.new) (record_hints sheet most text.now)) }
     ensures fault { result ≡ Err HintFault.Write → W.failed target.new ≡ true }
 {
-    match Records::open(alloc, text) {
+    match Records::open(alloc, sheet, text) {
         Ok(records) => write_hints_of(records, most, target),
         Err(RecordFault::BadHeader) => Ok(()),
         Err(RecordFault::TooLong) => Ok(()),
@@ -90,7 +91,7 @@ fn write_hints_of<W: Target>(
 {
     let mut left = most;
     while left > 0 && records.advance()? {
-        if let Content::Malformed(field) = records.current().content {
+        if let Content::Malformed(field) = records.entry() {
             write_hint(&records, field, target)?;
             left -= 1;
         }
@@ -102,43 +103,51 @@ fn write_hints_of<W: Target>(
 fn write_hint<W: Target>(records: &Records<'_>, field: u8, target: &mut W) -> Result<(), WriteFault>
     ensures ok { OnOk result
         (Appends (W.taken target.old) (W.taken target.new)
-        (text_hint (number_of records.now) (fields_at records.now) field
+        (text_hint (sheet_of records.now) (number_of records.now) (fields_at records.now) field
         (numbered_field (fields_at records.now) field))) }
     ensures err { OnErr result
         (WritesPrefix (W.taken target.old) (W.taken target.new)
-        (text_hint (number_of records.now) (fields_at records.now) field
+        (text_hint (sheet_of records.now) (number_of records.now) (fields_at records.now) field
         (numbered_field (fields_at records.now) field))) }
     ensures fault { OnErr result (W.failed target.new ≡ true) }
 {
-    let number = records.current().number;
+    let (sheet, number) = (records.sheet(), records.number());
     match records.field(field) {
-        None => write_width_hint(number, records.width(), target),
-        Some(text) => write_field_hint(number, field, text, target),
+        None => write_width_hint(sheet, number, records.width(), target),
+        Some(text) => write_field_hint(sheet, number, field, text, target),
     }
 }
 
-/// The end of the hint of a record that has so many fields.
-fn and_not_six(width: usize) -> &'static [u8]
-    ensures { result.now ≡ and_not_six width }
+/// What follows the number of fields that a record has.
+fn fields_text(width: usize) -> &'static [u8]
+    ensures { result.now ≡ fields_text width }
 {
     if width == 1 {
-        b" field, and not 6\n"
+        b" field, and not "
     } else {
-        b" fields, and not 6\n"
+        b" fields, and not "
     }
 }
 
-/// Writes the hint of a record that has other than six fields.
-fn write_width_hint<W: Target>(number: u32, width: usize, target: &mut W) -> Result<(), WriteFault>
+/// Writes the hint of a record that has more fields than the header, or fewer.
+fn write_width_hint<W: Target>(
+    sheet: Sheet,
+    number: u32,
+    width: usize,
+    target: &mut W,
+) -> Result<(), WriteFault>
     ensures ok { OnOk result
-        (Appends (W.taken target.old) (W.taken target.new) (width_hint number width)) }
+        (Appends (W.taken target.old) (W.taken target.new) (width_hint sheet number width)) }
     ensures err { OnErr result
-        (WritesPrefix (W.taken target.old) (W.taken target.new) (width_hint number width)) }
+        (WritesPrefix (W.taken target.old) (W.taken target.new)
+        (width_hint sheet number width)) }
     ensures fault { OnErr result (W.failed target.new ≡ true) }
 {
     let (mut number_digits, mut width_digits) = (Buffer::new(), Buffer::new());
+    let mut asked_digits = Buffer::new();
     let number = number_digits.format(number).as_bytes();
     let digits = width_digits.format(width).as_bytes();
+    let asked = asked_digits.format(sheet.width()).as_bytes();
     write_pieces(
         target,
         &[
@@ -146,7 +155,9 @@ fn write_width_hint<W: Target>(number: u32, width: usize, target: &mut W) -> Res
             number,
             b" has ",
             digits,
-            and_not_six(width),
+            fields_text(width),
+            asked,
+            b"\n",
         ],
     )
 }
@@ -164,16 +175,17 @@ fn field_text<'a>(text: &[u8], buffer: &'a mut [u8; MOST_SHOWN]) -> &'a [u8]
 
 /// Writes the hint of a record with a bad field.
 fn write_field_hint<W: Target>(
+    sheet: Sheet,
     number: u32,
     field: u8,
     text: &[u8],
     target: &mut W,
 ) -> Result<(), WriteFault>
     ensures ok { OnOk result
-        (Appends (W.taken target.old) (W.taken target.new) (field_hint number field text.now)) }
+        (Appends (W.taken target.old) (W.taken target.new) (field_hint sheet number field text.now)) }
     ensures err { OnErr result
         (WritesPrefix (W.taken target.old) (W.taken target.new)
-        (field_hint number field text.now)) }
+        (field_hint sheet number field text.now)) }
     ensures fault { OnErr result (W.failed target.new ≡ true) }
 {
     let mut digits = Buffer::new();
@@ -186,11 +198,11 @@ fn write_field_hint<W: Target>(
             b"hint: record ",
             number,
             b": ",
-            field_name(field),
+            field_name(sheet, field),
             b" is ",
             told,
             b", and not ",
-            asked_in(field),
+            asked_in(sheet, field),
             b"\n",
         ],
     )

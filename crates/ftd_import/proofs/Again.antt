@@ -7,7 +7,7 @@ use Rattle.std.specs.Prelude.{MatchResult, ◌||◌}
 use Rattle.std.proofs.lemmas.List.{append_assoc, append-nil}
 use Rattle.std.proofs.lemmas.List.Elements.{filter_map-append}
 use Rattle.sqlite.specs.State.{Survives}
-use Rattle.ftd_csv.specs.Records.{Said}
+use Rattle.ftd_csv.specs.Records.{SaidEntry}
 use Rattle.ftd_machine.specs.State.{State}
 use Rattle.ftd_machine.specs.Checks.{Answer}
 use Rattle.ftd_machine.specs.Runs.{IsRun}
@@ -32,11 +32,11 @@ use Rattle.ftd_import.proofs.Outcomes.{are_then, asks_then, counts_then, no_faul
 -- the posts asked for are those of the records
 requests_are : (xs : List Outcome) → filter_map request_in xs ≡ posts_of (map record_in xs)
 requests_are [] = refl
-requests_are (posted number run answer ∷ xs) = ap (λ (z : List Request). post_of run ∷ z)
+requests_are (posted number it answer ∷ xs) = ap (λ (z : List Request). post_of it ∷ z)
     (requests_are xs)
 requests_are (skipped number field ∷ xs) = requests_are xs
 
-requests_of_records : (rs : List (ℕ × Said)) (xs : List Outcome) → map record_in xs ≡ rs
+pub requests_of_records : (rs : List (ℕ × SaidEntry)) (xs : List Outcome) → map record_in xs ≡ rs
     → filter_map request_in xs ≡ posts_of rs
 requests_of_records rs xs are = requests_are xs ∙ ap posts_of are
 
@@ -56,10 +56,10 @@ either_false : (p q : Bool) → (p || q) ≡ false → (p ≡ false) × (q ≡ f
 either_false false q e = (refl, e)
 either_false true q e = absurd (cc)
 
-none_faulty : (xs : List Outcome) → list_any is_fault (filter_map answer_in xs) ≡ false
+pub none_faulty : (xs : List Outcome) → list_any is_fault (filter_map answer_in xs) ≡ false
     → filter_map fault_in xs ≡ []
 none_faulty [] e = refl
-none_faulty (posted number run answer ∷ xs) e =
+none_faulty (posted number it answer ∷ xs) e =
     let both = either_false (is_fault answer) (list_any is_fault (filter_map answer_in xs)) e in
     rw (fault_none answer both.0) (none_faulty xs both.1)
 none_faulty (skipped number field ∷ xs) e = none_faulty xs e
@@ -69,7 +69,7 @@ steps_of_run : (xs : List Outcome) → filter_map fault_in xs ≡ [] → (s end 
     → IsRun s (filter_map request_in xs) (filter_map answer_in xs) end
     → AreSteps s (filter_map request_in xs) (filter_map answer_in xs) end
 steps_of_run [] none s end run = run
-steps_of_run (posted number run answer ∷ xs) none s end goes =
+steps_of_run (posted number it answer ∷ xs) none s end goes =
     let both = cons_none (fault_of answer) (filter_map fault_in xs) none in
     elim goes.1 [
       | inl step ↦ (goes.0, step, steps_of_run xs both.1 goes.0 end goes.2)
@@ -79,7 +79,7 @@ steps_of_run (skipped number field ∷ xs) none s end run = steps_of_run xs none
 
 -- ---- a list of records
 -- its posts were answered together
-pub posts_together : (a b : Held) (rs : List (ℕ × Said)) (requests : List Request)
+pub posts_together : (a b : Held) (rs : List (ℕ × SaidEntry)) (requests : List Request)
     (answers : List Answer) (p q r : Summary) → requests ≡ posts_of rs
     → HandlesTogether a b requests (Ok answers) → AreAnswers requests answers → IsSame p q
     → CountsAnswers q rs answers r → Posts a b rs p r
@@ -100,7 +100,7 @@ posts_together a b rs requests answers p q r is handles told same counts = recor
 }
 
 -- none was posted, and then all, one after the other
-pub posts_again : (failed : Type 0) (a b c : Held) (rs : List (ℕ × Said)) (p q r : Summary)
+pub posts_again : (failed : Type 0) (a b c : Held) (rs : List (ℕ × SaidEntry)) (p q r : Summary)
     → PostsNone failed a b (posts_of rs) → IsSame p q → Posts b c rs q r → Posts a c rs p r
 posts_again failed a b c rs p q r none same posts = record {
   outcomes = posts.outcomes;
@@ -120,13 +120,13 @@ posts_again failed a b c rs p q r none same posts = record {
   ];
 }
 
-shorter : (rs passed : List (ℕ × Said)) (at : ℕ × Said) (others : List (ℕ × Said))
+shorter : (rs passed : List (ℕ × SaidEntry)) (at : ℕ × SaidEntry) (others : List (ℕ × SaidEntry))
     → rs ≡ passed ++ at ∷ others → length passed < length rs
 shorter rs passed at others split = let whole = ap length split
     ∙ length-append passed (at ∷ others) in omega arith
 
 -- none was posted, and then some, one after the other
-pub stops_again : (failed later : Type 0) (a b c : Held) (rs : List (ℕ × Said)) (p q r : Summary)
+pub stops_again : (failed later : Type 0) (a b c : Held) (rs : List (ℕ × SaidEntry)) (p q r : Summary)
     (why : StopCause) → length rs ≤ most_together → (failed → later)
     → PostsNone failed a b (posts_of rs) → IsSame p q → StopsIn later b c rs q r why
     → StopsWithin later a c rs (λ outcomes. Counts p outcomes r) why
@@ -172,7 +172,7 @@ none_posted failed a b posts requests why is h keeps = elim keeps [
 ]
 
 -- whatever became of its records then
-pub list_again : {A : Type 0} (failed later : Type 0) (a b c : Held) (rs : List (ℕ × Said))
+pub list_again : {A : Type 0} (failed later : Type 0) (a b c : Held) (rs : List (ℕ × SaidEntry))
     (p q r : Summary) (result : Result A StopCause) → length rs ≤ most_together → (failed → later)
     → PostsNone failed a b (posts_of rs) → IsSame p q
     → MatchResult result (λ _. Posts b c rs q r) (λ why. StopsIn later b c rs q r why)
@@ -184,16 +184,16 @@ list_again failed later a b c rs p q r (Err why) short stays none same stops =
     stops_again failed later a b c rs p q r why short stays none same stops
 
 -- ---- lists of records
-regroup : (pre passed : List (ℕ × Said)) (at : ℕ × Said) (others more : List (ℕ × Said))
+regroup : (pre passed : List (ℕ × SaidEntry)) (at : ℕ × SaidEntry) (others more : List (ℕ × SaidEntry))
     → pre ++ ((passed ++ at ∷ others) ++ more) ≡ (pre ++ passed) ++ at ∷ (others ++ more)
 regroup pre passed at others more = simp append_assoc
 
-regroup_list : (pre before list others more : List (ℕ × Said))
+regroup_list : (pre before list others more : List (ℕ × SaidEntry))
     → pre ++ (((before ++ list) ++ others) ++ more) ≡ ((pre ++ before) ++ list) ++ (others ++ more)
 regroup_list pre before list others more = simp append_assoc
 
 -- the outcomes of the first records, before those of a list whose commit failed
-either_then : (failed : Type 0) (a b c : Held) (rs list : List (ℕ × Said)) (xs ys : List Outcome)
+either_then : (failed : Type 0) (a b c : Held) (rs list : List (ℕ × SaidEntry)) (xs ys : List Outcome)
     → AreOutcomes rs xs → Asks ⊥ a b xs
     → HandlesOrLeaves failed b c (filter_map request_in ys) (filter_map answer_in ys)
     (posts_of list)
@@ -215,7 +215,7 @@ either_then failed a b c rs list xs ys are first later =
     (λ s end run. steps_of_run xs are.no_fault s end run) first later)))
 
 -- some lists were posted, and the import stopped in the next
-pub stops_later : (failed : Type 0) (a b c : Held) (pre list more all : List (ℕ × Said))
+pub stops_later : (failed : Type 0) (a b c : Held) (pre list more all : List (ℕ × SaidEntry))
     (p q r : Summary) (why : StopCause) → all ≡ pre ++ (list ++ more) → Posts a b pre p q
     → StopsWithin failed b c list (λ outcomes. Counts q outcomes r) why
     → StopsWithin failed a c all (λ outcomes. Counts p outcomes r) why
@@ -223,7 +223,7 @@ stops_later failed a b c pre list more all p q r why split posts stops = record 
   passed = pre ++ stops.passed;
   at = stops.at;
   others = stops.others ++ more;
-  split = split ∙ ap (λ (z : List (ℕ × Said)). pre ++ (z ++ more)) stops.split
+  split = split ∙ ap (λ (z : List (ℕ × SaidEntry)). pre ++ (z ++ more)) stops.split
       ∙ regroup pre stops.passed stops.at stops.others more;
   outcomes = posts.outcomes ++ stops.outcomes;
   are = are_then pre stops.passed posts.outcomes stops.outcomes posts.are stops.are;
@@ -241,7 +241,7 @@ stops_later failed a b c pre list more all p q r why split posts stops = record 
             before = pre ++ again.before;
             list = again.list;
             others = again.others ++ more;
-            split = split ∙ ap (λ (z : List (ℕ × Said)). pre ++ (z ++ more)) again.split
+            split = split ∙ ap (λ (z : List (ℕ × SaidEntry)). pre ++ (z ++ more)) again.split
                 ∙ regroup_list pre again.before again.list again.others more;
             short = again.short;
             begins = let l = length-append pre again.before in
@@ -253,7 +253,7 @@ stops_later failed a b c pre list more all p q r why split posts stops = record 
                 (filter_map request_in xs) (filter_map answer_in xs)
                 (posts_of ((pre ++ again.before) ++ again.list)))
                 (sym together)
-                (subst (λ (rs : List (ℕ × Said)). HandlesOrLeaves failed a c
+                (subst (λ (rs : List (ℕ × SaidEntry)). HandlesOrLeaves failed a c
                 (filter_map request_in (posts.outcomes ++ (stops.outcomes ++ stops.last)))
                 (filter_map answer_in (posts.outcomes ++ (stops.outcomes ++ stops.last)))
                 (posts_of rs)) (sym (append_assoc pre again.before again.list))
@@ -269,7 +269,7 @@ stops_later failed a b c pre list more all p q r why split posts stops = record 
     together = append_assoc posts.outcomes stops.outcomes stops.last
 
 -- some lists were posted, and there was no memory to read the next
-pub stops_unread : (failed : Type 0) (a b : Held) (pre left all : List (ℕ × Said)) (p q : Summary)
+pub stops_unread : (failed : Type 0) (a b : Held) (pre left all : List (ℕ × SaidEntry)) (p q : Summary)
     → all ≡ pre ++ left → 0 < length left → Posts a b pre p q
     → StopsWithin failed a b all (λ outcomes. Counts p outcomes q) cause.Memory
 stops_unread failed a b pre [] all p q split some posts = absurd (omega arith)
@@ -287,7 +287,7 @@ stops_unread failed a b pre (at ∷ others) all p q split some posts = record {
 }
 
 -- ---- the whole text
-pub stops_told : (failed : Type 0) (a b : Held) (rs : List (ℕ × Said)) (p q : Summary)
+pub stops_told : (failed : Type 0) (a b : Held) (rs : List (ℕ × SaidEntry)) (p q : Summary)
     (why : StopCause) → IsNothing p
     → StopsWithin failed a b rs (λ outcomes. Counts p outcomes q) why
     → StopsWithin failed a b rs (λ outcomes. IsSummary outcomes q) why

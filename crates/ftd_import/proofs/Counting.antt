@@ -6,18 +6,18 @@ use Rattle.std.specs.List.{filter, filter_map}
 use Rattle.std.proofs.lemmas.List.{append_assoc, append-nil, drop_all, length-map, map-append}
 use Rattle.std.proofs.lemmas.List.{take_all}
 use Rattle.std.proofs.lemmas.List.Elements.{filter_map-append}
-use Rattle.ftd_csv.specs.Records.{Run, Said, malformed, pay_run}
+use Rattle.ftd_csv.specs.Records.{Entry, SaidEntry, malformed, enters}
 use Rattle.ftd_machine.specs.Checks.{Answer}
 use Rattle.ftd_import.specs.Lists.{has_post, kept_of}
 use Rattle.ftd_import.specs.Outcomes.{Counts, CountsAnswers, Outcome, answer_in, posted, record_in}
 use Rattle.ftd_import.specs.Outcomes.{skipped}
 use Rattle.ftd_import.specs.declared.reading.Place.{Place}
 use Rattle.ftd_import.specs.declared.summary.Summary.{Summary}
-use Rattle.ftd_import.proofs.Places.{IsNext, is_malformed, is_run}
+use Rattle.ftd_import.proofs.Places.{IsNext, is_malformed, is_entry}
 use Rattle.ftd_import.proofs.Outcomes.{counts_then, same}
 
 -- some records were counted, and these answers are left
-pub record CountsSome (before : Summary) (passed : List (ℕ × Said)) (answers left : List Answer)
+pub record CountsSome (before : Summary) (passed : List (ℕ × SaidEntry)) (answers left : List Answer)
     (after : Summary) : Type 0 where
   pub outcomes : List Outcome
   pub all : map record_in outcomes ≡ passed
@@ -27,38 +27,38 @@ pub record CountsSome (before : Summary) (passed : List (ℕ × Said)) (answers 
 pub some_none : (p : Summary) (answers : List Answer) → CountsSome p [] answers answers p
 some_none p answers = record { outcomes = []; all = refl; answered = refl; counts = same p }
 
-pub some_skipped : (p q r : Summary) (rs : List (ℕ × Said)) (answers left : List Answer)
+pub some_skipped : (p q r : Summary) (rs : List (ℕ × SaidEntry)) (answers left : List Answer)
     (number field : ℕ) → CountsSome p rs answers left q → Counts q (skipped number field ∷ []) r
     → CountsSome p (rs ++ (number, malformed field) ∷ []) answers left r
 some_skipped p q r rs answers left number field some counts = record {
   outcomes = some.outcomes ++ skipped number field ∷ [];
   all = map-append record_in some.outcomes (skipped number field ∷ [])
-      ∙ ap (λ (z : List (ℕ × Said)). z ++ (number, malformed field) ∷ []) some.all;
+      ∙ ap (λ (z : List (ℕ × SaidEntry)). z ++ (number, malformed field) ∷ []) some.all;
   answered = ap (λ (z : List Answer). z ++ left) (filter_map-append answer_in some.outcomes
       (skipped number field ∷ []) ∙ append-nil (filter_map answer_in some.outcomes))
       ∙ some.answered;
   counts = counts_then p q r some.outcomes (skipped number field ∷ []) some.counts counts;
 }
 
-pub some_posted : (p q r : Summary) (rs : List (ℕ × Said)) (answers left later : List Answer)
-    (number : ℕ) (run : Run) (answer : Answer) → CountsSome p rs answers left q
-    → left ≡ answer ∷ later → Counts q (posted number run answer ∷ []) r
-    → CountsSome p (rs ++ (number, pay_run run) ∷ []) answers later r
-some_posted p q r rs answers left later number run answer some first counts = record {
-  outcomes = some.outcomes ++ posted number run answer ∷ [];
-  all = map-append record_in some.outcomes (posted number run answer ∷ [])
-      ∙ ap (λ (z : List (ℕ × Said)). z ++ (number, pay_run run) ∷ []) some.all;
+pub some_posted : (p q r : Summary) (rs : List (ℕ × SaidEntry)) (answers left later : List Answer)
+    (number : ℕ) (it : Entry) (answer : Answer) → CountsSome p rs answers left q
+    → left ≡ answer ∷ later → Counts q (posted number it answer ∷ []) r
+    → CountsSome p (rs ++ (number, enters it) ∷ []) answers later r
+some_posted p q r rs answers left later number it answer some first counts = record {
+  outcomes = some.outcomes ++ posted number it answer ∷ [];
+  all = map-append record_in some.outcomes (posted number it answer ∷ [])
+      ∙ ap (λ (z : List (ℕ × SaidEntry)). z ++ (number, enters it) ∷ []) some.all;
   answered =
       ap (λ (z : List Answer). z ++ later) (filter_map-append answer_in some.outcomes
-      (posted number run answer ∷ []))
+      (posted number it answer ∷ []))
       ∙ append_assoc (filter_map answer_in some.outcomes) (answer ∷ []) later
       ∙ ap (λ (z : List Answer). filter_map answer_in some.outcomes ++ z) (sym first)
       ∙ some.answered;
-  counts = counts_then p q r some.outcomes (posted number run answer ∷ []) some.counts counts;
+  counts = counts_then p q r some.outcomes (posted number it answer ∷ []) some.counts counts;
 }
 
 -- no answer is left
-pub all_counted : (p q : Summary) (rs : List (ℕ × Said)) (answers : List Answer)
+pub all_counted : (p q : Summary) (rs : List (ℕ × SaidEntry)) (answers : List Answer)
     → CountsSome p rs answers [] q → CountsAnswers p rs answers q
 all_counted p q rs answers some = record {
   outcomes = some.outcomes;
@@ -67,29 +67,29 @@ all_counted p q rs answers some = record {
   counts = some.counts;
 }
 
-module _ (records : List (ℕ × Said)) (i : ℕ) (place : Place) (next : IsNext records i place) where
+module _ (records : List (ℕ × SaidEntry)) (i : ℕ) (place : Place) (next : IsNext records i place) where
   pub skipped_more : (field : ℕ) → place.malformed ≡ Some field
       → (p q r : Summary) (answers left : List Answer)
       → CountsSome p (take i records) answers left q
       → Counts q (skipped place.number field ∷ []) r
       → CountsSome p (take (i + 1) records) answers left r
   skipped_more field bad p q r answers left some counts =
-      subst (λ (rs : List (ℕ × Said)). CountsSome p rs answers left r)
-      (sym (next.more ∙ ap (λ (at : ℕ × Said). take i records ++ at ∷ [])
+      subst (λ (rs : List (ℕ × SaidEntry)). CountsSome p rs answers left r)
+      (sym (next.more ∙ ap (λ (at : ℕ × SaidEntry). take i records ++ at ∷ [])
       (is_malformed next.at place field next.kept bad)))
       (some_skipped p q r (take i records) answers left place.number field some counts)
 
   pub posted_more : place.malformed ≡ None
       → (p q r : Summary) (answers left later : List Answer) (answer : Answer)
       → CountsSome p (take i records) answers left q → left ≡ answer ∷ later
-      → ((run : Run) → Counts q (posted place.number run answer ∷ []) r)
+      → ((it : Entry) → Counts q (posted place.number it answer ∷ []) r)
       → CountsSome p (take (i + 1) records) answers later r
   posted_more none p q r answers left later answer some first counts =
-      let (run, at) = is_run next.at place next.kept none in
-      subst (λ (rs : List (ℕ × Said)). CountsSome p rs answers later r)
-      (sym (next.more ∙ ap (λ (x : ℕ × Said). take i records ++ x ∷ []) at))
-      (some_posted p q r (take i records) answers left later place.number run answer some first
-      (counts run))
+      let (it, at) = is_entry next.at place next.kept none in
+      subst (λ (rs : List (ℕ × SaidEntry)). CountsSome p rs answers later r)
+      (sym (next.more ∙ ap (λ (x : ℕ × SaidEntry). take i records ++ x ∷ []) at))
+      (some_posted p q r (take i records) answers left later place.number it answer some first
+      (counts it))
 
 -- ---- the answers that are left are as many as the posts that are left
 module _ (places : List Place) (i : ℕ) (default : Place) (here : i < length places) where
@@ -110,7 +110,7 @@ nothing [] none = refl
 nothing (x ∷ xs) none = absurd (omega arith)
 
 -- every record was counted
-pub counted_all : (records : List (ℕ × Said)) (places : List Place) (i : ℕ) (p q : Summary)
+pub counted_all : (records : List (ℕ × SaidEntry)) (places : List Place) (i : ℕ) (p q : Summary)
     (answers left : List Answer) → places ≡ map kept_of records → length places ≤ i
     → length left ≡ length (filter has_post (drop i places))
     → CountsSome p (take i records) answers left q → CountsAnswers p records answers q
@@ -121,5 +121,5 @@ counted_all records places i p q answers left are end count some =
     let no_answer : left ≡ [] = nothing left (omega arith) in
     let all : take i records ≡ records = take_all i records (omega arith) in
     all_counted p q records answers
-    (subst (λ (rs : List (ℕ × Said)). CountsSome p rs answers [] q) all
+    (subst (λ (rs : List (ℕ × SaidEntry)). CountsSome p rs answers [] q) all
     (subst (λ (ls : List Answer). CountsSome p (take i records) answers ls q) no_answer some))

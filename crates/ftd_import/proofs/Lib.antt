@@ -4,3 +4,4 @@ pub mod Places
 pub mod Texts
 pub mod Together
 pub mod Outcomes
+pub mod Tried

@@ -5,7 +5,7 @@ use Rattle.std.proofs.Common.{Some, None, Ok, Err, Result, OnErr, length-append}
 use Rattle.std.specs.List.{filter, filter_map}
 use Rattle.std.proofs.lemmas.List.{append_assoc, append-nil, map-append}
 use Rattle.std.proofs.lemmas.List.Elements.{filter-append, filter_map-append}
-use Rattle.ftd_csv.specs.Records.{Run, Said, pay_run, malformed}
+use Rattle.ftd_csv.specs.Records.{Entry, SaidEntry, enters, malformed}
 use Rattle.ftd_machine.specs.Checks.{Answer}
 use Rattle.ftd_machine.specs.Runs.{IsFault}
 use Rattle.ftd_desk.specs.States.{CrashKeeps}
@@ -83,7 +83,7 @@ summary_of p q xs none counts = record {
   notes_are = counts.notes_are ∙ ap (λ z. z ++ filter_map note_in xs) none.notes_are;
 }
 
-pub are_then : (rs ss : List (ℕ × Said)) (xs ys : List Outcome) → AreOutcomes rs xs
+pub are_then : (rs ss : List (ℕ × SaidEntry)) (xs ys : List Outcome) → AreOutcomes rs xs
     → AreOutcomes ss ys → AreOutcomes (rs ++ ss) (xs ++ ys)
 are_then rs ss xs ys first second = record {
   all = map-append record_in xs ys ∙ ap (λ z. z ++ map record_in ys) first.all
@@ -112,10 +112,10 @@ no_fault answer none (inl memory) = let e = rw memory at none in absurd (cc)
 no_fault answer none (inr store) = let e = rw store at none in absurd (cc)
 
 -- one request that no fault answered: no commit failed
-no_commit_failed : (a b : Held) (run : Run) (answer : Answer) → Handles a b (post_of run) answer
+no_commit_failed : (a b : Held) (it : Entry) (answer : Answer) → Handles a b (post_of it) answer
     → fault_of answer ≡ None → OnErr answer (⊥ ⊎ CrashKeeps a.db b.db)
-no_commit_failed a b run (Ok reply) handles none = tt
-no_commit_failed a b run (Err why) handles none =
+no_commit_failed a b it (Ok reply) handles none = tt
+no_commit_failed a b it (Err why) handles none =
     inr (handles.keeps refl (λ is. no_fault (Err why) none (inr is)))
 
 -- ---- posts
@@ -127,7 +127,7 @@ posts_none a p = record {
   asks = all_none ⊥ a;
 }
 
-pub posts_then : (a b c : Held) (rs ss : List (ℕ × Said)) (p q r : Summary) → Posts a b rs p q
+pub posts_then : (a b c : Held) (rs ss : List (ℕ × SaidEntry)) (p q r : Summary) → Posts a b rs p q
     → Posts b c ss q r → Posts a c (rs ++ ss) p r
 posts_then a b c rs ss p q r first second = record {
   outcomes = first.outcomes ++ second.outcomes;
@@ -136,7 +136,7 @@ posts_then a b c rs ss p q r first second = record {
   asks = asks_then ⊥ a b c first.outcomes second.outcomes first.asks second.asks;
 }
 
-pub posts_same : (a b : Held) (rs : List (ℕ × Said)) (p q r : Summary) → IsSame p q
+pub posts_same : (a b : Held) (rs : List (ℕ × SaidEntry)) (p q r : Summary) → IsSame p q
     → Posts a b rs q r → Posts a b rs p r
 posts_same a b rs p q r same posts = record {
   outcomes = posts.outcomes;
@@ -145,16 +145,16 @@ posts_same a b rs p q r same posts = record {
   asks = posts.asks;
 }
 
--- a pay run that was answered
-pub posts_one : (a b : Held) (number : ℕ) (run : Run) (answer : Answer) (p q : Summary)
-    → Handles a b (post_of run) answer → fault_of answer ≡ None
-    → Counts p (posted number run answer ∷ []) q
-    → Posts a b ((number, pay_run run) ∷ []) p q
-posts_one a b number run answer p q handles none counts = record {
-  outcomes = posted number run answer ∷ [];
+-- an entry that was answered
+pub posts_one : (a b : Held) (number : ℕ) (it : Entry) (answer : Answer) (p q : Summary)
+    → Handles a b (post_of it) answer → fault_of answer ≡ None
+    → Counts p (posted number it answer ∷ []) q
+    → Posts a b ((number, enters it) ∷ []) p q
+posts_one a b number it answer p q handles none counts = record {
+  outcomes = posted number it answer ∷ [];
   are = record { all = refl; no_fault = rw none refl };
   counts = counts;
-  asks = all_one ⊥ a b (post_of run) answer handles (no_commit_failed a b run answer handles none);
+  asks = all_one ⊥ a b (post_of it) answer handles (no_commit_failed a b it answer handles none);
 }
 
 -- a malformed record
@@ -168,22 +168,22 @@ skips_one a number field p q counts = record {
 }
 
 -- ---- stops
-pub no_room : (failed : Type 0) (a : Held) (at : ℕ × Said) → StopsAt failed a a at cause.Memory
+pub no_room : (failed : Type 0) (a : Held) (at : ℕ × SaidEntry) → StopsAt failed a a at cause.Memory
 no_room failed a at = record { last = []; stop = inl (refl, refl); asks = all_none failed a }
 
-pub faulted : (failed : Type 0) (a b : Held) (number : ℕ) (run : Run) (answer : Answer)
-    (why : StopCause) → Handles a b (post_of run) answer
+pub faulted : (failed : Type 0) (a b : Held) (number : ℕ) (it : Entry) (answer : Answer)
+    (why : StopCause) → Handles a b (post_of it) answer
     → OnErr answer (failed ⊎ CrashKeeps a.db b.db) → fault_of answer ≡ Some why
-    → StopsAt failed a b (number, pay_run run) why
-faulted failed a b number run answer why handles stops fault = record {
-  last = posted number run answer ∷ [];
-  stop = inr (posted number run answer, refl, refl, fault);
-  asks = all_one failed a b (post_of run) answer handles stops;
+    → StopsAt failed a b (number, enters it) why
+faulted failed a b number it answer why handles stops fault = record {
+  last = posted number it answer ∷ [];
+  stop = inr (posted number it answer, refl, refl, fault);
+  asks = all_one failed a b (post_of it) answer handles stops;
 }
 
-pub posts_stop : (failed : Type 0) (a b c : Held) (rs : List (ℕ × Said)) (at : ℕ × Said)
-    (others : List (ℕ × Said))
-    (all : List (ℕ × Said)) (p q r : Summary) (why : StopCause)
+pub posts_stop : (failed : Type 0) (a b c : Held) (rs : List (ℕ × SaidEntry)) (at : ℕ × SaidEntry)
+    (others : List (ℕ × SaidEntry))
+    (all : List (ℕ × SaidEntry)) (p q r : Summary) (why : StopCause)
     → all ≡ rs ++ at ∷ others → Posts a b rs p q → StopsAt failed b c at why → IsSame q r
     → StopsIn failed a c all p r why
 posts_stop failed a b c rs at others all p q r why split posts stops keeps = record {

@@ -5,8 +5,8 @@ use Rattle.std.proofs.Common.{◌∙◌, length-append}
 use Rattle.std.specs.List.{filter}
 use Rattle.std.proofs.lemmas.List.{get_or-map, length-map, map-append, take-append-drop, take_more}
 use Rattle.std.proofs.lemmas.List.Elements.{filter_map-append}
-use Rattle.ftd_csv.specs.Places.{Advances, number_of, place_of, records_left, said_left}
-use Rattle.ftd_csv.specs.Records.{Run, Said, malformed, numbered_from, pay_run}
+use Rattle.ftd_csv.specs.Places.{number_of, records_left, rows_after, said_left, sheet_of}
+use Rattle.ftd_csv.specs.Records.{Entry, SaidEntry, enters, entry_in, malformed, numbered_from}
 use Rattle.ftd_csv.specs.declared.reading.Records.{Records}
 use Rattle.ftd_machine.specs.declared.requests.Request.{Request}
 use Rattle.ftd_import.specs.Lists.{IsListOf, has_post, kept_of}
@@ -15,20 +15,17 @@ use Rattle.ftd_import.specs.declared.reading.Place.{Place}
 use Rattle.ftd_import.specs.declared.reading.RecordList.{RecordList}
 
 -- ---- the records that are left
--- the record to which it went on is the next of those that were left
-pub next_left : (old new : Records) → Advances old new
-    → records_left old ≡ place_of new ∷ records_left new
-next_left old new goes = rw (goes.left, goes.number) refl
-
-length_numbered : (number : ℕ) (said : List Said) → length (numbered_from number said) ≡ length said
+length_numbered : (number : ℕ) (said : List SaidEntry)
+    → length (numbered_from number said) ≡ length said
 length_numbered number [] = refl
 length_numbered number (said ∷ others) = ap suc (length_numbered (number + 1) others)
 
-pub length_left : (records : Records) → length (records_left records) ≡ length (said_left records)
+pub length_left : (records : Records) → length (records_left records) ≡ length (rows_after records)
 length_left records = length_numbered (number_of records + 1) (said_left records)
+    ∙ length-map (rows_after records) (entry_in (sheet_of records))
 
 -- ---- a list with one more record
-pub list_more : (before : List (ℕ × Said)) (old new : RecordList) (at : ℕ × Said) (place : Place)
+pub list_more : (before : List (ℕ × SaidEntry)) (old new : RecordList) (at : ℕ × SaidEntry) (place : Place)
     (posts : List Request) → place ≡ kept_of at → posts ≡ posts_of (at ∷ [])
     → new.places.items ≡ old.places.items ++ place ∷ []
     → new.posts.items ≡ old.posts.items ++ posts → IsListOf before old
@@ -43,16 +40,16 @@ list_more before old new at place posts kept post places_more posts_more is = re
 }
 
 -- ---- the record at a place of a list
-pub record IsNext (records : List (ℕ × Said)) (i : ℕ) (place : Place) : Type 0 where
-  pub at : ℕ × Said
+pub record IsNext (records : List (ℕ × SaidEntry)) (i : ℕ) (place : Place) : Type 0 where
+  pub at : ℕ × SaidEntry
   pub rest : drop i records ≡ at ∷ drop (i + 1) records
   pub more : take (i + 1) records ≡ take i records ++ at ∷ []
   pub kept : place ≡ kept_of at
 
-pub next_of : (records : List (ℕ × Said)) (places : List Place) (i : ℕ) (default : Place)
+pub next_of : (records : List (ℕ × SaidEntry)) (places : List Place) (i : ℕ) (default : Place)
     → places ≡ map kept_of records → i < length places → IsNext records i (get_or places i default)
 next_of records places i default are within =
-    let none : ℕ × Said = (0, malformed 0) in
+    let none : ℕ × SaidEntry = (0, malformed 0) in
     let long : length places ≡ length records = ap length are ∙ length-map records kept_of in
     let here : i < length records = omega arith in
     record {
@@ -63,62 +60,62 @@ next_of records places i default are within =
           ∙ get_or-map kept_of records i none default here;
     }
 
-pub next_split : (records : List (ℕ × Said)) (i : ℕ) (place : Place) (next : IsNext records i place)
+pub next_split : (records : List (ℕ × SaidEntry)) (i : ℕ) (place : Place) (next : IsNext records i place)
     → records ≡ take i records ++ next.at ∷ drop (i + 1) records
 next_split records i place next = sym (take-append-drop i records)
-    ∙ ap (λ (rs : List (ℕ × Said)). take i records ++ rs) next.rest
+    ∙ ap (λ (rs : List (ℕ × SaidEntry)). take i records ++ rs) next.rest
 
-pub is_run : (at : ℕ × Said) (place : Place) → place ≡ kept_of at → place.malformed ≡ None
-    → (run : Run) × (at ≡ (place.number, pay_run run))
-is_run (number, pay_run run) place kept none = (run, rw kept refl)
-is_run (number, malformed field) place kept none = let e = rw kept at none in absurd (cc)
+pub is_entry : (at : ℕ × SaidEntry) (place : Place) → place ≡ kept_of at → place.malformed ≡ None
+    → (it : Entry) × (at ≡ (place.number, enters it))
+is_entry (number, enters it) place kept none = (it, rw kept refl)
+is_entry (number, malformed field) place kept none = let e = rw kept at none in absurd (cc)
 
-pub is_malformed : (at : ℕ × Said) (place : Place) (field : ℕ) → place ≡ kept_of at
+pub is_malformed : (at : ℕ × SaidEntry) (place : Place) (field : ℕ) → place ≡ kept_of at
     → place.malformed ≡ Some field → at ≡ (place.number, malformed field)
-is_malformed (number, pay_run run) place field kept bad = let e = rw kept at bad in absurd (cc)
+is_malformed (number, enters it) place field kept bad = let e = rw kept at bad in absurd (cc)
 is_malformed (number, malformed other) place field kept bad =
     let e = rw kept at bad in let same : other ≡ field = cc in rw (kept, same) refl
 
 -- ---- posts
-pub posts_count : (records : List (ℕ × Said))
+pub posts_count : (records : List (ℕ × SaidEntry))
     → length (posts_of records) ≡ length (filter has_post (map kept_of records))
 posts_count [] = refl
-posts_count ((number, pay_run run) ∷ records) = ap suc (posts_count records)
+posts_count ((number, enters it) ∷ records) = ap suc (posts_count records)
 posts_count ((number, malformed field) ∷ records) = posts_count records
 
--- a pay run's post is there
-pub post_there : (records : List (ℕ × Said)) (i : ℕ) (place : Place) (left : List Request)
+-- an entry's post is there
+pub post_there : (records : List (ℕ × SaidEntry)) (i : ℕ) (place : Place) (left : List Request)
     → IsNext records i place → left ≡ posts_of (drop i records) → place.malformed ≡ None
     → 0 < length left
 post_there records i place left next is none =
-    let (run, at) = is_run next.at place next.kept none in
-    let first : left ≡ post_of run ∷ posts_of (drop (i + 1) records) =
-    is ∙ ap posts_of (next.rest ∙ ap (λ (r : ℕ × Said). r ∷ drop (i + 1) records) at) in
+    let (it, at) = is_entry next.at place next.kept none in
+    let first : left ≡ post_of it ∷ posts_of (drop (i + 1) records) =
+    is ∙ ap posts_of (next.rest ∙ ap (λ (r : ℕ × SaidEntry). r ∷ drop (i + 1) records) at) in
     omega (arith, ap length first)
 
 -- the posts that are left are those of the next record and of those after it
-pub next_posts : (records : List (ℕ × Said)) (i : ℕ) (place : Place) (left : List Request)
+pub next_posts : (records : List (ℕ × SaidEntry)) (i : ℕ) (place : Place) (left : List Request)
     (next : IsNext records i place) → left ≡ posts_of (drop i records)
     → left ≡ posts_of (next.at ∷ drop (i + 1) records)
 next_posts records i place left next is = is ∙ ap posts_of next.rest
 
 -- ---- lists
-pub places_count : (records : List (ℕ × Said)) (list : RecordList) → IsListOf records list
+pub places_count : (records : List (ℕ × SaidEntry)) (list : RecordList) → IsListOf records list
     → length list.places.items ≡ length records
 places_count records list is = ap length is.places ∙ length-map records kept_of
 
 -- so many are left after those that were passed
-pub left_count : (old new : Records) (passed : List (ℕ × Said))
+pub left_count : (old new : Records) (passed : List (ℕ × SaidEntry))
     → records_left old ≡ passed ++ records_left new
-    → length (said_left old) ≡ length passed + length (said_left new)
+    → length (rows_after old) ≡ length passed + length (rows_after new)
 left_count old new passed split =
     sym (length_left old) ∙ ap length split ∙ length-append passed (records_left new)
     ∙ ap (λ n. length passed + n) (length_left new)
 
--- the first of the posts is the pay run's
-pub first_post : (number : ℕ) (run : Run) (at : ℕ × Said) (later : List (ℕ × Said))
-    (posts others : List Request) (first : Request) → at ≡ (number, pay_run run)
-    → posts ≡ posts_of (at ∷ later) → posts ≡ first ∷ others → first ≡ post_of run
-first_post number run at later posts others first is of split =
-    let both : first ∷ others ≡ post_of run ∷ posts_of later = sym split ∙ of
-    ∙ ap (λ (said : ℕ × Said). posts_of (said ∷ later)) is in cc
+-- the first of the posts is the entry's
+pub first_post : (number : ℕ) (it : Entry) (at : ℕ × SaidEntry) (later : List (ℕ × SaidEntry))
+    (posts others : List Request) (first : Request) → at ≡ (number, enters it)
+    → posts ≡ posts_of (at ∷ later) → posts ≡ first ∷ others → first ≡ post_of it
+first_post number it at later posts others first is of split =
+    let both : first ∷ others ≡ post_of it ∷ posts_of later = sym split ∙ of
+    ∙ ap (λ (said : ℕ × SaidEntry). posts_of (said ∷ later)) is in cc

@@ -4,7 +4,8 @@ use Rattle.std.specs.Prelude.{List, Some, Err, length, map}
 use Rattle.std.specs.List.{filter_map}
 use Rattle.sqlite.specs.Tree.{Trees}
 use Rattle.ftd_csv.specs.Answers.{most_bytes}
-use Rattle.ftd_csv.specs.Records.{HasHeader, Said, numbered_from, records_of}
+use Rattle.ftd_csv.specs.Records.{HasHeader, SaidEntry, numbered_from, records_of}
+use Rattle.ftd_csv.specs.declared.sheets.Sheet.{Sheet}
 use Rattle.ftd_machine.specs.State.{State}
 use Rattle.ftd_machine.specs.Checks.{Answer}
 use Rattle.ftd_machine.specs.declared.replies.Refusal.{Refusal}
@@ -27,12 +28,12 @@ Asks failed old new outcomes =
     HandlesAll failed old new (filter_map request_in outcomes) (filter_map answer_in outcomes)
 
 -- these are outcomes of the records, none of which is a fault
-pub record AreOutcomes (records : List (ℕ × Said)) (outcomes : List Outcome) : Type 0 where
+pub record AreOutcomes (records : List (ℕ × SaidEntry)) (outcomes : List Outcome) : Type 0 where
   pub all : map record_in outcomes ≡ records
   pub no_fault : filter_map fault_in outcomes ≡ []
 
 -- the records were posted, each in its place, and counted; no commit failed
-pub record Posts (old new : Held) (records : List (ℕ × Said))
+pub record Posts (old new : Held) (records : List (ℕ × SaidEntry))
     (before after : Summary) : Type 0 where
   pub outcomes : List Outcome
   pub are : AreOutcomes records outcomes
@@ -41,25 +42,25 @@ pub record Posts (old new : Held) (records : List (ℕ × Said))
 
 -- this became of a record at which an import stopped: there was no memory to post it or to note it,
 -- or its post was answered by a fault
-abbrev pub IsStop : ℕ × Said → StopCause → List Outcome → Type 0
+abbrev pub IsStop : ℕ × SaidEntry → StopCause → List Outcome → Type 0
 IsStop at why last =
     ((why ≡ cause.Memory) × (last ≡ []))
     ⊎ ((outcome : Outcome) × (last ≡ outcome ∷ []) × (record_in outcome ≡ at)
     × (fault_in outcome ≡ Some why))
 
 -- an import stopped at this record
-pub record StopsAt (failed : Type 0) (old new : Held) (at : ℕ × Said) (why : StopCause)
+pub record StopsAt (failed : Type 0) (old new : Held) (at : ℕ × SaidEntry) (why : StopCause)
     : Type 0 where
   pub last : List Outcome
   pub stop : IsStop at why last
   pub asks : Asks failed old new last
 
 -- an import stopped at one of the records: those before it were posted and counted
-pub record StopsIn (failed : Type 0) (old new : Held) (records : List (ℕ × Said))
+pub record StopsIn (failed : Type 0) (old new : Held) (records : List (ℕ × SaidEntry))
     (before after : Summary) (why : StopCause) : Type 0 where
-  pub passed : List (ℕ × Said)
-  pub at : ℕ × Said
-  pub others : List (ℕ × Said)
+  pub passed : List (ℕ × SaidEntry)
+  pub at : ℕ × SaidEntry
+  pub others : List (ℕ × SaidEntry)
   pub split : records ≡ passed ++ at ∷ others
   pub outcomes : List Outcome
   pub are : AreOutcomes passed outcomes
@@ -96,11 +97,11 @@ HandlesOrLeaves failed old new requests answers list =
 -- The commit of a list of posts failed, and the list was asked for again, one post after the other,
 -- up to some record of it. So the desk answered the posts up to there one after the other, and a
 -- crash may also find the state after all of the list.
-pub record AsksAgain (failed : Type 0) (old new : Held) (records passed : List (ℕ × Said))
+pub record AsksAgain (failed : Type 0) (old new : Held) (records passed : List (ℕ × SaidEntry))
     (outcomes : List Outcome) : Type 0 where
-  pub before : List (ℕ × Said)
-  pub list : List (ℕ × Said)
-  pub others : List (ℕ × Said)
+  pub before : List (ℕ × SaidEntry)
+  pub list : List (ℕ × SaidEntry)
+  pub others : List (ℕ × SaidEntry)
   pub split : records ≡ (before ++ list) ++ others
   pub short : length list ≤ most_together
   pub begins : length before ≤ length passed
@@ -110,11 +111,11 @@ pub record AsksAgain (failed : Type 0) (old new : Held) (records passed : List (
 
 -- an import stopped at one of the records: those before it were posted, each in its place, and told
 -- so; the desk was asked for them one after the other, or, where a commit failed, in lists
-pub record StopsWithin (failed : Type 0) (old new : Held) (records : List (ℕ × Said))
+pub record StopsWithin (failed : Type 0) (old new : Held) (records : List (ℕ × SaidEntry))
     (IsTold : List Outcome → Type 0) (why : StopCause) : Type 0 where
-  pub passed : List (ℕ × Said)
-  pub at : ℕ × Said
-  pub others : List (ℕ × Said)
+  pub passed : List (ℕ × SaidEntry)
+  pub at : ℕ × SaidEntry
+  pub others : List (ℕ × SaidEntry)
   pub split : records ≡ passed ++ at ∷ others
   pub outcomes : List Outcome
   pub are : AreOutcomes passed outcomes
@@ -125,25 +126,25 @@ pub record StopsWithin (failed : Type 0) (old new : Held) (records : List (ℕ �
       ⊎ (failed × AsksAgain failed old new records passed (outcomes ++ last))
 
 -- the records of the text, each with its number
-abbrev pub numbered_in : List ℕ → List (ℕ × Said)
-numbered_in text = numbered_from 2 (records_of text)
+abbrev pub numbered_in : Sheet → List ℕ → List (ℕ × SaidEntry)
+numbered_in kind text = numbered_from 2 (records_of kind text)
 
--- the pay runs of the text were posted, each in its place, and this is the summary of its records
-pub record Imports (old new : Held) (text : List ℕ) (summary : Summary) : Type 0 where
+-- the entries of the text were posted, each in its place, and this is the summary of its records
+pub record Imports (old new : Held) (kind : Sheet) (text : List ℕ) (summary : Summary) : Type 0 where
   pub short : length text ≤ most_bytes
-  pub header : HasHeader text
+  pub header : HasHeader kind text
   pub outcomes : List Outcome
-  pub are : AreOutcomes (numbered_in text) outcomes
+  pub are : AreOutcomes (numbered_in kind text) outcomes
   pub summary_is : IsSummary outcomes summary
   pub asks : Asks ⊥ old new outcomes
 
 -- the import stopped at one of the records: those before it were posted, each in its place, and
 -- this is their summary
-pub record StopsAmong (failed : Type 0) (old new : Held) (text : List ℕ) (done : Summary)
-    (why : StopCause) : Type 0 where
+pub record StopsAmong (failed : Type 0) (old new : Held) (kind : Sheet) (text : List ℕ)
+    (done : Summary) (why : StopCause) : Type 0 where
   pub short : length text ≤ most_bytes
-  pub header : HasHeader text
-  pub stops : StopsWithin failed old new (numbered_in text)
+  pub header : HasHeader kind text
+  pub stops : StopsWithin failed old new (numbered_in kind text)
       (λ outcomes. IsSummary outcomes done) why
 
 -- nothing was posted
@@ -151,19 +152,19 @@ abbrev pub StopsFirst : Held → Held → Summary → Type 0
 StopsFirst old new done = IsNothing done × Asks ⊥ old new []
 
 -- where each cause stands; want of memory may come before there are records, or at one of them
-abbrev pub StopsFor : Type 0 → Held → Held → List ℕ → Summary → StopCause → Type 0
-StopsFor failed old new text done cause.TooLong =
+abbrev pub StopsFor : Type 0 → Held → Held → Sheet → List ℕ → Summary → StopCause → Type 0
+StopsFor failed old new kind text done cause.TooLong =
     (most_bytes < length text) × StopsFirst old new done
-StopsFor failed old new text done cause.BadHeader =
-    (length text ≤ most_bytes) × ¬ HasHeader text × StopsFirst old new done
-StopsFor failed old new text done cause.Memory =
-    StopsFirst old new done ⊎ StopsAmong failed old new text done cause.Memory
-StopsFor failed old new text done cause.Store = StopsAmong failed old new text done cause.Store
+StopsFor failed old new kind text done cause.BadHeader =
+    (length text ≤ most_bytes) × ¬ HasHeader kind text × StopsFirst old new done
+StopsFor failed old new kind text done cause.Memory =
+    StopsFirst old new done ⊎ StopsAmong failed old new kind text done cause.Memory
+StopsFor failed old new kind text done cause.Store = StopsAmong failed old new kind text done cause.Store
 
 -- the import stopped so: the posts went one after the other, or, only where the first premise
 -- holds, in lists of which a commit failed
-abbrev pub Stops : Type 0 → Held → Held → List ℕ → Stopped → Type 0
-Stops failed old new text stopped = StopsFor failed old new text stopped.done stopped.cause
+abbrev pub Stops : Type 0 → Held → Held → Sheet → List ℕ → Stopped → Type 0
+Stops failed old new kind text stopped = StopsFor failed old new kind text stopped.done stopped.cause
 
 -- the text itself is at fault
 abbrev pub is_of_text : StopCause → Bool

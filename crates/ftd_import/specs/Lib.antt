@@ -1,7 +1,9 @@
 pub mod Outcomes
 pub mod Imports
 pub mod Lists
+pub mod Trials
 pub use Rattle.ftd_csv.specs.Answers
 pub use Rattle.ftd_csv.specs.Places
 pub use Rattle.ftd_csv.specs.Records
 pub use Rattle.ftd_desk.specs.Desks
+pub use Rattle.ftd_desk.specs.Telling

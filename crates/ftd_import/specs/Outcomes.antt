@@ -2,57 +2,74 @@
 use Rattle.std.specs.Prelude.{◌≡◌, ◌+◌, ◌++◌, ℕ, Bool, true, false, List, [], length, map, Option}
 use Rattle.std.specs.Prelude.{None, Some, Ok, Err}
 use Rattle.std.specs.List.{filter, filter_map}
-use Rattle.ftd_csv.specs.Records.{Run, Said, malformed, pay_run}
-use Rattle.ftd_csv.specs.declared.record.RecordFault.{RecordFault}
-use Rattle.ftd_csv.specs.declared.record.RecordFault.TheVariants as text_fault
+use Rattle.ftd_csv.specs.Records.{Entry, SaidEntry, a_payment, a_run, a_total, an_account, enters}
+use Rattle.ftd_csv.specs.Records.{malformed}
+use Rattle.ftd_csv.specs.declared.entries.Period.{Period}
+use Rattle.ftd_csv.specs.declared.entries.Period.TheVariants as period
+use Rattle.ftd_csv.specs.declared.reading.RecordFault.{RecordFault}
+use Rattle.ftd_csv.specs.declared.reading.RecordFault.TheVariants as text_fault
+use Rattle.ftd_days.specs.declared.cents.Cents.{Cents}
 use Rattle.ftd_machine.specs.Checks.{Answer}
 use Rattle.ftd_machine.specs.declared.replies.Reply.TheVariants as reply
 use Rattle.ftd_machine.specs.declared.replies.Refusal.TheVariants as refusal
 use Rattle.ftd_machine.specs.declared.requests.Request.{Request}
-use Rattle.ftd_machine.specs.declared.requests.Request.TheVariants.{Post}
+use Rattle.ftd_machine.specs.declared.requests.Request.TheVariants as request
 use Rattle.ftd_import.specs.declared.summary.Finding.TheVariants.{Malformed, Refused}
 use Rattle.ftd_import.specs.declared.summary.Note.{Note}
 use Rattle.ftd_import.specs.declared.summary.StopCause.{StopCause}
 use Rattle.ftd_import.specs.declared.summary.StopCause.TheVariants as cause
 use Rattle.ftd_import.specs.declared.summary.Summary.{Summary}
 
--- the post of a pay run
-abbrev pub post_of : Run → Request
-post_of run =
-    Post run.employer run.number run.payday (record { 0 = run.fit }) (record { 0 = run.ss })
-    (record { 0 = run.medicare })
+-- the request by which an entry is posted
+abbrev pub in_cents : ℕ → Cents
+in_cents amount = record { 0 = amount }
 
--- the post of a record that says a pay run
-abbrev pub post_in : ℕ × Said → Option Request
-post_in (number, pay_run run) = Some (post_of run)
+abbrev pub total_request : List ℕ → Period → Cents → Request
+total_request employer (period.Quarter quarter) amount = request.Report employer quarter amount
+total_request employer (period.Year year) amount = request.ReportYear employer year amount
+
+abbrev pub post_of : Entry → Request
+post_of (a_run run) =
+    request.Post run.employer run.number run.payday (in_cents run.fit) (in_cents run.ss)
+    (in_cents run.medicare)
+post_of (an_account account) =
+    request.Enrol account.employer account.start account.carried account.form
+post_of (a_total total) = total_request total.employer total.period (in_cents total.amount)
+post_of (a_payment payment) =
+    request.Pay payment.employer payment.number payment.paid payment.for_day
+    (in_cents payment.amount)
+
+-- that of a record
+abbrev pub post_in : ℕ × SaidEntry → Option Request
+post_in (number, enters it) = Some (post_of it)
 post_in (number, malformed field) = None
 
 -- the posts of records
-abbrev pub posts_of : List (ℕ × Said) → List Request
+abbrev pub posts_of : List (ℕ × SaidEntry) → List Request
 posts_of records = filter_map post_in records
 
--- what became of the record of this number: its pay run was posted and answered so, or it was left
+-- what became of the record of this number: its entry was posted and answered so, or it was left
 -- out, malformed at this field
 pub data Outcome : Type 0 where
-  posted : ℕ → Run → Answer → Outcome
+  posted : ℕ → Entry → Answer → Outcome
   skipped : ℕ → ℕ → Outcome
 
-abbrev pub record_in : Outcome → ℕ × Said
-record_in (posted number run answer) = (number, pay_run run)
+abbrev pub record_in : Outcome → ℕ × SaidEntry
+record_in (posted number it answer) = (number, enters it)
 record_in (skipped number field) = (number, malformed field)
 
 -- what was asked of the desk, and what it answered
 abbrev pub request_in : Outcome → Option Request
-request_in (posted number run answer) = Some (post_of run)
+request_in (posted number it answer) = Some (post_of it)
 request_in (skipped number field) = None
 
 abbrev pub answer_in : Outcome → Option Answer
-answer_in (posted number run answer) = Some answer
+answer_in (posted number it answer) = Some answer
 answer_in (skipped number field) = None
 
 -- it was posted, was there already, was refused, was malformed
 abbrev pub is_posted : Answer → Bool
-is_posted (Ok reply.Done) = false
+is_posted (Ok reply.Done) = true
 is_posted (Ok reply.Already) = false
 is_posted (Ok (reply.Posted from to removed added)) = true
 is_posted (Ok (reply.Status kind reason)) = false
@@ -80,19 +97,19 @@ is_refused (Ok told) = false
 is_refused (Err why) = true
 
 abbrev pub was_posted : Outcome → Bool
-was_posted (posted number run answer) = is_posted answer
+was_posted (posted number it answer) = is_posted answer
 was_posted (skipped number field) = false
 
 abbrev pub was_already : Outcome → Bool
-was_already (posted number run answer) = is_already answer
+was_already (posted number it answer) = is_already answer
 was_already (skipped number field) = false
 
 abbrev pub was_refused : Outcome → Bool
-was_refused (posted number run answer) = is_refused answer
+was_refused (posted number it answer) = is_refused answer
 was_refused (skipped number field) = false
 
 abbrev pub was_malformed : Outcome → Bool
-was_malformed (posted number run answer) = false
+was_malformed (posted number it answer) = false
 was_malformed (skipped number field) = true
 
 -- the note of a record that was refused or malformed
@@ -101,7 +118,7 @@ note_of number (Ok told) = None
 note_of number (Err why) = Some (record { number = number; finding = Refused why })
 
 abbrev pub note_in : Outcome → Option Note
-note_in (posted number run answer) = note_of number answer
+note_in (posted number it answer) = note_of number answer
 note_in (skipped number field) = Some (record { number = number; finding = Malformed field })
 
 -- the cause by which an answer stops an import: there was no memory, or the store failed
@@ -134,7 +151,7 @@ fault_of (Err refusal.YearDiffers) = None
 fault_of (Err (refusal.YearMissing year)) = None
 
 abbrev pub fault_in : Outcome → Option StopCause
-fault_in (posted number run answer) = fault_of answer
+fault_in (posted number it answer) = fault_of answer
 fault_in (skipped number field) = None
 
 -- why there are no records
@@ -152,7 +169,7 @@ pub record Counts (before : Summary) (outcomes : List Outcome) (after : Summary)
   pub notes_are : after.notes.items ≡ before.notes.items ++ filter_map note_in outcomes
 
 -- a summary after some more records, whose posts were answered so
-pub record CountsAnswers (before : Summary) (records : List (ℕ × Said)) (answers : List Answer)
+pub record CountsAnswers (before : Summary) (records : List (ℕ × SaidEntry)) (answers : List Answer)
     (after : Summary) : Type 0 where
   pub outcomes : List Outcome
   pub all : map record_in outcomes ≡ records

@@ -1,4 +1,4 @@
-//! Pay runs out of a text.
+//! The entries of a text.
 
 ghost use Rattle.std.specs.Prelude.{◌≡◌, true, IfErr, MatchResult};
 ghost use Rattle.ftd_desk.specs.Desks.{IsStopped, held};
@@ -8,13 +8,14 @@ use crate::lists::post_lists;
 use crate::progress::Progress;
 use crate::reading::counted;
 use crate::summary::{Stopped, Summary, cause_of};
+use ftd_csv::Sheet;
 use ftd_desk::Desk;
 use sqlite::Alter;
 use std::alloc::Global;
 
-/// Posts the pay runs of a text, and says what became of its records, as if they were posted one
-/// after the other. The text is CSV with the header `employer,run,payday,fit,ss,medicare`, of at
-/// most 16 MiB. A malformed record is counted, noted and left out. The records go to the desk in
+/// Posts the entries of a text, and says what became of its records, as if they were posted one
+/// after the other. The text is CSV with the header of the sheet, of at most 16 MiB. A malformed
+/// record is counted, noted and left out. The records go to the desk in
 /// lists of 16,384, each in one transaction; a list that meets a fault goes again, one record after
 /// the other.
 ///
@@ -28,18 +29,20 @@ use std::alloc::Global;
 pub fn import<S: Alter, P: Progress>(
     alloc: Global,
     desk: &mut Desk<S>,
+    sheet: Sheet,
     text: &[u8],
     progress: &mut P,
 ) -> Result<Summary, Stopped>
     ensures imports { MatchResult result
-        (λ summary. Imports (held S.Store desk.old) (held S.Store desk.new) text.now summary)
+        (λ summary. Imports (held S.Store desk.old) (held S.Store desk.new) sheet text.now
+        summary)
         (λ stopped. Stops (IsStopped desk.new) (held S.Store desk.old) (held S.Store desk.new)
-        text.now stopped) }
+        sheet text.now stopped) }
     ensures untouched { IfErr result
         (λ stopped. is_of_text stopped.cause ≡ true → desk.new ≡ desk.old) }
 {
     let mut done = Summary::none(alloc);
-    let (mut records, all) = match counted(alloc, text) {
+    let (mut records, all) = match counted(alloc, sheet, text) {
         Ok(counted) => counted,
         Err(fault) => {
             let cause = cause_of(fault);

@@ -1,13 +1,16 @@
-//! Pay runs out of CSV, posted to the desk.
+//! Pay runs, accounts, reported totals and payments out of CSV, posted to the desk.
 #![tactic(auto)]
 
 mod importing;
 mod lists;
 mod posting;
+mod posts;
 mod progress;
 mod reading;
 mod summary;
+mod trial;
 
 pub use crate::importing::import;
 pub use crate::progress::{Progress, Quiet};
 pub use crate::summary::{Finding, Note, StopCause, Stopped, Summary};
+pub use crate::trial::import_trial;

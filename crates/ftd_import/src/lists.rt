@@ -3,8 +3,8 @@
 ghost use Rattle.std.specs.Prelude.{◌≡◌, ◌<◌, ◌≤◌, ◌+◌, ℕ, List, OnOk, OnErr, MatchResult, length};
 ghost use Rattle.std.specs.Prelude.{map, vec_len, vec_capacity};
 ghost use Rattle.std.specs.List.{filter};
-ghost use Rattle.ftd_csv.specs.Places.{CanAdvance, records_left, said_left};
-ghost use Rattle.ftd_csv.specs.Records.{Said};
+ghost use Rattle.ftd_csv.specs.Places.{CanAdvance, records_left, rows_after};
+ghost use Rattle.ftd_csv.specs.Records.{SaidEntry};
 ghost use Rattle.ftd_desk.specs.Desks.{IsStopped, held};
 ghost use Rattle.ftd_import.specs.Lists.{IsList, IsListOf, has_post, kept_of};
 ghost use Rattle.ftd_import.specs.Outcomes.{Counts, CountsAnswers, IsSame, most_counted, posts_of};
@@ -25,11 +25,11 @@ use std::alloc::Global;
 const TOGETHER: usize = 16_384;
 
 /// Counts records whose posts were answered so. There is room for their notes.
-fn count_all(places: &[Place], answers: &[Answer], done: &mut Summary)
+pub(crate) fn count_all(places: &[Place], answers: &[Answer], done: &mut Summary)
     requires room { vec_len done.old.notes + length places.now ≤ vec_capacity done.old.notes }
     requires fits { tally done.old + length places.now ≤ most_counted }
     requires answers { length answers.now ≡ length (filter has_post places.now) }
-    ensures counts { (records : List (ℕ × Said)) → places.now ≡ map kept_of records
+    ensures counts { (records : List (ℕ × SaidEntry)) → places.now ≡ map kept_of records
         → CountsAnswers done.old records answers.now done.new }
     ensures grows { tally done.new ≤ tally done.old + length places.now }
 {
@@ -55,7 +55,7 @@ fn post_together<S: Alter>(
 ) -> Result<(), Refusal>
     requires list { IsList list.now }
     requires fits { tally done.old + length list.now.places.items ≤ most_counted }
-    ensures posts { (records : List (ℕ × Said)) → IsListOf records list.now → OnOk result
+    ensures posts { (records : List (ℕ × SaidEntry)) → IsListOf records list.now → OnOk result
         (Posts (held S.Store desk.old) (held S.Store desk.new) records done.old done.new) }
     ensures grows { OnOk result
         (tally done.new ≤ tally done.old + length list.now.places.items) }
@@ -80,7 +80,7 @@ fn post_list<S: Alter>(
     requires list { IsList list.now }
     requires short { length list.now.places.items ≤ most_together }
     requires fits { tally done.old + length list.now.places.items ≤ most_counted }
-    ensures posts { (records : List (ℕ × Said)) → IsListOf records list.now → MatchResult result
+    ensures posts { (records : List (ℕ × SaidEntry)) → IsListOf records list.now → MatchResult result
         (λ _. Posts (held S.Store desk.old) (held S.Store desk.new) records done.old done.new)
         (λ cause. StopsWithin (IsStopped desk.new) (held S.Store desk.old)
         (held S.Store desk.new) records (λ outcomes. Counts done.old outcomes done.new) cause) }
@@ -104,7 +104,7 @@ pub(crate) fn post_lists<S: Alter, P: Progress>(
     progress: &mut P,
 ) -> Result<(), StopCause>
     requires can { CanAdvance records.old }
-    requires all { all ≡ length (said_left records.old) }
+    requires all { all ≡ length (rows_after records.old) }
     requires fits { tally done.old + all ≤ most_counted }
     ensures { MatchResult result
         (λ _. Posts (held S.Store desk.old) (held S.Store desk.new)

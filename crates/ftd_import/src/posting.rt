@@ -2,7 +2,7 @@
 
 ghost use Rattle.std.specs.Prelude.{◌≡◌, ◌<◌, ◌≤◌, ◌+◌, ◌∷◌, [], ℕ, List, None, IfErr, IfOk, OnOk};
 ghost use Rattle.std.specs.Prelude.{OnErr, MatchResult, length, vec_len, vec_capacity};
-ghost use Rattle.ftd_csv.specs.Records.{Run, Said, pay_run};
+ghost use Rattle.ftd_csv.specs.Records.{Entry, SaidEntry, enters};
 ghost use Rattle.ftd_desk.specs.Desks.{IsStopped, held};
 ghost use Rattle.ftd_import.specs.Lists.{IsList, IsListOf, kept_of};
 ghost use Rattle.ftd_import.specs.Outcomes.{IsSame, most_counted, post_of, posts_of, tally};
@@ -14,8 +14,8 @@ use ftd_desk::Desk;
 use ftd_machine::Request;
 use sqlite::Alter;
 
-/// Posts a pay run, the record of this number. There is room for its note.
-fn post_run<S: Alter>(
+/// Posts the entry of the record of this number. There is room for its note.
+fn post_entry<S: Alter>(
     desk: &mut Desk<S>,
     number: u32,
     post: &Request,
@@ -23,12 +23,12 @@ fn post_run<S: Alter>(
 ) -> Result<(), StopCause>
     requires room { vec_len done.old.notes < vec_capacity done.old.notes }
     requires fits { tally done.old < most_counted }
-    ensures posts { (run : Run) → post.now ≡ post_of run → OnOk result
+    ensures posts { (it : Entry) → post.now ≡ post_of it → OnOk result
         (Posts (held S.Store desk.old) (held S.Store desk.new)
-        ((number, pay_run run) ∷ []) done.old done.new) }
-    ensures stops { (run : Run) → post.now ≡ post_of run → IfErr result
+        ((number, enters it) ∷ []) done.old done.new) }
+    ensures stops { (it : Entry) → post.now ≡ post_of it → IfErr result
         (λ cause. StopsAt (IsStopped desk.new) (held S.Store desk.old) (held S.Store desk.new)
-        (number, pay_run run) cause) }
+        (number, enters it) cause) }
     ensures same { OnErr result (done.new ≡ done.old) }
     ensures grows { OnOk result (tally done.new ≤ tally done.old + 1) }
     ensures stopped { IsStopped desk.old → IsStopped desk.new }
@@ -53,12 +53,12 @@ fn post_record<'p, S: Alter>(
 ) -> Result<&'p [Request], StopCause>
     requires there { place.now.malformed ≡ None → 0 < length posts.now }
     requires fits { tally done.old < most_counted }
-    ensures left { (at : ℕ × Said) (later : List (ℕ × Said)) → place.now ≡ kept_of at
+    ensures left { (at : ℕ × SaidEntry) (later : List (ℕ × SaidEntry)) → place.now ≡ kept_of at
         → posts.now ≡ posts_of (at ∷ later) → IfOk result (λ left. left.now ≡ posts_of later) }
-    ensures posts { (at : ℕ × Said) (later : List (ℕ × Said)) → place.now ≡ kept_of at
+    ensures posts { (at : ℕ × SaidEntry) (later : List (ℕ × SaidEntry)) → place.now ≡ kept_of at
         → posts.now ≡ posts_of (at ∷ later) → OnOk result
         (Posts (held S.Store desk.old) (held S.Store desk.new) (at ∷ []) done.old done.new) }
-    ensures stops { (at : ℕ × Said) (later : List (ℕ × Said)) → place.now ≡ kept_of at
+    ensures stops { (at : ℕ × SaidEntry) (later : List (ℕ × SaidEntry)) → place.now ≡ kept_of at
         → posts.now ≡ posts_of (at ∷ later) → IfErr result
         (λ cause. StopsAt (IsStopped desk.new) (held S.Store desk.old) (held S.Store desk.new)
         at cause) }
@@ -76,7 +76,7 @@ fn post_record<'p, S: Alter>(
         }
         None => {
             let (post, later) = posts.split_first().unwrap();
-            match post_run(desk, place.number, post, done) {
+            match post_entry(desk, place.number, post, done) {
                 Ok(()) => Ok(later),
                 Err(cause) => Err(cause),
             }
@@ -92,7 +92,7 @@ pub(crate) fn post_all<S: Alter>(
 ) -> Result<(), StopCause>
     requires list { IsList list.now }
     requires fits { tally done.old + length list.now.places.items ≤ most_counted }
-    ensures posts { (records : List (ℕ × Said)) → IsListOf records list.now → MatchResult result
+    ensures posts { (records : List (ℕ × SaidEntry)) → IsListOf records list.now → MatchResult result
         (λ _. Posts (held S.Store desk.old) (held S.Store desk.new) records done.old done.new)
         (λ cause. StopsIn (IsStopped desk.new) (held S.Store desk.old) (held S.Store desk.new)
         records done.old done.new cause) }

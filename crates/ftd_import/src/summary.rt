@@ -3,7 +3,7 @@
 ghost use Rattle.std.specs.Prelude.{◌≡◌, ◌<◌, ◌≤◌, ◌+◌, ◌∷◌, [], vec_len, vec_capacity};
 ghost use Rattle.ftd_import.specs.Outcomes.{Counts, IsNothing, fault_of, most_counted, posted};
 ghost use Rattle.ftd_import.specs.Outcomes.{skipped, tally, text_cause};
-ghost use Rattle.ftd_csv.specs.Records.{Run};
+ghost use Rattle.ftd_csv.specs.Records.{Entry};
 
 use ftd_csv::RecordFault;
 use ftd_machine::{Answer, Refusal, Reply};
@@ -13,7 +13,8 @@ use thiserror::Error;
 /// Why a record was not posted.
 #[derive(Clone, Copy, Debug, PartialEq, Eq)]
 pub enum Finding {
-    /// This is the least of its fields that is bad, counted from 1; 0 where it has other than six.
+    /// This is the least of its fields that is bad, counted from 1; 0 where it has more fields than
+    /// the header, or fewer.
     Malformed(u8),
     /// The desk refused its post.
     Refused(Refusal),
@@ -26,7 +27,7 @@ pub struct Note {
     pub finding: Finding,
 }
 
-/// How many records were posted, were there already, were refused and were malformed, with a note
+/// How many records were posted (of which the desk took the entry), were there already, were refused and were malformed, with a note
 /// for each of the last two, in the order of the records.
 #[derive(Drop)]
 pub struct Summary {
@@ -40,7 +41,7 @@ pub struct Summary {
 /// Why an import stopped.
 #[derive(Clone, Copy, Debug, PartialEq, Eq, Error)]
 pub enum StopCause {
-    /// The first record is not `employer,run,payday,fit,ss,medicare`, or there is none.
+    /// The first record is not the header of the sheet, or there is none.
     #[error("refused header")]
     BadHeader,
     /// The text has more than 16 MiB.
@@ -144,14 +145,14 @@ impl Summary {
     pub(crate) fn count(&mut self, number: u32, answer: &Answer)
         requires room { vec_len self.old.notes < vec_capacity self.old.notes }
         requires fits { tally self.old < most_counted }
-        ensures counts { (run : Run)
-            → Counts self.old (posted number run answer.now ∷ []) self.new }
+        ensures counts { (it : Entry)
+            → Counts self.old (posted number it answer.now ∷ []) self.new }
         ensures adds { vec_len self.new.notes ≤ vec_len self.old.notes + 1 }
         ensures room { vec_capacity self.new.notes ≡ vec_capacity self.old.notes }
         ensures grows { tally self.new ≤ tally self.old + 1 }
     {
         match answer {
-            Ok(Reply::Posted { .. }) => self.posted += 1,
+            Ok(Reply::Posted { .. } | Reply::Done) => self.posted += 1,
             Ok(Reply::Already) => self.already += 1,
             Ok(_) => {}
             Err(refusal) => {

@@ -1,2 +1,3 @@
 mod LineParts
 mod JoinFacts
+mod ExplanationParts

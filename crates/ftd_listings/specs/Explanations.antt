@@ -3,7 +3,6 @@ use Rattle.std.specs.Prelude.{ℕ, List, [], ◌∷◌, ◌++◌, codes, Option,
 use Rattle.std.specs.List.{concat, flat_map, join_with_byte}
 use Rattle.ftd_days.specs.Text.{day_text}
 use Rattle.ftd_rules.specs.declared.Kind.{Kind}
-use Rattle.ftd_rules.specs.declared.Kind.TheVariants.{Monthly, Semiweekly}
 use Rattle.ftd_rules.specs.declared.Obligation.{Obligation}
 use Rattle.ftd_rules.specs.Text.{rule_text}
 use Rattle.ftd_machine.specs.declared.explained.CountedDay.{CountedDay}
@@ -15,22 +14,32 @@ use Rattle.ftd_machine.specs.declared.explained.RunningSum.{RunningSum}
 use Rattle.ftd_machine.specs.declared.replies.Reason.{Reason}
 use Rattle.ftd_machine.specs.declared.replies.Reason.TheVariants.{Lookback, Turned, Carried}
 use Rattle.ftd_reports.specs.Columns.{space, line_end, left_in, amount_in}
-use Rattle.ftd_listings.specs.Listings.{payment_line}
+use Rattle.ftd_listings.specs.Listings.{kind_name, payment_line}
 
 -- ---- the deposit schedule of a day
 
-abbrev pub kind_text : Kind → List ℕ
-kind_text Monthly = codes " monthly"
-kind_text Semiweekly = codes " semiweekly"
+-- why an account has it, and the day on which 100,000.00 was reached where that is why
+abbrev pub reason_name : Reason → List ℕ
+reason_name Lookback = codes "lookback"
+reason_name (Turned turn) = codes "turned"
+reason_name Carried = codes "carried"
 
--- `2024-05-11 semiweekly turned 2024-05-10`
+abbrev pub turn_of : Reason → Option ℕ
+turn_of Lookback = None
+turn_of (Turned turn) = Some turn
+turn_of Carried = None
+
+-- `2024-05-11 semiweekly turned`, and the end of its line, with ` 2024-05-10` before it
+abbrev pub reason_text : ℕ → Kind → Reason → List ℕ
+reason_text day kind reason =
+    concat (day_text day ∷ (space ∷ []) ∷ kind_name kind ∷ (space ∷ []) ∷ reason_name reason ∷ [])
+
+abbrev pub reached_end : Option ℕ → List ℕ
+reached_end None = codes "\n"
+reached_end (Some turn) = concat ((space ∷ []) ∷ day_text turn ∷ codes "\n" ∷ [])
+
 unfoldable pub status_text : ℕ → Kind → Reason → List ℕ
-status_text day kind Lookback =
-    concat (day_text day ∷ kind_text kind ∷ codes " lookback" ∷ (10 ∷ []) ∷ [])
-status_text day kind (Turned turn) =
-    concat (day_text day ∷ kind_text kind ∷ codes " turned " ∷ day_text turn ∷ (10 ∷ []) ∷ [])
-status_text day kind Carried =
-    concat (day_text day ∷ kind_text kind ∷ codes " carried" ∷ (10 ∷ []) ∷ [])
+status_text day kind reason = reason_text day kind reason ++ reached_end (turn_of reason)
 
 -- ---- the lines of an obligation
 
@@ -48,14 +57,15 @@ payday_line x =
     ++ (line_end ∷ [])
 
 -- a day that is counted to its due date, and what it is
-abbrev pub day_kind_text : DayKind → List ℕ
-day_kind_text Business = codes " business\n"
-day_kind_text Saturday = codes " Saturday\n"
-day_kind_text Sunday = codes " Sunday\n"
-day_kind_text Holiday = codes " holiday\n"
+abbrev pub day_kind_name : DayKind → List ℕ
+day_kind_name Business = codes "business"
+day_kind_name Saturday = codes "Saturday"
+day_kind_name Sunday = codes "Sunday"
+day_kind_name Holiday = codes "holiday"
 
 abbrev pub counted_line : CountedDay → List ℕ
-counted_line x = day_text x.day ++ day_kind_text x.kind
+counted_line x =
+    concat (day_text x.day ∷ (space ∷ []) ∷ day_kind_name x.kind ∷ (line_end ∷ []) ∷ [])
 
 -- when the return is due
 abbrev pub return_line : ℕ → List ℕ

@@ -18,7 +18,7 @@ use Rattle.ftd_formats.specs.Fields.{Told, flag_field, list_of, number_field, ob
 use Rattle.ftd_formats.specs.Fields.{record_told, text_field}
 use Rattle.ftd_formats.specs.declared.formats.ListFormat.{ListFormat}
 use Rattle.ftd_formats.specs.declared.formats.ListFormat.TheVariants.{Text, Csv, Json}
-use Rattle.ftd_listings.specs.Listings.{kept_text, opening_text}
+use Rattle.ftd_listings.specs.Listings.{kept_text, kind_name}
 
 -- ---- the fields of a row; each has the name that it has in the request which enters it
 
@@ -47,7 +47,7 @@ abbrev pub year_fields : List ℕ → YearLine → List Told
 year_fields account x =
     text_field (codes "account") account ∷ number_field (codes "year") x.year
     ∷ text_field (codes "lookback") (cents_text x.lookback.0)
-    ∷ text_field (codes "opening") (opening_text x.opening)
+    ∷ text_field (codes "opening") (kind_name x.opening)
     ∷ flag_field (codes "carried") x.carried ∷ day_field (codes "turned") x.turn ∷ []
 
 -- a reported total of an account: its quarter or year, and the amount

@@ -1,4 +1,5 @@
 pub mod Listings
 pub mod KeptForms
 pub mod Explanations
+pub mod ExplanationForms
 pub use Rattle.ftd_ports.specs.Writing

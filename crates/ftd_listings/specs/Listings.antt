@@ -56,9 +56,9 @@ account_line x = name_text x.name ++ enrolled_text x.account
 
 -- an open year, what was reported for its lookback period, the schedule that it opens with, whether
 -- the account is carried into it, and the day on which it turned
-abbrev pub opening_text : Kind → List ℕ
-opening_text Monthly = codes "monthly"
-opening_text Semiweekly = codes "semiweekly"
+abbrev pub kind_name : Kind → List ℕ
+kind_name Monthly = codes "monthly"
+kind_name Semiweekly = codes "semiweekly"
 
 abbrev pub carried_text : Bool → List ℕ
 carried_text true = codes " carried"
@@ -70,7 +70,7 @@ turn_end (Some turn) = concat (codes " turned " ∷ day_text turn ∷ codes "\n"
 
 unfoldable pub year_text : YearLine → List ℕ
 year_text x =
-    join_with_byte space (decimal x.year ∷ amount_in x.lookback.0 ∷ opening_text x.opening ∷ [])
+    join_with_byte space (decimal x.year ∷ amount_in x.lookback.0 ∷ kind_name x.opening ∷ [])
     ++ carried_text x.carried
 
 unfoldable pub year_line : YearLine → List ℕ

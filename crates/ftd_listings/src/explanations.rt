@@ -3,28 +3,90 @@
 ghost use Rattle.std.specs.Prelude.{◌≡◌, true, OnOk, OnErr};
 ghost use Rattle.std.specs.Io.KnownBytes.{Appends};
 ghost use Rattle.ftd_ports.specs.Writing.{WritesPrefix};
-ghost use Rattle.ftd_listings.specs.Explanations.{counted_line, day_kind_text, days_text};
+ghost use Rattle.ftd_listings.specs.ExplanationForms.{explanation_as};
+ghost use Rattle.ftd_listings.specs.Explanations.{counted_line, day_kind_name, days_text};
 ghost use Rattle.ftd_listings.specs.Explanations.{explained_text, explanation_head};
-ghost use Rattle.ftd_listings.specs.Explanations.{explanation_text, explanation_told, kind_text};
+ghost use Rattle.ftd_listings.specs.Explanations.{explanation_text, explanation_told};
 ghost use Rattle.ftd_listings.specs.Explanations.{obligation_line, paid_text, payday_line};
-ghost use Rattle.ftd_listings.specs.Explanations.{rest_text, return_line, status_text, why_text};
+ghost use Rattle.ftd_listings.specs.Explanations.{reached_end, reason_name, reason_text};
+ghost use Rattle.ftd_listings.specs.Explanations.{rest_text, return_line, status_text, turn_of};
+ghost use Rattle.ftd_listings.specs.Explanations.{why_text};
 
-use crate::lines::Columns;
+use crate::explanation_objects::write_explanation_json;
+use crate::lines::{Columns, kind_bytes};
 use ftd_days::Day;
-use ftd_formats::{RowFormat, write_table};
+use ftd_formats::{Format, ListFormat, RowFormat, write_table};
 use ftd_machine::{CountedDay, DayKind, Explanation, Reason, RunningSum};
 use ftd_ports::{Target, WriteFault, write_all, write_pieces};
 use ftd_reports::{amount_column, day_bytes, rule_column};
 use ftd_rules::{Kind, Obligation};
 use itoa::Buffer;
 
-/// The deposit schedule, after a space.
-fn kind_bytes(kind: Kind) -> &'static [u8]
-    ensures { result.now ≡ kind_text kind }
+/// Why an account has a deposit schedule.
+pub fn reason_name(reason: &Reason) -> &'static str
+    ensures { result.now ≡ reason_name reason.now }
 {
-    match kind {
-        Kind::Monthly => b" monthly",
-        Kind::Semiweekly => b" semiweekly",
+    match reason {
+        Reason::Lookback => "lookback",
+        Reason::Turned(_) => "turned",
+        Reason::Carried => "carried",
+    }
+}
+
+/// Why an account has a deposit schedule, as it stands in a line.
+fn reason_bytes(reason: &Reason) -> &'static [u8]
+    ensures { result.now ≡ reason_name reason.now }
+{
+    reason_name(reason).as_bytes()
+}
+
+/// The day on which 100,000.00 was reached, where an account has its deposit schedule since then.
+pub fn turn_of(reason: &Reason) -> Option<Day>
+    ensures { result ≡ turn_of reason.now }
+{
+    match reason {
+        Reason::Turned(turn) => Some(*turn),
+        Reason::Lookback | Reason::Carried => None,
+    }
+}
+
+/// Writes the deposit schedule of a day and why an account has it, up to the end of the line.
+fn write_reason<W: Target>(
+    day: Day,
+    kind: Kind,
+    reason: &Reason,
+    target: &mut W,
+) -> Result<(), WriteFault>
+    ensures ok { OnOk result
+        (Appends (W.taken target.old) (W.taken target.new) (reason_text day kind reason.now)) }
+    ensures err { OnErr result
+        (WritesPrefix (W.taken target.old) (W.taken target.new) (reason_text day kind reason.now)) }
+    ensures fault { OnErr result (W.failed target.new ≡ true) }
+{
+    let pieces: [&[u8]; 5] = [
+        &day_bytes(day),
+        b" ",
+        kind_bytes(kind),
+        b" ",
+        reason_bytes(reason),
+    ];
+    write_pieces(target, &pieces)
+}
+
+/// Writes the day on which 100,000.00 was reached, if it was, and the end of the line.
+fn write_reached<W: Target>(turn: Option<Day>, target: &mut W) -> Result<(), WriteFault>
+    ensures ok { OnOk result
+        (Appends (W.taken target.old) (W.taken target.new) (reached_end turn)) }
+    ensures err { OnErr result
+        (WritesPrefix (W.taken target.old) (W.taken target.new) (reached_end turn)) }
+    ensures fault { OnErr result (W.failed target.new ≡ true) }
+{
+    match turn {
+        None => write_all(target, b"\n"),
+        Some(turn) => {
+            let turn = day_bytes(turn);
+            write_pieces(target, &[b" ", &turn, b"\n"])
+        }
     }
 }
 
@@ -42,16 +104,8 @@ pub fn write_schedule<W: Target>(
         (WritesPrefix (W.taken target.old) (W.taken target.new) (status_text day kind reason)) }
     ensures fault { OnErr result (W.failed target.new ≡ true) }
 {
-    let day = day_bytes(day);
-    let kind = kind_bytes(kind);
-    match reason {
-        Reason::Lookback => write_pieces(target, &[&day, kind, b" lookback", b"\n"]),
-        Reason::Turned(turn) => {
-            let turn = day_bytes(turn);
-            write_pieces(target, &[&day, kind, b" turned ", &turn, b"\n"])
-        }
-        Reason::Carried => write_pieces(target, &[&day, kind, b" carried", b"\n"]),
-    }
+    write_reason(day, kind, &reason, target)?;
+    write_reached(turn_of(&reason), target)
 }
 
 /// Writes the line of an obligation.
@@ -105,16 +159,23 @@ impl RowFormat<RunningSum> for Columns {
     }
 }
 
-/// What a day is, and the end of its line.
-fn day_kind_text(kind: DayKind) -> &'static [u8]
-    ensures { result.now ≡ day_kind_text kind }
+/// What a day is.
+pub fn day_kind_name<'a>(kind: DayKind) -> &'a str
+    ensures { result.now ≡ day_kind_name kind }
 {
     match kind {
-        DayKind::Business => b" business\n",
-        DayKind::Saturday => b" Saturday\n",
-        DayKind::Sunday => b" Sunday\n",
-        DayKind::Holiday => b" holiday\n",
+        DayKind::Business => "business",
+        DayKind::Saturday => "Saturday",
+        DayKind::Sunday => "Sunday",
+        DayKind::Holiday => "holiday",
     }
+}
+
+/// What a day is, as it stands in a line.
+fn day_kind_bytes(kind: DayKind) -> &'static [u8]
+    ensures { result.now ≡ day_kind_name kind }
+{
+    day_kind_name(kind).as_bytes()
 }
 
 // Day, and what it is.
@@ -123,7 +184,7 @@ impl RowFormat<CountedDay> for Columns {
 
     fn write_row<W: Target>(&self, row: &CountedDay, target: &mut W) -> Result<(), WriteFault> {
         let day = day_bytes(row.day);
-        write_pieces(target, &[&day, day_kind_text(row.kind)])
+        write_pieces(target, &[&day, b" ", day_kind_bytes(row.kind), b"\n"])
     }
 }
 
@@ -256,4 +317,30 @@ pub fn write_explanation<W: Target>(
 {
     write_head(account, day, target)?;
     write_found(found, target)
+}
+
+/// Writes why the obligation of an account is so whose deposit period holds a day, in a format: as
+/// text or as JSON. It has no other: in each of them nothing is written. It takes no memory but what
+/// the target takes. Where the target fails, a prefix of the text was written, and it fails nowhere
+/// else.
+pub fn write_explanation_as<W: Target>(
+    format: Format,
+    account: &str,
+    day: Day,
+    found: &Option<Explanation>,
+    target: &mut W,
+) -> Result<(), WriteFault>
+    ensures ok { OnOk result
+        (Appends (W.taken target.old) (W.taken target.new)
+        (explanation_as format account.now day found.now)) }
+    ensures err { OnErr result
+        (WritesPrefix (W.taken target.old) (W.taken target.new)
+        (explanation_as format account.now day found.now)) }
+    ensures fault { OnErr result (W.failed target.new ≡ true) }
+{
+    match format {
+        Format::List(ListFormat::Text) => write_explanation(account, day, found, target),
+        Format::List(ListFormat::Json) => write_explanation_json(account, day, found, target),
+        Format::List(ListFormat::Csv) | Format::Calendar => write_all(target, b""),
+    }
 }

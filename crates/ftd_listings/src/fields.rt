@@ -6,7 +6,7 @@ ghost use Rattle.ftd_formats.specs.Fields.{plain_text, plain_texts};
 ghost use Rattle.ftd_listings.specs.KeptForms.{account_fields, day_json, day_plain};
 ghost use Rattle.ftd_listings.specs.KeptForms.{holiday_fields, payment_fields, run_fields};
 ghost use Rattle.ftd_listings.specs.KeptForms.{total_fields, year_fields};
-ghost use Rattle.ftd_listings.specs.Listings.{opening_text};
+ghost use Rattle.ftd_listings.specs.Listings.{kind_name};
 
 use ftd_days::Day;
 use ftd_formats::Value;
@@ -24,11 +24,11 @@ pub fn day_or_missing<'a>(day: Option<Day>) -> Value<'a>
     }
 }
 
-/// The schedule that a year opens with.
-fn opening_name<'a>(opening: Kind) -> &'a str
-    ensures { result.now ≡ opening_text opening }
+/// A deposit schedule.
+pub fn kind_name<'a>(kind: Kind) -> &'a str
+    ensures { result.now ≡ kind_name kind }
 {
-    match opening {
+    match kind {
         Kind::Monthly => "monthly",
         Kind::Semiweekly => "semiweekly",
     }
@@ -52,7 +52,7 @@ pub fn year_fields<'a>(account: &'a str, line: &YearLine) -> [(&'a str, Value<'a
     ensures plain { map plain_of result ≡ plain_texts (year_fields account.now line.now) }
     ensures members { map member_of result ≡ members_of (year_fields account.now line.now) }
 {
-    let opening = opening_name(line.opening);
+    let opening = kind_name(line.opening);
     [
         ("account", Value::Text(account)),
         ("year", Value::Number(line.year)),

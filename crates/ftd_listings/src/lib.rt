@@ -2,6 +2,7 @@
 //! payments; of the deposit schedule of a day; and of why an obligation is so.
 #![tactic(auto)]
 
+mod explanation_objects;
 mod explanations;
 mod fields;
 mod lines;
@@ -9,7 +10,8 @@ mod listings;
 mod objects;
 mod records;
 
-pub use crate::explanations::{write_explanation, write_schedule};
+pub use crate::explanation_objects::write_explanation_json;
+pub use crate::explanations::{write_explanation, write_explanation_as, write_schedule};
 pub use crate::lines::{Columns, HolidayColumns};
 pub use crate::listings::{write_kept, write_kept_as};
 pub use crate::objects::write_kept_json;

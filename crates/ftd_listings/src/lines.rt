@@ -6,11 +6,12 @@ ghost use Rattle.std.specs.Io.KnownBytes.{Appends};
 ghost use Rattle.ftd_days.specs.Text.{quarter_text};
 ghost use Rattle.ftd_ports.specs.Writing.{WritesPrefix};
 ghost use Rattle.ftd_listings.specs.Listings.{name_text, enrolled_text, account_line, carried_end};
-ghost use Rattle.ftd_listings.specs.Listings.{opening_text, carried_text};
+ghost use Rattle.ftd_listings.specs.Listings.{carried_text, kind_name};
 ghost use Rattle.ftd_listings.specs.Listings.{year_text, turn_end, year_line, total_text, total_line};
 ghost use Rattle.ftd_listings.specs.Listings.{void_end, run_line, held_text};
 ghost use Rattle.ftd_listings.specs.Listings.{added_end, holiday_line, payment_line};
 
+use crate::fields::kind_name;
 use ftd_days::{Cents, Day, Quarter};
 use ftd_formats::RowFormat;
 use ftd_machine::{Account, KeptAccount, KeptPayment, KeptRun, KeptTotal};
@@ -57,14 +58,11 @@ fn carried_text(carried: bool) -> &'static [u8]
     if carried { b" carried" } else { b"" }
 }
 
-/// The schedule that a year opens with.
-fn opening_text(opening: Kind) -> &'static [u8]
-    ensures { result.now ≡ opening_text opening }
+/// A deposit schedule.
+pub fn kind_bytes(kind: Kind) -> &'static [u8]
+    ensures { result.now ≡ kind_name kind }
 {
-    match opening {
-        Kind::Monthly => b"monthly",
-        Kind::Semiweekly => b"semiweekly",
-    }
+    kind_name(kind).as_bytes()
 }
 
 /// The obligation that a payment counts for.
@@ -132,7 +130,7 @@ fn write_year<W: Target>(line: &YearLine, target: &mut W) -> Result<(), WriteFau
         total.dollars,
         &total.cents,
         b" ",
-        opening_text(line.opening),
+        kind_bytes(line.opening),
         carried_text(line.carried),
     ];
     write_pieces(target, &pieces)

@@ -19,8 +19,8 @@ use ftd_rules::YearLine;
 
 /// Objects of an account.
 #[derive(Drop)]
-struct Objects<'a> {
-    account: &'a str,
+pub struct Objects<'a> {
+    pub account: &'a str,
 }
 
 /// Objects of holidays: of those that were added to their year, or of the others.

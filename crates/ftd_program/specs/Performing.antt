@@ -1,5 +1,5 @@
 -- What the program prints of an answer, and its exit status.
-use Rattle.std.specs.Prelude.{◌≡◌, ◌⊎◌, ◌≤◌, ℕ, Bool, true, List, Option, Result}
+use Rattle.std.specs.Prelude.{◌≡◌, ◌⊎◌, ◌≤◌, ℕ, Bool, true, false, List, Option, Result}
 use Rattle.std.specs.Prelude.{Some, None, MatchResult, Ok, Err, codes}
 use Rattle.std.specs.Io.KnownBytes.{Appends}
 use Rattle.ftd_ports.specs.Writing.{WritesPrefix}
@@ -23,7 +23,9 @@ use Rattle.ftd_schema.specs.Standing.{Tables}
 use Rattle.ftd_desk.specs.Desks.{Held, Keeps}
 use Rattle.ftd_desk.specs.Telling.{StandsAsBefore}
 use Rattle.ftd_desk.specs.Words.{Handles}
+use Rattle.ftd_csv.specs.declared.sheets.Sheet.{Sheet}
 use Rattle.ftd_import.specs.Imports.{Imports, Stops}
+use Rattle.ftd_import.specs.Trials.{FailsTrial, WouldImport}
 use Rattle.ftd_import.specs.declared.summary.StopCause.{StopCause}
 use Rattle.ftd_import.specs.declared.summary.Stopped.{Stopped}
 use Rattle.ftd_import.specs.declared.summary.Summary.{Summary}
@@ -76,34 +78,47 @@ module _ {O E : Type 0} (o_taken : O → Option (List ℕ)) (o_failed : O → Bo
 
   -- the summary of an import on standard output, and on standard error as many hints of its
   -- malformed records as there is memory for
-  pub record PrintsCounts (input : List ℕ) (summary : Summary) : Type 0 where
+  pub record PrintsCounts (kind : Sheet) (input : List ℕ) (summary : Summary) : Type 0 where
     pub status_is : p.status ≡ summary_status summary
     pub whole : Appends (o_taken out) (o_taken p.out) (summary_text summary)
-    pub hints : WritesPrefix (e_taken err) (e_taken p.err) (record_hints summary.malformed input)
+    pub hints : WritesPrefix (e_taken err) (e_taken p.err)
+        (record_hints kind summary.malformed input)
     pub none : summary.malformed ≡ 0 → p.err ≡ err
 
-  abbrev pub PrintsSummary : List ℕ → Summary → Type 0
-  PrintsSummary input summary = PrintsCounts input summary ⊎ FailsOutput (summary_text summary)
+  abbrev pub PrintsSummary : Sheet → List ℕ → Summary → Type 0
+  PrintsSummary kind input summary =
+      PrintsCounts kind input summary ⊎ FailsOutput (summary_text summary)
 
   -- the summary of an import that stopped on standard output, and why it stopped on standard error,
   -- with its hint
-  pub record PrintsBoth (input : List ℕ) (why : StopCause) (text : List ℕ) : Type 0 where
+  pub record PrintsBoth (kind : Sheet) (input : List ℕ) (why : StopCause) (text : List ℕ)
+      : Type 0 where
     pub status_is : p.status ≡ stop_status why
     pub whole : Appends (o_taken out) (o_taken p.out) text
-    pub line : IsPut (e_taken err) (e_taken p.err) (e_failed p.err) (stop_text input why)
+    pub line : IsPut (e_taken err) (e_taken p.err) (e_failed p.err) (stop_text kind input why)
 
-  abbrev pub PrintsStop : List ℕ → Stopped → Type 0
-  PrintsStop input stopped =
-      PrintsBoth input stopped.cause (summary_text stopped.done)
+  abbrev pub PrintsStop : Sheet → List ℕ → Stopped → Type 0
+  PrintsStop kind input stopped =
+      PrintsBoth kind input stopped.cause (summary_text stopped.done)
       ⊎ FailsOutput (summary_text stopped.done)
 
-  -- the pay runs of the text were imported, and what became of them printed; only where the first
+  -- the entries of the text were imported, and what became of them printed; only where the first
   -- premise holds may a commit have failed
-  pub record PerformsImport (stopped : Type 0) (old new : Held) (text : List ℕ) : Type 0 where
+  pub record PerformsImport (stopped : Type 0) (old new : Held) (kind : Sheet) (text : List ℕ)
+      : Type 0 where
     pub import : Result Summary Stopped
-    pub imports : MatchResult import (λ summary. Imports old new text summary)
-        (λ end. Stops stopped old new text end)
-    pub prints : MatchResult import (PrintsSummary text) (PrintsStop text)
+    pub imports : MatchResult import (λ summary. Imports old new kind text summary)
+        (λ end. Stops stopped old new kind text end)
+    pub prints : MatchResult import (PrintsSummary kind text) (PrintsStop kind text)
+
+  -- what an import of the text would say was printed, as the import prints it; the desk stands for
+  -- the state as it was
+  pub record PerformsTrial (old new : Held) (kind : Sheet) (text : List ℕ) : Type 0 where
+    pub trial : Result Summary Stopped
+    pub tells : MatchResult trial (λ summary. WouldImport old new kind text summary)
+        (λ end. FailsTrial kind text end)
+    pub stands : StandsAsBefore old new
+    pub prints : MatchResult trial (PrintsSummary kind text) (PrintsStop kind text)
 
   -- the text of the reply in a format, or the lines of the refusal
   abbrev pub Prints : List ℕ → Format → Request → Known → Answer → Type 0
@@ -199,6 +214,8 @@ module _ {O E : Type 0} (o_taken : O → Option (List ℕ)) (o_failed : O → Bo
 
   -- the job of a task was done, with the desk of this file
   abbrev pub Does : Type 0 → Held → Held → List ℕ → List ℕ → Job → Type 0
-  Does stopped old new input db (job.Import file) = PerformsImport stopped old new input
+  Does stopped old new input db (job.Import kind file false) =
+      PerformsImport stopped old new kind input
+  Does stopped old new input db (job.Import kind file true) = PerformsTrial old new kind input
   Does stopped old new input db (job.Ask format request) =
       Asks old new db format request

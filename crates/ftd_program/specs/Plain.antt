@@ -7,6 +7,7 @@ use Rattle.ftd_cli.specs.Faults.{fault_text}
 use Rattle.ftd_cli.specs.Plain.{PlainFails, PlainGives}
 use Rattle.ftd_cli.specs.declared.fault.PlainFault.{PlainFault}
 use Rattle.ftd_cli.specs.declared.fault.PlainFault.TheVariants as fault
+use Rattle.ftd_csv.specs.declared.sheets.Sheet.TheVariants.{Runs}
 use Rattle.ftd_words.specs.declared.tasks.PlainTask.{PlainTask}
 use Rattle.ftd_ports.specs.Writing.{WritesPrefix}
 use Rattle.ftd_hints.specs.Headers.{header_hint}
@@ -27,8 +28,8 @@ fault_line fault = fault_text fault ++ 10 ∷ []
 
 -- the hints of a bad header, and of the malformed record; none of the others
 abbrev pub fault_hints : List ℕ → PlainFault → List ℕ
-fault_hints input fault.BadHeader = header_hint input
-fault_hints input (fault.Malformed number field) = record_hints 1 input
+fault_hints input fault.BadHeader = header_hint Runs input
+fault_hints input (fault.Malformed number field) = record_hints Runs 1 input
 fault_hints input _ = []
 
 abbrev pub fault_status : PlainFault → ℕ

@@ -2,6 +2,7 @@
 use Rattle.std.specs.Prelude.{ℕ, ◌==◌, ◌&&◌, if◌then◌else◌, List, [], ◌∷◌, ◌++◌, codes}
 use Rattle.std.specs.Fmt.{decimal}
 use Rattle.std.specs.List.{concat, flat_map}
+use Rattle.ftd_csv.specs.declared.sheets.Sheet.{Sheet}
 use Rattle.ftd_import.specs.declared.summary.Finding.{Finding}
 use Rattle.ftd_import.specs.declared.summary.Finding.TheVariants.{Malformed, Refused}
 use Rattle.ftd_import.specs.declared.summary.Note.{Note}
@@ -42,15 +43,15 @@ abbrev pub summary_status : Summary → ℕ
 summary_status summary = if summary.refused == 0 && summary.malformed == 0 then 0 else 1
 
 -- `refused header`, and its hint
-unfoldable pub bad_header_text : List ℕ → List ℕ
-bad_header_text input = codes "refused header\n" ++ header_hint input
+unfoldable pub bad_header_text : Sheet → List ℕ → List ℕ
+bad_header_text kind input = codes "refused header\n" ++ header_hint kind input
 
 -- why an import of this text stopped, with the hint of a bad header, and its status
-abbrev pub stop_text : List ℕ → StopCause → List ℕ
-stop_text input cause.BadHeader = bad_header_text input
-stop_text input cause.TooLong = codes "refused length\n"
-stop_text input cause.Memory = codes "failed 21 Memory\n"
-stop_text input cause.Store = codes "failed 22 Store\n"
+abbrev pub stop_text : Sheet → List ℕ → StopCause → List ℕ
+stop_text kind input cause.BadHeader = bad_header_text kind input
+stop_text kind input cause.TooLong = codes "refused length\n"
+stop_text kind input cause.Memory = codes "failed 21 Memory\n"
+stop_text kind input cause.Store = codes "failed 22 Store\n"
 
 abbrev pub stop_status : StopCause → ℕ
 stop_status cause.BadHeader = 1

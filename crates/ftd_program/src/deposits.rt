@@ -9,6 +9,7 @@ ghost use Rattle.ftd_program.specs.Plain.{fault_line, fault_status, record_line,
 
 use crate::performing::{Performed, fail_output};
 use ftd_cli::{PlainFault, plain};
+use ftd_csv::Sheet;
 use ftd_hints::{write_header_hint, write_record_hints};
 use ftd_ports::{Target, WriteFault, write_all, write_pieces};
 use ftd_words::PlainTask;
@@ -87,10 +88,10 @@ fn put_hints<E: Target>(alloc: Global, input: &[u8], fault: PlainFault, err: &mu
 {
     match fault {
         PlainFault::BadHeader => {
-            let _ = write_header_hint(input, err);
+            let _ = write_header_hint(Sheet::Runs, input, err);
         }
         PlainFault::Malformed { .. } => {
-            let _ = write_record_hints(alloc, input, 1, err);
+            let _ = write_record_hints(alloc, Sheet::Runs, input, 1, err);
         }
         _ => {}
     }

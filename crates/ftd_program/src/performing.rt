@@ -1,12 +1,12 @@
 //! A request is asked of the desk, and what it answers is printed.
 
-ghost use Rattle.std.specs.Prelude.{◌≡◌, codes};
+ghost use Rattle.std.specs.Prelude.{◌≡◌, MatchBool, codes};
 ghost use Rattle.std.specs.String.{string_bytes};
 ghost use Rattle.ftd_desk.specs.Desks.{IsStopped, held};
 ghost use Rattle.ftd_formats.specs.Formats.{list_format};
 ghost use Rattle.ftd_program.specs.Performing.{Asks, AsksDue, Does, Performs, PerformsDue};
-ghost use Rattle.ftd_program.specs.Performing.{PerformsImport, PrintsRefusal, PrintsReply};
-ghost use Rattle.ftd_program.specs.Performing.{PrintsStop, PrintsSummary};
+ghost use Rattle.ftd_program.specs.Performing.{PerformsImport, PerformsTrial, PrintsRefusal};
+ghost use Rattle.ftd_program.specs.Performing.{PrintsReply, PrintsStop, PrintsSummary};
 ghost use Rattle.ftd_machine.specs.Limits.{IsBounded};
 ghost use Rattle.ftd_machine.specs.declared.requests.Question.TheVariants.{DueList};
 ghost use Rattle.ftd_machine.specs.declared.requests.Request.TheVariants as requests;
@@ -18,11 +18,12 @@ ghost use Rattle.ftd_program.specs.Summaries.{stop_status, stop_text, summary_st
 
 use crate::mending::{known_for, or_nothing};
 use crate::summaries::{write_bad_header, write_summary};
+use ftd_csv::Sheet;
 use ftd_days::{Day, Quarter};
 use ftd_desk::{Desk, DueFault};
 use ftd_formats::{Format, ListFormat};
 use ftd_hints::write_record_hints;
-use ftd_import::{Progress, StopCause, Stopped, Summary, import};
+use ftd_import::{Progress, StopCause, Stopped, Summary, import, import_trial};
 use ftd_machine::{Question, Refusal, Reply, Request};
 use ftd_ports::Target;
 use ftd_replies::{Known, put, status_of, write_reply, write_told};
@@ -41,9 +42,9 @@ pub struct Performed<O, E> {
     pub err: E,
 }
 
-/// Does the job of a task: asks its request of the desk, or imports the pay runs of the input, CSV
-/// with the header `employer,run,payday,fit,ss,medicare`. What came of it goes to `out`, and the
-/// line of a refusal or of a fault to `err`. What the desk took stands, also where `out` fails: the
+/// Does the job of a task: asks its request of the desk, or imports the entries of the input, CSV
+/// with the header of their sheet, or tells what an import would say of them. What came of it goes
+/// to `out`, and the line of a refusal or of a fault to `err`. What the desk took stands, also where `out` fails: the
 /// status is 3 then, and a prefix of the text was written. `progress` is told how far an import is,
 /// and its end before anything is printed.
 pub fn perform<S: Alter, O: Target, E: Target, P: Progress>(
@@ -60,7 +61,11 @@ pub fn perform<S: Alter, O: Target, E: Target, P: Progress>(
         (string_bytes task.now.db) task.now.job }
 {
     match &task.job {
-        Job::Import(_) => post_runs(alloc, desk, input, out, err, progress),
+        Job::Import {
+            sheet,
+            is_trial,
+            ..
+        } => import_or_try(alloc, desk, *sheet, *is_trial, input, out, err, progress),
         Job::Ask { format, request } => ask(desk, &task.db, *format, request, out, err),
     }
 }
@@ -190,23 +195,66 @@ fn list_due<S: Alter, O: Target, E: Target>(
     }
 }
 
-/// Posts the pay runs of a text, CSV with the header `employer,run,payday,fit,ss,medicare`. The
-/// summary goes to `out`; where the import stops, why goes to `err`. The status is 1 where a record
-/// was refused or malformed, or where the text is too long or has another header.
-fn post_runs<S: Alter, O: Target, E: Target, P: Progress>(
+/// Posts the entries of a text, or tells what an import would say of them.
+fn import_or_try<S: Alter, O: Target, E: Target, P: Progress>(
     alloc: Global,
     desk: &mut Desk<S>,
+    sheet: Sheet,
+    is_trial: bool,
+    input: &[u8],
+    out: O,
+    err: E,
+    progress: &mut P,
+) -> Performed<O, E>
+    ensures { MatchBool is_trial
+        (PerformsTrial O.taken O.failed E.taken E.failed out err result
+        (held S.Store desk.old) (held S.Store desk.new) sheet input.now)
+        (PerformsImport O.taken O.failed E.taken E.failed out err result
+        (IsStopped desk.new) (held S.Store desk.old) (held S.Store desk.new) sheet input.now) }
+{
+    if is_trial {
+        try_entries(alloc, desk, sheet, input, out, err)
+    } else {
+        post_entries(alloc, desk, sheet, input, out, err, progress)
+    }
+}
+
+/// Posts the entries of a text, CSV with the header of the sheet. The summary goes to `out`; where
+/// the import stops, why goes to `err`. The status is 1 where a record was refused or malformed, or
+/// where the text is too long or has another header.
+fn post_entries<S: Alter, O: Target, E: Target, P: Progress>(
+    alloc: Global,
+    desk: &mut Desk<S>,
+    sheet: Sheet,
     input: &[u8],
     out: O,
     err: E,
     progress: &mut P,
 ) -> Performed<O, E>
     ensures { PerformsImport O.taken O.failed E.taken E.failed out err result
-        (IsStopped desk.new) (held S.Store desk.old) (held S.Store desk.new) input.now }
+        (IsStopped desk.new) (held S.Store desk.old) (held S.Store desk.new) sheet input.now }
 {
-    match import(alloc, desk, input, progress) {
-        Ok(summary) => print_summary(alloc, input, &summary, out, err),
-        Err(stopped) => print_stop(input, &stopped, out, err),
+    match import(alloc, desk, sheet, input, progress) {
+        Ok(summary) => print_summary(alloc, sheet, input, &summary, out, err),
+        Err(stopped) => print_stop(sheet, input, &stopped, out, err),
+    }
+}
+
+/// Tells what an import of a text would say, as the import tells it. Nothing is posted.
+fn try_entries<S: Alter, O: Target, E: Target>(
+    alloc: Global,
+    desk: &mut Desk<S>,
+    sheet: Sheet,
+    input: &[u8],
+    out: O,
+    err: E,
+) -> Performed<O, E>
+    ensures { PerformsTrial O.taken O.failed E.taken E.failed out err result
+        (held S.Store desk.old) (held S.Store desk.new) sheet input.now }
+{
+    match import_trial(alloc, desk, sheet, input) {
+        Ok(summary) => print_summary(alloc, sheet, input, &summary, out, err),
+        Err(stopped) => print_stop(sheet, input, &stopped, out, err),
     }
 }
 
@@ -224,20 +272,21 @@ fn status_in(summary: &Summary) -> u8
 /// Prints the summary of an import, and the hints of its malformed records.
 fn print_summary<O: Target, E: Target>(
     alloc: Global,
+    sheet: Sheet,
     input: &[u8],
     summary: &Summary,
     out: O,
     err: E,
 ) -> Performed<O, E>
     ensures { PrintsSummary O.taken O.failed E.taken E.failed out err result
-        input.now summary.now }
+        sheet input.now summary.now }
 {
     let mut out = out;
     match write_summary(summary, &mut out) {
         Ok(()) => {
             let mut err = err;
             if summary.malformed > 0 {
-                put_hints(alloc, input, summary.malformed, &mut err);
+                put_hints(alloc, sheet, input, summary.malformed, &mut err);
             }
             Performed {
                 status: status_in(summary),
@@ -251,40 +300,49 @@ fn print_summary<O: Target, E: Target>(
 
 /// Prints the hints of the malformed records of a text, so many of them at most. Some may be left
 /// out where there is no memory.
-fn put_hints<E: Target>(alloc: Global, input: &[u8], most: usize, err: &mut E)
-    ensures { WritesPrefix (E.taken err.old) (E.taken err.new) (record_hints most input.now) }
+fn put_hints<E: Target>(alloc: Global, sheet: Sheet, input: &[u8], most: usize, err: &mut E)
+    ensures { WritesPrefix (E.taken err.old) (E.taken err.new)
+        (record_hints sheet most input.now) }
 {
-    let _ = write_record_hints(alloc, input, most, err);
+    let _ = write_record_hints(alloc, sheet, input, most, err);
 }
 
 /// Prints the summary of an import that stopped, and why it did.
 fn print_stop<O: Target, E: Target>(
+    sheet: Sheet,
     input: &[u8],
     stopped: &Stopped,
     out: O,
     err: E,
 ) -> Performed<O, E>
-    ensures { PrintsStop O.taken O.failed E.taken E.failed out err result input.now stopped.now }
+    ensures { PrintsStop O.taken O.failed E.taken E.failed out err result
+        sheet input.now stopped.now }
 {
     let mut out = out;
     match write_summary(&stopped.done, &mut out) {
-        Ok(()) => print_cause(input, stopped.cause, out, err),
+        Ok(()) => print_cause(sheet, input, stopped.cause, out, err),
         Err(_) => fail_output(out, err),
     }
 }
 
 /// Prints why an import stopped.
-fn print_cause<O, E: Target>(input: &[u8], cause: StopCause, out: O, err: E) -> Performed<O, E>
+fn print_cause<O, E: Target>(
+    sheet: Sheet,
+    input: &[u8],
+    cause: StopCause,
+    out: O,
+    err: E,
+) -> Performed<O, E>
     ensures status { result.status ≡ stop_status cause }
     ensures out { result.out ≡ out }
     ensures line { IsPut (E.taken err) (E.taken result.err) (E.failed result.err)
-        (stop_text input.now cause) }
+        (stop_text sheet input.now cause) }
 {
     match cause {
         StopCause::BadHeader => {
             let mut err = err;
             // Where standard error fails, the status still tells.
-            let _ = write_bad_header(input, &mut err);
+            let _ = write_bad_header(sheet, input, &mut err);
             Performed {
                 status: 1,
                 out,

@@ -6,6 +6,7 @@ ghost use Rattle.ftd_ports.specs.Writing.{WritesPrefix};
 ghost use Rattle.ftd_program.specs.Summaries.{bad_header_text, counts_text, field_text};
 ghost use Rattle.ftd_program.specs.Summaries.{finding_text, note_text, record_text, summary_text};
 
+use ftd_csv::Sheet;
 use ftd_hints::write_header_hint;
 use ftd_import::{Finding, Note, Summary};
 use ftd_ports::{Target, WriteFault, write_all, write_pieces};
@@ -109,15 +110,19 @@ fn write_field<W: Target>(field: u8, target: &mut W) -> Result<(), WriteFault>
     write_pieces(target, &[b"malformed field ", field, b"\n"])
 }
 
-/// Writes that the header is bad, and the hint of it.
+/// Writes that the first record is not the header of the sheet, and the hint of it.
 #[tactic(auto, unfolding(crate::specs::Summaries::bad_header_text))]
-pub fn write_bad_header<W: Target>(input: &[u8], target: &mut W) -> Result<(), WriteFault>
+pub fn write_bad_header<W: Target>(
+    sheet: Sheet,
+    input: &[u8],
+    target: &mut W,
+) -> Result<(), WriteFault>
     ensures ok { OnOk result
-        (Appends (W.taken target.old) (W.taken target.new) (bad_header_text input.now)) }
+        (Appends (W.taken target.old) (W.taken target.new) (bad_header_text sheet input.now)) }
     ensures err { OnErr result
-        (WritesPrefix (W.taken target.old) (W.taken target.new) (bad_header_text input.now)) }
+        (WritesPrefix (W.taken target.old) (W.taken target.new) (bad_header_text sheet input.now)) }
     ensures fault { OnErr result (W.failed target.new ≡ true) }
 {
     write_all(target, b"refused header\n")?;
-    write_header_hint(input, target)
+    write_header_hint(sheet, input, target)
 }

@@ -8,7 +8,8 @@ use Rattle.ftd_rules.specs.declared.verdict.DueRow.{DueRow}
 use Rattle.ftd_rules.specs.declared.Kind.{Kind}
 use Rattle.ftd_formats.specs.Formats.{agenda_as, b_as, due_as, list_format, owed_as}
 use Rattle.ftd_formats.specs.declared.formats.Format.{Format}
-use Rattle.ftd_listings.specs.Explanations.{explanation_told, status_text}
+use Rattle.ftd_listings.specs.Explanations.{status_text}
+use Rattle.ftd_listings.specs.ExplanationForms.{explanation_as}
 use Rattle.ftd_listings.specs.KeptForms.{kept_as}
 use Rattle.ftd_machine.specs.declared.explained.Explanation.{Explanation}
 use Rattle.ftd_machine.specs.declared.kept.KeptRows.{KeptRows}
@@ -85,24 +86,26 @@ kept_told format (Some (Owed until as_of)) rows = []
 kept_told format (Some (Kept asked)) rows = kept_as (list_format format) asked rows
 kept_told format None rows = []
 
--- why an obligation is so
-abbrev pub why_told : Option Question → Option Explanation → List ℕ
-why_told (Some (Status account day)) explained = []
-why_told (Some (Explain account day)) explained = explanation_told account day explained
-why_told (Some (DueList account quarter as_of)) explained = []
-why_told (Some (ScheduleB account quarter)) explained = []
-why_told (Some (Agenda from to as_of)) explained = []
-why_told (Some (Owed until as_of)) explained = []
-why_told (Some (Kept asked)) explained = []
-why_told None explained = []
+-- why an obligation is so, in a format
+abbrev pub why_told : Format → Option Question → Option Explanation → List ℕ
+why_told format (Some (Status account day)) explained = []
+why_told format (Some (Explain account day)) explained =
+    explanation_as format account day explained
+why_told format (Some (DueList account quarter as_of)) explained = []
+why_told format (Some (ScheduleB account quarter)) explained = []
+why_told format (Some (Agenda from to as_of)) explained = []
+why_told format (Some (Owed until as_of)) explained = []
+why_told format (Some (Kept asked)) explained = []
+why_told format None explained = []
 
--- the text of the reply to a request, in a format where it is a list
+-- the text of the reply to a request, in a format where it has several
 abbrev pub reply_text : Format → Request → Reply → List ℕ
 reply_text format request reply.Done = concat (codes "done" ∷ (10 ∷ []) ∷ [])
 reply_text format request reply.Already = concat (codes "already" ∷ (10 ∷ []) ∷ [])
 reply_text format request (reply.Posted from to removed added) = posted_text from to removed added
 reply_text format request (reply.Status kind reason) = status_told (question_of request) kind reason
-reply_text format request (reply.Explained explained) = why_told (question_of request) explained
+reply_text format request (reply.Explained explained) =
+    why_told format (question_of request) explained
 reply_text format request (reply.Due rows) = due_told format (question_of request) rows
 reply_text format request (reply.Days sums) = days_told format (question_of request) sums
 reply_text format request (reply.Agenda rows) =

@@ -49,6 +49,7 @@ asked_text word.Port = codes "a port of 0 to 65535"
 asked_text word.Wait = codes "a number of seconds of 0 to 3600"
 asked_text word.Format = codes "a format: text, csv, json or ics"
 asked_text word.ListFormat = codes "a format: text, csv or json"
+asked_text word.ExplanationFormat = codes "a format: text or json"
 asked_text _ = codes "a value that is taken here"
 
 -- the value that was given; it is told in words where it is empty, and where it is not known

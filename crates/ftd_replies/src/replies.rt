@@ -13,14 +13,14 @@ ghost use Rattle.ftd_replies.specs.Replies.{posted_text, reply_text, status_told
 
 use ftd_days::Day;
 use ftd_formats::{Format, write_agenda_as, write_b_as, write_due_as, write_owed_as};
-use ftd_listings::{write_explanation, write_kept_as, write_schedule};
+use ftd_listings::{write_explanation_as, write_kept_as, write_schedule};
 use ftd_machine::{AgendaRow, Explanation, KeptRows, Question, Reason, Reply, Request};
 use ftd_ports::{Target, WriteFault, write_all, write_pieces};
 use ftd_reports::day_bytes;
 use ftd_rules::{DaySum, DueRow, Kind};
 use itoa::Buffer;
 
-/// Writes the text of the reply to a request, in a format where it is a list.
+/// Writes the text of the reply to a request, in a format where it has several.
 pub fn write_reply<W: Target>(
     format: Format,
     request: &Request,
@@ -45,7 +45,7 @@ pub fn write_reply<W: Target>(
             added,
         } => write_posted(*from, *to, *removed, *added, target),
         Reply::Status { kind, reason } => write_status(request, *kind, *reason, target),
-        Reply::Explained(explained) => write_why(request, explained, target),
+        Reply::Explained(explained) => write_why(format, request, explained, target),
         Reply::Due(rows) => write_due(format, request, rows.as_slice(), target),
         Reply::Days(sums) => write_days(format, request, sums.as_slice(), target),
         Reply::Agenda(rows) => write_rows(format, request, rows.as_slice(), target),
@@ -258,23 +258,24 @@ fn write_kept_rows<W: Target>(
     }
 }
 
-/// Writes why the obligation is so that was asked for.
+/// Writes why the obligation is so that was asked for, in a format.
 fn write_why<W: Target>(
+    format: Format,
     request: &Request,
     explained: &Option<Explanation>,
     target: &mut W,
 ) -> Result<(), WriteFault>
     ensures ok { OnOk result
         (Appends (W.taken target.old) (W.taken target.new)
-        (why_told (question_of request.now) explained.now)) }
+        (why_told format (question_of request.now) explained.now)) }
     ensures err { OnErr result
         (WritesPrefix (W.taken target.old) (W.taken target.new)
-        (why_told (question_of request.now) explained.now)) }
+        (why_told format (question_of request.now) explained.now)) }
     ensures fault { OnErr result (W.failed target.new ≡ true) }
 {
     match request.question() {
         Some(Question::Explain { account, day }) => {
-            write_explanation(account.as_str(), *day, explained, target)
+            write_explanation_as(format, account.as_str(), *day, explained, target)
         }
         Some(
             Question::Status { .. }

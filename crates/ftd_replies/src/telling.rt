@@ -65,6 +65,7 @@ fn asked_bytes(word: Word) -> &'static [u8]
         Word::Wait => b"a number of seconds of 0 to 3600",
         Word::Format => b"a format: text, csv, json or ics",
         Word::ListFormat => b"a format: text, csv or json",
+        Word::ExplanationFormat => b"a format: text or json",
         _ => b"a value that is taken here",
     }
 }

@@ -33,7 +33,7 @@ method_of ask.Void = Delete
 method_of ask.Pay = Post
 method_of ask.VoidPay = Delete
 method_of ask.Status = Get
-method_of ask.Explain = Get
+method_of (ask.Explain format) = Get
 method_of (ask.DueList format) = Get
 method_of (ask.ScheduleB format) = Get
 method_of (ask.Agenda format) = Get
@@ -45,7 +45,7 @@ method_of (ask.ListHolidays format) = Get
 method_of (ask.ListRuns format) = Get
 method_of (ask.ListPayments format) = Get
 
--- the format in which a route tells a list
+-- the format in which a route tells a reply that has several
 abbrev pub format_of : Ask → Format
 format_of ask.Enrol = format.List Text
 format_of ask.Calendar = format.List Text
@@ -58,7 +58,7 @@ format_of ask.Void = format.List Text
 format_of ask.Pay = format.List Text
 format_of ask.VoidPay = format.List Text
 format_of ask.Status = format.List Text
-format_of ask.Explain = format.List Text
+format_of (ask.Explain asked) = format.List asked
 format_of (ask.DueList asked) = format.List asked
 format_of (ask.ScheduleB asked) = format.List asked
 format_of (ask.Agenda asked) = asked

@@ -32,7 +32,7 @@ pub enum Asked {
     OtherMethod(Method),
     /// A part of the path, or the body, is not of the route's form.
     BadForm,
-    /// A request to the desk. A reply that is a list is told in this format.
+    /// A request to the desk. A reply that has several formats is told in this one.
     Asks { format: Format, request: Request },
 }
 
@@ -53,7 +53,7 @@ fn method_of(route: Ask) -> Method
 {
     match route {
         Ask::Void | Ask::VoidPay => Method::Delete,
-        Ask::Status | Ask::Explain | Ask::DueList(_) | Ask::ScheduleB(_) => Method::Get,
+        Ask::Status | Ask::Explain(_) | Ask::DueList(_) | Ask::ScheduleB(_) => Method::Get,
         Ask::Agenda(_) | Ask::Owed(_) | Ask::ListAccounts(_) | Ask::ListYears(_) => Method::Get,
         Ask::ListReported(_) | Ask::ListHolidays(_) => Method::Get,
         Ask::ListRuns(_) | Ask::ListPayments(_) => Method::Get,
@@ -68,13 +68,14 @@ fn method_of(route: Ask) -> Method
     }
 }
 
-/// The format in which a route tells a list.
+/// The format in which a route tells a reply that has several.
 fn format_of(route: Ask) -> Format
     ensures { result ≡ format_of route }
 {
     match route {
         Ask::Agenda(format) | Ask::Owed(format) => format,
-        Ask::DueList(format)
+        Ask::Explain(format)
+        | Ask::DueList(format)
         | Ask::ScheduleB(format)
         | Ask::ListAccounts(format)
         | Ask::ListYears(format)
@@ -92,8 +93,7 @@ fn format_of(route: Ask) -> Format
         | Ask::Void
         | Ask::Pay
         | Ask::VoidPay
-        | Ask::Status
-        | Ask::Explain => Format::List(ListFormat::Text),
+        | Ask::Status => Format::List(ListFormat::Text),
     }
 }
 

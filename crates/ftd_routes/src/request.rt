@@ -32,7 +32,7 @@ pub fn make_request(
         Ask::Void => void(alloc, target),
         Ask::VoidPay => void_payment(alloc, target),
         Ask::Status => status(alloc, target),
-        Ask::Explain => explain(alloc, target),
+        Ask::Explain(_) => explain(alloc, target),
         Ask::DueList(_) => due_list(alloc, target),
         Ask::ScheduleB(_) => schedule_b(alloc, target),
         Ask::Agenda(_) => Ok(agenda(target)),

@@ -33,8 +33,8 @@ pub enum Ask {
     VoidPay,
     /// The schedule of a day.
     Status,
-    /// Why the obligation of a day is so.
-    Explain,
+    /// Why the obligation of a day is so, in this format.
+    Explain(ListFormat),
     /// What is due for a quarter, in this format.
     DueList(ListFormat),
     /// The liability of a quarter by day, in this format.
@@ -66,7 +66,7 @@ fn put(router: &mut Router<Ask>, route: &str, ask: Ask) -> Result<(), InsertErro
 }
 
 /// The routes and what they ask.
-const ROUTES: [(&str, Ask); 44] = [
+const ROUTES: [(&str, Ask); 45] = [
     ("/accounts", Ask::Enrol),
     ("/calendars", Ask::Calendar),
     ("/holidays", Ask::AddHoliday),
@@ -78,7 +78,14 @@ const ROUTES: [(&str, Ask); 44] = [
     ("/accounts/{account}/payments", Ask::Pay),
     ("/accounts/{account}/payments/{payment}", Ask::VoidPay),
     ("/accounts/{account}/status/{day}", Ask::Status),
-    ("/accounts/{account}/explain/{day}", Ask::Explain),
+    (
+        "/accounts/{account}/explain/{day}",
+        Ask::Explain(ListFormat::Text),
+    ),
+    (
+        "/accounts/{account}/explain/{day}/json",
+        Ask::Explain(ListFormat::Json),
+    ),
     (
         "/accounts/{account}/due/{quarter}/{asof}",
         Ask::DueList(ListFormat::Text),

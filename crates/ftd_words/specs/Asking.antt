@@ -1,7 +1,9 @@
 -- What the values of a subcommand ask.
-use Rattle.std.specs.Prelude.{ℕ, ◌≡◌, ◌+◌, ◌||◌, min, nat_lt, List, Result, Ok, Err, ⊤}
+use Rattle.std.specs.Prelude.{ℕ, ◌≡◌, ◌+◌, ◌||◌, min, nat_lt, Bool, List, Result, Ok, Err, ⊤}
 use Rattle.std.specs.Prelude.{if◌then◌else◌}
 use Rattle.clap.specs.Words.{Row, Text}
+use Rattle.ftd_csv.specs.declared.sheets.Sheet.{Sheet}
+use Rattle.ftd_csv.specs.declared.sheets.Sheet.TheVariants as sheets
 use Rattle.ftd_days.specs.Calendar.{last_day}
 use Rattle.ftd_machine.specs.declared.requests.Kept.{Kept}
 use Rattle.ftd_machine.specs.declared.requests.Kept.TheVariants as kept
@@ -18,7 +20,7 @@ use Rattle.ftd_commands.specs.declared.table.Name.{Name}
 use Rattle.ftd_commands.specs.declared.table.Name.TheVariants as name
 use Rattle.ftd_commands.specs.declared.table.Word.TheVariants as word
 use Rattle.ftd_words.specs.Values.{cents_in, day_in, day_or, days_in, form_in, is_given, port_in}
-use Rattle.ftd_words.specs.Values.{format_in, list_format_in}
+use Rattle.ftd_words.specs.Values.{explanation_format_in, format_in, list_format_in}
 use Rattle.ftd_words.specs.Values.{quarter_in, text_in, whole_in}
 
 -- what follows from a value, or its fault
@@ -182,12 +184,13 @@ payments_of rows =
     then_with (quarter_in word.Quarter rows) (λ quarter.
     Ok (kept_asked (kept.Payments account quarter))))
 
--- ---- what a subcommand asks: the deposits of pay runs from standard input; or a server, an import,
--- or a request to the desk in a database, for which so many seconds are waited
+-- ---- what a subcommand asks: the deposits of pay runs from standard input; or a server, an import
+-- of a sheet, in earnest or on trial, or a request to the desk in a database, for which so many
+-- seconds are waited
 pub data Wanted : Type 0 where
   plain : (account : Text) (year : ℕ) (holidays : List ℕ) → Wanted
   serve : (db : Text) (wait port connections idle silence duration : ℕ) → Wanted
-  import : (db : Text) (wait : ℕ) (file : Text) → Wanted
+  import : (db : Text) (wait : ℕ) (sheet : Sheet) (is_trial : Bool) (file : Text) → Wanted
   ask : (db : Text) (wait : ℕ) (format : Format) (request : Request) → Wanted
 
 -- `plain` wants an account name, and a year of 2001 to 2098
@@ -220,12 +223,12 @@ serve_of rows =
     then_with (whole_in word.Duration rows) (λ duration.
     Ok (serve db wait port connections idle silence duration))))))))
 
-unfoldable pub import_of : List Row → Result Wanted WordFault
-import_of rows =
+unfoldable pub import_of : Sheet → List Row → Result Wanted WordFault
+import_of sheet rows =
     then_with (text_in word.Db rows) (λ db.
     then_with (whole_in word.Wait rows) (λ wait.
     then_with (text_in word.CsvFile rows) (λ file.
-    Ok (import db wait file))))
+    Ok (import db wait sheet (is_given word.Check rows) file))))
 
 -- a request, to the desk in the database, whose reply is told in a format
 abbrev pub asked_as : List Row → Format → Request → Result Wanted WordFault
@@ -247,11 +250,19 @@ abbrev pub listed : List Row → Request → Result Wanted WordFault
 listed rows request =
     then_with (list_format_in rows) (λ format. asked_as rows (formats.List format) request)
 
+-- told as why an obligation is so, in the format that is asked for
+abbrev pub explained : List Row → Request → Result Wanted WordFault
+explained rows request =
+    then_with (explanation_format_in rows) (λ format. asked_as rows format request)
+
 -- what the subcommand asks with these values
 unfoldable pub wanted_of : Name → List Row → Result Wanted WordFault
 wanted_of name.Plain rows = plain_of rows
 wanted_of name.Serve rows = serve_of rows
-wanted_of name.Import rows = import_of rows
+wanted_of name.Import rows = import_of sheets.Runs rows
+wanted_of name.ImportAccounts rows = import_of sheets.Accounts rows
+wanted_of name.ImportReported rows = import_of sheets.Totals rows
+wanted_of name.ImportPayments rows = import_of sheets.Payments rows
 wanted_of name.Enrol rows = then_with (enrol_of rows) (asked rows)
 wanted_of name.Calendar rows = then_with (calendar_of rows) (asked rows)
 wanted_of name.AddHoliday rows = then_with (add_holiday_of rows) (asked rows)
@@ -263,7 +274,7 @@ wanted_of name.Void rows = then_with (void_of rows) (asked rows)
 wanted_of name.Pay rows = then_with (pay_of rows) (asked rows)
 wanted_of name.VoidPay rows = then_with (void_pay_of rows) (asked rows)
 wanted_of name.Status rows = then_with (status_of rows) (asked rows)
-wanted_of name.Explain rows = then_with (explain_of rows) (asked rows)
+wanted_of name.Explain rows = then_with (explain_of rows) (explained rows)
 wanted_of name.Due rows = then_with (due_of rows) (listed rows)
 wanted_of name.Agenda rows = then_with (agenda_of rows) (formatted rows)
 wanted_of name.Owed rows = then_with (owed_of rows) (formatted rows)

@@ -55,7 +55,8 @@ task_of given = without_fault (fault_of ftd_app given) (wanted_in (subcommand_of
 
 -- what a task stands for
 abbrev pub job_view : Text → ℕ → Job → Wanted
-job_view db wait (job.Import file) = import db wait (string_bytes file)
+job_view db wait (job.Import sheet file is_trial) =
+    import db wait sheet is_trial (string_bytes file)
 job_view db wait (job.Ask format request) = ask db wait format request
 
 abbrev pub task_view : Task → Wanted

@@ -98,6 +98,16 @@ list_format_of text =
 abbrev pub list_format_in : List Row → Result ListFormat WordFault
 list_format_in rows = spelled_in list_format_of word.ListFormat rows
 
+-- the format of why an obligation is so, which is no list: text or JSON
+abbrev pub explanation_format_of : Text → Option Format
+explanation_format_of text =
+    if bytes_eq text (codes "text") then Some (format.List Lines)
+    else if bytes_eq text (codes "json") then Some (format.List Json)
+    else None
+
+abbrev pub explanation_format_in : List Row → Result Format WordFault
+explanation_format_in rows = spelled_in explanation_format_of word.ExplanationFormat rows
+
 -- the format of what is due over all accounts: a calendar too
 abbrev pub format_of : Text → Option Format
 format_of text =

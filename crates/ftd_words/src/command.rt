@@ -10,17 +10,11 @@ use clap::{Arg, ArgAction, Command};
 use ftd_commands::{NAMES, Name, Takes, Word};
 use std::alloc::{AllocError, Global};
 
-/// What the desk is for.
+/// What the desk is for, and how its commands are told. The whole help fits on a screen of 40 lines.
 const ABOUT: &str = "\
-The federal tax deposit desk: what withheld federal tax an employer must deposit, for which
-period and by which day (IRS Publication 15, section 11)";
-
-/// What an employer does first.
-const FIRST_STEPS: &str = "\
-Give the holidays of the year and the next, enrol the account, report its lookback period,
-open the year, and post or import pay runs. `due` then lists what to deposit, and by when;
-`owed` what is to be paid within a week, over all accounts.
-ftd help COMMAND tells the words of a command, with an example.";
+The federal tax deposit desk: what withheld federal tax must be deposited, for
+which period and by which day (IRS Publication 15, section 11). Commands stand
+in the order in which they are needed; ftd COMMAND --help has an example.";
 
 /// An argument that takes a whole number of seconds, at least so many and at most 3,600; so many if
 /// it is not there.
@@ -105,7 +99,6 @@ fn top_command<'a>(alloc: Global) -> Command<'a>
 {
     Command::new(alloc, "ftd")
         .about(ABOUT)
-        .after_help(FIRST_STEPS)
         .version("1")
         .subcommand_required(true)
 }

@@ -8,8 +8,8 @@ ghost use Rattle.ftd_words.specs.declared.fault.WordFault.TheVariants.{BadWord};
 ghost use Rattle.ftd_words.specs.Apps.{ftd_app};
 ghost use Rattle.ftd_words.specs.Values.{bad_value};
 ghost use Rattle.ftd_words.specs.Asking.{Tells, TellsAs, Wanted, account_in, asked, asked_as};
-ghost use Rattle.ftd_words.specs.Asking.{formatted, import_of, listed, plain_of, serve_of};
-ghost use Rattle.ftd_words.specs.Asking.{wanted_of, year_in};
+ghost use Rattle.ftd_words.specs.Asking.{explained, formatted, import_of, listed, plain_of};
+ghost use Rattle.ftd_words.specs.Asking.{serve_of, wanted_of, year_in};
 ghost use Rattle.ftd_words.specs.Tasks.{Fails, Gives, IsUsage, Refused, ShowsValue, command_named};
 ghost use Rattle.ftd_words.specs.Tasks.{rows_in, task_of, task_view, value, wanted_in, words};
 
@@ -21,12 +21,14 @@ use crate::escape::{escaped, escaped_word};
 use crate::fault::WordFault;
 use crate::parse::{ParseFault, parsed};
 use crate::reading::{
-    bad_value, days_at, format_at, list_format_at, owned_text, port_at, whole_at,
+    bad_value, days_at, explanation_format_at, format_at, is_given, list_format_at, owned_text,
+    port_at, whole_at,
 };
 use crate::tasks::{CliFault, Job, LocalTask, PlainTask, ServeTask, Task};
 use clap::error::ErrorKind;
 use clap::{ArgMatches, Error};
 use ftd_commands::{NAMES, Name, Word};
+use ftd_csv::Sheet;
 use ftd_formats::{Format, ListFormat};
 use ftd_machine::{AccountName, Kept, Question, Request};
 use ftd_rules::is_account_name;
@@ -107,10 +109,10 @@ fn serve(alloc: Global, inner: &ArgMatches<'_>) -> Result<Task, WordFault>
     }))
 }
 
-/// What `import` asks.
+/// What an import of this sheet asks.
 #[tactic(auto, unfolding(crate::specs::Asking::import_of))]
-fn import(alloc: Global, inner: &ArgMatches<'_>) -> Result<Task, WordFault>
-    ensures { TellsAs task_view result (import_of (rows_of (found_of inner.now))) }
+fn import(alloc: Global, sheet: Sheet, inner: &ArgMatches<'_>) -> Result<Task, WordFault>
+    ensures { TellsAs task_view result (import_of sheet (rows_of (found_of inner.now))) }
 {
     let db = owned_text(alloc, inner, Word::Db)?;
     let wait = whole_at(inner, Word::Wait)?;
@@ -118,7 +120,11 @@ fn import(alloc: Global, inner: &ArgMatches<'_>) -> Result<Task, WordFault>
     Ok(Task::Local(LocalTask {
         db,
         wait,
-        job: Job::Import(file),
+        job: Job::Import {
+            sheet,
+            file,
+            is_trial: is_given(inner, Word::Check),
+        },
     }))
 }
 
@@ -164,6 +170,15 @@ fn listed(alloc: Global, inner: &ArgMatches<'_>, request: Request) -> Result<Tas
     local_as(alloc, inner, Format::List(format), request)
 }
 
+/// The request, to the desk in the database, whose reply says why an obligation is so, told in the
+/// format that is asked for.
+fn explained(alloc: Global, inner: &ArgMatches<'_>, request: Request) -> Result<Task, WordFault>
+    ensures { TellsAs task_view result (explained (rows_of (found_of inner.now)) request) }
+{
+    let format = explanation_format_at(inner)?;
+    local_as(alloc, inner, format, request)
+}
+
 /// What the subcommand asks.
 #[tactic(auto, unfolding(crate::specs::Asking::wanted_of))]
 fn task_for(alloc: Global, name: Name, inner: &ArgMatches<'_>) -> Result<Task, WordFault>
@@ -172,7 +187,10 @@ fn task_for(alloc: Global, name: Name, inner: &ArgMatches<'_>) -> Result<Task, W
     match name {
         Name::Plain => plain(alloc, inner),
         Name::Serve => serve(alloc, inner),
-        Name::Import => import(alloc, inner),
+        Name::Import => import(alloc, Sheet::Runs, inner),
+        Name::ImportAccounts => import(alloc, Sheet::Accounts, inner),
+        Name::ImportReported => import(alloc, Sheet::Totals, inner),
+        Name::ImportPayments => import(alloc, Sheet::Payments, inner),
         Name::Enrol => local(alloc, inner, enrol(alloc, inner)?),
         Name::Calendar => local(alloc, inner, calendar(alloc, inner)?),
         Name::AddHoliday => local(alloc, inner, add_holiday(inner)?),
@@ -184,7 +202,7 @@ fn task_for(alloc: Global, name: Name, inner: &ArgMatches<'_>) -> Result<Task, W
         Name::Pay => local(alloc, inner, pay(alloc, inner)?),
         Name::VoidPay => local(alloc, inner, void_pay(alloc, inner)?),
         Name::Status => local(alloc, inner, status(alloc, inner)?),
-        Name::Explain => local(alloc, inner, explain(alloc, inner)?),
+        Name::Explain => explained(alloc, inner, explain(alloc, inner)?),
         Name::Due => listed(alloc, inner, due(alloc, inner)?),
         Name::Agenda => formatted(alloc, inner, agenda(inner)?),
         Name::Owed => formatted(alloc, inner, owed(inner)?),

@@ -8,6 +8,7 @@ ghost use Rattle.ftd_commands.specs.Table.{word_text};
 ghost use Rattle.ftd_words.specs.Values.{bad_value, cents_in, day_in, day_or, days_in};
 ghost use Rattle.ftd_words.specs.Values.{first_no_day};
 ghost use Rattle.ftd_words.specs.Values.{form_in, format_in, format_of, is_given, needed};
+ghost use Rattle.ftd_words.specs.Values.{explanation_format_in, explanation_format_of};
 ghost use Rattle.ftd_words.specs.Values.{list_format_in, list_format_of};
 ghost use Rattle.ftd_words.specs.Values.{port_in, quarter_in, text_in};
 ghost use Rattle.ftd_words.specs.Values.{whole_in};
@@ -135,6 +136,29 @@ pub fn list_format_at(inner: &ArgMatches<'_>) -> Result<ListFormat, WordFault>
         return Err(WordFault::BadWord(Word::ListFormat));
     };
     list_format_named(text).ok_or(WordFault::BadWord(Word::ListFormat))
+}
+
+/// The format of why an obligation is so that is named so.
+fn explanation_format_named(text: &str) -> Option<Format>
+    ensures { result ≡ explanation_format_of text.now }
+{
+    if text == "text" {
+        Some(Format::List(ListFormat::Text))
+    } else if text == "json" {
+        Some(Format::List(ListFormat::Json))
+    } else {
+        None
+    }
+}
+
+/// The format of why an obligation is so that is asked for.
+pub fn explanation_format_at(inner: &ArgMatches<'_>) -> Result<Format, WordFault>
+    ensures { result ≡ explanation_format_in (rows_of (found_of inner.now)) }
+{
+    let Some(text) = text_at(inner, Word::ExplanationFormat) else {
+        return Err(WordFault::BadWord(Word::ExplanationFormat));
+    };
+    explanation_format_named(text).ok_or(WordFault::BadWord(Word::ExplanationFormat))
 }
 
 /// The format of what is due over all accounts that is named so.

@@ -3,6 +3,7 @@
 ghost use Rattle.std.specs.Prelude.{◌≤◌};
 
 use ftd_commands::Word;
+use ftd_csv::Sheet;
 use ftd_formats::Format;
 use ftd_machine::{AccountName, Days, Request};
 
@@ -22,10 +23,18 @@ pub struct PlainTask {
 /// What is to be done with the desk in a database.
 #[derive(Drop)]
 pub enum Job {
-    /// The pay runs of this CSV file are posted; `-` is standard input.
-    Import(String),
-    /// A request. A reply that is a list is told in this format.
-    Ask { format: Format, request: Request },
+    /// The records of this CSV file are entered; `-` is standard input. A trial tells what would be
+    /// answered, and changes nothing.
+    Import {
+        sheet: Sheet,
+        file: String,
+        is_trial: bool,
+    },
+    /// A request. A reply that has several formats, as a list has, is told in this one.
+    Ask {
+        format: Format,
+        request: Request,
+    },
 }
 
 /// A job, and the file of the desk's database.

@@ -1,6 +1,8 @@
 use Rattle.std.proofs.Common.{◌∙◌, arith}
 use Rattle.std.proofs.lemmas.Result.{err_from_is_err_and}
-use Rattle.ftd_csv.specs.Records.{records_of, rows_of}
+use Rattle.ftd_csv.specs.Records.{record_rows, run_records}
+use Rattle.ftd_csv.specs.declared.sheets.Sheet.TheVariants.{Runs}
+use Rattle.ftd_csv.proofs.Left.{runs_first}
 use Rattle.ftd_cli.specs.Taking.{runs_of}
 use Rattle.ftd_cli.proofs.Sums.{calendar_fault_of, kept_small, same_sums, stops_fault, sums_few}
 use Rattle.ftd_cli.proofs.Sums.{sums_in_year, sums_small, text_fails}
@@ -28,12 +30,12 @@ returns-in_err-runs c =
     rw (p.1, p.2)
     (stops_fault c.args.csv.now c.args.account.now c.args.year c.args.holidays.now _
     (record { short = read.short; calendar = c.in_ok-calendar.ensures.0; header = read.header })
-    (rw read.left at c.in_err-runs.ensures))
+    (rw (runs_first Runs c.args.csv.now _ read) at c.in_err-runs.ensures))
 
 pub day_sums-requires : goal.day_sums-requires
 day_sums-requires c =
-    kept_small c.args.account.now c.args.year (rows_of c.args.csv.now) c.in_ok-runs.runs.entries
-    (rw c.in_ok-records.ensures.left at c.in_ok-runs.ensures.1)
+    kept_small c.args.account.now c.args.year (record_rows c.args.csv.now) c.in_ok-runs.runs.entries
+    (rw (runs_first Runs c.args.csv.now _ c.in_ok-records.ensures) at c.in_ok-runs.ensures.1)
 
 pub deposits-requires-clause-few : goal.deposits-requires-clause-few
 deposits-requires-clause-few c = sums_few c.in_ok-runs.runs.entries c.deref.result.now
@@ -41,20 +43,20 @@ deposits-requires-clause-few c = sums_few c.in_ok-runs.runs.entries c.deref.resu
 
 pub deposits-requires-clause-in_year : goal.deposits-requires-clause-in_year
 deposits-requires-clause-in_year c =
-    sums_in_year c.args.account.now c.args.year (rows_of c.args.csv.now) c.in_ok-runs.runs.entries
-    c.deref.result.now (rw c.in_ok-records.ensures.left at c.in_ok-runs.ensures.1)
+    sums_in_year c.args.account.now c.args.year (record_rows c.args.csv.now) c.in_ok-runs.runs.entries
+    c.deref.result.now (rw (runs_first Runs c.args.csv.now _ c.in_ok-records.ensures) at c.in_ok-runs.ensures.1)
     (c.deref.ensures.value ∙ c.in_ok-sums.ensures)
 
 pub deposits-requires-clause-small : goal.deposits-requires-clause-small
 deposits-requires-clause-small c =
-    sums_small c.args.account.now c.args.year (rows_of c.args.csv.now) c.in_ok-runs.runs.entries
-    c.deref.result.now (rw c.in_ok-records.ensures.left at c.in_ok-runs.ensures.1)
+    sums_small c.args.account.now c.args.year (record_rows c.args.csv.now) c.in_ok-runs.runs.entries
+    c.deref.result.now (rw (runs_first Runs c.args.csv.now _ c.in_ok-records.ensures) at c.in_ok-runs.ensures.1)
     (c.deref.ensures.value ∙ c.in_ok-sums.ensures)
 
 pub returns : goal.returns
 returns c =
     let read = c.in_ok-records.ensures in
-    let all = rw read.left at c.in_ok-runs.ensures.1 in
+    let all = rw (runs_first Runs c.args.csv.now _ read) at c.in_ok-runs.ensures.1 in
     let sums = c.deref.ensures.value ∙ c.in_ok-sums.ensures
     ∙ same_sums c.args.account.now c.in_ok-runs.runs.entries in
     record {
@@ -66,7 +68,7 @@ returns c =
       deposits = record {
         none_at_fault = all.none_at_fault;
         counted = runs_of c.args.account.now c.in_ok-runs.runs.entries;
-        are_counted = counted_of c.args.account.now c.args.year (records_of c.args.csv.now)
+        are_counted = counted_of c.args.account.now c.args.year (run_records c.args.csv.now)
             c.in_ok-runs.runs.entries c.in_ok-runs.ensures.0 all.same;
         prints = rw (c.in_ok-calendar.ensures.1, sums) at c.in_ok-text.ensures;
       };

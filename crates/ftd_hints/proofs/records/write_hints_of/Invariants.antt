@@ -1,5 +1,5 @@
 use Rattle.std.proofs.Common.{length}
-use Rattle.ftd_csv.specs.Places.{CanAdvance, said_left}
+use Rattle.ftd_csv.specs.Places.{CanAdvance, rows_after}
 use Rattle.ftd_ports.proofs.WritingFacts.{HasWritten}
 use Rattle.ftd_hints.specs.Places.{hints_left}
 use Rattle.ftd_hints.proofs.records.write_hints_of.Given as goal
@@ -12,4 +12,4 @@ invariant-loop-left g l = record {
 }
 
 abbrev pub decreases-loop-left : goal.decreases-loop-left
-decreases-loop-left g l = length (said_left l.records)
+decreases-loop-left g l = length (rows_after l.records)

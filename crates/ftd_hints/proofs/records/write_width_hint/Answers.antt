@@ -8,7 +8,10 @@ returns-clause-ok g c = rw (
   c.format.ensures.text,
   c.as_bytes-digits.ensures.value,
   c.format-2.ensures.text,
-  c.and_not_six.ensures,
+  c.fields_text.ensures,
+  c.as_bytes-asked.ensures.value,
+  c.format-3.ensures.text,
+  c.width.ensures,
 ) at c.write_pieces.ensures.ok
 
 pub returns-clause-err : goal.returns-clause-err
@@ -18,5 +21,8 @@ returns-clause-err g c = rw (
   c.format.ensures.text,
   c.as_bytes-digits.ensures.value,
   c.format-2.ensures.text,
-  c.and_not_six.ensures,
+  c.fields_text.ensures,
+  c.as_bytes-asked.ensures.value,
+  c.format-3.ensures.text,
+  c.width.ensures,
 ) at c.write_pieces.ensures.err

@@ -1,10 +1,10 @@
 use Rattle.std.proofs.Common.{◌≡◌, ◌∷◌, [], refl, sym, subst, rules, ℕ}
-use Rattle.ftd_csv.specs.Records.{Said}
+use Rattle.ftd_csv.specs.Records.{SaidEntry}
 use Rattle.ftd_desk.specs.Desks.{IsStopped, held}
 use Rattle.ftd_import.specs.Imports.{Posts, StopsAt}
 use Rattle.ftd_import.specs.declared.summary.Summary.{Summary}
 use Rattle.ftd_import.proofs.Outcomes.{counts_then, posts_same, skips_one, with_room}
-use Rattle.ftd_import.proofs.Places.{first_post, is_malformed, is_run}
+use Rattle.ftd_import.proofs.Places.{first_post, is_malformed, is_entry}
 use Rattle.ftd_import.proofs.posting.post_record.Goals as goal
 
 pub returns-in-Some-clause-posts : goal.returns-in-Some-clause-posts
@@ -12,35 +12,35 @@ returns-in-Some-clause-posts g c =
     let room = with_room c.args.done.now _ refl refl refl refl c.in-Ok.ensures.items in
     let before = held g.S.Store c.args.desk.now in
     λ at later kept posts.
-    subst (λ (x : ℕ × Said). Posts before before (x ∷ []) c.args.done.now c.skip.new.self)
+    subst (λ (x : ℕ × SaidEntry). Posts before before (x ∷ []) c.args.done.now c.skip.new.self)
     (sym (is_malformed at c.args.place.now c.in-Some.field kept c.in-Some.is))
     (skips_one before c.args.place.now.number c.in-Some.field
     c.args.done.now c.skip.new.self (counts_then _ _ _ _ _ room c.skip.ensures.counts))
 
-pub returns-in-Ok-post_run-clause-posts : goal.returns-in-Ok-post_run-clause-posts
-returns-in-Ok-post_run-clause-posts g c =
+pub returns-in-Ok-post_entry-clause-posts : goal.returns-in-Ok-post_entry-clause-posts
+returns-in-Ok-post_entry-clause-posts g c =
     let q : Summary = record c.args.done.now { notes = c.reserve.new.self } in
     let room = with_room c.args.done.now q refl refl refl refl c.in-Ok.ensures.items in
     let first : c.args.posts.now ≡ c.unwrap.result.0.now ∷ c.unwrap.result.1.now = search rules in
     let before = held g.S.Store c.args.desk.now in
-    let after = held g.S.Store c.post_run.new.desk in
+    let after = held g.S.Store c.post_entry.new.desk in
     λ at later kept posts.
-    let (run, is) = is_run at c.args.place.now kept c.in-None.is in
-    let post = first_post c.args.place.now.number run at later c.args.posts.now _ _ is posts first
+    let (it, is) = is_entry at c.args.place.now kept c.in-None.is in
+    let post = first_post c.args.place.now.number it at later c.args.posts.now _ _ is posts first
     in
-    subst (λ (x : ℕ × Said). Posts before after (x ∷ []) c.args.done.now c.post_run.new.done)
-    (sym is) (posts_same before after _ c.args.done.now q c.post_run.new.done room
-    (c.in-Ok-post_run.ensures.posts run post))
+    subst (λ (x : ℕ × SaidEntry). Posts before after (x ∷ []) c.args.done.now c.post_entry.new.done)
+    (sym is) (posts_same before after _ c.args.done.now q c.post_entry.new.done room
+    (c.in-Ok-post_entry.ensures.posts it post))
 
 pub returns-in-Err-clause-stops : goal.returns-in-Err-clause-stops
 returns-in-Err-clause-stops g c =
     let first : c.args.posts.now ≡ c.unwrap.result.0.now ∷ c.unwrap.result.1.now = search rules in
     let before = held g.S.Store c.args.desk.now in
-    let after = held g.S.Store c.post_run.new.desk in
+    let after = held g.S.Store c.post_entry.new.desk in
     λ at later kept posts.
-    let (run, is) = is_run at c.args.place.now kept c.in-None.is in
-    let post = first_post c.args.place.now.number run at later c.args.posts.now _ _ is posts first
+    let (it, is) = is_entry at c.args.place.now kept c.in-None.is in
+    let post = first_post c.args.place.now.number it at later c.args.posts.now _ _ is posts first
     in
-    subst (λ (x : ℕ × Said). StopsAt (IsStopped c.post_run.new.desk) before after x c.in-Err.cause)
+    subst (λ (x : ℕ × SaidEntry). StopsAt (IsStopped c.post_entry.new.desk) before after x c.in-Err.cause)
     (sym is)
-    (c.in-Err.ensures.stops run post)
+    (c.in-Err.ensures.stops it post)

@@ -1,6 +1,6 @@
 use Rattle.std.proofs.Common.{◌≡◌, ◌≤◌, ◌+◌, ◌++◌, ℕ, List, length}
-use Rattle.ftd_csv.specs.Places.{CanAdvance, records_left, said_left}
-use Rattle.ftd_csv.specs.Records.{Said}
+use Rattle.ftd_csv.specs.Places.{CanAdvance, records_left, rows_after}
+use Rattle.ftd_csv.specs.Records.{SaidEntry}
 use Rattle.ftd_import.specs.Lists.{IsListOf}
 use Rattle.ftd_import.proofs.reading.read_list.Given as goal
 
@@ -8,7 +8,7 @@ use Rattle.ftd_import.proofs.reading.read_list.Given as goal
 abbrev pub invariant-loop : goal.invariant-loop
 invariant-loop l = record {
   can : CanAdvance l.records;
-  there : l.count ≤ l.counter + length (said_left l.records);
-  taken : (taken : List (ℕ × Said)) × (records_left l.fn.records ≡ taken ++ records_left
+  there : l.count ≤ l.counter + length (rows_after l.records);
+  taken : (taken : List (ℕ × SaidEntry)) × (records_left l.fn.records ≡ taken ++ records_left
       l.records) × (length taken ≡ l.counter) × IsListOf taken l.list;
 }

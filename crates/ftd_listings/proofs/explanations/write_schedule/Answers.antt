@@ -1,46 +1,22 @@
+use Rattle.std.proofs.Common.{refl}
+use Rattle.ftd_ports.proofs.WritingFacts.{begins, goes_on, prefix_more, last_piece}
+use Rattle.ftd_ports.proofs.WritingFacts.{last_broken, on_err}
 use Rattle.ftd_listings.specs.Explanations.{status_text}
 use Rattle.ftd_listings.proofs.explanations.write_schedule.Goals as goal
 
-pub returns-in-Turned-clause-ok : goal.returns-in-Turned-clause-ok
+pub returns-in_err-write_reason-clause-err : goal.returns-in_err-write_reason-clause-err
 unfolding status_text
-returns-in-Turned-clause-ok g c =
-    rw c.in-Turned.is (rw (
-      c.day_bytes-day.ensures,
-      c.kind_bytes-kind.ensures,
-      c.day_bytes-turn.ensures,
-    ) at c.write_pieces-in-Turned.ensures.ok)
+returns-in_err-write_reason-clause-err g c = on_err c.from_residual.result
+    (prefix_more _ _ _ _ _ refl c.in_err-write_reason.ensures.err)
 
-pub returns-in-Turned-clause-err : goal.returns-in-Turned-clause-err
+pub returns-clause-ok : goal.returns-clause-ok
 unfolding status_text
-returns-in-Turned-clause-err g c =
-    rw c.in-Turned.is (rw (
-      c.day_bytes-day.ensures,
-      c.kind_bytes-kind.ensures,
-      c.day_bytes-turn.ensures,
-    ) at c.write_pieces-in-Turned.ensures.err)
+returns-clause-ok g c = last_piece c.write_reached.result _ _ _ _ _
+    (goes_on _ _ _ _ _ _ _ (begins _ _) refl c.in_ok-write_reason.ensures.ok)
+    (rw c.turn_of.ensures at c.write_reached.ensures.ok)
 
-pub returns-in-Lookback-clause-ok : goal.returns-in-Lookback-clause-ok
+pub returns-clause-err : goal.returns-clause-err
 unfolding status_text
-returns-in-Lookback-clause-ok g c =
-    rw c.in-Lookback.is
-    (rw (c.day_bytes-day.ensures, c.kind_bytes-kind.ensures) at c.write_pieces.ensures.ok)
-
-pub returns-in-Lookback-clause-err : goal.returns-in-Lookback-clause-err
-unfolding status_text
-returns-in-Lookback-clause-err g c =
-    rw c.in-Lookback.is
-    (rw (c.day_bytes-day.ensures, c.kind_bytes-kind.ensures) at c.write_pieces.ensures.err)
-
-pub returns-in-Carried-clause-ok : goal.returns-in-Carried-clause-ok
-unfolding status_text
-returns-in-Carried-clause-ok g c =
-    rw c.in-Carried.is
-    (rw (c.day_bytes-day.ensures, c.kind_bytes-kind.ensures) at
-    c.write_pieces-in-Carried.ensures.ok)
-
-pub returns-in-Carried-clause-err : goal.returns-in-Carried-clause-err
-unfolding status_text
-returns-in-Carried-clause-err g c =
-    rw c.in-Carried.is
-    (rw (c.day_bytes-day.ensures, c.kind_bytes-kind.ensures) at
-    c.write_pieces-in-Carried.ensures.err)
+returns-clause-err g c = last_broken c.write_reached.result _ _ _ _ _
+    (goes_on _ _ _ _ _ _ _ (begins _ _) refl c.in_ok-write_reason.ensures.ok)
+    (rw c.turn_of.ensures at c.write_reached.ensures.err)

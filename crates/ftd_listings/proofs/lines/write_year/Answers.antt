@@ -7,18 +7,18 @@ unfolding year_text
 returns-clause-ok g c =
     let whole = year_parts c.as_bytes-year.result.now c.amount_column-total.result.spaces.now
     c.amount_column-total.result.dollars.now c.amount_column-total.result.cents
-    c.opening_text.result.now c.carried_text.result.now in
+    c.kind_bytes.result.now c.carried_text.result.now in
     let line = rw (
       c.amount_column-total.ensures,
       c.as_bytes-year.ensures.value,
       c.format.ensures.text,
-      c.opening_text.ensures,
+      c.kind_bytes.ensures,
       c.carried_text.ensures,
     ) at whole in
     rw line (rw (
       c.as_bytes-year.ensures.value,
       c.format.ensures.text,
-      c.opening_text.ensures,
+      c.kind_bytes.ensures,
       c.carried_text.ensures,
     ) at c.write_pieces.ensures.ok)
 
@@ -27,17 +27,17 @@ unfolding year_text
 returns-clause-err g c =
     let whole = year_parts c.as_bytes-year.result.now c.amount_column-total.result.spaces.now
     c.amount_column-total.result.dollars.now c.amount_column-total.result.cents
-    c.opening_text.result.now c.carried_text.result.now in
+    c.kind_bytes.result.now c.carried_text.result.now in
     let line = rw (
       c.amount_column-total.ensures,
       c.as_bytes-year.ensures.value,
       c.format.ensures.text,
-      c.opening_text.ensures,
+      c.kind_bytes.ensures,
       c.carried_text.ensures,
     ) at whole in
     rw line (rw (
       c.as_bytes-year.ensures.value,
       c.format.ensures.text,
-      c.opening_text.ensures,
+      c.kind_bytes.ensures,
       c.carried_text.ensures,
     ) at c.write_pieces.ensures.err)

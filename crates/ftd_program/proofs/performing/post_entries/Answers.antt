@@ -1,5 +1,5 @@
 use Rattle.std.proofs.Common.{Ok, Err}
-use Rattle.ftd_program.proofs.performing.post_runs.Goals as goal
+use Rattle.ftd_program.proofs.performing.post_entries.Goals as goal
 
 pub returns-in-Ok : goal.returns-in-Ok
 returns-in-Ok g c = record {
