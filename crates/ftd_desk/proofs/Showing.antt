@@ -1,5 +1,6 @@
 -- What a due list shows of the rows of the tables, from its first call to its last.
-use Rattle.std.proofs.Common.{◌≡◌, true, false, sym, subst, arith, Option, None, Some, Result, Ok, Err}
+use Rattle.std.proofs.Common.{◌≡◌, ℕ, true, false, sym, subst, arith, List, Option, None, Some}
+use Rattle.std.proofs.Common.{Result, Ok, Err}
 use Rattle.std.proofs.lemmas.Bool.{true≢false}
 use Rattle.sqlite.specs.Store as store
 use Rattle.sqlite.specs.State as database
@@ -14,39 +15,37 @@ use Rattle.ftd_store.specs.Frame.{Calls}
 use Rattle.ftd_store.proofs.Going.{goes_on}
 use Rattle.ftd_machine.specs.Checks.{Answer}
 use Rattle.ftd_machine.specs.Laws.{is_change}
-use Rattle.ftd_machine.specs.Questions.{question_of}
+use Rattle.ftd_machine.specs.Questions.{question_of, due_list_of}
 use Rattle.ftd_machine.specs.declared.replies.Refusal.{Refusal}
 use Rattle.ftd_machine.specs.declared.requests.Question.{Question}
-use Rattle.ftd_machine.specs.declared.requests.Question.TheVariants.{Status, Explain, DueList}
-use Rattle.ftd_machine.specs.declared.requests.Question.TheVariants.{ScheduleB, Agenda, Owed, Kept}
 use Rattle.ftd_machine.specs.declared.requests.Request.{Request}
+use Rattle.ftd_questions.specs.Shown.{ShowsList}
 use Rattle.ftd_desk.specs.Shown.{ShowsIf, ShowsFor, ShowsAsked}
 use Rattle.ftd_desk.specs.declared.listed.Answered.{Answered}
 use Rattle.ftd_desk.specs.declared.requests.Served.{Served}
 
 -- a refusal shows nothing, nor does an answer that tells of a change
+refusal_lists : (asked : Option (List ℕ × ℕ)) (refusal : Refusal) (t : Tables)
+    → ShowsList asked (Err refusal) t
+refusal_lists None refusal t = tt
+refusal_lists (Some asked) refusal t = λ rows is. absurd cc
+
 pub refusal_shows : (asked : Option Question) (refusal : Refusal) (t : Tables)
     → ShowsIf asked (Err refusal) t
 refusal_shows None refusal t = tt
-refusal_shows (Some (Status name day)) refusal t = tt
-refusal_shows (Some (Explain name day)) refusal t = tt
-refusal_shows (Some (DueList name quarter as_of)) refusal t = λ rows is. absurd cc
-refusal_shows (Some (ScheduleB name quarter)) refusal t = tt
-refusal_shows (Some (Agenda from to as_of)) refusal t = tt
-refusal_shows (Some (Owed until as_of)) refusal t = tt
-refusal_shows (Some (Kept asked)) refusal t = tt
+refusal_shows (Some question) refusal t = refusal_lists (due_list_of question) refusal t
+
+change_lists : (asked : Option (List ℕ × ℕ)) (answer : Answer) (t : Tables)
+    → is_change answer ≡ true → ShowsList asked answer t
+change_lists None answer t changes = tt
+change_lists (Some asked) answer t changes =
+    λ rows is. absurd (true≢false (sym (rw is at changes)))
 
 pub change_shows : (asked : Option Question) (answer : Answer) (t : Tables)
     → is_change answer ≡ true → ShowsIf asked answer t
 change_shows None answer t changes = tt
-change_shows (Some (Status name day)) answer t changes = tt
-change_shows (Some (Explain name day)) answer t changes = tt
-change_shows (Some (DueList name quarter as_of)) answer t changes =
-    λ rows is. absurd (true≢false (sym (rw is at changes)))
-change_shows (Some (ScheduleB name quarter)) answer t changes = tt
-change_shows (Some (Agenda from to as_of)) answer t changes = tt
-change_shows (Some (Owed until as_of)) answer t changes = tt
-change_shows (Some (Kept asked)) answer t changes = tt
+change_shows (Some question) answer t changes =
+    change_lists (due_list_of question) answer t changes
 
 module _ {S : Type 0} (g : store.Ghosts S) where
   pub past_shows : (old new : Tx S) (served : Served) (past : Answered) (request : Request)

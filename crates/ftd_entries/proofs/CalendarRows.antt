@@ -30,7 +30,7 @@ use Rattle.ftd_machine.specs.Limits.{are_rising}
 use Rattle.ftd_machine.specs.State.{State, days_of, calendar_at}
 use Rattle.ftd_machine.specs.Sound.{IsSound, AreDistinct, year_of_calendar}
 use Rattle.ftd_machine.proofs.Keeping.{same_key}
-use Rattle.ftd_machine.proofs.Repeats.{is_year}
+use Rattle.ftd_machine.proofs.Keeping.{is_year}
 use Rattle.ftd_machine.proofs.Members.{has_mapped}
 use Rattle.ftd_entries.specs.Standing.{StandsFor, calendar_entry, holiday_entries}
 

@@ -16,7 +16,7 @@ use Rattle.ftd_machine.specs.State.{State, Entry, entries_of, has_key, content_o
 use Rattle.ftd_machine.specs.State.{is_given}
 use Rattle.ftd_machine.specs.History.{year_of_line, year_of_entry}
 use Rattle.ftd_machine.specs.Sound.{IsSound}
-use Rattle.ftd_machine.proofs.Repeats.{is_year}
+use Rattle.ftd_machine.proofs.Keeping.{is_year}
 use Rattle.ftd_entries.specs.Standing.{StandsFor}
 use Rattle.ftd_entries.specs.Known.{KnowsAccount}
 use Rattle.ftd_entries.specs.Opening.{is_line_of, KeepsYear}

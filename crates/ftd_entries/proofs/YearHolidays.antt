@@ -31,7 +31,7 @@ use Rattle.ftd_store.proofs.Sifted.{filter_in, filter_out}
 use Rattle.ftd_machine.specs.Limits.{are_rising}
 use Rattle.ftd_machine.specs.State.{State, days_of, calendar_at, added_in, holidays}
 use Rattle.ftd_machine.specs.Sound.{IsSound, AreDistinct, year_of_calendar}
-use Rattle.ftd_machine.proofs.Repeats.{is_year}
+use Rattle.ftd_machine.proofs.Keeping.{is_year}
 use Rattle.ftd_machine.proofs.Members.{found_none}
 use Rattle.ftd_entries.specs.Standing.{StandsFor, added_entry}
 use Rattle.ftd_entries.proofs.CalendarRows.{year_cell, calendar_known}

@@ -2,28 +2,22 @@
 use Rattle.std.proofs.Common.{◌≡◌, inl, inr, refl, ℕ, Bool, true}
 use Rattle.std.proofs.Common.{List, [], Option, None, Some, Ok, Err}
 use Rattle.std.specs.Prelude.{is_some}
-use Rattle.ftd_days.specs.Calendar.{year_of}
 use Rattle.ftd_rules.specs.declared.run.PayRun.{PayRun}
 use Rattle.ftd_rules.specs.declared.run.Voidable.{Voidable}
 use Rattle.ftd_rules.specs.declared.YearLine.{YearLine}
 use Rattle.ftd_machine.specs.declared.entries.Account.{Account}
-use Rattle.ftd_machine.specs.State.{State, entries_of, holidays, kept_at, is_open}
+use Rattle.ftd_machine.specs.State.{State, entries_of, holidays, kept_at}
 use Rattle.ftd_machine.specs.History.{form_of, AreLinesOf}
-use Rattle.ftd_machine.specs.Limits.{is_between, is_number}
+use Rattle.ftd_machine.specs.Limits.{is_number}
 use Rattle.ftd_rules.specs.Accounts.{is_account_name}
-use Rattle.ftd_machine.specs.Requests.{status_checks, void_checks, is_voided}
+use Rattle.ftd_machine.specs.Requests.{void_checks, is_voided}
 use Rattle.ftd_machine.specs.Checks.{Answer, first_of, meets, Decides}
 use Rattle.ftd_machine.specs.Posting.{IsPosted}
-use Rattle.ftd_machine.specs.Agenda.{IsDueBetween, IsLeftBy}
-use Rattle.ftd_machine.specs.Questions.{question_checks, Tells}
+use Rattle.ftd_machine.specs.Questions.{Tells}
 use Rattle.ftd_machine.specs.Step.{Step, OpensNext, may_open, with_entry, with_voided, taken}
 use Rattle.ftd_machine.specs.declared.replies.Reply.TheVariants.{Done}
-use Rattle.ftd_machine.specs.declared.replies.Refusal.TheVariants.{BadName, BadDay, BadNumber}
-use Rattle.ftd_machine.specs.declared.replies.Refusal.TheVariants.{UnknownAccount, YearNotOpen}
-use Rattle.ftd_machine.specs.declared.replies.Refusal.TheVariants.{UnknownRun}
-use Rattle.ftd_machine.specs.declared.requests.Question.{Question as Questions}
-use Rattle.ftd_machine.specs.declared.requests.Question.TheVariants.{Status, Explain, DueList}
-use Rattle.ftd_machine.specs.declared.requests.Question.TheVariants.{ScheduleB, Agenda, Owed, Kept}
+use Rattle.ftd_machine.specs.declared.replies.Refusal.TheVariants.{BadName, BadNumber}
+use Rattle.ftd_machine.specs.declared.replies.Refusal.TheVariants.{UnknownAccount, UnknownRun}
 use Rattle.ftd_machine.specs.declared.requests.Request.{Request}
 use Rattle.ftd_machine.specs.declared.requests.Request.TheVariants.{Enrol, Calendar, AddHoliday}
 use Rattle.ftd_machine.specs.declared.requests.Request.TheVariants.{Report, ReportYear, OpenYear}
@@ -31,14 +25,11 @@ use Rattle.ftd_machine.specs.declared.requests.Request.TheVariants.{Post, Void, 
 use Rattle.ftd_machine.specs.declared.requests.Request.TheVariants.{Question}
 use Rattle.ftd_machine.specs.Sound.{IsSound}
 use Rattle.ftd_machine.proofs.Members.{some_of}
-use Rattle.ftd_machine.proofs.Heads.{gives_needs, gives_finds, skip_needs, skip_finds, skip_done}
+use Rattle.ftd_machine.proofs.Heads.{gives_finds, skip_needs, skip_finds, skip_done}
 use Rattle.ftd_machine.proofs.Lined.{lines_of_sound}
 use Rattle.ftd_laws.proofs.PostedSome.{posted_some}
-use Rattle.ftd_machine.proofs.ToldSome.{total_or, status_some, schedule_some}
-use Rattle.ftd_machine.proofs.DueSome.{due_list_some}
-use Rattle.ftd_laws.proofs.KeptSome.{kept_told}
-use Rattle.ftd_laws.proofs.ExplainSome.{explanation_some}
-use Rattle.ftd_laws.proofs.AgendaSome.{agenda_some, between_or, left_or}
+use Rattle.ftd_laws.proofs.Questions.{tells_some}
+use Rattle.ftd_machine.proofs.ToldSome.{total_or}
 use Rattle.ftd_machine.proofs.Single.{IsOnce}
 use Rattle.ftd_machine.proofs.Soundness.{sound_once}
 
@@ -55,14 +46,6 @@ module _ (s : State) where
   done check after = decides check (λ a n. (a ≡ Ok Done) × (n ≡ after))
       (λ e. (Ok Done, after, (refl, refl)))
 
-open_of_status : (name : List ℕ) (day : ℕ) (account : Option Account) (there : Bool)
-    → first_of (status_checks name day account there) ≡ None → there ≡ true
-open_of_status name day account there e =
-    (skip_needs (is_account_name name) BadName _ _
-    (skip_needs (is_between 2001 2098 (year_of day)) BadDay _ _
-    (skip_finds account UnknownAccount _ _
-    (gives_needs there (YearNotOpen (year_of day)) [])))).fact e
-
 known_of_void : (name : List ℕ) (number : ℕ) (account : Option Account)
     (known : Option (Voidable PayRun))
     → first_of (void_checks name number account known) ≡ None → is_some known ≡ true
@@ -72,27 +55,6 @@ known_of_void name number account known e =
     (skip_finds account UnknownAccount _ _
     (skip_done (meets is_voided known) _ _
     (gives_finds known UnknownRun []))))).fact e
-
--- where each account has lines and the checks pass, something is told
-tells_some : (s : State) (question : Questions)
-    → ((name : List ℕ) → IsOnce (entries_of s name))
-    → ((name : List ℕ) → (lines : List YearLine) × AreLinesOf (entries_of s name) lines)
-    → first_of (question_checks s question) ≡ None
-    → (answer : Answer) × Tells s question answer
-tells_some s (Status name day) once lines e =
-    let own = entries_of s name in
-    status_some own (lines name).0 day (lines name).1
-    (open_of_status name day own.account (is_open own (year_of day)) e)
-tells_some s (Explain name day) once lines e =
-    explanation_some (holidays s) (entries_of s name) (lines name).0 (lines name).1 day
-tells_some s (DueList name quarter as_of) once lines e =
-    due_list_some (holidays s) (entries_of s name) (lines name).0 quarter as_of (lines name).1
-tells_some s (ScheduleB name quarter) once lines e = schedule_some (entries_of s name) quarter
-tells_some s (Agenda from to as_of) once lines e =
-    agenda_some s as_of once lines (IsDueBetween from to) (between_or from to)
-tells_some s (Owed until as_of) once lines e =
-    agenda_some s as_of once lines (IsLeftBy until) (left_or until)
-tells_some s (Kept kept) once lines e = kept_told s kept lines e
 
 -- where each account has lines, each request has an answer and a next state
 lines_answer : (s : State) (request : Request)

@@ -16,7 +16,7 @@ use Rattle.ftd_machine.specs.declared.requests.Request.TheVariants.{Report, Repo
 use Rattle.ftd_machine.specs.declared.requests.Request.TheVariants.{Post, Void, Pay, VoidPay}
 use Rattle.ftd_machine.specs.declared.requests.Request.TheVariants.{Question}
 use Rattle.ftd_machine.proofs.Single.{IsOnce, lacks_none, lacks_one, posted_one}
-use Rattle.ftd_laws.proofs.OneTold.{tells_one}
+use Rattle.ftd_laws.proofs.Questions.{tells_one}
 
 module _ (s : State) (a b : Answer) (m n : State) where
   abbrev Same : Type 0

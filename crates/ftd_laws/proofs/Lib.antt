@@ -6,7 +6,7 @@ pub mod Choosing
 pub mod KeptSome
 mod ExplainOne
 mod ExplainSome
-pub mod OneTold
+pub mod Questions
 pub mod AgendaSome
 pub mod Agendas
 pub mod AnswerSome

@@ -2,7 +2,7 @@
 use Rattle.std.proofs.Common.{◌≡◌, ◌∙◌, inl, inr, refl, sym, ap, subst, ℕ, ◌+◌, length, List}
 use Rattle.std.proofs.Common.{Option, None, Some, Ok}
 use Rattle.std.specs.Option.{option_or}
-use Rattle.ftd_days.specs.Calendar.{year_of, quarter_year}
+use Rattle.ftd_days.specs.Calendar.{year_of}
 use Rattle.ftd_days.specs.declared.cents.Cents.{Cents}
 use Rattle.ftd_machine.specs.declared.entries.Account.{Account}
 use Rattle.ftd_rules.specs.declared.run.PayRun.{PayRun}
@@ -14,31 +14,19 @@ use Rattle.ftd_machine.specs.History.{HasLookback, LacksFigure}
 use Rattle.ftd_machine.specs.Checks.{Answer, first_of, Decides}
 use Rattle.ftd_machine.specs.Requests.{enrol_checks, report_checks, report_year_checks}
 use Rattle.ftd_machine.specs.Requests.{open_year_checks, post_checks, void_checks, pay_checks}
-use Rattle.ftd_machine.specs.Requests.{void_payment_checks, status_checks, due_list_checks}
-use Rattle.ftd_machine.specs.Requests.{schedule_b_checks}
-use Rattle.ftd_machine.specs.Questions.{question_checks, Tells, AsksOf}
+use Rattle.ftd_machine.specs.Requests.{void_payment_checks}
 use Rattle.ftd_machine.specs.Posting.{IsPosted}
-use Rattle.ftd_machine.specs.Asking.{IsStatus, IsDueList, IsScheduleB}
 use Rattle.ftd_machine.specs.Step.{Step, OpensNext, may_open, taken, with_account, with_entry}
 use Rattle.ftd_machine.specs.Step.{with_voided}
 use Rattle.ftd_machine.specs.Laws.{Names, AgreeOn}
 use Rattle.ftd_machine.specs.declared.replies.Reply.TheVariants.{Done}
-use Rattle.ftd_machine.specs.declared.requests.Question.{Question as Questions}
-use Rattle.ftd_machine.specs.declared.requests.Question.TheVariants.{Status, Explain, DueList}
-use Rattle.ftd_machine.specs.declared.requests.Question.TheVariants.{ScheduleB, Agenda, Owed, Kept}
-use Rattle.ftd_machine.specs.Kept.{kept_checks, TellsKept, KeptOf, AreYears, AreTotals, AreRuns}
-use Rattle.ftd_machine.specs.Kept.{ArePayments}
-use Rattle.ftd_machine.specs.Explaining.{IsExplanation}
-use Rattle.ftd_machine.specs.Requests.{kept_of_checks, kept_in_quarter_checks}
-use Rattle.ftd_machine.specs.declared.requests.Kept.{Kept as WhatIsKept}
-use Rattle.ftd_machine.specs.declared.requests.Kept.TheVariants.{Accounts, Years, Reported}
-use Rattle.ftd_machine.specs.declared.requests.Kept.TheVariants.{Holidays, Runs, Payments}
 use Rattle.ftd_machine.specs.declared.requests.Request.{Request}
 use Rattle.ftd_machine.specs.declared.requests.Request.TheVariants.{Enrol, Calendar, AddHoliday}
 use Rattle.ftd_machine.specs.declared.requests.Request.TheVariants.{Report, ReportYear, OpenYear}
 use Rattle.ftd_machine.specs.declared.requests.Request.TheVariants.{Post, Void, Pay, VoidPay}
 use Rattle.ftd_machine.specs.declared.requests.Request.TheVariants.{Question}
 use Rattle.ftd_machine.proofs.Adding.{account_own, entry_own, voided_own}
+use Rattle.ftd_laws.proofs.Questions.{same_holidays, same_checks, same_told}
 
 -- ---- the same change of both
 
@@ -185,9 +173,6 @@ posted_same : (h h' : List ℕ) (own own' then then' : Entries) (payday : ℕ) (
     → IsPosted h' own' then' payday answer
 posted_same h h' own own' then then' payday answer a b c told = rw (a, b, c) told
 
-same_holidays : (name : List ℕ) (s t : State) → AgreeOn name s t → holidays t ≡ holidays s
-same_holidays name s t agree = rw (agree.calendars, agree.added_days) refl
-
 module _ (name : List ℕ) (s t : State) (agree : AgreeOn name s t) (answer : Answer)
     (new : State) where
   -- the other state goes to one that agrees
@@ -295,92 +280,6 @@ module _ (name : List ℕ) (s t : State) (agree : AgreeOn name s t) (answer : An
 is_given_same : (name : List ℕ) (s t : State) (year : ℕ) → AgreeOn name s t
     → is_given t year ≡ is_given s year
 is_given_same name s t year agree = rw (agree.calendars) refl
-
--- ---- what is kept
-
-same_kept_checks : (s t : State) (kept : WhatIsKept) (name : List ℕ) → KeptOf kept name
-    → AgreeOn name s t → first_of (kept_checks t kept) ≡ first_of (kept_checks s kept)
-same_kept_checks s t Accounts name named agree = absurd named
-same_kept_checks s t (Years own) name named agree =
-    let agrees : AgreeOn own s t = subst (λ x. AgreeOn x s t) (sym named) agree in
-    ap (λ (e : Entries). first_of (kept_of_checks own e.account)) agrees.own
-same_kept_checks s t (Reported own) name named agree =
-    let agrees : AgreeOn own s t = subst (λ x. AgreeOn x s t) (sym named) agree in
-    ap (λ (e : Entries). first_of (kept_of_checks own e.account)) agrees.own
-same_kept_checks s t (Holidays year) name named agree = absurd named
-same_kept_checks s t (Runs own quarter) name named agree =
-    let agrees : AgreeOn own s t = subst (λ x. AgreeOn x s t) (sym named) agree in
-    ap (λ (e : Entries). first_of (kept_in_quarter_checks own quarter e.account)) agrees.own
-same_kept_checks s t (Payments own quarter) name named agree =
-    let agrees : AgreeOn own s t = subst (λ x. AgreeOn x s t) (sym named) agree in
-    ap (λ (e : Entries). first_of (kept_in_quarter_checks own quarter e.account)) agrees.own
-
-same_kept : (s t : State) (kept : WhatIsKept) (name : List ℕ) → KeptOf kept name
-    → AgreeOn name s t → (answer : Answer) → TellsKept s kept answer → TellsKept t kept answer
-same_kept s t Accounts name named agree answer told = absurd named
-same_kept s t (Years own) name named agree answer told =
-    let agrees : AgreeOn own s t = subst (λ x. AgreeOn x s t) (sym named) agree in
-    subst (λ e. AreYears e answer) (sym agrees.own) told
-same_kept s t (Reported own) name named agree answer told =
-    let agrees : AgreeOn own s t = subst (λ x. AgreeOn x s t) (sym named) agree in
-    subst (λ e. AreTotals e answer) (sym agrees.own) told
-same_kept s t (Holidays year) name named agree answer told = absurd named
-same_kept s t (Runs own quarter) name named agree answer told =
-    let agrees : AgreeOn own s t = subst (λ x. AgreeOn x s t) (sym named) agree in
-    subst (λ e. AreRuns e quarter answer) (sym agrees.own) told
-same_kept s t (Payments own quarter) name named agree answer told =
-    let agrees : AgreeOn own s t = subst (λ x. AgreeOn x s t) (sym named) agree in
-    subst (λ h. ArePayments h (entries_of t own) quarter answer) (sym (same_holidays own s t agrees))
-    (subst (λ e. ArePayments (holidays s) e quarter answer) (sym agrees.own) told)
-
--- ---- questions
-
--- the checks of a question that names an account answer the same
-same_checks : (s t : State) (question : Questions) (name : List ℕ) → AsksOf question name
-    → AgreeOn name s t
-    → first_of (question_checks t question) ≡ first_of (question_checks s question)
-same_checks s t (Status own day) name named agree =
-    let agrees : AgreeOn own s t = subst (λ x. AgreeOn x s t) (sym named) agree in
-    ap (λ (e : Entries). first_of (status_checks own day e.account (is_open e (year_of day))))
-    agrees.own
-same_checks s t (Explain own day) name named agree =
-    let agrees : AgreeOn own s t = subst (λ x. AgreeOn x s t) (sym named) agree in
-    ap (λ (e : Entries). first_of (status_checks own day e.account (is_open e (year_of day))))
-    agrees.own
-same_checks s t (DueList own quarter as_of) name named agree =
-    let agrees : AgreeOn own s t = subst (λ x. AgreeOn x s t) (sym named) agree in
-    ap (λ (e : Entries). first_of (due_list_checks own quarter as_of e.account
-    (is_open e (quarter_year quarter)))) agrees.own
-same_checks s t (ScheduleB own quarter) name named agree =
-    let agrees : AgreeOn own s t = subst (λ x. AgreeOn x s t) (sym named) agree in
-    ap (λ (e : Entries). first_of (schedule_b_checks own quarter e.account
-    (is_open e (quarter_year quarter)))) agrees.own
-same_checks s t (Agenda from to as_of) name named agree = absurd named
-same_checks s t (Owed until as_of) name named agree = absurd named
-same_checks s t (Kept kept) name named agree = same_kept_checks s t kept name named agree
-
--- and the same is told
-same_told : (s t : State) (question : Questions) (name : List ℕ) → AsksOf question name
-    → AgreeOn name s t → (answer : Answer) → Tells s question answer → Tells t question answer
-same_told s t (Status own day) name named agree answer told =
-    let agrees : AgreeOn own s t = subst (λ x. AgreeOn x s t) (sym named) agree in
-    subst (λ e. IsStatus e day answer) (sym agrees.own) told
-same_told s t (Explain own day) name named agree answer told =
-    let agrees : AgreeOn own s t = subst (λ x. AgreeOn x s t) (sym named) agree in
-    subst (λ h. IsExplanation h (entries_of t own) day answer) (sym (same_holidays own s t agrees))
-    (subst (λ e. IsExplanation (holidays s) e day answer) (sym agrees.own) told)
-same_told s t (DueList own quarter as_of) name named agree answer told =
-    let agrees : AgreeOn own s t = subst (λ x. AgreeOn x s t) (sym named) agree in
-    subst (λ h. IsDueList h (entries_of t own) quarter as_of answer)
-    (sym (same_holidays own s t agrees))
-    (subst (λ e. IsDueList (holidays s) e quarter as_of answer) (sym agrees.own) told)
-same_told s t (ScheduleB own quarter) name named agree answer told =
-    let agrees : AgreeOn own s t = subst (λ x. AgreeOn x s t) (sym named) agree in
-    subst (λ e. IsScheduleB e quarter answer) (sym agrees.own) told
-same_told s t (Agenda from to as_of) name named agree answer told = absurd named
-same_told s t (Owed until as_of) name named agree answer told = absurd named
-same_told s t (Kept kept) name named agree answer told =
-    same_kept s t kept name named agree answer told
 
 -- ---- requests
 

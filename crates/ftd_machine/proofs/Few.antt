@@ -15,7 +15,7 @@ use Rattle.ftd_machine.specs.State.{State, holidays, days_of, calendar_at, is_gi
 use Rattle.ftd_machine.specs.Requests.{days_of_year}
 use Rattle.ftd_machine.specs.Sound.{AreDistinct, year_of_calendar}
 use Rattle.ftd_machine.proofs.Keeping.{same_key}
-use Rattle.ftd_machine.proofs.Repeats.{is_year}
+use Rattle.ftd_machine.proofs.Keeping.{is_year}
 
 abbrev lies_in : ℕ → ℕ → Bool
 lies_in year day = year_of day == year

@@ -6,6 +6,7 @@ use Rattle.std.specs.Option.{option_or}
 use Rattle.std.proofs.lemmas.Bool.{eq-eqb}
 use Rattle.std.proofs.lemmas.List.Elements.{filter-append}
 use Rattle.std.proofs.lemmas.List.Folds.{find-append}
+use Rattle.ftd_days.specs.Holidays.{YearDays}
 use Rattle.ftd_rules.specs.declared.run.Voidable.{Voidable}
 use Rattle.ftd_machine.specs.State.{Entry, is_of, has_key, content_of, kept_at}
 use Rattle.ftd_machine.specs.Step.{with_entry, with_voided, voided_if, is_under, as_voided}
@@ -36,6 +37,9 @@ pub found_last : {X Y : Type 0} (f : X → Y) (test : X → Bool) (xs : List X) 
     → option_map f (find test (xs ++ x ∷ [])) ≡ Some (f x)
 found_last f test xs x e none =
     ap (option_map f) (find-append test xs _) ∙ or_none f (find test xs) _ none ∙ (rw e refl)
+
+abbrev pub is_year : ℕ → YearDays → Bool
+is_year year g = g.year == year
 
 pub same_key : (key : ℕ) → (key == key) ≡ true
 same_key key = eq-eqb key key refl

@@ -9,7 +9,6 @@ use Rattle.std.proofs.lemmas.List.Folds.{list_any-append}
 use Rattle.std.proofs.lemmas.List.Elements.{filter-append}
 use Rattle.ftd_days.specs.Calendar.{year_of}
 use Rattle.ftd_days.specs.Business.{is_holiday}
-use Rattle.ftd_days.specs.Holidays.{YearDays}
 use Rattle.ftd_days.specs.declared.cents.Cents.{Cents}
 use Rattle.ftd_machine.specs.declared.entries.Account.{Account}
 use Rattle.ftd_rules.specs.declared.run.PayRun.{PayRun}
@@ -39,7 +38,8 @@ use Rattle.ftd_machine.proofs.Adding.{own_name}
 use Rattle.ftd_machine.proofs.Heads.{done_before, Quiet, quiet_none, quiet_needs, Turns, Firm}
 use Rattle.ftd_machine.proofs.Heads.{Stays}
 use Rattle.ftd_machine.proofs.Questions.{question_quiet, question_firm, told_is}
-use Rattle.ftd_machine.proofs.Keeping.{found_append, found_last, same_key, kept_own, kept_some}
+use Rattle.ftd_machine.proofs.Keeping.{found_append, found_last, is_year, same_key, kept_own}
+use Rattle.ftd_machine.proofs.Keeping.{kept_some}
 use Rattle.ftd_machine.proofs.Keeping.{Keeps, keeps_entry, KeepsVoidable, keeps_same, keeps_more}
 use Rattle.ftd_machine.proofs.Keeping.{keeps_voided, voided_kept}
 use Rattle.ftd_machine.proofs.Again.{enrol_turns, enrol_stays, report_turns, report_stays}
@@ -167,9 +167,6 @@ extends_account s name account = record {
   runs = keeps_same s.runs;
   payments = keeps_same s.payments;
 }
-
-abbrev pub is_year : ℕ → YearDays → Bool
-is_year year g = g.year == year
 
 pub calendar_still : (s : State) (year : ℕ) (days : List ℕ) (other : ℕ) (x : List ℕ)
     → calendar_at s other ≡ Some x

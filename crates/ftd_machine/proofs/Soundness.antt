@@ -44,7 +44,8 @@ use Rattle.ftd_machine.proofs.Totals.{totals_still, totals_account, totals_repor
 use Rattle.ftd_machine.proofs.Totals.{totals_reported_year, totals_open}
 use Rattle.ftd_machine.proofs.Bounded.{counts_more}
 use Rattle.ftd_machine.proofs.Counted.{voided_count}
-use Rattle.ftd_machine.proofs.Repeats.{checks_of, is_year, calendar_still, some_still}
+use Rattle.ftd_machine.proofs.Keeping.{is_year}
+use Rattle.ftd_machine.proofs.Repeats.{checks_of, calendar_still, some_still}
 use Rattle.ftd_machine.proofs.Single.{IsOnce}
 use Rattle.ftd_machine.proofs.Few.{few_given, few_added, and_second}
 

@@ -169,11 +169,11 @@ TellsKept s (Runs name quarter) answer = AreRuns (entries_of s name) quarter ans
 TellsKept s (Payments name quarter) answer =
     ArePayments (holidays s) (entries_of s name) quarter answer
 
--- it names the account
-abbrev pub KeptOf : Kept → List ℕ → Type 0
-KeptOf Accounts account = ⊥
-KeptOf (Years name) account = name ≡ account
-KeptOf (Reported name) account = name ≡ account
-KeptOf (Holidays year) account = ⊥
-KeptOf (Runs name quarter) account = name ≡ account
-KeptOf (Payments name quarter) account = name ≡ account
+-- the account that it names; all accounts and the holidays of a year name none
+abbrev pub account_kept : Kept → Option (List ℕ)
+account_kept Accounts = None
+account_kept (Years name) = Some name
+account_kept (Reported name) = Some name
+account_kept (Holidays year) = None
+account_kept (Runs name quarter) = Some name
+account_kept (Payments name quarter) = Some name

@@ -8,7 +8,7 @@ use Rattle.ftd_machine.specs.Requests.{agenda_checks, owed_checks}
 use Rattle.ftd_machine.specs.Asking.{IsStatus, IsDueList, IsScheduleB}
 use Rattle.ftd_machine.specs.Agenda.{IsDueBetween, IsLeftBy, IsAgenda}
 use Rattle.ftd_machine.specs.Explaining.{IsExplanation}
-use Rattle.ftd_machine.specs.Kept.{kept_checks, TellsKept, KeptOf}
+use Rattle.ftd_machine.specs.Kept.{kept_checks, TellsKept, account_kept}
 use Rattle.ftd_machine.specs.declared.requests.Question.{Question}
 use Rattle.ftd_machine.specs.declared.requests.Question.TheVariants.{Status, Explain, DueList}
 use Rattle.ftd_machine.specs.declared.requests.Question.TheVariants.{ScheduleB, Agenda, Owed, Kept}
@@ -46,16 +46,29 @@ Tells s (Agenda from to as_of) answer = IsAgenda s (IsDueBetween from to) as_of 
 Tells s (Owed until as_of) answer = IsAgenda s (IsLeftBy until) as_of answer
 Tells s (Kept kept) answer = TellsKept s kept answer
 
--- the question names the account; what is due over all accounts names none,
--- nor do all accounts and the holidays of a year
+-- the account that a question names; what is due over all accounts names none
+abbrev pub account_asked : Question → Option (List ℕ)
+account_asked (Status name day) = Some name
+account_asked (Explain name day) = Some name
+account_asked (DueList name quarter as_of) = Some name
+account_asked (ScheduleB name quarter) = Some name
+account_asked (Agenda from to as_of) = None
+account_asked (Owed until as_of) = None
+account_asked (Kept kept) = account_kept kept
+
+-- the question names the account
 abbrev pub AsksOf : Question → List ℕ → Type 0
-AsksOf (Status name day) account = name ≡ account
-AsksOf (Explain name day) account = name ≡ account
-AsksOf (DueList name quarter as_of) account = name ≡ account
-AsksOf (ScheduleB name quarter) account = name ≡ account
-AsksOf (Agenda from to as_of) account = ⊥
-AsksOf (Owed until as_of) account = ⊥
-AsksOf (Kept kept) account = KeptOf kept account
+AsksOf question account = account_asked question ≡ Some account
+
+-- the account and the quarter whose due list is asked for, if one is
+abbrev pub due_list_of : Question → Option (List ℕ × ℕ)
+due_list_of (Status name day) = None
+due_list_of (Explain name day) = None
+due_list_of (DueList name quarter as_of) = Some (name, quarter)
+due_list_of (ScheduleB name quarter) = None
+due_list_of (Agenda from to as_of) = None
+due_list_of (Owed until as_of) = None
+due_list_of (Kept kept) = None
 
 -- the question that a request is, if it is one
 abbrev pub question_of : Request → Option Question

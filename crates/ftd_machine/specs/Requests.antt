@@ -216,7 +216,7 @@ void_payment_checks name number account known =
     ∷ finds known UnknownPayment
     ∷ []
 
--- Status and Explain: the name; a day of 2001 to 2098; the account; and the open year
+-- the schedule of a day, and why an obligation is so: the name; a day of 2001 to 2098; the account; and the open year
 abbrev pub status_checks : List ℕ → ℕ → Option Account → Bool → List (Option Answer)
 status_checks name day account there =
     needs (is_account_name name) BadName

@@ -1,7 +1,8 @@
 //! What may be asked of the desk.
 
-ghost use Rattle.std.specs.Prelude.{◌≡◌, None, Some, MatchOption};
-ghost use Rattle.ftd_machine.specs.Questions.{question_of};
+ghost use Rattle.std.specs.Prelude.{◌≡◌, None, Some, MatchOption, option_map};
+ghost use Rattle.ftd_machine.specs.Kept.{account_kept};
+ghost use Rattle.ftd_machine.specs.Questions.{account_asked, question_of};
 
 use crate::lists::{AccountName, Days};
 use ftd_days::{Cents, Day, Quarter};
@@ -137,6 +138,23 @@ pub enum Question {
     Kept(Kept),
 }
 
+impl Question {
+    /// The account that the question names. What is due over all accounts names none, nor do the
+    /// list of all accounts and the holidays of a year.
+    pub fn account(&self) -> Option<&AccountName>
+        ensures { option_map (λ name. name.now) result ≡ account_asked self.now }
+    {
+        match self {
+            Question::Status { account, .. }
+            | Question::Explain { account, .. }
+            | Question::DueList { account, .. }
+            | Question::ScheduleB { account, .. } => Some(account),
+            Question::Agenda { .. } | Question::Owed { .. } => None,
+            Question::Kept(kept) => kept.account(),
+        }
+    }
+}
+
 /// What of all that is kept is asked for.
 #[derive(Drop)]
 pub enum Kept {
@@ -166,4 +184,19 @@ pub enum Kept {
         account: AccountName,
         quarter: Quarter,
     },
+}
+
+impl Kept {
+    /// The account that is asked for. All accounts and the holidays of a year have none.
+    fn account(&self) -> Option<&AccountName>
+        ensures { option_map (λ name. name.now) result ≡ account_kept self.now }
+    {
+        match self {
+            Kept::Years { account }
+            | Kept::Reported { account }
+            | Kept::Runs { account, .. }
+            | Kept::Payments { account, .. } => Some(account),
+            Kept::Accounts | Kept::Holidays { .. } => None,
+        }
+    }
 }

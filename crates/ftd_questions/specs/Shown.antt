@@ -1,5 +1,5 @@
 -- The rows of a due list beside those of the tables, whatever else these hold.
-use Rattle.std.specs.Prelude.{◌≡◌, ℕ, List, map, Ok, ⊤}
+use Rattle.std.specs.Prelude.{◌≡◌, ℕ, List, map, Option, None, Some, Ok, ⊤}
 use Rattle.std.specs.List.Sorted.{IsPermutation}
 use Rattle.ftd_rules.specs.declared.verdict.DueRow.{DueRow}
 use Rattle.ftd_rules.specs.declared.Form.{Form}
@@ -10,12 +10,11 @@ use Rattle.ftd_rows.specs.Rows.{obligation_row}
 use Rattle.ftd_store.specs.Walking.{rows_in}
 use Rattle.ftd_machine.specs.Asking.{first_of_row}
 use Rattle.ftd_machine.specs.Checks.{Answer}
+use Rattle.ftd_machine.specs.Questions.{due_list_of}
 use Rattle.ftd_machine.specs.declared.replies.Reply.TheVariants.{Due}
 use Rattle.ftd_questions.specs.DueRows.{KnowsDueList, KnowsReturnDue}
 use Rattle.ftd_questions.specs.declared.due.QuarterRows.{QuarterRows}
 use Rattle.ftd_machine.specs.declared.requests.Question.{Question}
-use Rattle.ftd_machine.specs.declared.requests.Question.TheVariants.{Status, Explain, DueList}
-use Rattle.ftd_machine.specs.declared.requests.Question.TheVariants.{ScheduleB, Agenda, Owed, Kept}
 
 -- the account's obligation of a row, as it stands in the tables
 abbrev pub row_shown : List ℕ → DueRow → ObligationRow
@@ -42,12 +41,10 @@ KnowsQuarter name form quarter as_of found t =
     × KnowsReturnDue form quarter found.return_due t
 
 -- a due list that is answered shows the tables' rows as they stand
+abbrev pub ShowsList : Option (List ℕ × ℕ) → Answer → Tables → Type 0
+ShowsList None answer t = ⊤
+ShowsList (Some asked) answer t =
+    (rows : List DueRow) → answer ≡ Ok (Due rows) → ShowsRows asked.0 asked.1 rows t
+
 abbrev pub Shows : Question → Answer → Tables → Type 0
-Shows (Status name day) answer t = ⊤
-Shows (Explain name day) answer t = ⊤
-Shows (DueList name quarter as_of) answer t =
-    (rows : List DueRow) → answer ≡ Ok (Due rows) → ShowsRows name quarter rows t
-Shows (ScheduleB name quarter) answer t = ⊤
-Shows (Agenda from to as_of) answer t = ⊤
-Shows (Owed until as_of) answer t = ⊤
-Shows (Kept asked) answer t = ⊤
+Shows question answer t = ShowsList (due_list_of question) answer t

@@ -1,6 +1,6 @@
 -- What can be done about a refusal: lines below it, each of which begins with `hint: `.
 use Rattle.std.specs.Prelude.{ℕ, ◌==◌, ◌||◌, ◌++◌, not, Bool, List, [], ◌∷◌, Option, Some, None}
-use Rattle.std.specs.Prelude.{codes, find, if◌then◌else◌}
+use Rattle.std.specs.Prelude.{codes, find, if◌then◌else◌, unwrap_or}
 use Rattle.std.specs.Char.{is_ascii_alphanumeric}
 use Rattle.std.specs.Fmt.{decimal}
 use Rattle.std.specs.List.{concat, flat_map, list_all}
@@ -8,12 +8,11 @@ use Rattle.ftd_days.specs.Business.{is_holiday}
 use Rattle.ftd_days.specs.Text.{day_text, quarter_text}
 use Rattle.ftd_machine.specs.declared.replies.Refusal.{Refusal}
 use Rattle.ftd_machine.specs.declared.replies.Refusal.TheVariants as refusal
-use Rattle.ftd_machine.specs.declared.requests.Question.{Question}
-use Rattle.ftd_machine.specs.declared.requests.Kept.{Kept}
-use Rattle.ftd_machine.specs.declared.requests.Kept.TheVariants as kept
-use Rattle.ftd_machine.specs.declared.requests.Question.TheVariants as question
+use Rattle.ftd_machine.specs.Questions.{account_asked}
 use Rattle.ftd_machine.specs.declared.requests.Request.{Request}
 use Rattle.ftd_machine.specs.declared.requests.Request.TheVariants as request
+use Rattle.ftd_replies.specs.Questions.{paydays_years, calendars_years, years_asked}
+use Rattle.ftd_replies.specs.Questions.{paydays_days, days_asked}
 use Rattle.ftd_replies.specs.Refusals.{refusal_text}
 use Rattle.ftd_replies.specs.declared.hints.Hint.{Hint}
 use Rattle.ftd_replies.specs.declared.hints.Hint.TheVariants as hint
@@ -39,25 +38,8 @@ abbrev pub command_of : List ℕ → List ℕ → List ℕ → List ℕ → List
 command_of before db account word after =
     concat (before ∷ file_text db ∷ codes " " ∷ account ∷ codes " " ∷ word ∷ after ∷ [])
 
--- the account that a question names; the empty text where it names none
-abbrev pub account_kept : Kept → List ℕ
-account_kept kept.Accounts = []
-account_kept (kept.Years account) = account
-account_kept (kept.Reported account) = account
-account_kept (kept.Holidays year) = []
-account_kept (kept.Runs account quarter) = account
-account_kept (kept.Payments account quarter) = account
-
-abbrev pub account_asked : Question → List ℕ
-account_asked (question.Status account day) = account
-account_asked (question.Explain account day) = account
-account_asked (question.DueList account quarter as_of) = account
-account_asked (question.ScheduleB account quarter) = account
-account_asked (question.Agenda from to as_of) = []
-account_asked (question.Owed until as_of) = []
-account_asked (question.Kept asked) = account_kept asked
-
--- the account that a request names, and the number of its run or payment
+-- the account that a request names, the empty text where it names none; and the number of its run
+-- or payment
 abbrev pub account_in : Request → List ℕ
 account_in (request.Enrol account start carried form) = account
 account_in (request.Calendar year days) = []
@@ -69,7 +51,7 @@ account_in (request.Post account run payday fit ss medicare) = account
 account_in (request.Void account run) = account
 account_in (request.Pay account payment paid for_day cents) = account
 account_in (request.VoidPay account payment) = account
-account_in (request.Question asked) = account_asked asked
+account_in (request.Question asked) = unwrap_or (account_asked asked) []
 
 abbrev pub number_in : Request → ℕ
 number_in (request.Enrol account start carried form) = 0
@@ -89,29 +71,6 @@ number_in (request.Question question) = 0
 abbrev totals_years : List ℕ
 totals_years = codes "hint: the years of reported totals are 1999 to 2098\n"
 
-abbrev paydays_years : List ℕ
-paydays_years = codes "hint: the years of paydays are 2001 to 2098\n"
-
-abbrev calendars_years : List ℕ
-calendars_years = codes "hint: the years of calendars are 2001 to 2099\n"
-
-abbrev pub years_kept : Kept → List ℕ
-years_kept kept.Accounts = paydays_years
-years_kept (kept.Years account) = paydays_years
-years_kept (kept.Reported account) = paydays_years
-years_kept (kept.Holidays year) = calendars_years
-years_kept (kept.Runs account quarter) = paydays_years
-years_kept (kept.Payments account quarter) = paydays_years
-
-abbrev pub years_asked : Question → List ℕ
-years_asked (question.Status account day) = paydays_years
-years_asked (question.Explain account day) = paydays_years
-years_asked (question.DueList account quarter as_of) = paydays_years
-years_asked (question.ScheduleB account quarter) = paydays_years
-years_asked (question.Agenda from to as_of) = paydays_years
-years_asked (question.Owed until as_of) = paydays_years
-years_asked (question.Kept asked) = years_kept asked
-
 abbrev pub years_text : Request → List ℕ
 years_text (request.Enrol account start carried form) = paydays_years
 years_text (request.Calendar year days) = calendars_years
@@ -124,22 +83,6 @@ years_text (request.Void account run) = paydays_years
 years_text (request.Pay account payment paid for_day cents) = paydays_years
 years_text (request.VoidPay account payment) = paydays_years
 years_text (request.Question question) = years_asked question
-
-abbrev paydays_days : List ℕ
-paydays_days = codes "hint: the days of paydays are those of 2001 to 2098\n"
-
-abbrev agenda_days : List ℕ
-agenda_days = codes "hint: an agenda is of days of 2001 to 2099\n"
-
-abbrev pub days_asked : Question → List ℕ
-days_asked (question.Status account day) = paydays_days
-days_asked (question.Explain account day) = paydays_days
-days_asked (question.DueList account quarter as_of) =
-    codes "hint: a due list is as of a day of 2001 to 2099\n"
-days_asked (question.ScheduleB account quarter) = paydays_days
-days_asked (question.Agenda from to as_of) = agenda_days
-days_asked (question.Owed until as_of) = agenda_days
-days_asked (question.Kept asked) = paydays_days
 
 abbrev pub days_text : Request → List ℕ
 days_text (request.Enrol account start carried form) =

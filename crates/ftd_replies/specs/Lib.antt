@@ -1,5 +1,6 @@
 pub mod Hints
 pub mod Putting
+pub mod Questions
 pub mod Refusals
 pub mod Replies
 pub mod Telling

@@ -5,18 +5,18 @@ ghost use Rattle.std.specs.Fmt.{decimal};
 ghost use Rattle.std.specs.List.{flat_map, list_all};
 ghost use Rattle.std.specs.Io.KnownBytes.{Appends};
 ghost use Rattle.ftd_ports.specs.Writing.{WritesPrefix};
-ghost use Rattle.ftd_replies.specs.Hints.{account_asked, account_in, account_kept, calendar_text};
-ghost use Rattle.ftd_replies.specs.Hints.{command_of, command_on, days_asked, days_in, days_text};
+ghost use Rattle.ftd_replies.specs.Hints.{account_in, calendar_text};
+ghost use Rattle.ftd_replies.specs.Hints.{command_of, command_on, days_in, days_text};
 ghost use Rattle.ftd_replies.specs.Hints.{differing_text, enrolled_as};
 ghost use Rattle.ftd_replies.specs.Hints.{file_text, first_beside, first_text, form_text};
 ghost use Rattle.ftd_replies.specs.Hints.{hint_of, hint_text, hints_text};
 ghost use Rattle.ftd_replies.specs.Hints.{is_plain, left_out_text, new_text, number_in};
-ghost use Rattle.ftd_replies.specs.Hints.{quarter_hint, said_text, told_text, years_asked};
-ghost use Rattle.ftd_replies.specs.Hints.{years_text};
+ghost use Rattle.ftd_replies.specs.Hints.{quarter_hint, said_text, told_text, years_text};
 
+use crate::questions::{days_asked, years_asked};
 use crate::refusals::write_refusal;
 use ftd_days::{Day, Quarter};
-use ftd_machine::{Kept, Question, Refusal, Request};
+use ftd_machine::{Refusal, Request};
 use ftd_ports::{Target, WriteFault, write_all, write_pieces};
 use ftd_reports::{day_bytes, quarter_bytes};
 use itoa::Buffer;
@@ -102,31 +102,6 @@ fn file_bytes(db: &str) -> &[u8]
     }
 }
 
-/// The account of which it is asked what is kept. The empty text where there is none.
-fn account_kept(asked: &Kept) -> &str
-    ensures { result.now ≡ account_kept asked.now }
-{
-    match asked {
-        Kept::Accounts | Kept::Holidays { .. } => "",
-        Kept::Years { account } | Kept::Reported { account } => account.as_str(),
-        Kept::Runs { account, .. } | Kept::Payments { account, .. } => account.as_str(),
-    }
-}
-
-/// The account that the question names. The empty text where it names none.
-fn account_asked(question: &Question) -> &str
-    ensures { result.now ≡ account_asked question.now }
-{
-    match question {
-        Question::Status { account, .. } => account.as_str(),
-        Question::Explain { account, .. } => account.as_str(),
-        Question::DueList { account, .. } => account.as_str(),
-        Question::ScheduleB { account, .. } => account.as_str(),
-        Question::Agenda { .. } | Question::Owed { .. } => "",
-        Question::Kept(asked) => account_kept(asked),
-    }
-}
-
 /// The account that the request names. The empty text where it names none.
 pub fn account_in(request: &Request) -> &str
     ensures { result.now ≡ account_in request.now }
@@ -141,7 +116,10 @@ pub fn account_in(request: &Request) -> &str
         Request::Void { account, .. } => account.as_str(),
         Request::Pay { account, .. } => account.as_str(),
         Request::VoidPay { account, .. } => account.as_str(),
-        Request::Question(question) => account_asked(question),
+        Request::Question(question) => match question.account() {
+            Some(account) => account.as_str(),
+            None => "",
+        },
     }
 }
 
@@ -199,46 +177,6 @@ fn years_said(request: &Request) -> &'static [u8]
         | Request::Pay { .. }
         | Request::VoidPay { .. } => b"hint: the years of paydays are 2001 to 2098\n",
         Request::Question(question) => years_asked(question),
-    }
-}
-
-/// What is said of a year of a question that is out of range.
-fn years_asked(question: &Question) -> &'static [u8]
-    ensures { result.now ≡ years_asked question.now }
-{
-    match question {
-        Question::Kept(Kept::Holidays { .. }) => {
-            b"hint: the years of calendars are 2001 to 2099\n"
-        }
-        Question::Kept(
-            Kept::Accounts
-            | Kept::Years { .. }
-            | Kept::Reported { .. }
-            | Kept::Runs { .. }
-            | Kept::Payments { .. },
-        )
-        | Question::Status { .. }
-        | Question::Explain { .. }
-        | Question::DueList { .. }
-        | Question::ScheduleB { .. }
-        | Question::Agenda { .. }
-        | Question::Owed { .. } => b"hint: the years of paydays are 2001 to 2098\n",
-    }
-}
-
-/// What is said of a day of a question that is out of range.
-fn days_asked(question: &Question) -> &'static [u8]
-    ensures { result.now ≡ days_asked question.now }
-{
-    match question {
-        Question::DueList { .. } => b"hint: a due list is as of a day of 2001 to 2099\n",
-        Question::Agenda { .. } | Question::Owed { .. } => {
-            b"hint: an agenda is of days of 2001 to 2099\n"
-        }
-        Question::Status { .. }
-        | Question::Explain { .. }
-        | Question::ScheduleB { .. }
-        | Question::Kept(_) => { b"hint: the days of paydays are those of 2001 to 2098\n" }
     }
 }
 

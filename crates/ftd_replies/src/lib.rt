@@ -2,6 +2,7 @@
 #![tactic(auto)]
 
 mod hints;
+mod questions;
 mod refusals;
 mod replies;
 mod telling;

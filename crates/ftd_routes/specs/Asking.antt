@@ -5,6 +5,7 @@ use Rattle.ftd_machine.specs.declared.requests.Request.{Request}
 use Rattle.ftd_formats.specs.declared.formats.Format.{Format}
 use Rattle.ftd_formats.specs.declared.formats.Format.TheVariants as format
 use Rattle.ftd_formats.specs.declared.formats.ListFormat.TheVariants.{Text}
+use Rattle.ftd_routes.specs.Queries.{query_format}
 use Rattle.ftd_routes.specs.Routes.{route_of}
 use Rattle.ftd_routes.specs.Requests.{request_of}
 use Rattle.ftd_routes.specs.declared.route.Ask.{Ask}
@@ -32,18 +33,7 @@ method_of ask.Post = Post
 method_of ask.Void = Delete
 method_of ask.Pay = Post
 method_of ask.VoidPay = Delete
-method_of ask.Status = Get
-method_of (ask.Explain format) = Get
-method_of (ask.DueList format) = Get
-method_of (ask.ScheduleB format) = Get
-method_of (ask.Agenda format) = Get
-method_of (ask.Owed format) = Get
-method_of (ask.ListAccounts format) = Get
-method_of (ask.ListYears format) = Get
-method_of (ask.ListReported format) = Get
-method_of (ask.ListHolidays format) = Get
-method_of (ask.ListRuns format) = Get
-method_of (ask.ListPayments format) = Get
+method_of (ask.Query query) = Get
 
 -- the format in which a route tells a reply that has several
 abbrev pub format_of : Ask → Format
@@ -57,18 +47,7 @@ format_of ask.Post = format.List Text
 format_of ask.Void = format.List Text
 format_of ask.Pay = format.List Text
 format_of ask.VoidPay = format.List Text
-format_of ask.Status = format.List Text
-format_of (ask.Explain asked) = format.List asked
-format_of (ask.DueList asked) = format.List asked
-format_of (ask.ScheduleB asked) = format.List asked
-format_of (ask.Agenda asked) = asked
-format_of (ask.Owed asked) = asked
-format_of (ask.ListAccounts asked) = format.List asked
-format_of (ask.ListYears asked) = format.List asked
-format_of (ask.ListReported asked) = format.List asked
-format_of (ask.ListHolidays asked) = format.List asked
-format_of (ask.ListRuns asked) = format.List asked
-format_of (ask.ListPayments asked) = format.List asked
+format_of (ask.Query query) = query_format query
 
 -- what a message of the right method asks
 abbrev pub formed : Format → Option Request → Asked

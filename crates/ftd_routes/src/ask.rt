@@ -5,6 +5,7 @@ ghost use Rattle.std.specs.Str.{bytes_eq};
 ghost use Rattle.ftd_routes.specs.Routes.{all_routes};
 ghost use Rattle.ftd_routes.specs.Asking.{method_text, method_of, format_of, formed, asked_of};
 
+use crate::queries::query_format;
 use crate::request::make_request;
 use crate::route::{Ask, look_up};
 use ftd_formats::{Format, ListFormat};
@@ -53,10 +54,7 @@ fn method_of(route: Ask) -> Method
 {
     match route {
         Ask::Void | Ask::VoidPay => Method::Delete,
-        Ask::Status | Ask::Explain(_) | Ask::DueList(_) | Ask::ScheduleB(_) => Method::Get,
-        Ask::Agenda(_) | Ask::Owed(_) | Ask::ListAccounts(_) | Ask::ListYears(_) => Method::Get,
-        Ask::ListReported(_) | Ask::ListHolidays(_) => Method::Get,
-        Ask::ListRuns(_) | Ask::ListPayments(_) => Method::Get,
+        Ask::Query(_) => Method::Get,
         Ask::Enrol
         | Ask::Calendar
         | Ask::AddHoliday
@@ -73,16 +71,7 @@ fn format_of(route: Ask) -> Format
     ensures { result ≡ format_of route }
 {
     match route {
-        Ask::Agenda(format) | Ask::Owed(format) => format,
-        Ask::Explain(format)
-        | Ask::DueList(format)
-        | Ask::ScheduleB(format)
-        | Ask::ListAccounts(format)
-        | Ask::ListYears(format)
-        | Ask::ListReported(format)
-        | Ask::ListHolidays(format)
-        | Ask::ListRuns(format)
-        | Ask::ListPayments(format) => Format::List(format),
+        Ask::Query(query) => query_format(query),
         Ask::Enrol
         | Ask::Calendar
         | Ask::AddHoliday
@@ -92,8 +81,7 @@ fn format_of(route: Ask) -> Format
         | Ask::Post
         | Ask::Void
         | Ask::Pay
-        | Ask::VoidPay
-        | Ask::Status => Format::List(ListFormat::Text),
+        | Ask::VoidPay => Format::List(ListFormat::Text),
     }
 }
 

@@ -1,22 +1,18 @@
 //! The requests of the routes.
 
-ghost use Rattle.std.specs.Prelude.{◌≡◌, IfOk, Some};
+ghost use Rattle.std.specs.Prelude.{◌≡◌, IfOk};
 ghost use Rattle.ftd_routes.specs.Requests.{enrol_in, calendar_in, add_holiday_in, report_in};
 ghost use Rattle.ftd_routes.specs.Requests.{report_year_in, open_year_in, post_in, pay_in, void_in};
-ghost use Rattle.ftd_routes.specs.Requests.{void_payment_in, status_in, explain_in, due_list_in};
-ghost use Rattle.ftd_routes.specs.Requests.{schedule_b_in};
-ghost use Rattle.ftd_machine.specs.declared.requests.Kept.TheVariants as kept;
-ghost use Rattle.ftd_routes.specs.Requests.{agenda_in, owed_in, request_of, kept_asked};
-ghost use Rattle.ftd_routes.specs.Requests.{listed_account, holidays_in, runs_in, payments_in};
+ghost use Rattle.ftd_routes.specs.Requests.{void_payment_in, request_of};
 
 use crate::Ask;
 use crate::body::{
     amount_at, day_at, days_at, flag_at, form_at, json, quarter_at, text_at, whole_at,
 };
 use crate::path::part;
+use crate::queries::make_question;
 use crate::values::{name, path_number};
-use ftd_days::{Day, Quarter};
-use ftd_machine::{Days, Kept, Question, Request};
+use ftd_machine::{Days, Request};
 use std::alloc::{AllocError, Global};
 
 /// The request of a route, by its target and its body.
@@ -31,18 +27,7 @@ pub fn make_request(
     match route {
         Ask::Void => void(alloc, target),
         Ask::VoidPay => void_payment(alloc, target),
-        Ask::Status => status(alloc, target),
-        Ask::Explain(_) => explain(alloc, target),
-        Ask::DueList(_) => due_list(alloc, target),
-        Ask::ScheduleB(_) => schedule_b(alloc, target),
-        Ask::Agenda(_) => Ok(agenda(target)),
-        Ask::Owed(_) => Ok(owed(target)),
-        Ask::ListAccounts(_) => Ok(Some(Request::Question(Question::Kept(Kept::Accounts)))),
-        Ask::ListYears(_) => years(alloc, target),
-        Ask::ListReported(_) => reported(alloc, target),
-        Ask::ListHolidays(_) => Ok(holidays(target)),
-        Ask::ListRuns(_) => runs(alloc, target),
-        Ask::ListPayments(_) => payments(alloc, target),
+        Ask::Query(query) => make_question(alloc, query, target),
         Ask::Enrol => enrol(alloc, body),
         Ask::Calendar => calendar(alloc, body),
         Ask::AddHoliday => add_holiday(alloc, body),
@@ -262,131 +247,4 @@ fn void_payment(alloc: Global, target: &str) -> Result<Option<Request>, AllocErr
     };
     let account = name(alloc, part(target, 2))?;
     Ok(Some(Request::VoidPay { account, payment }))
-}
-
-/// The schedule on a day.
-#[tactic(auto, unfolding(crate::specs::Requests::status_in))]
-fn status(alloc: Global, target: &str) -> Result<Option<Request>, AllocError>
-    ensures { IfOk result (λ request. request ≡ status_in target.now) }
-{
-    let Some(day) = Day::read(part(target, 4).as_bytes()) else {
-        return Ok(None);
-    };
-    let account = name(alloc, part(target, 2))?;
-    Ok(Some(Request::Question(Question::Status { account, day })))
-}
-
-/// Why the obligation of a day is so.
-#[tactic(auto, unfolding(crate::specs::Requests::explain_in))]
-fn explain(alloc: Global, target: &str) -> Result<Option<Request>, AllocError>
-    ensures { IfOk result (λ request. request ≡ explain_in target.now) }
-{
-    let Some(day) = Day::read(part(target, 4).as_bytes()) else {
-        return Ok(None);
-    };
-    let account = name(alloc, part(target, 2))?;
-    Ok(Some(Request::Question(Question::Explain { account, day })))
-}
-
-/// What is due for a quarter.
-#[tactic(auto, unfolding(crate::specs::Requests::due_list_in))]
-fn due_list(alloc: Global, target: &str) -> Result<Option<Request>, AllocError>
-    ensures { IfOk result (λ request. request ≡ due_list_in target.now) }
-{
-    let Some(quarter) = Quarter::read(part(target, 4).as_bytes()) else {
-        return Ok(None);
-    };
-    let Some(as_of) = Day::read(part(target, 5).as_bytes()) else {
-        return Ok(None);
-    };
-    let account = name(alloc, part(target, 2))?;
-    Ok(Some(Request::Question(Question::DueList {
-        account,
-        quarter,
-        as_of,
-    })))
-}
-
-/// The liability of a quarter.
-#[tactic(auto, unfolding(crate::specs::Requests::schedule_b_in))]
-fn schedule_b(alloc: Global, target: &str) -> Result<Option<Request>, AllocError>
-    ensures { IfOk result (λ request. request ≡ schedule_b_in target.now) }
-{
-    let Some(quarter) = Quarter::read(part(target, 4).as_bytes()) else {
-        return Ok(None);
-    };
-    let account = name(alloc, part(target, 2))?;
-    Ok(Some(Request::Question(Question::ScheduleB { account, quarter })))
-}
-
-/// What is due between two days.
-#[tactic(auto, unfolding(crate::specs::Requests::agenda_in))]
-fn agenda(target: &str) -> Option<Request>
-    ensures { result ≡ agenda_in target.now }
-{
-    let from = Day::read(part(target, 2).as_bytes())?;
-    let to = Day::read(part(target, 3).as_bytes())?;
-    let as_of = Day::read(part(target, 4).as_bytes())?;
-    Some(Request::Question(Question::Agenda { from, to, as_of }))
-}
-
-/// What is due until a day and not paid.
-#[tactic(auto, unfolding(crate::specs::Requests::owed_in))]
-fn owed(target: &str) -> Option<Request>
-    ensures { result ≡ owed_in target.now }
-{
-    let as_of = Day::read(part(target, 2).as_bytes())?;
-    let until = Day::read(part(target, 3).as_bytes())?;
-    Some(Request::Question(Question::Owed { until, as_of }))
-}
-
-/// The open years of an account.
-fn years(alloc: Global, target: &str) -> Result<Option<Request>, AllocError>
-    ensures { IfOk result (λ request. request
-        ≡ Some (kept_asked (kept.Years (listed_account target.now)))) }
-{
-    let account = name(alloc, part(target, 3))?;
-    Ok(Some(Request::Question(Question::Kept(Kept::Years { account }))))
-}
-
-/// The totals that an account reported.
-fn reported(alloc: Global, target: &str) -> Result<Option<Request>, AllocError>
-    ensures { IfOk result (λ request. request
-        ≡ Some (kept_asked (kept.Reported (listed_account target.now)))) }
-{
-    let account = name(alloc, part(target, 3))?;
-    Ok(Some(Request::Question(Question::Kept(Kept::Reported { account }))))
-}
-
-/// The holidays of a year.
-#[tactic(auto, unfolding(crate::specs::Requests::holidays_in))]
-fn holidays(target: &str) -> Option<Request>
-    ensures { result ≡ holidays_in target.now }
-{
-    let year = path_number(part(target, 3))?;
-    Some(Request::Question(Question::Kept(Kept::Holidays { year })))
-}
-
-/// The pay runs of a quarter.
-#[tactic(auto, unfolding(crate::specs::Requests::runs_in))]
-fn runs(alloc: Global, target: &str) -> Result<Option<Request>, AllocError>
-    ensures { IfOk result (λ request. request ≡ runs_in target.now) }
-{
-    let Some(quarter) = Quarter::read(part(target, 5).as_bytes()) else {
-        return Ok(None);
-    };
-    let account = name(alloc, part(target, 3))?;
-    Ok(Some(Request::Question(Question::Kept(Kept::Runs { account, quarter }))))
-}
-
-/// The payments of a quarter.
-#[tactic(auto, unfolding(crate::specs::Requests::payments_in))]
-fn payments(alloc: Global, target: &str) -> Result<Option<Request>, AllocError>
-    ensures { IfOk result (λ request. request ≡ payments_in target.now) }
-{
-    let Some(quarter) = Quarter::read(part(target, 5).as_bytes()) else {
-        return Ok(None);
-    };
-    let account = name(alloc, part(target, 3))?;
-    Ok(Some(Request::Question(Question::Kept(Kept::Payments { account, quarter }))))
 }

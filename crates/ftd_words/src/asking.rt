@@ -1,30 +1,38 @@
-//! What the values of a subcommand ask of the desk. Each function reads them in their order, and
-//! answers the first word that has none of its kind.
+//! What a subcommand asks, with its values. Each function reads them in their order, and answers the
+//! first word that has none of its kind.
 
 ghost use Rattle.std.specs.Prelude.{◌≡◌};
 ghost use Rattle.clap.specs.Words.{found_of, rows_of};
-ghost use Rattle.ftd_words.specs.Asking.{Tells, enrol_of, calendar_of, add_holiday_of, report_of};
-ghost use Rattle.ftd_words.specs.Asking.{report_year_of, open_year_of, post_of, void_of, pay_of};
-ghost use Rattle.ftd_words.specs.Asking.{void_pay_of, status_of, explain_of, due_of, agenda_of, week_after};
-ghost use Rattle.ftd_words.specs.Asking.{owed_of, schedule_b_of, years_of, reported_of};
-ghost use Rattle.ftd_words.specs.Asking.{holidays_of, runs_of, payments_of};
+ghost use Rattle.ftd_words.specs.Asking.{Tells, TellsAs, account_in, add_holiday_of, agenda_of};
+ghost use Rattle.ftd_words.specs.Asking.{asked, asked_as, calendar_of, due_of, enrol_of};
+ghost use Rattle.ftd_words.specs.Asking.{explain_of, explained, formatted, holidays_of, import_of};
+ghost use Rattle.ftd_words.specs.Asking.{listed, open_year_of, owed_of, pay_of, payments_of};
+ghost use Rattle.ftd_words.specs.Asking.{plain_of, post_of, report_of, report_year_of, reported_of};
+ghost use Rattle.ftd_words.specs.Asking.{runs_of, schedule_b_of, serve_of, status_of, void_of};
+ghost use Rattle.ftd_words.specs.Asking.{void_pay_of, wanted_of, week_after, year_in, years_of};
+ghost use Rattle.ftd_words.specs.Tasks.{task_view};
 ghost use Rattle.ftd_words.specs.Values.{text_in};
 
 use crate::fault::WordFault;
 use crate::reading::{
-    cents_at, day_at, day_or, days_at, form_at, is_given, owned_text, quarter_at, whole_at,
+    cents_at, day_at, day_or, days_at, explanation_format_at, form_at, format_at, is_given,
+    list_format_at, owned_text, port_at, quarter_at, whole_at,
 };
+use crate::tasks::{Job, LocalTask, PlainTask, ServeTask, Task};
 use clap::ArgMatches;
-use ftd_commands::Word;
+use ftd_commands::{Name, Word};
+use ftd_csv::Sheet;
 use ftd_days::Day;
+use ftd_formats::{Format, ListFormat};
 use ftd_machine::{AccountName, Kept, Question, Request};
+use ftd_rules::is_account_name;
 use std::alloc::Global;
 
 /// The number of the last day, 31 December 2199, in days since 1970-01-01.
 const LAST_NUMBER: i32 = 84_005;
 
 /// The account.
-pub fn account_at(alloc: Global, inner: &ArgMatches<'_>) -> Result<AccountName, WordFault>
+fn account_at(alloc: Global, inner: &ArgMatches<'_>) -> Result<AccountName, WordFault>
     ensures { Tells result (text_in Word.Account (rows_of (found_of inner.now))) }
 {
     let text = owned_text(alloc, inner, Word::Account)?;
@@ -33,7 +41,7 @@ pub fn account_at(alloc: Global, inner: &ArgMatches<'_>) -> Result<AccountName, 
 
 /// What `enrol` asks.
 #[tactic(auto, unfolding(crate::specs::Asking::enrol_of))]
-pub fn enrol(alloc: Global, inner: &ArgMatches<'_>) -> Result<Request, WordFault>
+fn enrol(alloc: Global, inner: &ArgMatches<'_>) -> Result<Request, WordFault>
     ensures { Tells result (enrol_of (rows_of (found_of inner.now))) }
 {
     let account = account_at(alloc, inner)?;
@@ -49,7 +57,7 @@ pub fn enrol(alloc: Global, inner: &ArgMatches<'_>) -> Result<Request, WordFault
 
 /// What `calendar` asks.
 #[tactic(auto, unfolding(crate::specs::Asking::calendar_of))]
-pub fn calendar(alloc: Global, inner: &ArgMatches<'_>) -> Result<Request, WordFault>
+fn calendar(alloc: Global, inner: &ArgMatches<'_>) -> Result<Request, WordFault>
     ensures { Tells result (calendar_of (rows_of (found_of inner.now))) }
 {
     let year = whole_at(inner, Word::Year)?;
@@ -59,7 +67,7 @@ pub fn calendar(alloc: Global, inner: &ArgMatches<'_>) -> Result<Request, WordFa
 
 /// What `add-holiday` asks.
 #[tactic(auto, unfolding(crate::specs::Asking::add_holiday_of))]
-pub fn add_holiday(inner: &ArgMatches<'_>) -> Result<Request, WordFault>
+fn add_holiday(inner: &ArgMatches<'_>) -> Result<Request, WordFault>
     ensures { Tells result (add_holiday_of (rows_of (found_of inner.now))) }
 {
     let day = day_at(inner, Word::Day)?;
@@ -68,7 +76,7 @@ pub fn add_holiday(inner: &ArgMatches<'_>) -> Result<Request, WordFault>
 
 /// What `report` asks.
 #[tactic(auto, unfolding(crate::specs::Asking::report_of))]
-pub fn report(alloc: Global, inner: &ArgMatches<'_>) -> Result<Request, WordFault>
+fn report(alloc: Global, inner: &ArgMatches<'_>) -> Result<Request, WordFault>
     ensures { Tells result (report_of (rows_of (found_of inner.now))) }
 {
     let account = account_at(alloc, inner)?;
@@ -83,7 +91,7 @@ pub fn report(alloc: Global, inner: &ArgMatches<'_>) -> Result<Request, WordFaul
 
 /// What `report-year` asks.
 #[tactic(auto, unfolding(crate::specs::Asking::report_year_of))]
-pub fn report_year(alloc: Global, inner: &ArgMatches<'_>) -> Result<Request, WordFault>
+fn report_year(alloc: Global, inner: &ArgMatches<'_>) -> Result<Request, WordFault>
     ensures { Tells result (report_year_of (rows_of (found_of inner.now))) }
 {
     let account = account_at(alloc, inner)?;
@@ -98,7 +106,7 @@ pub fn report_year(alloc: Global, inner: &ArgMatches<'_>) -> Result<Request, Wor
 
 /// What `open-year` asks.
 #[tactic(auto, unfolding(crate::specs::Asking::open_year_of))]
-pub fn open_year(alloc: Global, inner: &ArgMatches<'_>) -> Result<Request, WordFault>
+fn open_year(alloc: Global, inner: &ArgMatches<'_>) -> Result<Request, WordFault>
     ensures { Tells result (open_year_of (rows_of (found_of inner.now))) }
 {
     let account = account_at(alloc, inner)?;
@@ -108,7 +116,7 @@ pub fn open_year(alloc: Global, inner: &ArgMatches<'_>) -> Result<Request, WordF
 
 /// What `post` asks.
 #[tactic(auto, unfolding(crate::specs::Asking::post_of))]
-pub fn post(alloc: Global, inner: &ArgMatches<'_>) -> Result<Request, WordFault>
+fn post(alloc: Global, inner: &ArgMatches<'_>) -> Result<Request, WordFault>
     ensures { Tells result (post_of (rows_of (found_of inner.now))) }
 {
     let account = account_at(alloc, inner)?;
@@ -129,7 +137,7 @@ pub fn post(alloc: Global, inner: &ArgMatches<'_>) -> Result<Request, WordFault>
 
 /// What `void` asks.
 #[tactic(auto, unfolding(crate::specs::Asking::void_of))]
-pub fn void(alloc: Global, inner: &ArgMatches<'_>) -> Result<Request, WordFault>
+fn void(alloc: Global, inner: &ArgMatches<'_>) -> Result<Request, WordFault>
     ensures { Tells result (void_of (rows_of (found_of inner.now))) }
 {
     let account = account_at(alloc, inner)?;
@@ -139,7 +147,7 @@ pub fn void(alloc: Global, inner: &ArgMatches<'_>) -> Result<Request, WordFault>
 
 /// What `pay` asks.
 #[tactic(auto, unfolding(crate::specs::Asking::pay_of))]
-pub fn pay(alloc: Global, inner: &ArgMatches<'_>) -> Result<Request, WordFault>
+fn pay(alloc: Global, inner: &ArgMatches<'_>) -> Result<Request, WordFault>
     ensures { Tells result (pay_of (rows_of (found_of inner.now))) }
 {
     let account = account_at(alloc, inner)?;
@@ -158,7 +166,7 @@ pub fn pay(alloc: Global, inner: &ArgMatches<'_>) -> Result<Request, WordFault>
 
 /// What `void-pay` asks.
 #[tactic(auto, unfolding(crate::specs::Asking::void_pay_of))]
-pub fn void_pay(alloc: Global, inner: &ArgMatches<'_>) -> Result<Request, WordFault>
+fn void_pay(alloc: Global, inner: &ArgMatches<'_>) -> Result<Request, WordFault>
     ensures { Tells result (void_pay_of (rows_of (found_of inner.now))) }
 {
     let account = account_at(alloc, inner)?;
@@ -168,7 +176,7 @@ pub fn void_pay(alloc: Global, inner: &ArgMatches<'_>) -> Result<Request, WordFa
 
 /// What `status` asks.
 #[tactic(auto, unfolding(crate::specs::Asking::status_of))]
-pub fn status(alloc: Global, inner: &ArgMatches<'_>) -> Result<Request, WordFault>
+fn status(alloc: Global, inner: &ArgMatches<'_>) -> Result<Request, WordFault>
     ensures { Tells result (status_of (rows_of (found_of inner.now))) }
 {
     let account = account_at(alloc, inner)?;
@@ -178,7 +186,7 @@ pub fn status(alloc: Global, inner: &ArgMatches<'_>) -> Result<Request, WordFaul
 
 /// What `explain` asks.
 #[tactic(auto, unfolding(crate::specs::Asking::explain_of))]
-pub fn explain(alloc: Global, inner: &ArgMatches<'_>) -> Result<Request, WordFault>
+fn explain(alloc: Global, inner: &ArgMatches<'_>) -> Result<Request, WordFault>
     ensures { Tells result (explain_of (rows_of (found_of inner.now))) }
 {
     let account = account_at(alloc, inner)?;
@@ -188,7 +196,7 @@ pub fn explain(alloc: Global, inner: &ArgMatches<'_>) -> Result<Request, WordFau
 
 /// What `due` asks.
 #[tactic(auto, unfolding(crate::specs::Asking::due_of))]
-pub fn due(alloc: Global, inner: &ArgMatches<'_>) -> Result<Request, WordFault>
+fn due(alloc: Global, inner: &ArgMatches<'_>) -> Result<Request, WordFault>
     ensures { Tells result (due_of (rows_of (found_of inner.now))) }
 {
     let account = account_at(alloc, inner)?;
@@ -203,7 +211,7 @@ pub fn due(alloc: Global, inner: &ArgMatches<'_>) -> Result<Request, WordFault>
 
 /// What `agenda` asks.
 #[tactic(auto, unfolding(crate::specs::Asking::agenda_of))]
-pub fn agenda(inner: &ArgMatches<'_>) -> Result<Request, WordFault>
+fn agenda(inner: &ArgMatches<'_>) -> Result<Request, WordFault>
     ensures { Tells result (agenda_of (rows_of (found_of inner.now))) }
 {
     let from = day_at(inner, Word::From)?;
@@ -222,7 +230,7 @@ fn week_after(day: Day) -> Day
 
 /// What `owed` asks.
 #[tactic(auto, unfolding(crate::specs::Asking::owed_of))]
-pub fn owed(inner: &ArgMatches<'_>) -> Result<Request, WordFault>
+fn owed(inner: &ArgMatches<'_>) -> Result<Request, WordFault>
     ensures { Tells result (owed_of (rows_of (found_of inner.now))) }
 {
     let as_of = day_at(inner, Word::AsOf)?;
@@ -232,7 +240,7 @@ pub fn owed(inner: &ArgMatches<'_>) -> Result<Request, WordFault>
 
 /// What `schedule-b` asks.
 #[tactic(auto, unfolding(crate::specs::Asking::schedule_b_of))]
-pub fn schedule_b(alloc: Global, inner: &ArgMatches<'_>) -> Result<Request, WordFault>
+fn schedule_b(alloc: Global, inner: &ArgMatches<'_>) -> Result<Request, WordFault>
     ensures { Tells result (schedule_b_of (rows_of (found_of inner.now))) }
 {
     let account = account_at(alloc, inner)?;
@@ -242,7 +250,7 @@ pub fn schedule_b(alloc: Global, inner: &ArgMatches<'_>) -> Result<Request, Word
 
 /// What `years` asks.
 #[tactic(auto, unfolding(crate::specs::Asking::years_of))]
-pub fn years(alloc: Global, inner: &ArgMatches<'_>) -> Result<Request, WordFault>
+fn years(alloc: Global, inner: &ArgMatches<'_>) -> Result<Request, WordFault>
     ensures { Tells result (years_of (rows_of (found_of inner.now))) }
 {
     let account = account_at(alloc, inner)?;
@@ -251,7 +259,7 @@ pub fn years(alloc: Global, inner: &ArgMatches<'_>) -> Result<Request, WordFault
 
 /// What `reported` asks.
 #[tactic(auto, unfolding(crate::specs::Asking::reported_of))]
-pub fn reported(alloc: Global, inner: &ArgMatches<'_>) -> Result<Request, WordFault>
+fn reported(alloc: Global, inner: &ArgMatches<'_>) -> Result<Request, WordFault>
     ensures { Tells result (reported_of (rows_of (found_of inner.now))) }
 {
     let account = account_at(alloc, inner)?;
@@ -260,7 +268,7 @@ pub fn reported(alloc: Global, inner: &ArgMatches<'_>) -> Result<Request, WordFa
 
 /// What `holidays` asks.
 #[tactic(auto, unfolding(crate::specs::Asking::holidays_of))]
-pub fn holidays(inner: &ArgMatches<'_>) -> Result<Request, WordFault>
+fn holidays(inner: &ArgMatches<'_>) -> Result<Request, WordFault>
     ensures { Tells result (holidays_of (rows_of (found_of inner.now))) }
 {
     let year = whole_at(inner, Word::Year)?;
@@ -269,7 +277,7 @@ pub fn holidays(inner: &ArgMatches<'_>) -> Result<Request, WordFault>
 
 /// What `runs` asks.
 #[tactic(auto, unfolding(crate::specs::Asking::runs_of))]
-pub fn runs(alloc: Global, inner: &ArgMatches<'_>) -> Result<Request, WordFault>
+fn runs(alloc: Global, inner: &ArgMatches<'_>) -> Result<Request, WordFault>
     ensures { Tells result (runs_of (rows_of (found_of inner.now))) }
 {
     let account = account_at(alloc, inner)?;
@@ -279,10 +287,181 @@ pub fn runs(alloc: Global, inner: &ArgMatches<'_>) -> Result<Request, WordFault>
 
 /// What `payments` asks.
 #[tactic(auto, unfolding(crate::specs::Asking::payments_of))]
-pub fn payments(alloc: Global, inner: &ArgMatches<'_>) -> Result<Request, WordFault>
+fn payments(alloc: Global, inner: &ArgMatches<'_>) -> Result<Request, WordFault>
     ensures { Tells result (payments_of (rows_of (found_of inner.now))) }
 {
     let account = account_at(alloc, inner)?;
     let quarter = quarter_at(inner, Word::Quarter)?;
     Ok(Request::Question(Question::Kept(Kept::Payments { account, quarter })))
+}
+
+/// An account name, for `plain`.
+fn named_account(alloc: Global, inner: &ArgMatches<'_>) -> Result<AccountName, WordFault>
+    ensures { Tells result (account_in (rows_of (found_of inner.now))) }
+{
+    let account = account_at(alloc, inner)?;
+    if !is_account_name(account.as_str().as_bytes()) {
+        return Err(WordFault::BadWord(Word::Account));
+    }
+    Ok(account)
+}
+
+/// A year, for `plain`.
+fn plain_year(inner: &ArgMatches<'_>) -> Result<u32, WordFault>
+    ensures { result ≡ year_in (rows_of (found_of inner.now)) }
+{
+    let year = whole_at(inner, Word::Year)?;
+    if year < 2001 || year > 2098 {
+        return Err(WordFault::BadWord(Word::Year));
+    }
+    Ok(year)
+}
+
+/// What `plain` asks.
+#[tactic(auto, unfolding(crate::specs::Asking::plain_of))]
+fn plain(alloc: Global, inner: &ArgMatches<'_>) -> Result<Task, WordFault>
+    ensures { TellsAs task_view result (plain_of (rows_of (found_of inner.now))) }
+{
+    let account = named_account(alloc, inner)?;
+    let year = plain_year(inner)?;
+    let holidays = days_at(alloc, inner, Word::Holidays)?;
+    Ok(Task::Plain(PlainTask {
+        account,
+        year,
+        holidays,
+    }))
+}
+
+/// What `serve` asks.
+#[tactic(auto, unfolding(crate::specs::Asking::serve_of))]
+fn serve(alloc: Global, inner: &ArgMatches<'_>) -> Result<Task, WordFault>
+    ensures { TellsAs task_view result (serve_of (rows_of (found_of inner.now))) }
+{
+    let db = owned_text(alloc, inner, Word::Db)?;
+    let wait = whole_at(inner, Word::Wait)?;
+    let port = port_at(inner, Word::Port)?;
+    let connections = whole_at(inner, Word::Connections)?;
+    let idle = whole_at(inner, Word::Idle)?;
+    let silence = whole_at(inner, Word::Silence)?;
+    let duration = whole_at(inner, Word::Duration)?;
+    Ok(Task::Serve(ServeTask {
+        db,
+        wait,
+        port,
+        connections,
+        idle,
+        silence,
+        duration,
+    }))
+}
+
+/// What an import of this sheet asks.
+#[tactic(auto, unfolding(crate::specs::Asking::import_of))]
+fn import(alloc: Global, sheet: Sheet, inner: &ArgMatches<'_>) -> Result<Task, WordFault>
+    ensures { TellsAs task_view result (import_of sheet (rows_of (found_of inner.now))) }
+{
+    let db = owned_text(alloc, inner, Word::Db)?;
+    let wait = whole_at(inner, Word::Wait)?;
+    let file = owned_text(alloc, inner, Word::CsvFile)?;
+    Ok(Task::Local(LocalTask {
+        db,
+        wait,
+        job: Job::Import {
+            sheet,
+            file,
+            is_trial: is_given(inner, Word::Check),
+        },
+    }))
+}
+
+/// The request, to the desk in the database, whose reply is told in a format.
+fn local_as(
+    alloc: Global,
+    inner: &ArgMatches<'_>,
+    format: Format,
+    request: Request,
+) -> Result<Task, WordFault>
+    ensures { TellsAs task_view result (asked_as (rows_of (found_of inner.now)) format request) }
+{
+    let db = owned_text(alloc, inner, Word::Db)?;
+    let wait = whole_at(inner, Word::Wait)?;
+    Ok(Task::Local(LocalTask {
+        db,
+        wait,
+        job: Job::Ask { format, request },
+    }))
+}
+
+/// The request, to the desk in the database, whose reply is told as text.
+fn local(alloc: Global, inner: &ArgMatches<'_>, request: Request) -> Result<Task, WordFault>
+    ensures { TellsAs task_view result (asked (rows_of (found_of inner.now)) request) }
+{
+    local_as(alloc, inner, Format::List(ListFormat::Text), request)
+}
+
+/// The request, to the desk in the database, whose reply is told in the format that is asked for.
+fn formatted(alloc: Global, inner: &ArgMatches<'_>, request: Request) -> Result<Task, WordFault>
+    ensures { TellsAs task_view result (formatted (rows_of (found_of inner.now)) request) }
+{
+    let format = format_at(inner)?;
+    local_as(alloc, inner, format, request)
+}
+
+/// The request, to the desk in the database, whose reply is a list, told in the format that is
+/// asked for.
+fn listed(alloc: Global, inner: &ArgMatches<'_>, request: Request) -> Result<Task, WordFault>
+    ensures { TellsAs task_view result (listed (rows_of (found_of inner.now)) request) }
+{
+    let format = list_format_at(inner)?;
+    local_as(alloc, inner, Format::List(format), request)
+}
+
+/// The request, to the desk in the database, whose reply says why an obligation is so, told in the
+/// format that is asked for.
+fn explained(alloc: Global, inner: &ArgMatches<'_>, request: Request) -> Result<Task, WordFault>
+    ensures { TellsAs task_view result (explained (rows_of (found_of inner.now)) request) }
+{
+    let format = explanation_format_at(inner)?;
+    local_as(alloc, inner, format, request)
+}
+
+/// What the subcommand asks.
+#[tactic(auto, unfolding(crate::specs::Asking::wanted_of))]
+pub fn task_for(alloc: Global, name: Name, inner: &ArgMatches<'_>) -> Result<Task, WordFault>
+    ensures { TellsAs task_view result (wanted_of name (rows_of (found_of inner.now))) }
+{
+    match name {
+        Name::Plain => plain(alloc, inner),
+        Name::Serve => serve(alloc, inner),
+        Name::Import => import(alloc, Sheet::Runs, inner),
+        Name::ImportAccounts => import(alloc, Sheet::Accounts, inner),
+        Name::ImportReported => import(alloc, Sheet::Totals, inner),
+        Name::ImportPayments => import(alloc, Sheet::Payments, inner),
+        Name::Enrol => local(alloc, inner, enrol(alloc, inner)?),
+        Name::Calendar => local(alloc, inner, calendar(alloc, inner)?),
+        Name::AddHoliday => local(alloc, inner, add_holiday(inner)?),
+        Name::Report => local(alloc, inner, report(alloc, inner)?),
+        Name::ReportYear => local(alloc, inner, report_year(alloc, inner)?),
+        Name::OpenYear => local(alloc, inner, open_year(alloc, inner)?),
+        Name::Post => local(alloc, inner, post(alloc, inner)?),
+        Name::Void => local(alloc, inner, void(alloc, inner)?),
+        Name::Pay => local(alloc, inner, pay(alloc, inner)?),
+        Name::VoidPay => local(alloc, inner, void_pay(alloc, inner)?),
+        Name::Status => local(alloc, inner, status(alloc, inner)?),
+        Name::Explain => explained(alloc, inner, explain(alloc, inner)?),
+        Name::Due => listed(alloc, inner, due(alloc, inner)?),
+        Name::Agenda => formatted(alloc, inner, agenda(inner)?),
+        Name::Owed => formatted(alloc, inner, owed(inner)?),
+        Name::ScheduleB => listed(alloc, inner, schedule_b(alloc, inner)?),
+        Name::Accounts => listed(
+            alloc,
+            inner,
+            Request::Question(Question::Kept(Kept::Accounts)),
+        ),
+        Name::Years => listed(alloc, inner, years(alloc, inner)?),
+        Name::Reported => listed(alloc, inner, reported(alloc, inner)?),
+        Name::Holidays => listed(alloc, inner, holidays(inner)?),
+        Name::Runs => listed(alloc, inner, runs(alloc, inner)?),
+        Name::Payments => listed(alloc, inner, payments(alloc, inner)?),
+    }
 }

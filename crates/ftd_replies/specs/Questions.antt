@@ -1,0 +1,132 @@
+-- What is told of questions: the texts of their replies, and what is said where a year or a day is
+-- out of range.
+use Rattle.std.specs.Prelude.{List, [], ℕ, Option, Some, None, codes}
+use Rattle.ftd_rules.specs.declared.DaySum.{DaySum}
+use Rattle.ftd_rules.specs.declared.verdict.DueRow.{DueRow}
+use Rattle.ftd_rules.specs.declared.Kind.{Kind}
+use Rattle.ftd_formats.specs.Formats.{agenda_as, b_as, due_as, list_format, owed_as}
+use Rattle.ftd_formats.specs.declared.formats.Format.{Format}
+use Rattle.ftd_listings.specs.Explanations.{status_text}
+use Rattle.ftd_listings.specs.ExplanationForms.{explanation_as}
+use Rattle.ftd_listings.specs.KeptForms.{kept_as}
+use Rattle.ftd_machine.specs.declared.explained.Explanation.{Explanation}
+use Rattle.ftd_machine.specs.declared.kept.KeptRows.{KeptRows}
+use Rattle.ftd_machine.specs.declared.lists.AgendaRow.{AgendaRow}
+use Rattle.ftd_machine.specs.declared.replies.Reason.{Reason}
+use Rattle.ftd_machine.specs.declared.requests.Kept.{Kept as WhatIsKept}
+use Rattle.ftd_machine.specs.declared.requests.Kept.TheVariants as kept
+use Rattle.ftd_machine.specs.declared.requests.Question.{Question}
+use Rattle.ftd_machine.specs.declared.requests.Question.TheVariants.{Status, Explain, DueList}
+use Rattle.ftd_machine.specs.declared.requests.Question.TheVariants.{ScheduleB, Agenda, Owed, Kept}
+
+-- ---- replies
+
+-- the texts of the replies to questions, by what was asked
+abbrev pub status_told : Option Question → Kind → Reason → List ℕ
+status_told (Some (Status account day)) kind reason = status_text day kind reason
+status_told (Some (Explain account day)) kind reason = []
+status_told (Some (DueList account quarter as_of)) kind reason = []
+status_told (Some (ScheduleB account quarter)) kind reason = []
+status_told (Some (Agenda from to as_of)) kind reason = []
+status_told (Some (Owed until as_of)) kind reason = []
+status_told (Some (Kept asked)) kind reason = []
+status_told None kind reason = []
+
+-- a due list, in a format
+abbrev pub due_told : Format → Option Question → List DueRow → List ℕ
+due_told format (Some (Status account day)) rows = []
+due_told format (Some (Explain account day)) rows = []
+due_told format (Some (DueList account quarter as_of)) rows =
+    due_as (list_format format) account quarter as_of rows
+due_told format (Some (ScheduleB account quarter)) rows = []
+due_told format (Some (Agenda from to as_of)) rows = []
+due_told format (Some (Owed until as_of)) rows = []
+due_told format (Some (Kept asked)) rows = []
+due_told format None rows = []
+
+-- Schedule B, in a format
+abbrev pub days_told : Format → Option Question → List DaySum → List ℕ
+days_told format (Some (Status account day)) sums = []
+days_told format (Some (Explain account day)) sums = []
+days_told format (Some (DueList account quarter as_of)) sums = []
+days_told format (Some (ScheduleB account quarter)) sums =
+    b_as (list_format format) account quarter sums
+days_told format (Some (Agenda from to as_of)) sums = []
+days_told format (Some (Owed until as_of)) sums = []
+days_told format (Some (Kept asked)) sums = []
+days_told format None sums = []
+
+-- what is due over all accounts, in a format
+abbrev pub agenda_told : Format → Option Question → List AgendaRow → List ℕ
+agenda_told format (Some (Status account day)) rows = []
+agenda_told format (Some (Explain account day)) rows = []
+agenda_told format (Some (DueList account quarter as_of)) rows = []
+agenda_told format (Some (ScheduleB account quarter)) rows = []
+agenda_told format (Some (Agenda from to as_of)) rows = agenda_as format from to as_of rows
+agenda_told format (Some (Owed until as_of)) rows = owed_as format until as_of rows
+agenda_told format (Some (Kept asked)) rows = []
+agenda_told format None rows = []
+
+-- what is kept, in a format
+abbrev pub kept_told : Format → Option Question → KeptRows → List ℕ
+kept_told format (Some (Status account day)) rows = []
+kept_told format (Some (Explain account day)) rows = []
+kept_told format (Some (DueList account quarter as_of)) rows = []
+kept_told format (Some (ScheduleB account quarter)) rows = []
+kept_told format (Some (Agenda from to as_of)) rows = []
+kept_told format (Some (Owed until as_of)) rows = []
+kept_told format (Some (Kept asked)) rows = kept_as (list_format format) asked rows
+kept_told format None rows = []
+
+-- why an obligation is so, in a format
+abbrev pub why_told : Format → Option Question → Option Explanation → List ℕ
+why_told format (Some (Status account day)) explained = []
+why_told format (Some (Explain account day)) explained =
+    explanation_as format account day explained
+why_told format (Some (DueList account quarter as_of)) explained = []
+why_told format (Some (ScheduleB account quarter)) explained = []
+why_told format (Some (Agenda from to as_of)) explained = []
+why_told format (Some (Owed until as_of)) explained = []
+why_told format (Some (Kept asked)) explained = []
+why_told format None explained = []
+
+-- ---- years and days out of range
+
+abbrev pub paydays_years : List ℕ
+paydays_years = codes "hint: the years of paydays are 2001 to 2098\n"
+
+abbrev pub calendars_years : List ℕ
+calendars_years = codes "hint: the years of calendars are 2001 to 2099\n"
+
+abbrev pub years_kept : WhatIsKept → List ℕ
+years_kept kept.Accounts = paydays_years
+years_kept (kept.Years account) = paydays_years
+years_kept (kept.Reported account) = paydays_years
+years_kept (kept.Holidays year) = calendars_years
+years_kept (kept.Runs account quarter) = paydays_years
+years_kept (kept.Payments account quarter) = paydays_years
+
+abbrev pub years_asked : Question → List ℕ
+years_asked (Status account day) = paydays_years
+years_asked (Explain account day) = paydays_years
+years_asked (DueList account quarter as_of) = paydays_years
+years_asked (ScheduleB account quarter) = paydays_years
+years_asked (Agenda from to as_of) = paydays_years
+years_asked (Owed until as_of) = paydays_years
+years_asked (Kept asked) = years_kept asked
+
+abbrev pub paydays_days : List ℕ
+paydays_days = codes "hint: the days of paydays are those of 2001 to 2098\n"
+
+abbrev agenda_days : List ℕ
+agenda_days = codes "hint: an agenda is of days of 2001 to 2099\n"
+
+abbrev pub days_asked : Question → List ℕ
+days_asked (Status account day) = paydays_days
+days_asked (Explain account day) = paydays_days
+days_asked (DueList account quarter as_of) =
+    codes "hint: a due list is as of a day of 2001 to 2099\n"
+days_asked (ScheduleB account quarter) = paydays_days
+days_asked (Agenda from to as_of) = agenda_days
+days_asked (Owed until as_of) = agenda_days
+days_asked (Kept asked) = paydays_days

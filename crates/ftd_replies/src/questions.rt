@@ -1,0 +1,260 @@
+//! What is told of questions: the texts of their replies, and what is said where a year or a day is
+//! out of range.
+
+ghost use Rattle.std.specs.Prelude.{◌≡◌, ◌<◌, true, OnOk, OnErr};
+ghost use Rattle.std.specs.List.{sum_by};
+ghost use Rattle.std.specs.Io.KnownBytes.{Appends};
+ghost use Rattle.ftd_ports.specs.Writing.{WritesPrefix};
+ghost use Rattle.ftd_rules.specs.Liability.{cents_of};
+ghost use Rattle.ftd_rules.specs.Verdicts.{amount_of};
+ghost use Rattle.ftd_machine.specs.Limits.{amounts_end};
+ghost use Rattle.ftd_machine.specs.Questions.{question_of};
+ghost use Rattle.ftd_replies.specs.Questions.{agenda_told, days_asked, days_told, due_told};
+ghost use Rattle.ftd_replies.specs.Questions.{kept_told, status_told, why_told, years_asked};
+
+use ftd_formats::{Format, write_agenda_as, write_b_as, write_due_as, write_owed_as};
+use ftd_listings::{write_explanation_as, write_kept_as, write_schedule};
+use ftd_machine::{AgendaRow, Explanation, Kept, KeptRows, Question, Reason, Request};
+use ftd_ports::{Target, WriteFault, write_all};
+use ftd_rules::{DaySum, DueRow, Kind};
+
+/// Writes the deposit schedule of the day that was asked for; nothing for another request.
+pub fn write_status<W: Target>(
+    request: &Request,
+    kind: Kind,
+    reason: Reason,
+    target: &mut W,
+) -> Result<(), WriteFault>
+    ensures ok { OnOk result
+        (Appends (W.taken target.old) (W.taken target.new)
+        (status_told (question_of request.now) kind reason)) }
+    ensures err { OnErr result
+        (WritesPrefix (W.taken target.old) (W.taken target.new)
+        (status_told (question_of request.now) kind reason)) }
+    ensures fault { OnErr result (W.failed target.new ≡ true) }
+{
+    match request.question() {
+        Some(Question::Status { day, .. }) => write_schedule(*day, kind, reason, target),
+        Some(
+            Question::Explain { .. }
+            | Question::DueList { .. }
+            | Question::ScheduleB { .. }
+            | Question::Agenda { .. }
+            | Question::Owed { .. }
+            | Question::Kept(_),
+        )
+        | None => write_all(target, b""),
+    }
+}
+
+/// Writes the due list that was asked for, in a format; nothing for another request.
+pub fn write_due<W: Target>(
+    format: Format,
+    request: &Request,
+    rows: &[DueRow],
+    target: &mut W,
+) -> Result<(), WriteFault>
+    requires bounded { sum_by amount_of rows.now < amounts_end }
+    ensures ok { OnOk result
+        (Appends (W.taken target.old) (W.taken target.new)
+        (due_told format (question_of request.now) rows.now)) }
+    ensures err { OnErr result
+        (WritesPrefix (W.taken target.old) (W.taken target.new)
+        (due_told format (question_of request.now) rows.now)) }
+    ensures fault { OnErr result (W.failed target.new ≡ true) }
+{
+    match request.question() {
+        Some(
+            Question::DueList {
+                account,
+                quarter,
+                as_of,
+            },
+        ) => write_due_as(
+            format.of_list(),
+            account.as_str(),
+            *quarter,
+            *as_of,
+            rows,
+            target,
+        ),
+        Some(
+            Question::Status { .. }
+            | Question::Explain { .. }
+            | Question::ScheduleB { .. }
+            | Question::Agenda { .. }
+            | Question::Owed { .. }
+            | Question::Kept(_),
+        )
+        | None => write_all(target, b""),
+    }
+}
+
+/// Writes the Schedule B that was asked for, in a format; nothing for another request.
+pub fn write_days<W: Target>(
+    format: Format,
+    request: &Request,
+    sums: &[DaySum],
+    target: &mut W,
+) -> Result<(), WriteFault>
+    requires bounded { sum_by cents_of sums.now < amounts_end }
+    ensures ok { OnOk result
+        (Appends (W.taken target.old) (W.taken target.new)
+        (days_told format (question_of request.now) sums.now)) }
+    ensures err { OnErr result
+        (WritesPrefix (W.taken target.old) (W.taken target.new)
+        (days_told format (question_of request.now) sums.now)) }
+    ensures fault { OnErr result (W.failed target.new ≡ true) }
+{
+    match request.question() {
+        Some(Question::ScheduleB { account, quarter }) => write_b_as(
+            format.of_list(),
+            account.as_str(),
+            *quarter,
+            sums,
+            target,
+        ),
+        Some(
+            Question::Status { .. }
+            | Question::Explain { .. }
+            | Question::DueList { .. }
+            | Question::Agenda { .. }
+            | Question::Owed { .. }
+            | Question::Kept(_),
+        )
+        | None => write_all(target, b""),
+    }
+}
+
+/// Writes what is due over all accounts, as it was asked for, in a format.
+pub fn write_rows<W: Target>(
+    format: Format,
+    request: &Request,
+    rows: &[AgendaRow],
+    target: &mut W,
+) -> Result<(), WriteFault>
+    ensures ok { OnOk result
+        (Appends (W.taken target.old) (W.taken target.new)
+        (agenda_told format (question_of request.now) rows.now)) }
+    ensures err { OnErr result
+        (WritesPrefix (W.taken target.old) (W.taken target.new)
+        (agenda_told format (question_of request.now) rows.now)) }
+    ensures fault { OnErr result (W.failed target.new ≡ true) }
+{
+    match request.question() {
+        Some(Question::Agenda { from, to, as_of }) => {
+            write_agenda_as(format, *from, *to, *as_of, rows, target)
+        }
+        Some(Question::Owed { until, as_of }) => write_owed_as(
+            format, *until, *as_of, rows, target,
+        ),
+        Some(
+            Question::Status { .. }
+            | Question::Explain { .. }
+            | Question::DueList { .. }
+            | Question::ScheduleB { .. }
+            | Question::Kept(_),
+        )
+        | None => write_all(target, b""),
+    }
+}
+
+/// Writes what is kept, as it was asked for, in a format.
+pub fn write_kept_rows<W: Target>(
+    format: Format,
+    request: &Request,
+    rows: &KeptRows,
+    target: &mut W,
+) -> Result<(), WriteFault>
+    ensures ok { OnOk result
+        (Appends (W.taken target.old) (W.taken target.new)
+        (kept_told format (question_of request.now) rows.now)) }
+    ensures err { OnErr result
+        (WritesPrefix (W.taken target.old) (W.taken target.new)
+        (kept_told format (question_of request.now) rows.now)) }
+    ensures fault { OnErr result (W.failed target.new ≡ true) }
+{
+    match request.question() {
+        Some(Question::Kept(asked)) => write_kept_as(format.of_list(), asked, rows, target),
+        Some(
+            Question::Status { .. }
+            | Question::Explain { .. }
+            | Question::DueList { .. }
+            | Question::ScheduleB { .. }
+            | Question::Agenda { .. }
+            | Question::Owed { .. },
+        )
+        | None => write_all(target, b""),
+    }
+}
+
+/// Writes why the obligation is so that was asked for, in a format.
+pub fn write_why<W: Target>(
+    format: Format,
+    request: &Request,
+    explained: &Option<Explanation>,
+    target: &mut W,
+) -> Result<(), WriteFault>
+    ensures ok { OnOk result
+        (Appends (W.taken target.old) (W.taken target.new)
+        (why_told format (question_of request.now) explained.now)) }
+    ensures err { OnErr result
+        (WritesPrefix (W.taken target.old) (W.taken target.new)
+        (why_told format (question_of request.now) explained.now)) }
+    ensures fault { OnErr result (W.failed target.new ≡ true) }
+{
+    match request.question() {
+        Some(Question::Explain { account, day }) => {
+            write_explanation_as(format, account.as_str(), *day, explained, target)
+        }
+        Some(
+            Question::Status { .. }
+            | Question::DueList { .. }
+            | Question::ScheduleB { .. }
+            | Question::Agenda { .. }
+            | Question::Owed { .. }
+            | Question::Kept(_),
+        )
+        | None => write_all(target, b""),
+    }
+}
+
+/// What is said of a year of a question that is out of range.
+pub fn years_asked(question: &Question) -> &'static [u8]
+    ensures { result.now ≡ years_asked question.now }
+{
+    match question {
+        Question::Kept(Kept::Holidays { .. }) => {
+            b"hint: the years of calendars are 2001 to 2099\n"
+        }
+        Question::Kept(
+            Kept::Accounts
+            | Kept::Years { .. }
+            | Kept::Reported { .. }
+            | Kept::Runs { .. }
+            | Kept::Payments { .. },
+        )
+        | Question::Status { .. }
+        | Question::Explain { .. }
+        | Question::DueList { .. }
+        | Question::ScheduleB { .. }
+        | Question::Agenda { .. }
+        | Question::Owed { .. } => b"hint: the years of paydays are 2001 to 2098\n",
+    }
+}
+
+/// What is said of a day of a question that is out of range.
+pub fn days_asked(question: &Question) -> &'static [u8]
+    ensures { result.now ≡ days_asked question.now }
+{
+    match question {
+        Question::DueList { .. } => b"hint: a due list is as of a day of 2001 to 2099\n",
+        Question::Agenda { .. } | Question::Owed { .. } => {
+            b"hint: an agenda is of days of 2001 to 2099\n"
+        }
+        Question::Status { .. }
+        | Question::Explain { .. }
+        | Question::ScheduleB { .. }
+        | Question::Kept(_) => { b"hint: the days of paydays are those of 2001 to 2098\n" }
+    }
+}
