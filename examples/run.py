@@ -5,10 +5,10 @@
 
 A line `$ COMMAND` is a command of the shell; the lines below it, up to an empty line, the next command or the end of the block, are
 what it prints on both outputs (empty lines of it are not compared; `(nothing)` stands where it prints nothing). Each line `# TITLE`
-begins an example, in a new folder. In a page (`.md`) commands stand in blocks ```console, in a text (`.txt`) anywhere below a title;
-what else stands there is prose. The lines below `cat NAME` are the file of that name where there is none yet; `$?` is the status of
-the command before. `curl` asks a `serve` over `office.db` at port 8080, which is started before the first of them, for as many
-connections as there are.
+begins an example, in a new folder that has a copy of `examples/holidays` and nothing else. In a page (`.md`) commands stand in blocks
+```console, in a text (`.txt`) anywhere below a title; what else stands there is prose. The lines below `cat NAME` are the file of that
+name where there is none yet; `$?` is the status of the command before. `curl` asks a `serve` over `office.db` at port 8080, which is
+started before the first of them, for as many connections as there are.
 
 An example that keeps its file by more than one command runs a second time: each command in a folder of its own, with copies of the
 files that the ones before left, and no log beside them.
@@ -30,6 +30,7 @@ import time
 
 TOP = os.path.dirname(os.path.dirname(os.path.abspath(__file__)))
 PAGES = ["README.md", "docs/TUTORIAL.md", "docs/HTTP.md"]
+HOLIDAYS = "examples/holidays"
 SECONDS = 60
 
 
@@ -101,7 +102,7 @@ class Run:
         os.mkdir(f"{self.room}/bin")
         os.symlink(program, f"{self.room}/bin/ftd")
         self.folder = f"{self.room}/0"
-        os.mkdir(self.folder)
+        shutil.copytree(f"{TOP}/{HOLIDAYS}", f"{self.folder}/{HOLIDAYS}")
         self.port = free_port() if example.requests() else None
 
     def move(self, number):
