@@ -5,10 +5,12 @@
 
 A line `$ COMMAND` is a command of the shell; the lines below it, up to an empty line, the next command or the end of the block, are
 what it prints on both outputs (empty lines of it are not compared; `(nothing)` stands where it prints nothing). Each line `# TITLE`
-begins an example, in a new folder that has a copy of `examples/holidays` and nothing else. In a page (`.md`) commands stand in blocks
-```console, in a text (`.txt`) anywhere below a title; what else stands there is prose. The lines below `cat NAME` are the file of that
-name where there is none yet; `$?` is the status of the command before. `curl` asks a `serve` over `office.db` at port 8080, which is
-started before the first of them, for as many connections as there are.
+begins an example, in a new folder that has a copy of `examples/holidays`, a link to the built `ftd_example`, and nothing else. In a page
+(`.md`) commands stand in blocks ```console, in a text (`.txt`) anywhere below a title; what else stands there is prose. The lines below
+`cat NAME` are the file of that name where there is none yet; `$?` is the status of the command before. `curl` asks a `serve` over
+`office.db` at port 8080, which is started before the first of them, for as many connections as there are.
+
+With no TEXT it looks too whether README.md quotes the source of `ftd_example`: all of its `main.rt` but what stands at its head.
 
 An example that keeps its file by more than one command runs a second time: each command in a folder of its own, with copies of the
 files that the ones before left, and no log beside them.
@@ -31,6 +33,7 @@ import time
 TOP = os.path.dirname(os.path.dirname(os.path.abspath(__file__)))
 PAGES = ["README.md", "docs/TUTORIAL.md", "docs/HTTP.md"]
 HOLIDAYS = "examples/holidays"
+QUOTED, BUILT = "crates/ftd_example/src/main.rt", "crates/ftd_example/out/ftd_example"
 SECONDS = 60
 
 
@@ -103,11 +106,13 @@ class Run:
         os.symlink(program, f"{self.room}/bin/ftd")
         self.folder = f"{self.room}/0"
         shutil.copytree(f"{TOP}/{HOLIDAYS}", f"{self.folder}/{HOLIDAYS}")
+        os.makedirs(os.path.dirname(f"{self.folder}/{BUILT}"))
+        os.symlink(f"{TOP}/{BUILT}", f"{self.folder}/{BUILT}")
         self.port = free_port() if example.requests() else None
 
     def move(self, number):
         """Goes on in a new folder, with copies of the files but the log."""
-        shutil.copytree(self.folder, f"{self.room}/{number}", ignore=shutil.ignore_patterns("*-wal"))
+        shutil.copytree(self.folder, f"{self.room}/{number}", symlinks=True, ignore=shutil.ignore_patterns("*-wal"))
         shutil.rmtree(self.folder)
         self.folder = f"{self.room}/{number}"
 
@@ -178,13 +183,21 @@ def never_run(texts):
                         yield f"{path}:{number}: is never run: {line.strip()}"
 
 
+def misquoted():
+    """What is wrong with the program of the library that README.md quotes."""
+    with open(f"{TOP}/{QUOTED}", encoding="utf-8") as source, open(f"{TOP}/README.md", encoding="utf-8") as page:
+        code = re.sub(r"\A(?:(?:#!|//!).*\n)+\n", "", source.read())
+        if f"\n```rust\n{code}```\n" not in page.read():
+            yield f"README.md: has no block of what stands in {QUOTED}"
+
+
 def main():
     if len(sys.argv) < 2 or not os.access(sys.argv[1], os.X_OK):
         sys.exit(__doc__.split("\n\n")[1])
     program = os.path.abspath(sys.argv[1])
     texts = [os.path.relpath(os.path.abspath(it), TOP) for it in sys.argv[2:]]
     every = texts or [*PAGES, *sorted(os.path.relpath(it, TOP) for it in glob.glob(f"{TOP}/examples/*.txt"))]
-    wrong = [] if texts else [*never_run(every)]
+    wrong = [] if texts else [*never_run(every), *misquoted()]
     runs, began = [], time.monotonic()
     for text in every:
         found, of_text = examples_of(text)
