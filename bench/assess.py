@@ -7,7 +7,6 @@ both programs, and checks that both print the same obligations. `assess.py readi
 standard input and prints its obligations by the rules alone.
 """
 import os
-import resource
 import subprocess
 import sys
 import tempfile

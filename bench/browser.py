@@ -22,16 +22,11 @@ import tempfile
 import threading
 import time
 
-HERE = os.path.dirname(os.path.abspath(__file__))
-FTD = os.path.abspath(sys.argv[1]) if len(sys.argv) > 1 else os.path.join(HERE, "..", "crates", "ftd", "out", "ftd")
+from office import free_port, program_of
+
+FTD = program_of(sys.argv[1:])
 FOREIGN = "desk.example"
 SECONDS = 40
-
-
-def free_port():
-    with socket.socket() as it:
-        it.bind(("127.0.0.1", 0))
-        return it.getsockname()[1]
 
 
 class Pages(http.server.ThreadingHTTPServer):

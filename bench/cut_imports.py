@@ -7,7 +7,6 @@ Each cut is imported by `ftd import` into a copy of a desk that has the accounts
 the reading, and the runs of the file the ones that it posts."""
 
 import contextlib
-import os
 import re
 import shutil
 import sqlite3
@@ -15,7 +14,9 @@ import subprocess
 import sys
 import tempfile
 
-FTD = os.path.abspath(sys.argv[1]) if len(sys.argv) > 1 else os.path.join(os.path.dirname(__file__), "..", "crates", "ftd", "out", "ftd")
+from office import program_of
+
+FTD = program_of(sys.argv[1:])
 HEADER = "employer,run,payday,fit,ss,medicare"
 TEXT = f"""{HEADER}
 ash,1,2024-01-05,500.00,310.00,72.50

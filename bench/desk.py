@@ -381,17 +381,21 @@ class Desk:
         self.runs[name, number] = {"payday": payday, "amounts": amounts, "voided": False}
         return self.posted(name, payday, before)
 
-    def ask_void(self, name, number):
+    def standing(self, name, number, kept, *unknown):
+        """The run or the payment of that number that is to be voided; nothing if it is."""
         number = int(number)
         self.named(name)
         if not 1 <= number <= 999_999_999:
             refuse(6, "BadNumber")
         self.known(name)
-        run = self.runs.get((name, number))
-        if run and run["voided"]:
-            return "already"
+        if (name, number) not in kept:
+            refuse(*unknown)
+        return None if kept[name, number]["voided"] else kept[name, number]
+
+    def ask_void(self, name, number):
+        run = self.standing(name, number, self.runs, 13, "UnknownRun")
         if not run:
-            refuse(13, "UnknownRun")
+            return "already"
         before = self.obligations(name)
         run["voided"] = True
         return self.posted(name, run["payday"], before)
@@ -418,16 +422,9 @@ class Desk:
         return "done"
 
     def ask_void_pay(self, name, number):
-        number = int(number)
-        self.named(name)
-        if not 1 <= number <= 999_999_999:
-            refuse(6, "BadNumber")
-        self.known(name)
-        payment = self.payments.get((name, number))
-        if payment and payment["voided"]:
-            return "already"
+        payment = self.standing(name, number, self.payments, 14, "UnknownPayment")
         if not payment:
-            refuse(14, "UnknownPayment")
+            return "already"
         payment["voided"] = True
         return "done"
 

@@ -18,7 +18,7 @@ import sys
 import tempfile
 import time
 
-from office import Office, program_of
+from office import Office, programs_of
 
 YEARS = range(2014, 2024)
 START = "2014-01-01"
@@ -249,20 +249,19 @@ def figures(bench, start):
     bench.by_python(lambda desk: [], lambda desk: [lambda key=key: desk.report(*key) for key in calls], 100)
 
 
-def payments(bench, start, have):
+def hundred(bench, start, have, name, one, by_python):
+    """A hundred more of something of which there are so many. Gives what was done before."""
     rng = random.Random(1)
-    before = start + [pay(rng, number) for number in range(1, have + 1)]
-    more = [pay(rng, number) for number in range(have + 1, have + 101)]
-    bench.asked(f"100 payments beside {have}", before, more)
-    bench.by_python(python_pay(1, have), python_pay(have + 1, 100), 100)
+    before = start + [one(rng, number) for number in range(1, have + 1)]
+    more = [one(rng, number) for number in range(have + 1, have + 101)]
+    bench.asked(f"100 {name} beside {have}", before, more)
+    bench.by_python(by_python(1, have), by_python(have + 1, 100), 100)
+    return before
 
 
 def runs(bench, start, have):
-    rng = random.Random(1)
-    before = start + [post(rng, number) for number in range(1, have + 1)]
-    more = [post(rng, number) for number in range(have + 1, have + 101)]
-    bench.asked(f"100 runs posted beside {have}", before, more)
-    bench.by_python(python_post(1, have), python_post(have + 1, 100), 100)
+    rng = random.Random(2)
+    before = hundred(bench, start, have, "runs posted", post, python_post)
     more = [post(rng, number, [2024]) for number in range(have + 1, have + 101)]
     bench.asked(f"100 runs posted into a year after {have}", before, more)
     bench.asked(f"100 due lists beside {have} runs", before, ["due ash 2018Q2 2018-06-30"] * 100)
@@ -270,7 +269,7 @@ def runs(bench, start, have):
 
 
 def main():
-    programs = [program_of([it]) for it in sys.argv[1:]] or [program_of([])]
+    programs = programs_of(sys.argv[1:])
     print(f"{'microseconds a request':50} {'memory file':>11} {'file':>11}")
     with contextlib.ExitStack() as stack:
         places = ("/dev/shm", None)
@@ -278,7 +277,7 @@ def main():
         start = list(setting_up())
         figures(bench, start)
         for have in (100, 20_000 - 200):
-            payments(bench, start, have)
+            hundred(bench, start, have, "payments", pay, python_pay)
         for have in (100, 2_000, 20_000 - 200):
             runs(bench, start, have)
         rng = random.Random(1)

@@ -22,8 +22,8 @@ import tempfile
 
 import icalendar
 
-TOP = os.path.dirname(os.path.dirname(os.path.abspath(__file__)))
-FTD = os.path.join(TOP, "crates", "ftd", "out", "ftd")
+from office import program_of
+
 DUE_FIELDS = ["due", "account", "first", "last", "rule", "amount", "paid", "left", "makeup", "verdict"]
 FIELDS = ["due", "account", "form", "first", "last", "rule", "amount", "paid", "left", "pay_by", "verdict"]
 HOLIDAYS = {
@@ -189,7 +189,7 @@ def compare_account(program, db, name):
 
 
 def main():
-    program = os.path.abspath(sys.argv[1] if len(sys.argv) > 1 else FTD)
+    program = program_of(sys.argv[1:])
     chance = random.Random(5545)
     with tempfile.TemporaryDirectory() as folder:
         db = os.path.join(folder, "office.db")

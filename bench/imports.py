@@ -9,17 +9,15 @@ import os
 import random
 import shutil
 import signal
-import sqlite3
 import statistics
 import subprocess
 import sys
 import tempfile
 import time
 
-FTD = os.path.join(os.path.dirname(__file__), "..", "crates", "ftd", "out", "ftd")
-if len(sys.argv) > 1:
-    FTD = sys.argv[1]
-FTD = os.path.abspath(FTD)
+from office import program_of, tables
+
+FTD = program_of(sys.argv[1:])
 
 
 def ftd(*words):
@@ -118,15 +116,6 @@ def measure(folder, accounts, each, chosen):
                 copy_desk(begun, other)
             turns.append([measured(words) for words in commands])
         tell(name, turns)
-
-
-def tables(db):
-    """All rows of the desk's tables."""
-    conn = sqlite3.connect(db)
-    names = [name for (name,) in conn.execute("SELECT name FROM sqlite_master WHERE type = 'table' ORDER BY name")]
-    rows = {name: sorted(conn.execute(f"SELECT * FROM {name}")) for name in names}
-    conn.close()
-    return rows
 
 
 def kill(folder, count, chosen):

@@ -1,8 +1,11 @@
-"""A desk that is asked over HTTP: requests as lines of words, as `post elm 1 2024-05-08 40000.00`, and answers as lines."""
+"""What the scripts beside it share: the path of the program, the rows of a desk's file, and a desk that is asked over HTTP: requests as lines
+of words, as `post elm 1 2024-05-08 40000.00`, and answers as lines."""
 
+import contextlib
 import json
 import os
 import socket
+import sqlite3
 import subprocess
 import sys
 import threading
@@ -19,8 +22,20 @@ def program_of(words):
     """The path of the program: the first word, or that of the build of this repository."""
     path = os.path.abspath(words[0] if words else FTD)
     if not os.access(path, os.X_OK):
-        sys.exit(f"no program {path}: first run the test command, or `rt run` in crates/ftd")
+        sys.exit(f"no program {path}: first run ./build.py or the test command")
     return path
+
+
+def programs_of(words):
+    """The paths of the programs."""
+    return [program_of([it]) for it in words] or [program_of([])]
+
+
+def tables(db):
+    """All rows of the desk's tables, by the names of the tables."""
+    with contextlib.closing(sqlite3.connect(db)) as conn:
+        names = [name for (name,) in conn.execute("SELECT name FROM sqlite_schema WHERE type = 'table' ORDER BY name")]
+        return {name: sorted(conn.execute(f"SELECT * FROM {name}"), key=repr) for name in names}
 
 
 def body_of(words):
@@ -65,6 +80,16 @@ def message_of(line):
     text = "" if body is None else json.dumps(body)
     length = f"Content-Length: {len(text)}\r\n" if method == "POST" else ""
     return f"{method} {target} HTTP/1.1\r\n{length}\r\n{text}".encode()
+
+
+# What makes the desk that `serve` is tried with, and a question of it.
+SET_UP = [message_of(line) for line in ("calendar 2024", "calendar 2025", "enrol ash 2024-01-01", "open ash 2024")]
+STATUS = message_of("status ash 2024-05-08")
+
+
+def post_of(number, account="ash"):
+    """The message that posts a run of that number to it, at one of many days."""
+    return message_of(f"post {account} {number} 2024-{number % 12 + 1:02}-{number % 28 + 1:02} 1.00 0.62 0.14")
 
 
 def rows_of(text):

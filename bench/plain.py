@@ -13,13 +13,13 @@ best processor time of five runs in turn, and the peak memory of the child.
 
 import datetime
 import os
-import resource
 import subprocess
 import sys
 import tempfile
 
+from office import program_of
+
 HERE = os.path.dirname(os.path.abspath(__file__))
-FTD = os.path.join(HERE, "..", "crates", "ftd", "out", "ftd")
 NATIVE = os.path.join(HERE, "plain_native", "target", "release", "plain_native")
 SIZE = 16_777_216
 HOLIDAYS = ["2024-01-01", "2024-01-15", "2024-02-19", "2024-04-16", "2024-05-27", "2024-06-19", "2024-07-04"]
@@ -89,10 +89,8 @@ def compared(name, commands, path):
 
 
 def main():
-    program = sys.argv[1] if len(sys.argv) > 1 else FTD
+    program = program_of(sys.argv[1:])
     native = sys.argv[2] if len(sys.argv) > 2 else NATIVE
-    if not os.path.exists(program):
-        sys.exit(f"no {program}: ./build.py makes it")
     commands = {"ftd": [program, *WORDS], "native": [native, *WORDS], "Python": [sys.executable, os.path.join(HERE, "plain_by_hand.py"), *WORDS]}
     if not os.path.exists(native):
         del commands["native"]

@@ -12,12 +12,9 @@ import sys
 import tempfile
 import time
 
-FTD = os.path.join(os.path.dirname(__file__), "..", "crates", "ftd", "out", "ftd")
-if len(sys.argv) > 1:
-    FTD = sys.argv[1]
-FTD = os.path.abspath(FTD)
+from office import program_of
 
-
+FTD = program_of(sys.argv[1:])
 ACCOUNTS = [f"ash{number}" for number in range(10)]
 
 

@@ -10,17 +10,15 @@ prints with memory, but for an import, which prints what it did up to there. A c
 open the file: the imports take some ten minutes on four processors, and the tutorial an hour.
 `bench/refused_program.py [PROGRAM [NAME ..]]` takes the program and which examples.
 """
-import contextlib
 import multiprocessing
 import os
 import shlex
 import shutil
-import sqlite3
 import subprocess
 import sys
 import tempfile
 
-from office import program_of
+from office import program_of, tables
 
 TOP = os.path.dirname(os.path.dirname(os.path.abspath(__file__)))
 sys.path.insert(0, os.path.join(TOP, "examples"))
@@ -54,11 +52,7 @@ def run(folder, words, library=None, number=0):
 
 def rows_of(folder):
     file = os.path.join(folder, "office.db")
-    if not os.path.exists(file):
-        return {}
-    with contextlib.closing(sqlite3.connect(file)) as conn:
-        names = [name for (name,) in conn.execute("SELECT name FROM sqlite_schema WHERE type = 'table'")]
-        return {name: sorted(conn.execute(f"SELECT * FROM {name}").fetchall(), key=repr) for name in names}
+    return tables(file) if os.path.exists(file) else {}
 
 
 def put(source, folder):

@@ -14,7 +14,6 @@
 
 import contextlib
 import itertools
-import json
 import os
 import random
 import socket
@@ -26,41 +25,24 @@ import tempfile
 import threading
 import time
 
-HERE = os.path.dirname(os.path.abspath(__file__))
-PROGRAMS = [os.path.abspath(it) for it in sys.argv[1:]] or [os.path.join(HERE, "..", "crates", "ftd", "out", "ftd")]
+from office import SET_UP, STATUS, free_port, message_of, post_of, programs_of
+
+PROGRAMS = programs_of(sys.argv[1:])
 FTD = PROGRAMS[0]
 LISTS = 2 if len(PROGRAMS) == 1 else 6
 
 
-def message(method, target, body="", close=False):
-    ends = "Connection: close\r\n" if close else ""
-    return f"{method} {target} HTTP/1.1\r\nContent-Length: {len(body)}\r\n{ends}\r\n{body}".encode()
-
-
-def post(number):
-    day = f"2024-{number % 12 + 1:02}-{number % 28 + 1:02}"
-    body = {"run": number, "payday": day, "fit": "1.00", "ss": "0.62", "medicare": "0.14"}
-    return message("POST", "/accounts/ash/runs", json.dumps(body))
-
-
-STATUS = message("GET", "/accounts/ash/status/2024-05-08")
-SET_UP = [
-    message("POST", "/calendars", '{"year":2024,"days":[]}'),
-    message("POST", "/calendars", '{"year":2025,"days":[]}'),
-    message("POST", "/accounts", '{"account":"ash","start":"2024-01-01"}'),
-    message("POST", "/accounts/ash/years", '{"year":2024}', close=True),
-]
+def closing(messages):
+    """The bytes of messages, at the last of which the server is to close the connection."""
+    *others, last = messages
+    return b"".join([*others, last.replace(b"\r\n\r\n", b"\r\nConnection: close\r\n\r\n", 1)])
 
 
 class Server:
     """A server over a file, at a free port."""
 
     def __init__(self, program, db, connections, *words):
-        free = socket.socket()
-        free.bind(("127.0.0.1", 0))
-        port = str(free.getsockname()[1])
-        free.close()
-        words = [program, "serve", "--db", db, "--port", port, "--connections", str(connections), *words]
+        words = [program, "serve", "--db", db, "--port", str(free_port()), "--connections", str(connections), *words]
         self.told = tempfile.TemporaryFile("w+")
         self.process = subprocess.Popen(words, stdout=subprocess.PIPE, stderr=self.told, text=True)
         self.address = ("127.0.0.1", int(self.process.stdout.readline().split(":")[1]))
@@ -133,7 +115,7 @@ def answers(said):
 def new_desk(folder, name):
     db = os.path.join(folder, name)
     server = Server(FTD, db, 1)
-    assert answers(server.ask(b"".join(SET_UP))[0])[0] == 4
+    assert answers(server.ask(closing(SET_UP))[0])[0] == 4
     server.process.wait()
     return db
 
@@ -227,9 +209,8 @@ def kills(folder):
     for turn in range(200):
         server = Server(FTD, db, 1_000_000)
         name = f"k{turn}"
-        begin = [message("POST", "/accounts", json.dumps({"account": name, "start": "2024-01-01"})),
-                 message("POST", f"/accounts/{name}/years", '{"year":2024}', close=True)]
-        assert answers(server.ask(b"".join(begin))[0])[0] == 2
+        begin = closing([message_of(f"enrol {name} 2024-01-01"), message_of(f"open {name} 2024")])
+        assert answers(server.ask(begin)[0])[0] == 2
         killer = threading.Timer(random.uniform(0.02, 0.5), server.process.kill)
         killer.start()
         number = 0
@@ -238,7 +219,7 @@ def kills(folder):
                 with server.peer() as peer:
                     for _ in range(100):
                         number += 1
-                        peer.sendall(post(number).replace(b"/ash/", f"/{name}/".encode()))
+                        peer.sendall(post_of(number, name))
                         if b" 200 OK" not in read_one(peer):
                             raise OSError
                         acknowledged.add((name, number))
@@ -272,13 +253,13 @@ def hundreds(folder, kind):
     for place, program in enumerate(PROGRAMS):
         db = os.path.join(folder, f"{kind}{place}.db")
         first = Server(program, db, 1)
-        first.ask(b"".join(SET_UP))
+        first.ask(closing(SET_UP))
         first.process.wait()
         servers.append(Server(program, db, 1_000_000))
     for connection in range(20):
         peers, sums = [server.peer() for server in servers], [0] * len(servers)
         for at in range(100):
-            sent = STATUS if kind == "questions" else post(connection * 100 + at + 1)
+            sent = STATUS if kind == "questions" else post_of(connection * 100 + at + 1)
             for place in random.sample(range(len(peers)), len(peers)):
                 seconds, peers[place] = asked(servers[place], peers[place], sent)
                 sums[place] += seconds

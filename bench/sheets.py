@@ -12,12 +12,13 @@ import os
 import random
 import re
 import shutil
-import sqlite3
 import subprocess
 import sys
 import tempfile
 
-FTD = os.path.abspath(sys.argv[1] if len(sys.argv) > 1 else os.path.join(os.path.dirname(__file__), "..", "crates", "ftd", "out", "ftd"))
+from office import program_of, tables
+
+FTD = program_of(sys.argv[1:])
 SEED = int(sys.argv[2]) if len(sys.argv) > 2 else 20240115
 ROUNDS = int(sys.argv[3]) if len(sys.argv) > 3 else 5
 HEADERS = {
@@ -32,15 +33,6 @@ def ftd(*words):
     """What the program says to the words: its exit status, standard output and standard error."""
     done = subprocess.run([FTD, *words], stdout=subprocess.PIPE, stderr=subprocess.PIPE, text=True)
     return done.returncode, done.stdout, done.stderr
-
-
-def tables(db):
-    """All rows of the desk's tables."""
-    conn = sqlite3.connect(db)
-    names = [name for (name,) in conn.execute("SELECT name FROM sqlite_master WHERE type = 'table' ORDER BY name")]
-    rows = {name: sorted(conn.execute(f"SELECT * FROM {name}")) for name in names}
-    conn.close()
-    return rows
 
 
 def is_name(text):

@@ -15,30 +15,10 @@ import tempfile
 import threading
 import time
 
-FTD = os.path.join(os.path.dirname(__file__), "..", "crates", "ftd", "out", "ftd")
-if len(sys.argv) > 1:
-    FTD = sys.argv[1]
-FTD = os.path.abspath(FTD)
+from office import SET_UP, STATUS, post_of, program_of
+
+FTD = program_of(sys.argv[1:])
 PORT = 8095
-
-
-def message(method, target, body=""):
-    return f"{method} {target} HTTP/1.1\r\nContent-Length: {len(body)}\r\n\r\n{body}".encode()
-
-
-def post(number):
-    day = f"2024-{number % 12 + 1:02}-{number % 28 + 1:02}"
-    body = {"run": number, "payday": day, "fit": "1.00", "ss": "0.62", "medicare": "0.14"}
-    return message("POST", "/accounts/ash/runs", json.dumps(body))
-
-
-STATUS = message("GET", "/accounts/ash/status/2024-05-08")
-SET_UP = [
-    message("POST", "/calendars", '{"year":2024,"days":[]}'),
-    message("POST", "/calendars", '{"year":2025,"days":[]}'),
-    message("POST", "/accounts", '{"account":"ash","start":"2024-01-01"}'),
-    message("POST", "/accounts/ash/years", '{"year":2024}'),
-]
 
 
 def exchange(port, sent):
@@ -168,7 +148,7 @@ def hostile(folder, chosen):
         exchange(PORT, chosen.randbytes(1_000))
     posted = 0
     for number in range(1, 10_001):
-        posted += exchange(PORT, changed(post(number), chosen)).count(b'"reply":"posted"')
+        posted += exchange(PORT, changed(post_of(number), chosen)).count(b'"reply":"posted"')
     status = server.wait()
     failed = len(server.stderr.read().splitlines())
     conn = sqlite3.connect(db)
@@ -184,8 +164,8 @@ def main():
     with tempfile.TemporaryDirectory() as folder:
         told = speed(folder, "status", lambda number: STATUS, lambda body: body.startswith(b'{"day":"2024-05-08"'))
         print(f"{told}; {python_speed(folder, 'status', lambda number: STATUS)}")
-        told = speed(folder, "post", post, lambda body: body.endswith(b'"reply":"posted","to":' + body[-13:]))
-        print(f"{told}; {python_speed(folder, 'post', post)}")
+        told = speed(folder, "post", post_of, lambda body: body.endswith(b'"reply":"posted","to":' + body[-13:]))
+        print(f"{told}; {python_speed(folder, 'post', post_of)}")
         hostile(folder, chosen)
 
 
