@@ -88,8 +88,21 @@ pub fn day_at(first: u32, place: usize) -> Result<Day> {
 
 /// The sums of the days with an amount.
 pub fn day_sums(alloc: Global, account: &Account) -> Result<Vec<DaySum>> {
+    sums_between(alloc, account, 0, usize::MAX)
+}
+
+/// The sums of the days with an amount, from one place to another.
+pub fn sums_between(
+    alloc: Global,
+    account: &Account,
+    from: usize,
+    to: usize,
+) -> Result<Vec<DaySum>> {
     let mut sums = Vec::new(alloc);
-    for (place, cents) in account.amounts.iter().enumerate() {
+    for (place, cents) in account.amounts.iter().enumerate().skip(from) {
+        if place > to {
+            return Ok(sums);
+        }
         if *cents > 0 {
             sums.push(DaySum {
                 day: day_at(account.first, place)?,

@@ -3,10 +3,10 @@
 ghost use Rattle.std.specs.Prelude.{◌≡◌, ◌≤◌};
 ghost use Rattle.ftd_buckets.specs.Standing.{amount_held};
 
-use crate::history::{Account, LIMIT, day_at, total_of};
+use crate::history::{Account, LIMIT, day_at, sums_between, total_of};
 use anyhow::{Context, Result, bail, ensure};
 use ftd_buckets::{Next, Patch, Repair, Window, may_begin};
-use ftd_days::{Cents, Day, Holidays};
+use ftd_days::{Day, Holidays};
 use ftd_rules::{Assessment, DaySum, Obligation, YearLine};
 use std::alloc::Global;
 
@@ -15,19 +15,7 @@ fn window_sums(alloc: Global, account: &Account, window: Window) -> Result<Vec<D
     let start = day_at(account.first, 0)?.number();
     let from = usize::try_from(window.from.number().saturating_sub(start))?;
     let to = usize::try_from(window.to.number().saturating_sub(start))?;
-    let mut sums = Vec::new(alloc);
-    for (place, cents) in account.amounts.iter().enumerate().skip(from) {
-        if place > to {
-            return Ok(sums);
-        }
-        if *cents > 0 {
-            sums.push(DaySum {
-                day: day_at(account.first, place)?,
-                cents: Cents(*cents),
-            })?;
-        }
-    }
-    Ok(sums)
+    sums_between(alloc, account, from, to)
 }
 
 /// The patch after a change of the day, and how many windows it took. The lines are those before
