@@ -89,6 +89,13 @@ def refuse(number, name, what=""):
     raise Refused(f"refused {number} {name}{' ' if what != '' else ''}{what}")
 
 
+def is_kept(kept, key, content, *differs):
+    """Whether the same is kept; refuses what differs from it."""
+    if key in kept and kept[key] != content:
+        refuse(*differs)
+    return key in kept
+
+
 class Desk:
     def __init__(self):
         self.accounts, self.calendars, self.added = {}, {}, set()
@@ -281,9 +288,7 @@ class Desk:
         content = (date(start), "carried" in flags, "943" if "943" in flags else "941")
         if content[0].year > 2098:
             refuse(3, "BadDay")
-        if name in self.accounts:
-            if self.accounts[name] != content:
-                refuse(8, "AccountDiffers")
+        if is_kept(self.accounts, name, content, 8, "AccountDiffers"):
             return "already"
         self.accounts[name] = content
         return "done"
@@ -294,9 +299,7 @@ class Desk:
             refuse(2, "BadYear")
         if len(days) > 60 or days != sorted(set(days)) or any(day.year != year for day in days):
             refuse(5, "BadCalendar")
-        if year in self.calendars:
-            if self.calendars[year] != days:
-                refuse(9, "CalendarDiffers")
+        if is_kept(self.calendars, year, days, 9, "CalendarDiffers"):
             return "already"
         self.calendars[year] = days
         return "done"
@@ -328,9 +331,7 @@ class Desk:
         if (form == "943") != yearly:
             refuse(23, "WrongForm")
         kept = self.years_reported if yearly else self.reported
-        if (name, key) in kept:
-            if kept[name, key] != cents:
-                refuse(24, "YearDiffers") if yearly else refuse(10, "QuarterDiffers")
+        if is_kept(kept, (name, key), cents, *((24, "YearDiffers") if yearly else (10, "QuarterDiffers"))):
             return "already"
         if (datetime.date(key, 12, 31) if yearly else last_of(key)) < start:
             refuse(15, "BeforeStart")
