@@ -1,11 +1,11 @@
 #!/usr/bin/env python3
 """Random requests to the desk beside a plain reading of the rules, which computes everything anew.
 
-It makes seeded lists of requests (several accounts on both forms, late pay runs, voids, openings, added holidays, nonsense),
-asks `ftd serve` over a new file, and compares each answer and, at the end, each row of each table, which Python's sqlite3 reads
-from the file. Then it asks with commands what is due over all accounts and what is kept, compares each text, and looks that each command
-left every row of every table. `bench/desk.py [PROGRAM [COUNT SEED..]]` takes the program, how many
-requests a list has, and the seeds.
+It makes seeded lists of requests (several accounts on both forms, late pay runs, voids, openings, added holidays, corrections of all
+kinds, nonsense), asks `ftd serve` over a new file, and compares each answer and, at the end, each row of each table, which Python's
+sqlite3 reads from the file. Then it asks with commands what is due over all accounts and what is kept, compares each text, and looks that
+each command left every row of every table; and it corrects with commands that give no number, and compares what they print and the rows
+that they leave. `bench/desk.py [PROGRAM [COUNT SEED..]]` takes the program, how many requests a list has, and the seeds.
 """
 import contextlib
 import datetime
@@ -101,11 +101,28 @@ class Desk:
         self.accounts, self.calendars, self.added = {}, {}, set()
         self.reported, self.years_reported, self.open = {}, {}, {}
         self.runs, self.payments = {}, {}
+        # the corrections of figures, of accounts and of days, each by its number
+        self.corrected, self.moved, self.changed = {}, {}, {}
+
+    # ---- what is in force: the last correction, or what was first given
+
+    def account(self, name):
+        start, carried, form = self.accounts[name]
+        return (*[(start, carried), *self.moved.get(name, [])][-1], form)
+
+    def figures(self, kept):
+        return {key: [cents, *self.corrected.get(key, [])][-1] for key, cents in kept.items()}
+
+    def is_given(self, day):
+        return day in self.added or day in self.calendars.get(day.year, ())
+
+    def is_holiday(self, day):
+        return self.is_given(day) and [True, *self.changed.get(day, [])][-1]
 
     # ---- business days
 
     def is_business(self, day):
-        return day.weekday() < 5 and day not in self.added and day not in self.calendars.get(day.year, ())
+        return day.weekday() < 5 and not self.is_holiday(day)
 
     def on(self, day):
         while not self.is_business(day):
@@ -128,19 +145,19 @@ class Desk:
         return {day: cents for day, cents in sums.items() if cents}
 
     def lookback(self, name, year):
-        start, _, form = self.accounts[name]
+        start, _, form = self.account(name)
         if form == "943":
             if datetime.date(year - 2, 12, 31) < start:
                 return 0
             if (name, year - 2) not in self.years_reported:
                 refuse(25, "YearMissing", year - 2)
-            return self.years_reported[name, year - 2]
+            return self.figures(self.years_reported)[name, year - 2]
         total, quarter = 0, (year - 2, 3)
         for _ in range(4):
             if last_of(quarter) >= start:
                 if (name, quarter) not in self.reported:
                     refuse(17, "QuarterMissing", name_of(quarter))
-                total += self.reported[name, quarter]
+                total += self.figures(self.reported)[name, quarter]
             quarter = next_quarter(quarter)
         return total
 
@@ -148,7 +165,7 @@ class Desk:
         lines, turned = {}, False
         for year in sorted(self.open.get(name, ())):
             look = self.lookback(name, year)
-            carried = self.accounts[name][1] and not lines
+            carried = self.account(name)[1] and not lines
             semiweekly = look > 5_000_000 or carried or turned
             turn = None
             if not semiweekly:
@@ -227,7 +244,7 @@ class Desk:
             first, last, before = datetime.date(quarter[0], 1, 1), datetime.date(quarter[0], 12, 31), None
         else:
             first, last = first_of(quarter), last_of(quarter)
-            before = self.reported.get((name, quarter_before(quarter)))
+            before = self.figures(self.reported).get((name, quarter_before(quarter)))
         total = sum(cents for day, cents in self.liability(name).items() if first <= day <= last)
         next_day = any(row[2] == "next-day" and first <= row[0] <= last for row in rows)
         small = not next_day and (total < 250_000 or (before is not None and before < 250_000))
@@ -258,7 +275,7 @@ class Desk:
     def known(self, name):
         if name not in self.accounts:
             refuse(7, "UnknownAccount")
-        return self.accounts[name]
+        return self.account(name)
 
     def named(self, name):
         if not re.fullmatch(r"[a-z][a-z0-9-]{0,19}", name):
@@ -268,12 +285,13 @@ class Desk:
         if year not in self.open.get(name, ()):
             refuse(18, "YearNotOpen", year)
 
-    def posted(self, name, payday, before):
+    def posted(self, name, day, before):
+        """How the obligations differ from those before, or the day where none does."""
         after = self.obligations(name)
         gone, come = set(before) - set(after), set(after) - set(before)
         days = gone | come
-        first = min((row[0] for row in days), default=payday)
-        last = max((row[1] for row in days), default=payday)
+        first = min((row[0] for row in days), default=day)
+        last = max((row[1] for row in days), default=day)
         return f"{first}..{last} -{len(gone)} +{len(come)}"
 
     def ask(self, line):
@@ -309,7 +327,7 @@ class Desk:
         if not 2001 <= day.year <= 2099:
             refuse(3, "BadDay")
         given = self.calendars.get(day.year)
-        if day in self.added or day in (given or ()):
+        if self.is_given(day):
             return "already"
         if given is None:
             refuse(16, "CalendarMissing", day.year)
@@ -318,7 +336,8 @@ class Desk:
         self.added.add(day)
         return "done"
 
-    def ask_report(self, name, *rest):
+    def figure_asked(self, name, rest):
+        """Whether a year's figure is asked for, its year or quarter, and the amount."""
         self.named(name)
         yearly = rest[0] == "year"
         key = int(rest[1]) if yearly else (int(rest[0][:4]), int(rest[0][5]))
@@ -327,6 +346,10 @@ class Desk:
             refuse(2, "BadYear")
         if cents > 99_999_999_999:
             refuse(4, "BadCents")
+        return yearly, key, cents
+
+    def ask_report(self, name, *rest):
+        yearly, key, cents = self.figure_asked(name, rest)
         start, _, form = self.known(name)
         if (form == "943") != yearly:
             refuse(23, "WrongForm")
@@ -337,6 +360,70 @@ class Desk:
             refuse(15, "BeforeStart")
         kept[name, key] = cents
         return "done"
+
+    def ask_correct_report(self, name, *rest):
+        yearly, key, cents = self.figure_asked(name, rest)
+        number = self.numbered(rest[-2])
+        _, _, form = self.known(name)
+        if (form == "943") != yearly:
+            refuse(23, "WrongForm")
+        if (name, key) not in (self.years_reported if yearly else self.reported):
+            refuse(*((25, "YearMissing", key) if yearly else (17, "QuarterMissing", name_of(key))))
+        before, kept = self.obligations(name), self.corrected.get((name, key), [])
+        if self.is_corrected(kept, number, cents):
+            return "already"
+        self.corrected[name, key] = self.with_next(kept, number, cents)
+        return self.posted(name, datetime.date(key, 1, 1) if yearly else first_of(key), before)
+
+    def ask_change_holiday(self, day, number, said):
+        day, number, said = date(day), int(number), said == "yes"
+        if not 2001 <= day.year <= 2099:
+            refuse(3, "BadDay")
+        self.numbered(number)
+        if day.year not in self.calendars:
+            refuse(16, "CalendarMissing", day.year)
+        if not self.is_given(day):
+            refuse(28, "NoHoliday")
+        kept = self.changed.get(day, [])
+        if self.is_corrected(kept, number, said):
+            return "already"
+        self.changed[day] = self.with_next(kept, number, said)
+        return "done"
+
+    def ask_correct_account(self, name, number, start, *flags):
+        self.named(name)
+        content = (date(start), "carried" in flags)
+        if content[0].year > 2098:
+            refuse(3, "BadDay")
+        number = self.numbered(number)
+        self.known(name)
+        kept = self.moved.get(name, [])
+        if self.is_corrected(kept, number, content):
+            return "already"
+        if self.open.get(name) or any(owner == name for owner, _ in [*self.reported, *self.years_reported]):
+            refuse(29, "AccountInUse")
+        self.moved[name] = self.with_next(kept, number, content)
+        return "done"
+
+    # ---- the corrections of a figure, of an account or of a day, the first of which has number 1
+
+    def numbered(self, number):
+        if not 1 <= int(number) <= 999_999_999:
+            refuse(6, "BadNumber")
+        return int(number)
+
+    def is_corrected(self, kept, number, content):
+        """Whether it was corrected so before, under that number."""
+        if number <= len(kept) and kept[number - 1] != content:
+            refuse(26, "CorrectionDiffers")
+        return number <= len(kept)
+
+    def with_next(self, kept, number, content):
+        if number != len(kept) + 1:
+            refuse(27, "NumberSkipped", len(kept))
+        return [*kept, content]
+
+    # ---- years, runs and payments
 
     def ask_open(self, name, year):
         year = int(year)
@@ -526,8 +613,8 @@ class Desk:
     # ---- what is kept
 
     def ask_accounts(self):
-        rows = sorted(self.accounts.items())
-        return lines_of("ACCOUNTS", [f"{name:20} {form} {start}{' carried' * carried}" for name, (start, carried, form) in rows])
+        rows = [(name, *self.account(name)) for name in sorted(self.accounts)]
+        return lines_of("ACCOUNTS", [f"{name:20} {form} {start}{' carried' * carried}" for name, start, carried, form in rows])
 
     def ask_years(self, name):
         self.named(name)
@@ -540,7 +627,8 @@ class Desk:
     def ask_reported(self, name):
         self.named(name)
         yearly = self.known(name)[2] == "943"
-        kept = sorted((key, cents) for (owner, key), cents in (self.years_reported if yearly else self.reported).items() if owner == name)
+        figures = self.figures(self.years_reported if yearly else self.reported)
+        kept = sorted((key, cents) for (owner, key), cents in figures.items() if owner == name)
         return lines_of(f"REPORTED {name}", [f"{key if yearly else name_of(key)} {money(cents):>17}" for key, cents in kept])
 
     def ask_holidays(self, year):
@@ -580,8 +668,9 @@ class Desk:
         owed = {name: self.obligations(name) for name in self.accounts}
         lines = {name: self.lines(name, self.liability(name)) for name in self.accounts}
         rules = ["monthly", "semiweekly", "next-day"]
+        corrections = [(owner, key, place, cents) for (owner, key), kept in self.corrected.items() for place, cents in enumerate(kept, 1)]
         return {
-            "ftd_meta": [("ftd", 2)],
+            "ftd_meta": [("ftd", 3)],
             "account": [(name, number(start), int(carried)) for name, (start, carried, _) in self.accounts.items()],
             "account_form": [(name, int(form == "943")) for name, (_, _, form) in self.accounts.items()],
             "reported": [(name, *quarter, cents) for (name, quarter), cents in self.reported.items()],
@@ -589,6 +678,16 @@ class Desk:
             "calendar_year": [(year,) for year in self.calendars],
             "holiday": [(number(day), year) for year, days in self.calendars.items() for day in days],
             "added_holiday": [(number(day), day.year) for day in self.added],
+            "corrected": [(owner, *key, place, cents) for owner, key, place, cents in corrections if isinstance(key, tuple)],
+            "corrected_year": [(owner, key, place, cents) for owner, key, place, cents in corrections if isinstance(key, int)],
+            "changed_holiday": [
+                (number(day), place, int(said), day.year) for day, kept in self.changed.items() for place, said in enumerate(kept, 1)
+            ],
+            "corrected_account": [
+                (name, place, number(start), int(carried))
+                for name, kept in self.moved.items()
+                for place, (start, carried) in enumerate(kept, 1)
+            ],
             "year": [
                 (name, year, look, int(semiweekly), turn and number(turn))
                 for name in lines
@@ -608,8 +707,9 @@ class Desk:
 
 # ---- random requests
 
-# So many questions of a seed are asked with a command, on the file that the server left.
+# So many questions of a seed are asked with a command, on the file that the server left, and so much is corrected then.
 QUESTIONS = 16
+CORRECTIONS = 8
 NAMES = ["ash", "birch", "cedar", "elm", "fir", "oak", "pine", "rye", "nobody", "Bad"]
 YEARS = range(2022, 2028)
 
@@ -639,6 +739,8 @@ def preparing(rng):
         start = rng.choice(["2022-01-01", "2020-01-01", "2023-07-01", "2024-05-01"])
         form = " 943" if rng.random() < 0.3 else ""
         yield f"enrol {name} {start}{' carried' if rng.random() < 0.3 else ''}{form}"
+        for place in range(1, rng.choice([1, 1, 2, 3])):
+            yield f"correct-account {name} {place} {rng.choice(['2022-01-01', '2021-05-01', '2023-07-01'])}{' carried' * rng.randint(0, 1)}"
         for year in range(2020, 2027):
             figure = rng.choice(["0.00", "2499.99", "2500.00", "12500.00", "12500.01", "50000.00", "50000.01"])
             if form:
@@ -667,6 +769,31 @@ def kept(rng):
     year = rng.choice([*YEARS, 2021, 2028, 2029, 2000, 2100])
     return rng.choice(["accounts", f"years {name}", f"reported {name}", f"holidays {year}", f"runs {name} {quarter}",
                        f"runs {name} {quarter}", f"runs {name} {quarter} csv", f"payments {name} {quarter}", f"payments {name} {quarter}"])
+
+
+def correction(rng, desk):
+    """What is to be put right, and how often it was before: a figure, a day or an account."""
+    name, kind = rng.choice(NAMES[:8] * 6 + NAMES), rng.random()
+    if kind < 0.6:
+        yearly = desk.accounts.get(name, ("", "", "941"))[2] == "943" if rng.random() < 0.97 else rng.random() < 0.5
+        year, quarter = rng.randint(2020, 2026), rng.randint(1, 4)
+        figure = rng.choice(["0.00", "2499.99", "2500.00", "12500.00", "12500.01", "50000.00", "50000.01", amount(rng)])
+        key = year if yearly else (year, quarter)
+        words = f"{name} {f'year {year}' if yearly else name_of(key)}"
+        return "correct-report", words, len(desk.corrected.get((name, key), [])), figure
+    if kind < 0.9:
+        given = sorted(desk.added | {day for days in desk.calendars.values() for day in days})
+        day = rng.choice(given) if given and rng.random() < 0.95 else date(some_day(rng))
+        return "change-holiday", str(day), len(desk.changed.get(day, [])), rng.choice(["yes", "no", "no"])
+    start = rng.choice(["2022-01-01", "2021-05-01", "2099-01-01"]) + " carried" * rng.randint(0, 1)
+    return "correct-account", name, len(desk.moved.get(name, [])), start
+
+
+def corrected(rng, desk):
+    """A correction under the next number, or under another one."""
+    verb, words, count, content = correction(rng, desk)
+    number = count + 1 if rng.random() < 0.85 else rng.choice([count, count + 2, 0, 1, 999_999_999, 1_000_000_000])
+    return f"{verb} {words} {number} {content}"
 
 
 def payment(rng, owed):
@@ -711,10 +838,12 @@ def one(rng, desk, posted, paid):
     if kind < 0.9:
         as_of = first_of((int(quarter[:4]), int(quarter[5]))) + rng.randrange(240) * DAY
         return f"due {name} {quarter} {as_of}"
-    if kind < 0.96:
+    if kind < 0.94:
         return f"schedule-b {name} {quarter}"
-    if kind < 0.97:
+    if kind < 0.95:
         return f"add-holiday {some_day(rng, 2021, 2028)}"
+    if kind < 0.985:
+        return corrected(rng, desk)
     return rng.choice([f"open {name} {rng.randint(2020, 2029)}", f"report {name} 2023Q1 1.00", f"report {name} year 2023 1.00",
                        f"calendar {rng.randint(2020, 2030)}", f"enrol {name} 2022-01-01"])
 
@@ -745,6 +874,22 @@ def command_answer(program, file, line):
     return ran.stdout if ran.returncode == 0 else ran.stderr.split("\n")[0]
 
 
+def correction_answer(program, file, verb, words, content):
+    """What the command of a correction without a number prints, as `command_answer` does."""
+    verb, words = ("correct-report-year", words.replace(" year ", " ")) if " year " in words else (verb, words)
+    content = content.replace("carried", "--carried")
+    ran = subprocess.run([program, verb, "--db", file, *words.split(" "), *content.split(" ")], capture_output=True, text=True, timeout=60)
+    return ran.stdout if ran.returncode == 0 else ran.stderr.split("\n")[0]
+
+
+def printed(number, answer):
+    """What is printed of the answer to a correction under this number."""
+    if answer.startswith("refused"):
+        return answer
+    told = re.sub(r"^(\S+)\.\.(\S+) -(\d+) \+(\d+)$", r"posted \1 \2 removed \3 added \4", answer)
+    return f"number {number}\n{told}\n"
+
+
 def compare(program, file, seed, count):
     """Asks the requests of a seed, and compares answers and tables. It answers how many requests there were."""
     rng = random.Random(seed)
@@ -764,7 +909,13 @@ def compare(program, file, seed, count):
     for line in questions:
         compare_answer(f"seed {seed}, command", line, command_answer(program, file, line), desk.ask(line))
         compare_tables(file, desk, f"seed {seed}, after ftd {line}")
-    return len(lines) + len(questions)
+    for _ in range(CORRECTIONS):
+        verb, words, before, content = correction(rng, desk)
+        line = f"{verb} {words} {before + 1} {content}"
+        right = printed(before + 1, desk.ask(line))
+        compare_answer(f"seed {seed}, command", line, correction_answer(program, file, verb, words, content), right)
+        compare_tables(file, desk, f"seed {seed}, after ftd {line}")
+    return len(lines) + len(questions) + CORRECTIONS
 
 
 def main():
@@ -777,7 +928,7 @@ def main():
             requests = compare(program, os.path.join(folder, f"{seed}.db"), seed, count)
             asked += requests
             print(f"seed {seed}: {requests} requests, 0 differences", flush=True)
-    print(f"{asked} requests and the twelve tables of {len(seeds)} databases, 0 differences")
+    print(f"{asked} requests and the sixteen tables of {len(seeds)} databases, 0 differences")
 
 
 if __name__ == "__main__":

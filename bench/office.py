@@ -45,6 +45,11 @@ def body_of(words):
         return "POST", "reported-years", {"year": int(rest[1]), "amount": rest[2]}
     if verb == "report":
         return "POST", "reported", {"quarter": rest[0], "amount": rest[1]}
+    if verb == "correct-report":
+        yearly = rest[0] == "year"
+        return "PUT", f"{'reported-years' if yearly else 'reported'}/{rest[-3]}/corrections/{rest[-2]}", {"amount": rest[-1]}
+    if verb == "correct-account":
+        return "PUT", f"corrections/{rest[0]}", {"start": rest[1], "carried": "carried" in rest}
     if verb == "open":
         return "POST", "years", {"year": int(rest[0])}
     if verb == "post":
@@ -64,6 +69,8 @@ def message_of(line):
         method, target, body = "POST", "/calendars", {"year": int(words[1]), "days": words[2:]}
     elif words[0] == "add-holiday":
         method, target, body = "POST", "/holidays", {"day": words[1]}
+    elif words[0] == "change-holiday":
+        method, target, body = "PUT", f"/holidays/{words[1]}/changes/{words[2]}", {"holiday": words[3] == "yes"}
     elif words[0] == "enrol":
         form = "943" if "943" in words else "941"
         method, target = "POST", "/accounts"
@@ -78,7 +85,7 @@ def message_of(line):
         method, end, body = body_of(words)
         target = f"/accounts/{words[1]}/{end}"
     text = "" if body is None else json.dumps(body)
-    length = f"Content-Length: {len(text)}\r\n" if method == "POST" else ""
+    length = f"Content-Length: {len(text)}\r\n" if method in ("POST", "PUT") else ""
     return f"{method} {target} HTTP/1.1\r\n{length}\r\n{text}".encode()
 
 
@@ -118,7 +125,8 @@ def told(body):
     answer = json.loads(body)
     if "refused" in answer:
         word = "failed" if answer["refused"] in (21, 22) else "refused"
-        return " ".join([word, str(answer["refused"]), answer["name"], *([answer["detail"]] if "detail" in answer else [])])
+        named = [str(answer[key]) for key in ("detail", "count") if key in answer]
+        return " ".join([word, str(answer["refused"]), answer["name"], *named])
     if "kind" in answer:
         return " ".join([answer["kind"], answer["reason"], *([answer["turn"]] if "turn" in answer else [])])
     if answer["reply"] == "posted":

@@ -1,5 +1,5 @@
 #!/bin/sh
-# Writes a desk's file with the program and reads it by sqlite3's command line: the file is whole, the twelve tables have their
+# Writes a desk's file with the program and reads it by sqlite3's command line: the file is whole, the sixteen tables have their
 # columns and types, and the rows are there. It needs Debian's sqlite3. Usage: bench/real_file.sh [PROGRAM]
 set -eu
 top=$(cd "$(dirname "$0")/.." && pwd)
@@ -72,9 +72,26 @@ reported_year|cal_year|INTEGER|1|2
 reported_year|cents|INTEGER|1|0
 added_holiday|day|INT|1|1
 added_holiday|cal_year|INTEGER|1|0
+corrected|account|TEXT|1|1
+corrected|cal_year|INTEGER|1|2
+corrected|quarter|INTEGER|1|3
+corrected|number|INTEGER|1|4
+corrected|cents|INTEGER|1|0
+corrected_year|account|TEXT|1|1
+corrected_year|cal_year|INTEGER|1|2
+corrected_year|number|INTEGER|1|3
+corrected_year|cents|INTEGER|1|0
+changed_holiday|day|INTEGER|1|1
+changed_holiday|number|INTEGER|1|2
+changed_holiday|is_holiday|INTEGER|1|0
+changed_holiday|cal_year|INTEGER|1|0
+corrected_account|account|TEXT|1|1
+corrected_account|number|INTEGER|1|2
+corrected_account|start|INTEGER|1|0
+corrected_account|carried|INTEGER|1|0
 payment|ftd_payment_by_day
 run|ftd_run_by_payday
-ftd|2
+ftd|3
 ash|19723|0
 ash|1|19723|100000|24800|5800|0
 ash|2|19956|100001|24800|5800|0

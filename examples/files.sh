@@ -70,8 +70,8 @@ says 'failed NotOurs 3' "$ftd" "${ask[@]}" foreign.db
 # a file that sqlite3 made of the desk's, which has no sums, is opened too
 sqlite3 office.db .dump | sqlite3 newer.db
 says '2024-01-05 monthly lookback 0' "$ftd" "${ask[@]}" newer.db
-sqlite3 newer.db "UPDATE ftd_meta SET version = 3"
-says 'failed Newer 3 3' "$ftd" "${ask[@]}" newer.db
+sqlite3 newer.db "UPDATE ftd_meta SET version = 4"
+says 'failed Newer 4 3' "$ftd" "${ask[@]}" newer.db
 hints 'newer.db: a later version of ftd made it'
 corrupt=$'failed File\nCorrupt: the file is damaged or cut short 3'
 cp office.db cut.db

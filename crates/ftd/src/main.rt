@@ -14,7 +14,7 @@ use ftd_machine::Request;
 use ftd_ports::Port;
 use ftd_program::{perform, print_plain, tell};
 use ftd_words::{Job, LocalTask, PlainTask, Task, decide};
-use sqlite::{Alter, Connection, FileStore};
+use sqlite::{Alter, Connection, File, FileStore};
 use sqlite_disk::Disk;
 use std::io;
 use std::process::ExitCode;
@@ -32,11 +32,11 @@ fn told(rt: &HostRuntime, fault: ProgramFault, db: &str, input: &str) -> u8 {
     fault.status()
 }
 
-/// The file that a task reads. The empty text where it reads none.
-fn input_of(task: &LocalTask) -> &str {
-    match &task.job {
+/// The file that a job reads. The empty text where it reads none.
+fn input_of(job: &Job) -> &str {
+    match job {
         Job::Import { file, .. } => file,
-        Job::Ask { .. } => "",
+        Job::Ask { .. } | Job::AskNext { .. } => "",
     }
 }
 
@@ -44,7 +44,7 @@ fn input_of(task: &LocalTask) -> &str {
 fn run(rt: &HostRuntime) -> Result<u8, ProgramFault> {
     let words = words(rt)?;
     match decide(rt.alloc(), &words) {
-        Ok(task) => Ok(done(rt, &task)),
+        Ok(task) => Ok(done(rt, task)),
         Err(fault) => {
             let mut out = Port::new(io::writer(rt));
             let mut err = Port::new(rt.stderr());
@@ -54,14 +54,11 @@ fn run(rt: &HostRuntime) -> Result<u8, ProgramFault> {
 }
 
 /// Does the task, and gives the exit status.
-fn done(rt: &HostRuntime, task: &Task) -> u8 {
+fn done(rt: &HostRuntime, task: Task) -> u8 {
     match task {
-        Task::Plain(task) => plain(rt, task),
-        Task::Local(task) => match local(rt, task) {
-            Ok(status) => status,
-            Err(fault) => told(rt, fault, &task.db, input_of(task)),
-        },
-        Task::Serve(task) => match serve_file(rt, task) {
+        Task::Plain(task) => plain(rt, &task),
+        Task::Local(task) => local(rt, task),
+        Task::Serve(task) => match serve_file(rt, &task) {
             Ok(status) => status,
             Err(fault) => told(rt, fault, &task.db, ""),
         },
@@ -78,22 +75,29 @@ fn plain(rt: &HostRuntime, task: &PlainTask) -> u8 {
     print_plain(rt.alloc(), task, &input, out, err).status
 }
 
-/// Does the job of the task with the desk.
-fn with_desk<S: Alter>(rt: &HostRuntime, desk: &mut Desk<S>, task: &LocalTask, input: &[u8]) -> u8 {
+/// Does the job with the desk of this file.
+fn with_desk<S: Alter>(
+    rt: &HostRuntime,
+    desk: &mut Desk<S>,
+    db: &str,
+    job: Job,
+    input: &[u8],
+) -> u8 {
     let (out, err) = (Port::new(io::writer(rt)), Port::new(rt.stderr()));
     let mut progress = ProgressLine::new(rt);
-    perform(rt.alloc(), task, desk, input, out, err, &mut progress).status
+    perform(rt.alloc(), db, job, desk, input, out, err, &mut progress).status
 }
 
-/// Does the job of the task with the desk of the tables in files, which are closed.
+/// Does the job with the desk of the tables in files, which are closed.
 fn over_files<D: Disk + Drop>(
     rt: &HostRuntime,
     conn: Connection<FileStore<D>>,
-    task: &LocalTask,
+    db: &str,
+    job: Job,
     input: &[u8],
 ) -> Result<u8, ProgramFault> {
     let mut desk = desk_of(rt, conn)?;
-    let status = with_desk(rt, &mut desk, task, input);
+    let status = with_desk(rt, &mut desk, db, job, input);
     closed(desk);
     Ok(status)
 }
@@ -110,40 +114,76 @@ fn tells_after(request: &Request) -> bool {
         | Request::Void { .. }
         | Request::Pay { .. }
         | Request::VoidPay { .. }
+        | Request::CorrectReport { .. }
+        | Request::CorrectReportYear { .. }
+        | Request::ChangeHoliday { .. }
+        | Request::CorrectAccount { .. }
         | Request::Question(_) => true,
     }
 }
 
-/// Whether a task tells of a file that it made: all do but those by which a desk begins.
-fn tells_of_new_file(task: &LocalTask) -> bool {
-    match &task.job {
-        Job::Ask { request, .. } => tells_after(request),
+/// Whether a job tells of a file that it made: all do but those by which a desk begins.
+fn tells_of_new_file(job: &Job) -> bool {
+    match job {
+        Job::Ask { request, .. } | Job::AskNext { request } => tells_after(request),
         Job::Import { .. } => true,
     }
 }
 
-/// Whether a task only tries an import, for which no file is made.
-fn is_trial(task: &LocalTask) -> bool {
-    match &task.job {
+/// Whether a job only tries an import, for which no file is made.
+fn is_trial(job: &Job) -> bool {
+    match job {
         Job::Import { is_trial, .. } => *is_trial,
-        Job::Ask { .. } => false,
+        Job::Ask { .. } | Job::AskNext { .. } => false,
     }
 }
 
-/// Does the job of the task, and tells that its file was made, below what else is told.
-fn local(rt: &HostRuntime, task: &LocalTask) -> Result<u8, ProgramFault> {
+/// What stands ready for a job: what it reads, whether its file is made for it, and its database.
+#[derive(Drop)]
+struct Ready {
+    input: Vec<u8>,
+    is_new: bool,
+    conn: Connection<FileStore<File>>,
+}
+
+/// Reads what the task reads, and opens its file.
+fn prepare(rt: &HostRuntime, task: &LocalTask) -> Result<Ready, ProgramFault> {
     let input = match &task.job {
         Job::Import { file, .. } => import_input(rt, file)?,
-        Job::Ask { .. } => Vec::new(rt.alloc()),
+        Job::Ask { .. } | Job::AskNext { .. } => Vec::new(rt.alloc()),
     };
     let is_new = is_new(rt, &task.db)?;
-    if is_new && is_trial(task) {
+    if is_new && is_trial(&task.job) {
         return Err(ProgramFault::Missing);
     }
     let conn = opened(rt, &task.db, task.wait)?;
-    let status = over_files(rt, conn, task, &input)?;
-    if is_new && tells_of_new_file(task) {
-        tell_made(rt, &task.db);
+    Ok(Ready {
+        input,
+        is_new,
+        conn,
+    })
+}
+
+/// Does the job of the task, tells that its file was made, below what else is told, and gives the
+/// exit status.
+fn local(rt: &HostRuntime, task: LocalTask) -> u8 {
+    let Ready {
+        input,
+        is_new,
+        conn,
+    } = match prepare(rt, &task) {
+        Ok(ready) => ready,
+        Err(fault) => return told(rt, fault, &task.db, input_of(&task.job)),
+    };
+    let LocalTask { db, job, .. } = task;
+    let tells = is_new && tells_of_new_file(&job);
+    match over_files(rt, conn, &db, job, &input) {
+        Ok(status) => {
+            if tells {
+                tell_made(rt, &db);
+            }
+            status
+        }
+        Err(fault) => told(rt, fault, &db, ""),
     }
-    Ok(status)
 }

@@ -113,32 +113,35 @@ kept_done form day holidays before after s sums added patch known0 st agree whol
         is_period = st.common.is_period;
         from = from ∙ st.common.begins;
         to = to;
-        rows = rw (from, to, rows, empty, st.at.from) here;
-        years = record {
-          by_year = rw years st.common.changed.by_year;
-          all = λ line. (
-            (λ k. (let k2 = rw years at k in let w = (st.common.changed.all line).0 k2 in
-                (w.0, w.1))),
-            (λ w. rw years ((st.common.changed.all line).1 (
-              w.0,
-              w.1,
-              elim (lt_or_le line.year old.year) [
-                | inl less ↦ less
-                | inr more ↦
-                    absurd (w.1 (later_same day after before back old n m in_year line w.0 more))
-              ],
-            ))),
-          );
+        replaces = record {
+          rows = rw (from, to, rows, empty, st.at.from) here;
+          years = record {
+            by_year = rw years st.common.changed.by_year;
+            all = λ line. (
+              (λ k. (let k2 = rw years at k in let w = (st.common.changed.all line).0 k2 in
+                  (w.0, w.1))),
+              (λ w. rw years ((st.common.changed.all line).1 (
+                w.0,
+                w.1,
+                elim (lt_or_le line.year old.year) [
+                  | inl less ↦ less
+                  | inr more ↦
+                      absurd (w.1 (later_same day after before back old n m in_year line w.0 more))
+                ],
+              ))),
+            );
+          };
+          elsewhere = λ o out. elim out [
+            | inl less ↦ st.common.earlier o (omega arith)
+            | inr more ↦ (
+              kept_later form day before after holidays known c old m n s.asked.from s.asked.to
+                  whole
+                  a_day b_day o (omega arith),
+              kept_later form day after before holidays known back old n m s.asked.from s.asked.to
+                  whole a_day b_day o (omega arith),
+            )
+          ];
         };
-        elsewhere = λ o out. elim out [
-          | inl less ↦ st.common.earlier o (omega arith)
-          | inr more ↦ (
-            kept_later form day before after holidays known c old m n s.asked.from s.asked.to whole
-                a_day b_day o (omega arith),
-            kept_later form day after before holidays known back old n m s.asked.from s.asked.to
-                whole a_day b_day o (omega arith),
-          )
-        ];
       },
       (λ w needed. elim needed [
         | inl first ↦ (let k = first.2.1 in omega arith)

@@ -133,7 +133,7 @@ kept_line form day before after holidays fed patch line c is none m differs =
     let year : line.year ≡ k.0.year = ap (λ (z : ℕ × ℕ × Bool). z.0) k.2 in
     let years = c.is_before.years in
     let never : Has patch.years k.0 → ⊥ = λ has. (let no = rw none at has in no) in
-    never ((is.years.all k.0).1 (
+    never ((is.replaces.years.all k.0).1 (
       k.1,
       λ has.
           let one : k.0 ≡ line = line_one years.0 before.lines k.0 line years.2 has m (sym year) in
@@ -148,7 +148,7 @@ rows_of_period : (form : Form) (day : ℕ) (before after : History) (holidays : 
     → AreRows form after holidays period.from (period.to + 1) patch.rows
 rows_of_period form day before after holidays fed patch line period is from to =
     let last : patch.to + 1 ≡ period.to + 1 = ap (λ z. z + 1) (is.to ∙ to) in
-    rw (from, last) at is.rows
+    rw (from, last) at is.replaces.rows
 
 pub one_at_most : (form : Form) (day : ℕ) (before after : History) (holidays : List ℕ)
     (fed : Window) (patch : Patch) (line : YearLine)

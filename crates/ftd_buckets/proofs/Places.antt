@@ -73,13 +73,12 @@ owed_here form due sums line o y h =
       (h.3.0, rw (same.0, same.1) h.3.1, rw (same.0, same.1, same.2) h.3.2),
     )
 
-pub owed_is_at : (form : Form) → (h : History) (holidays : List ℕ) (o : Obligation)
-    → All (λ d. d < holidays_end) holidays → IsHistory h
+pub owed_at : (form : Form) → (h : History) (holidays : List ℕ) (o : Obligation)
+    → All (λ d. d < holidays_end) holidays
+    → ((line : YearLine) → Has h.lines line → IsYear line)
     → IsOwed form h holidays o ↔ ((line : YearLine) × Has h.lines line × IsOwedHere form
     (due_date holidays) (liability h.sums) line o)
-owed_is_at form h holidays o known is =
-    let years : (line : YearLine) → Has h.lines line → IsYear line =
-    λ line k. line_is h.lines h.sums line is k in
+owed_at form h holidays o known years =
     let e = obligation_is form h.lines h.sums holidays (due_date holidays) o (due_is holidays known)
     years in (
       (λ k. (let w = e.1 (piece_owed form h.lines h.sums holidays o k) in
@@ -88,6 +87,13 @@ owed_is_at form h holidays o known is =
           owed_stated form h.lines h.sums holidays o
           (e.0 (w.0, w.1, (o.first, w.2.0, omega arith, w.2.2))))),
     )
+
+pub owed_is_at : (form : Form) → (h : History) (holidays : List ℕ) (o : Obligation)
+    → All (λ d. d < holidays_end) holidays → IsHistory h
+    → IsOwed form h holidays o ↔ ((line : YearLine) × Has h.lines line × IsOwedHere form
+    (due_date holidays) (liability h.sums) line o)
+owed_is_at form h holidays o known is =
+    owed_at form h holidays o known (λ line k. line_is h.lines h.sums line is k)
 
 -- it is owed wherever its deposit period and the liability there are the same
 pub owed_moves : (due : Rule → ℕ → ℕ) (L M : ℕ → ℕ → ℕ) (p q : Periods) (day : ℕ) (o : Obligation)

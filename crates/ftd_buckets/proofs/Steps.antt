@@ -54,7 +54,8 @@ settled_done form day holidays before after s asked new patch k ends same from t
     let old = k.old in
     let y = line_is before.lines before.sums old c.is_before k.common.year.is_old in
     let back = same_after_back day before after old.year c same in
-    let changed = one_changed day before after old new s.years.items c k.common.year k.differs
+    let changed = one_changed before after old new s.years.items c.is_before.years c.is_after.years
+    k.common.year k.differs
     k.common.changed in
     let last : patch.to ≡ year_last old.year = to ∙ ends in (
       record {
@@ -62,18 +63,21 @@ settled_done form day holidays before after s asked new patch k ends same from t
         is_period = k.common.is_period;
         from = from ∙ k.common.begins;
         to = to;
-        rows = rw (from, last, rows) k.rows;
-        years = rw years (all_changed day before after old.year (s.years.items ++ (new ∷ []))
-            changed back);
-        elsewhere = λ o out. elim out [
-          | inl less ↦ k.common.earlier o (omega arith)
-          | inr more ↦ (
-            owed_after form day before after holidays old.year k.known c y.0 y.1 k.day_before same o
-                (omega arith),
-            owed_after form day after before holidays old.year k.known
-                (change_back day before after c) y.0 y.1 k.day_before back o (omega arith),
-          )
-        ];
+        replaces = record {
+          rows = rw (from, last, rows) k.rows;
+          years = rw years (all_changed before after old.year (s.years.items ++ (new ∷ []))
+              changed back);
+          elsewhere = λ o out. elim out [
+            | inl less ↦ k.common.earlier o (omega arith)
+            | inr more ↦ (
+              owed_after form day before after holidays old.year k.known c y.0 y.1 k.day_before
+                  same o
+                  (omega arith),
+              owed_after form day after before holidays old.year k.known
+                  (change_back day before after c) y.0 y.1 k.day_before back o (omega arith),
+            )
+          ];
+        };
       },
       (λ w needed. (let q = none_needed form day before after old.year c y.0 y.1 k.day_before same w
           needed in omega arith)),
@@ -203,7 +207,8 @@ settled_next form day holidays before after s asked new next rest opens r k ends
     let w_from : r.asked.from ≡ year_start next.year = ap (λ (v : Window). v.from) window in
     let w_to : r.asked.to ≡ year_last next.year = ap (λ (v : Window). v.to) window in
     let differs : next.opening ≡ n.next_new.opening → ⊥ = λ e. other (sym (e ∙ n.opening)) in
-    let changed0 = one_changed day before after old new s.years.items c k.common.year k.differs
+    let changed0 = one_changed before after old new s.years.items c.is_before.years c.is_after.years
+    k.common.year k.differs
     k.common.changed in
     let changed : AreChangedBefore before after next.year r.years = rw (number, years) changed0 in
     let rows_to : AreRows form after holidays s.from (year_start next.year) s.rows.items =

@@ -9,7 +9,7 @@ use Rattle.ftd_rules.specs.declared.YearLine.{YearLine}
 use Rattle.ftd_rules.specs.declared.Obligation.{Obligation}
 use Rattle.ftd_rules.specs.Lists.{Has}
 use Rattle.ftd_rules.specs.Obligations.{ByFirstDay}
-use Rattle.ftd_rules.specs.Years.{YearsFrom, year_last}
+use Rattle.ftd_rules.specs.Years.{AreOpenYears, YearsFrom, year_last}
 use Rattle.ftd_rules.proofs.Cuts.{lt_or_le}
 use Rattle.ftd_rules.proofs.Owed.{has_append, has_left, has_right}
 use Rattle.ftd_rules.proofs.Schedules.{year_facts, year_start-mono, year_divides, years_within}
@@ -171,9 +171,9 @@ none_needed form day g h year c l m to same w needed =
     ]
 
 -- the lines that differ, once no later one does
-pub all_changed : (day : ℕ) (g h : History) (year : ℕ) (lines : List YearLine)
+pub all_changed : (g h : History) (year : ℕ) (lines : List YearLine)
     → AreChangedBefore g h (year + 1) lines → SameAfter h g year → AreChanged g h lines
-all_changed day g h year lines k same = record {
+all_changed g h year lines k same = record {
   by_year = k.by_year;
   all = λ line. (
     (λ m. let w = (k.all line).0 m in (w.0, w.1)),
@@ -189,13 +189,11 @@ all_changed day g h year lines k same = record {
 }
 
 -- and with the year's own line, which differs
-pub one_changed : (day : ℕ) (g h : History) (old new : YearLine) (lines : List YearLine)
-    → IsChange day g h → IsYearOf g h old new → (new ≡ old → ⊥)
+pub one_changed : (g h : History) (old new : YearLine) (lines : List YearLine)
+    → AreOpenYears g.lines → AreOpenYears h.lines → IsYearOf g h old new → (new ≡ old → ⊥)
     → AreChangedBefore g h old.year lines → AreChangedBefore g h (old.year + 1)
     (lines ++ (new ∷ []))
-one_changed day g h old new lines c year differs k =
-    let years = c.is_before.years in
-    let afters = c.is_after.years in
+one_changed g h old new lines years afters year differs k =
     let same = year.same in
     record {
       by_year = by_year_push lines new k.by_year (λ y m. let w = (k.all y).0 m in let w2 = w.2 in

@@ -1,4 +1,4 @@
--- What a change of one day's runs changes in an account's obligations and years.
+-- What a change changes in an account's obligations and years.
 use Rattle.ftd_rules.specs.declared.Form.{Form}
 use Rattle.std.specs.Prelude.{◌≡◌, ℕ, ◌+◌, ◌<◌, ◌≤◌, ◌⊎◌, ◌↔◌, List}
 use Rattle.ftd_rules.specs.declared.DaySum.{DaySum}
@@ -37,16 +37,21 @@ pub record AreChanged (before after : History) (lines : List YearLine) : Type 0 
   pub all : (line : YearLine)
       → Has lines line ↔ (Has after.lines line × (Has before.lines line → ⊥))
 
--- the patch goes from the day's deposit period before the change to the last window that was fed.
--- It has the obligations after the change that begin on its days, and the lines that differ; the
--- obligations that begin on other days stay.
+-- the patch has the obligations after the change that begin on its days, and the lines that differ;
+-- the obligations that begin on other days stay
+pub record Replaces (form : Form) (before after : History) (holidays : List ℕ) (patch : Patch)
+    : Type 0 where
+  pub rows : AreRows form after holidays patch.from (patch.to + 1) patch.rows
+  pub years : AreChanged before after patch.years
+  pub elsewhere : (o : Obligation) → (o.first < patch.from) ⊎ (patch.to < o.first)
+      → IsOwed form before holidays o ↔ IsOwed form after holidays o
+
+-- so of a change of one day's runs: the patch goes from the day's deposit period before the change
+-- to the last window that was fed
 pub record IsPatch (form : Form) (day : ℕ) (before after : History) (holidays : List ℕ)
     (fed : Window) (patch : Patch) : Type 0 where
   pub period : Window
   pub is_period : IsDayPeriod form day before period
   pub from : patch.from ≡ period.from
   pub to : patch.to ≡ fed.to
-  pub rows : AreRows form after holidays patch.from (patch.to + 1) patch.rows
-  pub years : AreChanged before after patch.years
-  pub elsewhere : (o : Obligation) → (o.first < patch.from) ⊎ (patch.to < o.first)
-      → IsOwed form before holidays o ↔ IsOwed form after holidays o
+  pub replaces : Replaces form before after holidays patch

@@ -255,7 +255,7 @@ impl<'a> Settled<'a> {
 }
 
 /// How a year opens. `turned` says whether the year before it has a turn.
-fn opens(line: &YearLine, turned: bool) -> Kind
+pub fn opens(line: &YearLine, turned: bool) -> Kind
     ensures { result ≡ kind.Semiweekly ↔ OpensBy (IsTrue turned) line.now }
 {
     opening(line.lookback, line.carried || turned)

@@ -24,6 +24,10 @@ name_text name.Post = codes "post"
 name_text name.Void = codes "void"
 name_text name.Pay = codes "pay"
 name_text name.VoidPay = codes "void-pay"
+name_text name.CorrectReport = codes "correct-report"
+name_text name.CorrectReportYear = codes "correct-report-year"
+name_text name.ChangeHoliday = codes "change-holiday"
+name_text name.CorrectAccount = codes "correct-account"
 name_text name.Status = codes "status"
 name_text name.Explain = codes "explain"
 name_text name.Due = codes "due"
@@ -61,6 +65,14 @@ words_of name.Void = word.Db ∷ word.Wait ∷ word.Account ∷ word.Run ∷ []
 words_of name.Pay =
     word.Db ∷ word.Wait ∷ word.Account ∷ word.Payment ∷ word.Paid ∷ word.For ∷ word.Amount ∷ []
 words_of name.VoidPay = word.Db ∷ word.Wait ∷ word.Account ∷ word.Payment ∷ []
+words_of name.CorrectReport =
+    word.Db ∷ word.Wait ∷ word.Number ∷ word.Account ∷ word.Quarter ∷ word.Amount ∷ []
+words_of name.CorrectReportYear =
+    word.Db ∷ word.Wait ∷ word.Number ∷ word.Account ∷ word.Year ∷ word.Amount ∷ []
+words_of name.ChangeHoliday =
+    word.Db ∷ word.Wait ∷ word.Number ∷ word.Day ∷ word.IsHoliday ∷ []
+words_of name.CorrectAccount =
+    word.Db ∷ word.Wait ∷ word.Number ∷ word.Account ∷ word.Start ∷ word.Carried ∷ []
 words_of name.Status = word.Db ∷ word.Wait ∷ word.Account ∷ word.Day ∷ []
 words_of name.Explain =
     word.Db ∷ word.Wait ∷ word.ExplanationFormat ∷ word.Account ∷ word.Day ∷ []
@@ -114,6 +126,8 @@ word_text word.Until = codes "UNTIL"
 word_text word.Format = codes "format"
 word_text word.ListFormat = codes "format"
 word_text word.ExplanationFormat = codes "format"
+word_text word.Number = codes "number"
+word_text word.IsHoliday = codes "HOLIDAY"
 
 -- a word that stands behind two hyphens
 abbrev pub is_option : Word → Bool
@@ -151,6 +165,8 @@ is_option word.Until = false
 is_option word.Format = true
 is_option word.ListFormat = true
 is_option word.ExplanationFormat = true
+is_option word.Number = true
+is_option word.IsHoliday = false
 
 -- what the word takes
 abbrev pub takes_of : Word → Takes
@@ -188,6 +204,8 @@ takes_of word.Until = takes.Optional
 takes_of word.Format = takes.Format
 takes_of word.ListFormat = takes.Format
 takes_of word.ExplanationFormat = takes.Format
+takes_of word.Number = takes.OptionalNumber (pos 0) (pos 4294967295)
+takes_of word.IsHoliday = takes.Text
 
 -- what takes any number of values
 abbrev pub takes_many : Takes → Bool
@@ -201,4 +219,5 @@ all_names =
     ∷ name.ImportAccounts ∷ name.ImportReported ∷ name.Import ∷ name.ImportPayments ∷ name.Due
     ∷ name.Agenda ∷ name.Owed ∷ name.Pay ∷ name.Status ∷ name.Explain ∷ name.ScheduleB
     ∷ name.Accounts ∷ name.Years ∷ name.Reported ∷ name.Holidays ∷ name.Runs ∷ name.Payments ∷ name.Void
-    ∷ name.VoidPay ∷ name.AddHoliday ∷ name.Plain ∷ name.Serve ∷ []
+    ∷ name.VoidPay ∷ name.AddHoliday ∷ name.CorrectReport ∷ name.CorrectReportYear
+    ∷ name.CorrectAccount ∷ name.ChangeHoliday ∷ name.Plain ∷ name.Serve ∷ []

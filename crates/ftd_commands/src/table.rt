@@ -6,8 +6,9 @@ ghost use Rattle.ftd_commands.specs.Table.{words_of};
 
 use Word::{
     Account, Amount, AsOf, Carried, Check, Connections, CsvFile, Day, Days, Db, Duration,
-    ExplanationFormat, Fit, For, Form, Format, From, Holidays, Idle, ListFormat, Medicare, Paid,
-    Payday, Payment, Port, Quarter, Run, Silence, Ss, Start, To, Until, Wait, Year,
+    ExplanationFormat, Fit, For, Form, Format, From, Holidays, Idle, IsHoliday, ListFormat,
+    Medicare, Number, Paid, Payday, Payment, Port, Quarter, Run, Silence, Ss, Start, To, Until,
+    Wait, Year,
 };
 
 // How an import is used, with the header that its file has to have.
@@ -23,6 +24,20 @@ const IMPORT_REPORTED: &str = "Example: ftd import-reported --db office.db total
 const IMPORT_PAYMENTS: &str = "Example: ftd import-payments --db office.db payments.csv\n\
     The file's header: employer,payment,paid,for,amount";
 
+// How what was typed in wrongly is put right, with what stays.
+const CORRECT_REPORT: &str = "Example: ftd correct-report --db office.db elm 2022Q3 12500.00\n\
+    The last correction is in force. What was first reported stays.";
+
+const CORRECT_REPORT_YEAR: &str =
+    "Example: ftd correct-report-year --db office.db rye 2022 50000.00\n\
+    The last correction is in force. What was first reported stays.";
+
+const CHANGE_HOLIDAY: &str = "Example: ftd change-holiday --db office.db 2024-06-17 no\n\
+    The last change is in force. The calendar stays as it was given.";
+
+const CORRECT_ACCOUNT: &str = "Example: ftd correct-account --db office.db elm 2024-05-01\n\
+    Without --carried the account is not carried. What was first enrolled stays.";
+
 /// What a word takes.
 #[derive(Clone, Copy, Debug)]
 pub enum Takes {
@@ -32,6 +47,8 @@ pub enum Takes {
     Optional,
     /// One whole number between these, which must be there.
     Number(i64, i64),
+    /// One whole number between these, which may be left out.
+    OptionalNumber(i64, i64),
     /// Any number of texts.
     Texts,
     /// Nothing: it is there or not.
@@ -68,6 +85,10 @@ pub enum Name {
     Void,
     Pay,
     VoidPay,
+    CorrectReport,
+    CorrectReportYear,
+    ChangeHoliday,
+    CorrectAccount,
     Status,
     Explain,
     Due,
@@ -120,6 +141,8 @@ pub enum Word {
     Format,
     ListFormat,
     ExplanationFormat,
+    Number,
+    IsHoliday,
 }
 
 impl Name {
@@ -143,6 +166,10 @@ impl Name {
             Name::Void => "void",
             Name::Pay => "pay",
             Name::VoidPay => "void-pay",
+            Name::CorrectReport => "correct-report",
+            Name::CorrectReportYear => "correct-report-year",
+            Name::ChangeHoliday => "change-holiday",
+            Name::CorrectAccount => "correct-account",
             Name::Status => "status",
             Name::Explain => "explain",
             Name::Due => "due",
@@ -179,6 +206,10 @@ impl Name {
             Name::Void => &[Db, Wait, Account, Run],
             Name::Pay => &[Db, Wait, Account, Payment, Paid, For, Amount],
             Name::VoidPay => &[Db, Wait, Account, Payment],
+            Name::CorrectReport => &[Db, Wait, Number, Account, Quarter, Amount],
+            Name::CorrectReportYear => &[Db, Wait, Number, Account, Year, Amount],
+            Name::ChangeHoliday => &[Db, Wait, Number, Day, IsHoliday],
+            Name::CorrectAccount => &[Db, Wait, Number, Account, Start, Carried],
             Name::Status => &[Db, Wait, Account, Day],
             Name::Explain => &[Db, Wait, ExplanationFormat, Account, Day],
             Name::Due => &[Db, Wait, ListFormat, Account, Quarter, AsOf],
@@ -213,9 +244,13 @@ impl Name {
             Name::Void => "Void a pay run",
             Name::Pay => "Record a deposit that was paid",
             Name::VoidPay => "Void a recorded deposit",
-            Name::Status => "Say whether an account is a monthly or a semiweekly depositor",
+            Name::CorrectReport => "Put right the reported tax of a quarter",
+            Name::CorrectReportYear => "Put right the reported tax of a year",
+            Name::ChangeHoliday => "Put right whether a day is a legal holiday",
+            Name::CorrectAccount => "Put right the first day of an account not in use yet",
+            Name::Status => "Say whether an account deposits monthly or semiweekly",
             Name::Explain => "Say why the deposit for a day is so, and due when it is",
-            Name::Due => "List the deposits of a quarter: how much, by when, if paid",
+            Name::Due => "List the deposits of a quarter: how much, when, if paid",
             Name::Agenda => "List what is due between two days, over all accounts",
             Name::Owed => "List what is due and not paid, over all accounts",
             Name::ScheduleB => "List the liability of a quarter by day, as for Schedule B",
@@ -225,7 +260,7 @@ impl Name {
             Name::Reported => "List the totals that were reported for an account",
             Name::Holidays => "List the legal holidays of a year",
             Name::Runs => "List the pay runs of a quarter, void ones too",
-            Name::Payments => "List the deposits paid for a quarter, with what each is for",
+            Name::Payments => "List the deposits paid for a quarter, with their periods",
         }
     }
 
@@ -249,6 +284,10 @@ impl Name {
             Name::Void => "Example: ftd void --db office.db elm 1",
             Name::Pay => "Example: ftd pay --db office.db elm 1 2024-06-17 2024-05-08 40000.00",
             Name::VoidPay => "Example: ftd void-pay --db office.db elm 1",
+            Name::CorrectReport => CORRECT_REPORT,
+            Name::CorrectReportYear => CORRECT_REPORT_YEAR,
+            Name::ChangeHoliday => CHANGE_HOLIDAY,
+            Name::CorrectAccount => CORRECT_ACCOUNT,
             Name::Status => "Example: ftd status --db office.db elm 2024-05-08",
             Name::Explain => "Example: ftd explain --db office.db elm 2024-05-08",
             Name::Due => "Example: ftd due --db office.db elm 2024Q2 2024-06-30",
@@ -288,8 +327,8 @@ impl Word {
             Word::Carried => "carried",
             Word::Form => "form",
             Word::Year => "YEAR",
-            Word::Holidays => "HOLIDAY",
-            Word::Days => "DAY",
+            Word::Holidays | Word::IsHoliday => "HOLIDAY",
+            Word::Day | Word::Days => "DAY",
             Word::Quarter => "QUARTER",
             Word::Amount => "AMOUNT",
             Word::Run => "RUN",
@@ -300,14 +339,12 @@ impl Word {
             Word::Payment => "PAYMENT",
             Word::Paid => "PAID",
             Word::For => "FOR",
-            Word::Day => "DAY",
             Word::AsOf => "ASOF",
             Word::From => "FROM",
             Word::To => "TO",
             Word::Until => "UNTIL",
-            Word::Format => "format",
-            Word::ListFormat => "format",
-            Word::ExplanationFormat => "format",
+            Word::Format | Word::ListFormat | Word::ExplanationFormat => "format",
+            Word::Number => "number",
         }
     }
 
@@ -330,6 +367,7 @@ impl Word {
                 | Word::Format
                 | Word::ListFormat
                 | Word::ExplanationFormat
+                | Word::Number
         )
     }
 
@@ -369,9 +407,9 @@ impl Word {
             Word::From => Takes::Text,
             Word::To => Takes::Text,
             Word::Until => Takes::Optional,
-            Word::Format => Takes::Format,
-            Word::ListFormat => Takes::Format,
-            Word::ExplanationFormat => Takes::Format,
+            Word::Format | Word::ListFormat | Word::ExplanationFormat => Takes::Format,
+            Word::Number => Takes::OptionalNumber(0, 4_294_967_295),
+            Word::IsHoliday => Takes::Text,
         }
     }
 
@@ -388,7 +426,7 @@ impl Word {
             Word::Db => "FILE",
             Word::Form => "FORM",
             Word::Format | Word::ListFormat | Word::ExplanationFormat => "FORMAT",
-            Word::Port | Word::Connections => "N",
+            Word::Port | Word::Connections | Word::Number => "N",
             Word::Wait | Word::Idle | Word::Silence | Word::Duration => "SECONDS",
             word => word.text(),
         }
@@ -432,12 +470,14 @@ impl Word {
             Word::Format => "The format of the list: text, csv, json or ics",
             Word::ListFormat => "The format of the list: text, csv or json",
             Word::ExplanationFormat => "The format of the answer: text or json",
+            Word::Number => "The number of the correction; the next one if it is left out",
+            Word::IsHoliday => "yes if the day is a legal holiday, no if it is none",
         }
     }
 }
 
 /// The subcommands, as help lists them: in the order in which an employer needs them.
-pub const NAMES: [Name; 28] = [
+pub const NAMES: [Name; 32] = [
     Name::Calendar,
     Name::Enrol,
     Name::Report,
@@ -464,6 +504,10 @@ pub const NAMES: [Name; 28] = [
     Name::Void,
     Name::VoidPay,
     Name::AddHoliday,
+    Name::CorrectReport,
+    Name::CorrectReportYear,
+    Name::CorrectAccount,
+    Name::ChangeHoliday,
     Name::Plain,
     Name::Serve,
 ];

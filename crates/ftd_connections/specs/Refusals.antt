@@ -10,17 +10,22 @@ use Rattle.ftd_machine.specs.declared.replies.Named.TheVariants as named
 use Rattle.ftd_machine.specs.declared.replies.Refusal.{Refusal}
 use Rattle.ftd_connections.specs.Responses.{Said, json}
 
--- what a refusal begins with: the year or the quarter that it names
+-- what a refusal begins with: the year or the quarter that it names, or how many corrections there
+-- are
 abbrev pub year_detail : ℕ → List ℕ
 year_detail year = codes "{\"detail\":\"" ++ decimal year ++ codes "\","
 
 abbrev pub quarter_detail : ℕ → List ℕ
 quarter_detail quarter = codes "{\"detail\":\"" ++ quarter_text quarter ++ codes "\","
 
+abbrev pub count_detail : ℕ → List ℕ
+count_detail count = codes "{\"count\":" ++ decimal count ++ codes ","
+
 abbrev pub detail_of : Named → List ℕ
 detail_of named.Nothing = codes "{"
 detail_of (named.Year year) = year_detail year
 detail_of (named.Quarter quarter) = quarter_detail quarter
+detail_of (named.Number count) = count_detail count
 
 -- a refusal as JSON
 abbrev pub refusal_text : Refusal → List ℕ

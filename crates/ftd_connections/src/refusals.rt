@@ -3,7 +3,8 @@
 ghost use Rattle.std.specs.Prelude.{◌≡◌, IfOk};
 ghost use Rattle.ftd_connections.specs.Responses.{said_of};
 ghost use Rattle.ftd_connections.specs.Refusals.{refused, refusal_text, refusal_status};
-ghost use Rattle.ftd_connections.specs.Refusals.{detail_of, year_detail, quarter_detail};
+ghost use Rattle.ftd_connections.specs.Refusals.{count_detail, detail_of, year_detail};
+ghost use Rattle.ftd_connections.specs.Refusals.{quarter_detail};
 
 use crate::response::{Response, add_number, json};
 use ftd_days::Quarter;
@@ -44,7 +45,7 @@ fn refusal_status(refusal: &Refusal) -> Status
     }
 }
 
-/// What a refusal begins with: the year or the quarter that it names.
+/// What a refusal begins with: the year, the quarter or the number that it names.
 fn detail_of(alloc: Global, named: Named) -> Result<Vec<u8>, AllocError>
     ensures { IfOk result (λ text. text.items ≡ detail_of named) }
 {
@@ -52,6 +53,7 @@ fn detail_of(alloc: Global, named: Named) -> Result<Vec<u8>, AllocError>
         Named::Nothing => Vec::from_slice(alloc, b"{"),
         Named::Year(year) => year_detail(alloc, year),
         Named::Quarter(quarter) => quarter_detail(alloc, quarter),
+        Named::Number(count) => count_detail(alloc, count),
     }
 }
 
@@ -72,5 +74,15 @@ fn quarter_detail(alloc: Global, quarter: Quarter) -> Result<Vec<u8>, AllocError
     let mut text = Vec::from_slice(alloc, b"{\"detail\":\"")?;
     text.extend_from_slice(&quarter_bytes(quarter))?;
     text.extend_from_slice(b"\",")?;
+    Ok(text)
+}
+
+/// What a refusal begins with that names how many corrections there are.
+fn count_detail(alloc: Global, count: u32) -> Result<Vec<u8>, AllocError>
+    ensures { IfOk result (λ text. text.items ≡ count_detail count) }
+{
+    let mut text = Vec::from_slice(alloc, b"{\"count\":")?;
+    add_number(&mut text, u64::from(count))?;
+    text.extend_from_slice(b",")?;
     Ok(text)
 }

@@ -234,6 +234,7 @@ fn allow_line(allow: Option<Method>) -> &'static [u8]
         None => b"",
         Some(Method::Get) => b"Allow: GET\r\n",
         Some(Method::Post) => b"Allow: POST\r\n",
+        Some(Method::Put) => b"Allow: PUT\r\n",
         Some(Method::Delete) => b"Allow: DELETE\r\n",
     }
 }

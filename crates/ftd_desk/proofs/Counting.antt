@@ -19,7 +19,7 @@ use Rattle.ftd_machine.specs.Checks.{Answer}
 use Rattle.ftd_machine.specs.Step.{Step}
 use Rattle.ftd_machine.specs.Laws.{is_change, adds_entry, runs_of, payments_of}
 use Rattle.ftd_machine.specs.declared.requests.Request.{Request}
-use Rattle.ftd_machine.specs.declared.requests.Request.TheVariants.{Post, Void, Pay}
+use Rattle.ftd_machine.specs.declared.requests.Request.TheVariants.{Post, Pay}
 use Rattle.ftd_machine.proofs.Counted.{same_counts, posted_more, posted_payments, paid_more}
 use Rattle.ftd_machine.proofs.Counted.{paid_runs}
 use Rattle.ftd_machine.proofs.Leaving.{leaves}
@@ -33,7 +33,6 @@ use Rattle.ftd_desk.specs.Kept.{Takes, kept_of}
 use Rattle.ftd_desk.proofs.Keeping.{kept_is, right_still, right_after}
 use Rattle.ftd_desk.specs.declared.counts.Counts.{Counts}
 use Rattle.ftd_desk.specs.declared.kept.Kept.{Kept}
-use Rattle.ftd_desk.specs.declared.requests.Served.{Served}
 
 -- what holds anyway
 pub on_ok : {A E P : Type 0} (r : Result A E) → P → OnOk r P
@@ -159,18 +158,6 @@ module _ {S : Type 0} (g : store.Ghosts S) where
           },
         );
   }
-
-  -- nor does a run that is voided
-  pub void_counted : (old new : Tx S) (answer : Answer) (counts : Counts) (request : Request)
-      (name : List ℕ) (number : ℕ) → request ≡ Void name number
-      → Calls g old new (Ok answer) (Serves (Void name number))
-      → Calls g old new (Ok (record { answer = answer; counts = counts }))
-      (ServesCounted counts request)
-  unfolding adds_entry
-  void_counted old new answer counts request name number is c =
-      subst (λ r. Calls {A = Served} g old new (Ok (record { answer = answer; counts = counts }))
-      (ServesCounted counts r)) (sym is)
-      (entry_counted old new answer counts (Void name number) refl c)
 
   -- a call that failed, whatever it would have told
   fails_as : {A B : Type 0} (old new : Tx S) (fault : StoreFault) → Frame {A = A} g old new

@@ -1,5 +1,6 @@
 -- A database that was opened rests in what its tables stood for.
-use Rattle.std.proofs.Common.{◌≡◌, ◌∙◌, inl, inr, sym, ap, subst, true, false, List, Ok, Err}
+use Rattle.std.proofs.Common.{◌≡◌, ◌≤◌, ◌∙◌, inl, inr, sym, ap, subst, ℕ, true, false, List, Ok, Err}
+use Rattle.std.proofs.Common.{arith}
 use Rattle.std.specs.Prelude.{pos, Result, IfOk}
 use Rattle.std.proofs.lemmas.Bool.{false≢true}
 use Rattle.sqlite.specs.Does.{lacks_sequence}
@@ -10,17 +11,17 @@ use Rattle.sqlite.specs.State.{HasCleanDisk}
 use Rattle.sqlite.specs.Store as store
 use Rattle.ftd_tables.specs.Places.{Holds}
 use Rattle.ftd_schema.specs.declared.TableName.TheVariants.{Metas}
-use Rattle.ftd_schema.specs.Standing.{Tables, StandsAsFirst}
-use Rattle.ftd_schema.specs.Beginnings.{tag_row, HasVersion}
+use Rattle.ftd_schema.specs.Standing.{Tables, StandsAs}
+use Rattle.ftd_schema.specs.Beginnings.{tag_row, HasVersion, IsEarlier}
 use Rattle.ftd_schema.specs.Making.{IsFree}
-use Rattle.ftd_schema.specs.Names.{name_of, has_any, later_names}
+use Rattle.ftd_schema.specs.Names.{name_of}
 use Rattle.ftd_schema.specs.Layout.{table_of}
 use Rattle.ftd_schema.specs.Rows.{MetaRow, cells_of}
-use Rattle.ftd_setup.specs.Versions.{IsNew, Opening, Opens}
+use Rattle.ftd_setup.specs.Versions.{IsNew, Opening, Opens, has_later}
 use Rattle.ftd_setup.specs.declared.opening.NotOpened.{NotOpened}
 use Rattle.ftd_machine.specs.State.{State, nothing}
 use Rattle.ftd_machine.specs.Sound.{IsSound}
-use Rattle.ftd_entries.specs.Standing.{StandsForFirst}
+use Rattle.ftd_entries.specs.Standing.{StandsForEarlier}
 use Rattle.ftd_entries.specs.Words.{IsKept}
 use Rattle.ftd_entries.proofs.Ends.{made_stands, migrated_kept}
 use Rattle.ftd_store.specs.Opened.{IsOver}
@@ -30,19 +31,31 @@ use Rattle.ftd_desk.specs.Desks.{store_of, Held, held, Rests, Keeps}
 use Rattle.ftd_desk.specs.Opened as opened
 use Rattle.ftd_desk.specs.declared.desk.Desk.{Desk}
 
--- no table has two versions
-one_version : (metas : List MetaRow) → HasVersion metas 1 → HasVersion metas 2 → ⊥
-one_version metas first second =
-    let tags : tag_row 1 ≡ tag_row 2 = cc in
-    let versions : pos 1 ≡ pos 2 = ap (λ (mark : MetaRow). mark.version) tags in
+-- no table of an earlier version is one of version 3
+one_version : (metas : List MetaRow) (version : ℕ) → IsEarlier version → HasVersion metas version
+    → HasVersion metas 3 → ⊥
+one_version metas version (inl is) first second =
+    let earlier : HasVersion metas 1 = rw is at first in
+    let tags : tag_row 1 ≡ tag_row 3 = cc in
+    let versions : pos 1 ≡ pos 3 = ap (λ (mark : MetaRow). mark.version) tags in
     cc
+one_version metas version (inr is) first second =
+    let earlier : HasVersion metas 2 = rw is at first in
+    let tags : tag_row 2 ≡ tag_row 3 = cc in
+    let versions : pos 2 ≡ pos 3 = ap (λ (mark : MetaRow). mark.version) tags in
+    cc
+
+-- each earlier version has the table of the mark
+has_metas : (version : ℕ) → IsEarlier version → 1 ≤ version
+has_metas version (inl is) = omega arith
+has_metas version (inr is) = omega arith
 
 module _ (old new : database.State) (opened : Opening old new (Ok tt)) (clean : HasCleanDisk new)
   where
     -- the version that the database was opened by is that of its mark
     by_mark : (metas : List MetaRow)
         → Holds true old.now (name_of Metas) (table_of Metas) (cells_of Metas) metas
-        → Opens old new (HasVersion metas) (has_any later_names old.now.schema) (Ok tt)
+        → Opens old new (HasVersion metas) (has_later old.now.schema) (Ok tt)
     by_mark metas mark =
         opened.version metas (record {
           at = mark.at;
@@ -68,17 +81,20 @@ module _ (old new : database.State) (opened : Opening old new (Ok tt)) (clean : 
                 committed = shows.committed_is ∙ rests.committed ∙ sym shows.now_is;
               }
           | inr moved ↦
-              absurd (one_version (kept.tables Metas) moved.0 kept.stands_for.meta)
+              absurd (one_version (kept.tables Metas) moved.0 moved.1 moved.2
+              kept.stands_for.meta)
         ]
 
-    pub rests_migrated : (t : Tables) (s : State) → StandsAsFirst old.now t → StandsForFirst t s
-        → IsSound s → lacks_sequence old.now.schema ≡ false → Rests new s
-    rests_migrated t s stands stands_for sound counted =
-        elim (by_mark (t Metas) (stands Metas tt)) [
-          | inl same ↦ absurd (one_version (t Metas) stands_for.meta same.0)
+    pub rests_migrated : (version : ℕ) (t : Tables) (s : State) → IsEarlier version
+        → StandsAs version old.now t → StandsForEarlier version t s → IsSound s
+        → lacks_sequence old.now.schema ≡ false → Rests new s
+    rests_migrated version t s earlier stands stands_for sound counted =
+        elim (by_mark (t Metas) (stands Metas (has_metas version earlier))) [
+          | inl same ↦ absurd (one_version (t Metas) version earlier stands_for.meta same.0)
           | inr moved ↦ record {
-            kept = migrated_kept old.now new.now t s moved.2 stands stands_for sound counted;
-            committed = moved.3;
+            kept = migrated_kept old.now new.now version t s moved.4 earlier stands stands_for sound
+                counted;
+            committed = moved.5;
           }
         ]
 
@@ -98,8 +114,8 @@ desk_opens g old conn over desk opening is_over is_of keeps =
     record {
       new_database = λ clean none free. keeps_of nothing (rests_new old new opens clean none free);
       kept = λ clean s rests. keeps_of s (rests_kept old new opens clean s rests);
-      migrated = λ clean t s stands stands_for sound counted. keeps_of s
-          (rests_migrated old new opens clean t s stands stands_for sound counted);
+      migrated = λ clean version t s earlier stands stands_for sound counted. keeps_of s
+          (rests_migrated old new opens clean version t s earlier stands stands_for sound counted);
     }
 
 -- and where a desk stood for a state that rests in the database, the new one stands for it

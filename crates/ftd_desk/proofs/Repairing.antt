@@ -1,5 +1,5 @@
 -- What a request on a run makes of the rows, from its first call to its last.
-use Rattle.std.proofs.Common.{◌≡◌, ◌⊎◌, Bool, false, sym, ap, subst, arith, ℕ, List, Option, Result}
+use Rattle.std.proofs.Common.{◌≡◌, ◌⊎◌, Bool, true, false, sym, ap, subst, arith, ℕ, List, Option, Result}
 use Rattle.std.proofs.Common.{Ok, Err, inl, inr}
 use Rattle.std.proofs.lemmas.Bool.{true≢false}
 use Rattle.sqlite.specs.Effect.{Database}
@@ -23,8 +23,11 @@ use Rattle.ftd_machine.specs.declared.requests.Request.{Request}
 use Rattle.ftd_machine.specs.declared.requests.Request.TheVariants.{Enrol, Calendar, AddHoliday}
 use Rattle.ftd_machine.specs.declared.requests.Request.TheVariants.{Report, ReportYear, OpenYear}
 use Rattle.ftd_machine.specs.declared.requests.Request.TheVariants.{Post, Void, Pay, VoidPay}
+use Rattle.ftd_machine.specs.declared.requests.Request.TheVariants.{CorrectReport, CorrectReportYear}
+use Rattle.ftd_machine.specs.declared.requests.Request.TheVariants.{ChangeHoliday, CorrectAccount}
 use Rattle.ftd_machine.specs.declared.requests.Request.TheVariants.{Question}
 use Rattle.ftd_posting.specs.Repaired.{PostsRun, VoidsRun, Becoming, Repairs}
+use Rattle.ftd_posting.specs.Repaired.{CorrectsQuarter, CorrectsYear}
 use Rattle.ftd_desk.specs.Counted.{Knows}
 use Rattle.ftd_desk.specs.Words.{RepairsRows}
 use Rattle.ftd_desk.specs.declared.listed.Answered.{Answered}
@@ -33,15 +36,16 @@ use Rattle.ftd_desk.specs.declared.requests.Served.{Served}
 -- the request is on no run, and adds no payment
 abbrev pub Others : Request → Type 0
 Others request =
-    ((name : List ℕ) × (start : ℕ) × (carried : Bool) × (form : Form)
-    × (request ≡ Enrol name start carried form))
+    ((name : List ℕ) × (start : ℕ) × (carried : Bool) × (form : Form) × (request ≡ Enrol name start carried form))
     ⊎ (((year : ℕ) × (days : List ℕ) × (request ≡ Calendar year days))
     ⊎ (((day : ℕ) × (request ≡ AddHoliday day))
     ⊎ (((name : List ℕ) × (quarter : ℕ) × (cents : Cents) × (request ≡ Report name quarter cents))
     ⊎ (((name : List ℕ) × (year : ℕ) × (cents : Cents) × (request ≡ ReportYear name year cents))
     ⊎ (((name : List ℕ) × (year : ℕ) × (request ≡ OpenYear name year))
     ⊎ (((name : List ℕ) × (number : ℕ) × (request ≡ VoidPay name number))
-    ⊎ ((question : Questions) × (request ≡ Question question))))))))
+    ⊎ (((day : ℕ) × (number : ℕ) × (is_holiday : Bool) × (request ≡ ChangeHoliday day number is_holiday))
+    ⊎ (((name : List ℕ) × (number : ℕ) × (start : ℕ) × (carried : Bool) × (request ≡ CorrectAccount name number start carried))
+    ⊎ ((question : Questions) × (request ≡ Question question))))))))))
 
 pub others_add_none : (request : Request) → Others request → adds_entry request ≡ false
 unfolding adds_entry
@@ -52,7 +56,9 @@ others_add_none request (inr (inr (inr (inl is)))) = ap adds_entry is.3
 others_add_none request (inr (inr (inr (inr (inl is))))) = ap adds_entry is.3
 others_add_none request (inr (inr (inr (inr (inr (inl is)))))) = ap adds_entry is.2
 others_add_none request (inr (inr (inr (inr (inr (inr (inl is))))))) = ap adds_entry is.2
-others_add_none request (inr (inr (inr (inr (inr (inr (inr is))))))) = ap adds_entry is.1
+others_add_none request (inr (inr (inr (inr (inr (inr (inr (inl is)))))))) = ap adds_entry is.3
+others_add_none request (inr (inr (inr (inr (inr (inr (inr (inr (inl is))))))))) = ap adds_entry is.4
+others_add_none request (inr (inr (inr (inr (inr (inr (inr (inr (inr is))))))))) = ap adds_entry is.1
 
 pub others_on_none : (request : Request) → Others request → is_on_run request ≡ false
 unfolding is_on_run
@@ -63,7 +69,28 @@ others_on_none request (inr (inr (inr (inl is)))) = ap is_on_run is.3
 others_on_none request (inr (inr (inr (inr (inl is))))) = ap is_on_run is.3
 others_on_none request (inr (inr (inr (inr (inr (inl is)))))) = ap is_on_run is.2
 others_on_none request (inr (inr (inr (inr (inr (inr (inl is))))))) = ap is_on_run is.2
-others_on_none request (inr (inr (inr (inr (inr (inr (inr is))))))) = ap is_on_run is.1
+others_on_none request (inr (inr (inr (inr (inr (inr (inr (inl is)))))))) = ap is_on_run is.3
+others_on_none request (inr (inr (inr (inr (inr (inr (inr (inr (inl is))))))))) = ap is_on_run is.4
+others_on_none request (inr (inr (inr (inr (inr (inr (inr (inr (inr is))))))))) = ap is_on_run is.1
+
+-- the request repairs rows, and adds no run
+abbrev pub RepairsOnly : Request → Type 0
+RepairsOnly request =
+    ((name : List ℕ) × (number : ℕ) × (request ≡ Void name number))
+    ⊎ (((name : List ℕ) × (quarter : ℕ) × (number : ℕ) × (cents : Cents) × (request ≡ CorrectReport name quarter number cents))
+    ⊎ ((name : List ℕ) × (year : ℕ) × (number : ℕ) × (cents : Cents) × (request ≡ CorrectReportYear name year number cents)))
+
+pub repair_adds_none : (request : Request) → RepairsOnly request → adds_entry request ≡ false
+unfolding adds_entry
+repair_adds_none request (inl is) = ap adds_entry is.2
+repair_adds_none request (inr (inl is)) = ap adds_entry is.4
+repair_adds_none request (inr (inr is)) = ap adds_entry is.4
+
+pub repair_on_run : (request : Request) → RepairsOnly request → is_on_run request ≡ true
+unfolding is_on_run
+repair_on_run request (inl is) = ap is_on_run is.2
+repair_on_run request (inr (inl is)) = ap is_on_run is.4
+repair_on_run request (inr (inr is)) = ap is_on_run is.4
 
 -- nothing is said of a request that is on no run
 pub repairs_none : (request : Request) (answer : Answer) (before after : Database) (t : Tables)
@@ -80,6 +107,12 @@ repairs_none (Post name number payday fit ss medicare) answer before after t oth
 repairs_none (Void name number) answer before after t other = absurd (true≢false other)
 repairs_none (Pay name number paid for_day cents) answer before after t other = tt
 repairs_none (VoidPay name number) answer before after t other = tt
+repairs_none (CorrectReport name quarter number cents) answer before after t other =
+    absurd (true≢false other)
+repairs_none (CorrectReportYear name year number cents) answer before after t other =
+    absurd (true≢false other)
+repairs_none (ChangeHoliday day number is_holiday) answer before after t other = tt
+repairs_none (CorrectAccount name number start carried) answer before after t other = tt
 repairs_none (Question question) answer before after t other = tt
 
 pub pays_no_run : (request : Request) (name : List ℕ) (number paid for_day : ℕ) (cents : Cents)
@@ -91,6 +124,11 @@ pays_no_run request name number paid for_day cents is = ap is_on_run is
 abbrev pub Told : (Answer → Database → Database → Tables → Type 0) → Served → database.State
     → database.State → Tables → Type 0
 Told Does served before after = Does served.answer before.now after.now
+
+-- so where the answer alone is told
+abbrev pub Repaired : (Answer → Database → Database → Tables → Type 0) → Answer → database.State
+    → database.State → Tables → Type 0
+Repaired Does answer before after = Does answer before.now after.now
 
 module _ {S : Type 0} (g : store.Ghosts S) where
   -- of a call on no run
@@ -125,13 +163,31 @@ module _ {S : Type 0} (g : store.Ghosts S) where
   post_repairs old new result request name number run is c =
       subst (λ r. Calls g old new result (Told (Repairs r))) (sym is) c
 
-  pub void_repairs : (old new : Tx S) (result : Result Served StoreFault) (request : Request)
+  pub void_repairs : (old new : Tx S) (result : Result Answer StoreFault) (request : Request)
       (name : List ℕ) (number : ℕ) → request ≡ Void name number
-      → Calls g old new result (Told (Becoming (VoidsRun name number)))
-      → Calls g old new result (Told (Repairs request))
+      → Calls g old new result (Repaired (Becoming (VoidsRun name number)))
+      → Calls g old new result (Repaired (Repairs request))
   unfolding Repairs
   void_repairs old new result request name number is c =
-      subst (λ r. Calls g old new result (Told (Repairs r))) (sym is) c
+      subst (λ r. Calls g old new result (Repaired (Repairs r))) (sym is) c
+
+  pub quarter_repairs : (old new : Tx S) (result : Result Answer StoreFault) (request : Request)
+      (name : List ℕ) (quarter number : ℕ) (cents : Cents)
+      → request ≡ CorrectReport name quarter number cents
+      → Calls g old new result (Repaired (Becoming (CorrectsQuarter name quarter number cents)))
+      → Calls g old new result (Repaired (Repairs request))
+  unfolding Repairs
+  quarter_repairs old new result request name quarter number cents is c =
+      subst (λ r. Calls g old new result (Repaired (Repairs r))) (sym is) c
+
+  pub year_repairs : (old new : Tx S) (result : Result Answer StoreFault) (request : Request)
+      (name : List ℕ) (year number : ℕ) (cents : Cents)
+      → request ≡ CorrectReportYear name year number cents
+      → Calls g old new result (Repaired (Becoming (CorrectsYear name year number cents)))
+      → Calls g old new result (Repaired (Repairs request))
+  unfolding Repairs
+  year_repairs old new result request name year number cents is c =
+      subst (λ r. Calls g old new result (Repaired (Repairs r))) (sym is) c
 
   -- the counts beside the answer change nothing of it
   pub answer_repairs : (old new : Tx S) (answer : Answer) (served : Served) (Does : Answer

@@ -1,11 +1,10 @@
 -- What a due list shows of the rows of the tables, from its first call to its last.
-use Rattle.std.proofs.Common.{◌≡◌, ℕ, true, false, sym, subst, arith, List, Option, None, Some}
-use Rattle.std.proofs.Common.{Result, Ok, Err}
+use Rattle.std.proofs.Common.{◌≡◌, ℕ, true, sym, subst, arith, List, Option, None, Some}
+use Rattle.std.proofs.Common.{Ok, Err}
 use Rattle.std.proofs.lemmas.Bool.{true≢false}
 use Rattle.sqlite.specs.Store as store
 use Rattle.sqlite.specs.State as database
 use Rattle.sqlite.specs.State.{HasCleanDisk}
-use Rattle.ftd_rows.specs.declared.faults.StoreFault.{StoreFault}
 use Rattle.ftd_schema.specs.Standing.{Tables, Stands}
 use Rattle.ftd_schema.specs.States.{CrashKeeps}
 use Rattle.ftd_store.specs.declared.tx.Tx.{Tx}
@@ -15,7 +14,7 @@ use Rattle.ftd_store.specs.Frame.{Calls}
 use Rattle.ftd_store.proofs.Going.{goes_on}
 use Rattle.ftd_machine.specs.Checks.{Answer}
 use Rattle.ftd_machine.specs.Laws.{is_change}
-use Rattle.ftd_machine.specs.Questions.{question_of, due_list_of}
+use Rattle.ftd_machine.specs.Questions.{due_list_of}
 use Rattle.ftd_machine.specs.declared.replies.Refusal.{Refusal}
 use Rattle.ftd_machine.specs.declared.requests.Question.{Question}
 use Rattle.ftd_machine.specs.declared.requests.Request.{Request}

@@ -1,5 +1,5 @@
 -- Requests that are answered in a transaction which is dropped.
-use Rattle.std.proofs.Common.{◌≡◌, subst, refl, inr, IsTrue, Ok, Err, List, []}
+use Rattle.std.proofs.Common.{subst, refl, inr, IsTrue, Ok, Err, List, []}
 use Rattle.std.proofs.lemmas.List.Elements.{All-nil}
 use Rattle.sqlite.specs.State as database
 use Rattle.sqlite.specs.State.{HasCleanDisk, KeepsCommit}
@@ -19,7 +19,7 @@ use Rattle.ftd_desk.specs.Telling.{StandsAsBefore}
 use Rattle.ftd_desk.specs.Trials.{Tries}
 use Rattle.ftd_desk.specs.Words.{AreSteps, HandlesTogether}
 use Rattle.ftd_desk.specs.declared.known.Known.{Known}
-use Rattle.ftd_desk.proofs.Handled.{IsRefusedBy, together_dropped, together_none, together_still}
+use Rattle.ftd_desk.proofs.Handled.{IsRefusedBy, together_dropped, together_still}
 use Rattle.ftd_desk.proofs.Handled.{together_unbegun}
 use Rattle.ftd_desk.proofs.Handling.{clean_at, crash_still, kept_at, was_open}
 

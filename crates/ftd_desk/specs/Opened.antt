@@ -1,19 +1,20 @@
 -- For which state a desk stands that was opened over a database.
-use Rattle.std.specs.Prelude.{◌≡◌, false, Result, Ok, Err}
+use Rattle.std.specs.Prelude.{◌≡◌, ℕ, false, Result, Ok, Err}
 use Rattle.sqlite.specs.Does.{lacks_sequence}
 use Rattle.sqlite.specs.Held as connection
 use Rattle.sqlite.specs.State as database
 use Rattle.sqlite.specs.State.{HasCleanDisk}
 use Rattle.sqlite.specs.Store as store
 use Rattle.ftd_schema.specs.Making.{IsFree}
-use Rattle.ftd_schema.specs.Standing.{Tables, StandsAsFirst}
+use Rattle.ftd_schema.specs.Beginnings.{IsEarlier}
+use Rattle.ftd_schema.specs.Standing.{Tables, StandsAs}
 use Rattle.ftd_setup.specs.Versions.{IsNew}
 use Rattle.ftd_setup.specs.declared.opening.NotOpened.{NotOpened}
 use Rattle.ftd_setup.specs.declared.opening.OpenFault.{OpenFault}
 use Rattle.ftd_store.specs.Seen.{seen}
 use Rattle.ftd_machine.specs.State.{State, nothing}
 use Rattle.ftd_machine.specs.Sound.{IsSound}
-use Rattle.ftd_entries.specs.Standing.{StandsForFirst}
+use Rattle.ftd_entries.specs.Standing.{StandsForEarlier}
 use Rattle.ftd_desk.specs.Desks.{Held, Rests, Keeps}
 use Rattle.ftd_desk.specs.declared.desk.Desk.{Desk}
 
@@ -25,13 +26,14 @@ Ended g (Err e) P = P (connection.state g e.connection) (Err e.fault)
 
 -- the desk that was opened over the database stands for what its tables stood for
 pub record Opens (old : database.State) (new : Held) : Type 0 where
-  -- a new database, in which none of the twelve names is taken and the tables can be made: nothing
+  -- a new database, in which none of the sixteen names is taken and the tables can be made: nothing
   -- was entered
   pub new_database : HasCleanDisk new.db → IsNew old.now.schema → IsFree old.now.schema
       → Keeps new nothing
-  -- one of version 2, in which a state rests: that state
+  -- one of version 3, in which a state rests: that state
   pub kept : HasCleanDisk new.db → (s : State) → Rests old s → Keeps new s
-  -- one of version 1, whose nine tables stand for a sound state: that state. The last premise
-  -- leaves out databases that count rows (AUTOINCREMENT) and have lost the table of counts.
-  pub migrated : HasCleanDisk new.db → (t : Tables) (s : State) → StandsAsFirst old.now t
-      → StandsForFirst t s → IsSound s → lacks_sequence old.now.schema ≡ false → Keeps new s
+  -- one of version 1 or 2, whose tables stand for a sound state: that state. The last premise leaves
+  -- out databases that count rows (AUTOINCREMENT) and have lost the table of counts.
+  pub migrated : HasCleanDisk new.db → (version : ℕ) (t : Tables) (s : State) → IsEarlier version
+      → StandsAs version old.now t → StandsForEarlier version t s → IsSound s
+      → lacks_sequence old.now.schema ≡ false → Keeps new s

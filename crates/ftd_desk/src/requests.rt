@@ -1,12 +1,12 @@
 //! Each request goes to its function.
 
-ghost use Rattle.std.specs.Prelude.{◌≡◌, false, IfSome};
+ghost use Rattle.std.specs.Prelude.{◌≡◌, true, false, IfSome};
 ghost use Rattle.ftd_store.specs.Finds.{CountsRuns, CountsPayments};
 ghost use Rattle.ftd_store.specs.Frame.{Calls};
 ghost use Rattle.ftd_machine.specs.Laws.{adds_entry, is_on_run};
 ghost use Rattle.ftd_machine.specs.declared.requests.Request.TheVariants.{Post, Void, Pay};
 ghost use Rattle.ftd_entries.specs.Words.{Serves};
-ghost use Rattle.ftd_posting.specs.Repaired.{Becoming, PostsRun, VoidsRun, Repairs};
+ghost use Rattle.ftd_posting.specs.Repaired.{Becoming, PostsRun, Repairs};
 ghost use Rattle.ftd_desk.specs.Counted.{Knows, ServesCounted};
 ghost use Rattle.ftd_desk.specs.Kept.{kept_of};
 ghost use Rattle.ftd_desk.specs.Shown.{ShowsFor};
@@ -14,10 +14,12 @@ ghost use Rattle.ftd_desk.specs.Shown.{ShowsFor};
 use crate::counts::Counts;
 use crate::kept::Kept;
 use ftd_days::{Cents, Day};
-use ftd_entries::{enrol, open_year, pay, report, report_year, take_calendar, void_payment};
-use ftd_holidays::add_holiday;
-use ftd_machine::{Account, Answer, Request};
-use ftd_posting::{post, void};
+use ftd_entries::{
+    correct_account, enrol, open_year, pay, report, report_year, take_calendar, void_payment,
+};
+use ftd_holidays::{add_holiday, change_holiday};
+use ftd_machine::{Account, Answer, Beginning, Request};
+use ftd_posting::{correct_report, correct_report_year, post, void};
 use ftd_questions::ask;
 use ftd_rules::{PayRun, Payment};
 use ftd_store::{StoreFault, Tx};
@@ -89,6 +91,10 @@ pub(crate) fn posting_of(request: &Request) -> Option<Posting<'_>>
         | Request::Void { .. }
         | Request::Pay { .. }
         | Request::VoidPay { .. }
+        | Request::CorrectReport { .. }
+        | Request::CorrectReportYear { .. }
+        | Request::ChangeHoliday { .. }
+        | Request::CorrectAccount { .. }
         | Request::Question(_) => None,
     }
 }
@@ -128,10 +134,11 @@ pub(crate) fn serve<S: Alter>(
             let content = payment_of(*paid, *for_day, *cents);
             serve_pay(tx, alloc, counts, account.as_str(), *payment, content)
         }
-        Request::Void { account, run } => {
-            let answer = void(tx, alloc, account.as_str(), *run)?;
-            Ok(Served { answer, counts })
-        }
+        Request::Void { .. } | Request::CorrectReport { .. } | Request::CorrectReportYear { .. } =>
+            {
+                let answer = serve_repair(tx, alloc, request)?;
+                Ok(Served { answer, counts })
+            }
         Request::Enrol { .. }
         | Request::Calendar { .. }
         | Request::AddHoliday { .. }
@@ -139,6 +146,8 @@ pub(crate) fn serve<S: Alter>(
         | Request::ReportYear { .. }
         | Request::OpenYear { .. }
         | Request::VoidPay { .. }
+        | Request::ChangeHoliday { .. }
+        | Request::CorrectAccount { .. }
         | Request::Question(_) => {
             let answer = serve_entry(tx, alloc, request)?;
             Ok(Served { answer, counts })
@@ -214,6 +223,50 @@ fn count_payments<S: Alter>(
     }
 }
 
+/// Answers a request by which rows are repaired, and which adds no run.
+#[tactic(auto, unfolding(ftd_machine::specs::Laws::adds_entry, ftd_machine::specs::Laws::is_on_run))]
+fn serve_repair<S: Alter>(
+    tx: &mut Tx<'_, S>,
+    alloc: Global,
+    request: &Request,
+) -> Result<Answer, StoreFault>
+    requires adds_none { adds_entry request.now ≡ false }
+    requires on_run { is_on_run request.now ≡ true }
+    ensures call { Calls S.Store tx.old tx.new result (Serves request.now) }
+    ensures repairs { Calls S.Store tx.old tx.new result (λ answer before after.
+        Repairs request.now answer before.now after.now) }
+    ensures shows { Calls S.Store tx.old tx.new result (λ answer before after t.
+        ShowsFor request.now answer t) }
+{
+    match request {
+        Request::Void { account, run } => void(tx, alloc, account.as_str(), *run),
+        Request::CorrectReport {
+            account,
+            quarter,
+            number,
+            cents,
+        } => correct_report(tx, alloc, account.as_str(), *quarter, *number, *cents),
+        Request::CorrectReportYear {
+            account,
+            year,
+            number,
+            cents,
+        } => correct_report_year(tx, alloc, account.as_str(), *year, *number, *cents),
+        Request::Enrol { .. }
+        | Request::Calendar { .. }
+        | Request::AddHoliday { .. }
+        | Request::Report { .. }
+        | Request::ReportYear { .. }
+        | Request::OpenYear { .. }
+        | Request::Post { .. }
+        | Request::Pay { .. }
+        | Request::VoidPay { .. }
+        | Request::ChangeHoliday { .. }
+        | Request::CorrectAccount { .. }
+        | Request::Question(_) => unreachable!(),
+    }
+}
+
 /// Answers a request that is on no run, and adds no payment.
 #[tactic(auto, unfolding(ftd_machine::specs::Laws::adds_entry, ftd_machine::specs::Laws::is_on_run))]
 fn serve_entry<S: Alter>(
@@ -247,15 +300,41 @@ fn serve_entry<S: Alter>(
             account,
             quarter,
             cents,
-        } => report(tx, account.as_str(), *quarter, *cents),
+        } => report(tx, alloc, account.as_str(), *quarter, *cents),
         Request::ReportYear {
             account,
             year,
             cents,
-        } => report_year(tx, account.as_str(), *year, *cents),
+        } => report_year(tx, alloc, account.as_str(), *year, *cents),
         Request::OpenYear { account, year } => open_year(tx, alloc, account.as_str(), *year),
-        Request::VoidPay { account, payment } => void_payment(tx, account.as_str(), *payment),
+        Request::VoidPay { account, payment } => void_payment(
+            tx,
+            alloc,
+            account.as_str(),
+            *payment,
+        ),
+        Request::ChangeHoliday {
+            day,
+            number,
+            is_holiday,
+        } => change_holiday(tx, alloc, *day, *number, *is_holiday),
+        Request::CorrectAccount {
+            account,
+            number,
+            start,
+            carried,
+        } => {
+            let beginning = Beginning {
+                start: *start,
+                carried: *carried,
+            };
+            correct_account(tx, alloc, account.as_str(), *number, beginning)
+        }
         Request::Question(question) => ask(tx, alloc, question),
-        Request::Post { .. } | Request::Void { .. } | Request::Pay { .. } => unreachable!(),
+        Request::Post { .. }
+        | Request::Void { .. }
+        | Request::Pay { .. }
+        | Request::CorrectReport { .. }
+        | Request::CorrectReportYear { .. } => unreachable!(),
     }
 }

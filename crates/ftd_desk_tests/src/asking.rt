@@ -31,7 +31,8 @@ pub(crate) fn ask<S: Alter>(
 ) -> Result<String, Fail> {
     let task = task(alloc, command)?;
     let (out, err) = (Port::new(Vec::new(alloc)), Port::new(Vec::new(alloc)));
-    let done = perform(alloc, &task, desk, b"", out, err, &mut Quiet);
+    let LocalTask { db, job, .. } = task;
+    let done = perform(alloc, &db, job, desk, b"", out, err, &mut Quiet);
     let mut printed = done.out.into_inner();
     printed.extend_from_slice(done.err.into_inner().as_slice())?;
     let text = str::from_utf8(printed.as_slice()).unwrap_or("no text");

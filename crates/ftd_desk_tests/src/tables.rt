@@ -1,9 +1,10 @@
-//! Tables of version 1, and rows that are no values of their types.
+//! Tables of versions 1 and 2, and rows that are no values of their types.
 
 use crate::asking::{answers, ask};
 use crate::changed::changed;
 use crate::desks::{ASH, are_done, desk, desk_over};
-use sqlite::Connection;
+use ftd_desk::Desk;
+use sqlite::{Alter, Connection};
 use std::alloc::Global;
 use std::process::Abort;
 use std::test::Fail;
@@ -31,32 +32,70 @@ INSERT INTO run VALUES ('elm', 1, 19851, 50000, 24800, 5800, 0);
 INSERT INTO payment VALUES ('elm', 1, 19891, 19851, 80600, 0);
 INSERT INTO bucket VALUES ('elm', 19844, 19874, 0, 80600, 19891)";
 
+/// The three tables that came with version 2, as its statements made them.
+const SECOND_TABLES: &str =
+    "CREATE TABLE account_form (account TEXT NOT NULL PRIMARY KEY REFERENCES account(name), form INTEGER NOT NULL) STRICT;
+CREATE TABLE reported_year (account TEXT NOT NULL REFERENCES account(name), cal_year INTEGER NOT NULL, cents INTEGER NOT NULL, PRIMARY KEY (account, cal_year)) STRICT;
+CREATE TABLE added_holiday (day INT NOT NULL PRIMARY KEY, cal_year INTEGER NOT NULL REFERENCES calendar_year(cal_year)) STRICT";
+
+/// What an office kept in version 2: the rows above, and a holiday that was added.
+const SECOND_ROWS: &str = "UPDATE ftd_meta SET version = 2;
+INSERT INTO account_form VALUES ('elm', 0);
+INSERT INTO added_holiday VALUES (19919, 2024)";
+
+/// Elm's due list, which each version keeps.
+const DUE: &str = "DUE LIST elm 2024Q2 AS OF 2024-07-01\n\
+2024-05-01 2024-05-31 monthly               806.00 2024-06-17 2024-07-31            806.00 met\n\
+TOTAL                                       806.00";
+
+/// Why no total of a year is taken of elm, or corrected.
+const NO_YEARS: &str = "refused 23 WrongForm\n\
+                        hint: the account is on Form 941: ftd report takes its totals";
+
+/// Asks the desk what elm kept, whose due list stays.
+fn keeps_elm<S: Alter>(rt: &impl Abort, alloc: Global, desk: &mut Desk<S>) -> Result<(), Fail> {
+    answers(
+        rt,
+        alloc,
+        desk,
+        &[
+            ("report elm 2023Q1 12500.00", "already"),
+            ("post elm 1 2024-05-08 500.00 248.00 58.00", "already"),
+            ("due elm 2024Q2 2024-07-01", DUE),
+            ("report-year elm 2023 1.00", NO_YEARS),
+            ("reported elm", "REPORTED elm\n2023Q1          12500.00"),
+        ],
+    )
+}
+
 #[test]
-fn version_one_becomes_version_two(rt: HostRuntime) -> Result<(), Fail> {
+fn version_one_becomes_version_three(rt: HostRuntime) -> Result<(), Fail> {
     let alloc = rt.alloc();
     let mut first = Connection::open_in_memory(alloc)?;
     first.execute_batch(FIRST_TABLES)?;
     first.execute_batch(FIRST_ROWS)?;
     let mut desk = desk_over(alloc, first)?;
+    keeps_elm(&rt, alloc, &mut desk)
+}
+
+#[test]
+fn version_two_becomes_version_three(rt: HostRuntime) -> Result<(), Fail> {
+    let alloc = rt.alloc();
+    let mut second = Connection::open_in_memory(alloc)?;
+    second.execute_batch(FIRST_TABLES)?;
+    second.execute_batch(SECOND_TABLES)?;
+    second.execute_batch(FIRST_ROWS)?;
+    second.execute_batch(SECOND_ROWS)?;
+    let mut desk = desk_over(alloc, second)?;
+    keeps_elm(&rt, alloc, &mut desk)?;
     answers(
         &rt,
         alloc,
         &mut desk,
-        &[
-            ("report elm 2023Q1 12500.00", "already"),
-            ("post elm 1 2024-05-08 500.00 248.00 58.00", "already"),
-            (
-                "due elm 2024Q2 2024-07-01",
-                "DUE LIST elm 2024Q2 AS OF 2024-07-01\n\
-2024-05-01 2024-05-31 monthly               806.00 2024-06-17 2024-07-31            806.00 met\n\
-TOTAL                                       806.00",
-            ),
-            (
-                "report-year elm 2023 1.00",
-                "refused 23 WrongForm\n\
-                 hint: the account is on Form 941: ftd report takes its totals",
-            ),
-        ],
+        &[(
+            "holidays 2024",
+            "HOLIDAYS 2024\n2024-01-01\n2024-07-15 added",
+        )],
     )
 }
 

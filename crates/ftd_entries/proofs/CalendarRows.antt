@@ -32,7 +32,7 @@ use Rattle.ftd_machine.specs.Sound.{IsSound, AreDistinct, year_of_calendar}
 use Rattle.ftd_machine.proofs.Keeping.{same_key}
 use Rattle.ftd_machine.proofs.Keeping.{is_year}
 use Rattle.ftd_machine.proofs.Members.{has_mapped}
-use Rattle.ftd_entries.specs.Standing.{StandsFor, calendar_entry, holiday_entries}
+use Rattle.ftd_entries.specs.Standing.{StandsFor, KeepsDays, calendar_entry, holiday_entries}
 
 -- ---- years as cells
 
@@ -243,18 +243,27 @@ calendar_rises s sound c has =
 abbrev pub days_found : {A : Type 0} → Vec ℕ A → List ℕ
 days_found days = days.items
 
+-- the rows of the days of a state for which the tables stand
+pub days_stand : (t : Tables) (s : State) → StandsFor t s → KeepsDays t s
+days_stand t s stands = record {
+  calendars = stands.calendars;
+  calendar_days = stands.calendar_days;
+  added_days = stands.added_days;
+  changed_days = stands.changed_days;
+}
+
 -- the calendar that was found is the one that the state keeps
-pub calendar_known : {A : Type 0} (year : ℕ) (found : Option (Vec ℕ A)) (t : Tables) (s : State)
-    → StandsFor t s → IsSound s → FindsCalendar year found t
+pub calendar_kept : {A : Type 0} (year : ℕ) (found : Option (Vec ℕ A)) (t : Tables) (s : State)
+    → KeepsDays t s → IsSound s → FindsCalendar year found t
     → calendar_at s year ≡ option_map days_found found
-calendar_known year None t s stands sound finds = absent year s.calendars
-    (ap (filter (is_calendar_year (pos year))) (sym stands.calendars) ∙ finds)
-calendar_known {A = A} year (Some days) t s stands sound finds =
+calendar_kept year None t s keeps sound finds = absent year s.calendars
+    (ap (filter (is_calendar_year (pos year))) (sym keeps.calendars) ∙ finds)
+calendar_kept {A = A} year (Some days) t s keeps sound finds =
     step (find (is_year year) s.calendars) refl
   where
     rows : filter (is_holiday_of (pos year)) (t Holidays) ≡ days_rows year
         (option_map days_of (find (is_year year) s.calendars))
-    rows = ap (filter (is_holiday_of (pos year))) stands.calendar_days
+    rows = ap (filter (is_holiday_of (pos year))) keeps.calendar_days
         ∙ year_holidays year s.calendars sound.calendars
 
     step : (o : Option YearDays) → find (is_year year) s.calendars ≡ o
@@ -262,7 +271,7 @@ calendar_known {A = A} year (Some days) t s stands sound finds =
     step None is =
         absurd (true≢false
         (sym (present year s.calendars (calendar_year_row year)
-        (ap (filter (is_calendar_year (pos year))) (sym stands.calendars) ∙ finds.0))
+        (ap (filter (is_calendar_year (pos year))) (sym keeps.calendars) ∙ finds.0))
         ∙ ap is_some is))
     step (Some c) is =
         let its : filter (is_holiday_of (pos year)) (t Holidays) ≡ map (holiday_row year) c.days =
@@ -272,3 +281,9 @@ calendar_known {A = A} year (Some days) t s stands sound finds =
         ap Some (sym
         (days_listed year c.days days.items
         (calendar_rises s sound c (found_in (is_year year) s.calendars c is)) listed))
+
+pub calendar_known : {A : Type 0} (year : ℕ) (found : Option (Vec ℕ A)) (t : Tables) (s : State)
+    → StandsFor t s → IsSound s → FindsCalendar year found t
+    → calendar_at s year ≡ option_map days_found found
+calendar_known year found t s stands sound finds =
+    calendar_kept year found t s (days_stand t s stands) sound finds

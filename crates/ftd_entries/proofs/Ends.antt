@@ -1,5 +1,5 @@
 -- New tables stand for nothing, and migrated ones for what those of version 1 stood for.
-use Rattle.std.proofs.Common.{◌≡◌, ◌∙◌, refl, sym, ap, subst, inl, inr, List, [], ◌∷◌, map}
+use Rattle.std.proofs.Common.{◌≡◌, ◌∙◌, ℕ, refl, sym, ap, subst, inl, inr, List, [], ◌∷◌, map}
 use Rattle.std.proofs.Common.{arith, false}
 use Rattle.std.specs.Prelude.{IsPermutation}
 use Rattle.std.proofs.lemmas.List.Sorted.{IsPermutation-refl, IsPermutation-sym}
@@ -9,15 +9,23 @@ use Rattle.ftd_rules.specs.declared.Form.TheVariants.{F941}
 use Rattle.ftd_rules.specs.Lists.{Has}
 use Rattle.ftd_schema.specs.declared.TableName.TheVariants.{Accounts, ReportedQuarters}
 use Rattle.ftd_schema.specs.declared.TableName.TheVariants.{CalendarYears, Holidays, Years, Runs}
-use Rattle.ftd_schema.specs.declared.TableName.TheVariants.{Payments, Obligations, Forms}
+use Rattle.ftd_schema.specs.declared.TableName.{TableName}
+use Rattle.ftd_schema.specs.declared.TableName.TheVariants.{Metas, Payments, Obligations, Forms}
+use Rattle.ftd_schema.specs.declared.TableName.TheVariants.{ReportedYears, AddedHolidays}
+use Rattle.ftd_schema.specs.declared.TableName.TheVariants.{CorrectedQuarters, CorrectedYears}
+use Rattle.ftd_schema.specs.declared.TableName.TheVariants.{ChangedHolidays, CorrectedAccounts}
 use Rattle.ftd_schema.specs.Rows.{FormRow}
-use Rattle.ftd_schema.specs.Standing.{Tables, StandsAsFirst}
+use Rattle.ftd_schema.specs.Names.{since}
+use Rattle.ftd_schema.specs.Standing.{Tables, StandsAs}
 use Rattle.ftd_schema.specs.Beginnings.{new_tables, on_form_941, IsMade, IsMigration, IsMigrated}
+use Rattle.ftd_schema.specs.Beginnings.{IsEarlier}
 use Rattle.ftd_machine.specs.State.{State, nothing, Enrolled}
 use Rattle.ftd_machine.specs.Sound.{IsSound}
 use Rattle.ftd_machine.proofs.Soundness.{nothing_sound}
-use Rattle.ftd_entries.specs.Standing.{StandsFor, StandsForFirst, enrolled_row}
-use Rattle.ftd_entries.specs.Standing.{enrolled_form, year_entry, added_entry}
+use Rattle.ftd_entries.specs.Standing.{StandsFor, StandsForEarlier, enrolled_row}
+use Rattle.ftd_entries.specs.Standing.{enrolled_form, year_entry, added_entry, with_earlier}
+use Rattle.ftd_entries.specs.Standing.{correction_entry, year_correction_entry, change_entry}
+use Rattle.ftd_entries.specs.Standing.{account_correction_entry}
 use Rattle.ftd_entries.specs.Words.{IsKept}
 
 -- ---- new tables
@@ -34,6 +42,10 @@ nothing_stands = record {
   added_days = refl;
   runs = refl;
   payments = refl;
+  corrected = refl;
+  corrected_years = refl;
+  changed_days = refl;
+  moved = refl;
   settled = λ name. record {
     lines = [];
     are_lines = record {
@@ -73,45 +85,81 @@ forms_are (e ∷ es) on =
     let row : on_form_941 (enrolled_row e) ≡ enrolled_form e = rw form refl in
     rw (row, forms_are es (λ x has. on x (inr has))) refl
 
-pub migrated_stands : (first second : Tables) (s : State) → IsMigration first second
-    → StandsForFirst first s → StandsFor second s
-migrated_stands first second s moved stands = record {
-  meta = moved.version;
-  accounts = moved.others Accounts tt (λ e. absurd cc) ∙ stands.accounts;
-  forms =
-      let rows : map on_form_941 (first Accounts) ≡ map enrolled_form s.accounts =
-      ap (map on_form_941) stands.accounts ∙ forms_are s.accounts stands.on_form_941 in
-      IsPermutation-sym (map enrolled_form s.accounts) (second Forms)
-      (subst (λ (fs : List FormRow). IsPermutation fs (second Forms)) rows moved.forms);
-  reported = moved.others ReportedQuarters tt (λ e. absurd cc) ∙ stands.reported;
-  reported_years = moved.years ∙ sym (ap (map year_entry) stands.no_years);
-  calendars = moved.others CalendarYears tt (λ e. absurd cc) ∙ stands.calendars;
-  calendar_days = moved.others Holidays tt (λ e. absurd cc) ∙ stands.calendar_days;
-  added_days = moved.holidays ∙ sym (ap (map added_entry) stands.no_added);
-  runs = moved.others Runs tt (λ e. absurd cc) ∙ stands.runs;
-  payments = moved.others Payments tt (λ e. absurd cc) ∙ stands.payments;
-  settled = λ name.
-      let years : second Years ≡ first Years = moved.others Years tt (λ e. absurd cc) in
-      let owed : second Obligations ≡ first Obligations =
-      moved.others Obligations tt (λ e. absurd cc) in
-      let was = stands.settled name in
-      record {
-        lines = was.lines;
-        are_lines = was.are_lines;
-        owed = was.owed;
-        are_owed = was.are_owed;
-        line_rows = rw years was.line_rows;
-        owed_rows = rw owed was.owed_rows;
-      };
-}
+-- rows that came after the version
+module _ (version : ℕ) (before after : Tables) (moved : IsMigration version before after)
+    (earlier : IsEarlier version) where
+  was : (n : TableName) → since n ≡ 1 → (n ≡ Metas → ⊥) → after n ≡ before n
+  was n old other = moved.others n
+      (elim earlier [ inl is ↦ omega arith | inr is ↦ omega arith ]) other
 
-pub migrated_kept : (old new : Database) (first : Tables) (s : State) → IsMigrated old new
-    → StandsAsFirst old first → StandsForFirst first s → IsSound s
+  none : (n : TableName) → since n ≡ 3 → (n ≡ Forms → ⊥) → after n ≡ []
+  none n new other = moved.later n
+      (elim earlier [ inl is ↦ omega arith | inr is ↦ omega arith ]) other
+
+  pub migrated_stands : (s : State) → StandsForEarlier version before s → StandsFor after s
+  migrated_stands s stands = record {
+    meta = moved.mark;
+    accounts = was Accounts refl (λ e. absurd cc) ∙ stands.accounts;
+    forms = elim earlier [
+      | inl is ↦
+          (let rows : map on_form_941 (before Accounts) ≡ map enrolled_form s.accounts =
+          ap (map on_form_941) stands.accounts
+          ∙ forms_are s.accounts (stands.first is).on_form_941 in
+          IsPermutation-sym (map enrolled_form s.accounts) (after Forms)
+          (subst (λ (fs : List FormRow). IsPermutation fs (after Forms)) rows (moved.forms is)))
+      | inr is ↦
+          (let same : after Forms ≡ before Forms = moved.others Forms (omega arith)
+          (λ e. absurd cc) in
+          rw same (stands.second is).forms)
+    ];
+    reported = was ReportedQuarters refl (λ e. absurd cc) ∙ stands.reported;
+    reported_years = elim earlier [
+      | inl is ↦ moved.later ReportedYears (omega arith) (λ e. absurd cc)
+          ∙ sym (ap (map year_entry) (stands.first is).no_years)
+      | inr is ↦ moved.others ReportedYears (omega arith) (λ e. absurd cc)
+          ∙ (stands.second is).reported_years
+    ];
+    calendars = was CalendarYears refl (λ e. absurd cc) ∙ stands.calendars;
+    calendar_days = was Holidays refl (λ e. absurd cc) ∙ stands.calendar_days;
+    added_days = elim earlier [
+      | inl is ↦ moved.later AddedHolidays (omega arith) (λ e. absurd cc)
+          ∙ sym (ap (map added_entry) (stands.first is).no_added)
+      | inr is ↦ moved.others AddedHolidays (omega arith) (λ e. absurd cc)
+          ∙ (stands.second is).added_days
+    ];
+    runs = was Runs refl (λ e. absurd cc) ∙ stands.runs;
+    payments = was Payments refl (λ e. absurd cc) ∙ stands.payments;
+    corrected = none CorrectedQuarters refl (λ e. absurd cc)
+        ∙ sym (ap (λ xs. map correction_entry (with_earlier [] xs)) stands.no_corrected);
+    corrected_years = none CorrectedYears refl (λ e. absurd cc)
+        ∙ sym (ap (λ xs. map year_correction_entry (with_earlier [] xs)) stands.no_corrected_years);
+    changed_days = none ChangedHolidays refl (λ e. absurd cc)
+        ∙ sym (ap (λ xs. map change_entry (with_earlier [] xs)) stands.no_changed);
+    moved = none CorrectedAccounts refl (λ e. absurd cc)
+        ∙ sym (ap (λ xs. map account_correction_entry (with_earlier [] xs)) stands.no_moved);
+    settled = λ name.
+        let years : after Years ≡ before Years = was Years refl (λ e. absurd cc) in
+        let owed : after Obligations ≡ before Obligations =
+        was Obligations refl (λ e. absurd cc) in
+        let settled = stands.settled name in
+        record {
+          lines = settled.lines;
+          are_lines = settled.are_lines;
+          owed = settled.owed;
+          are_owed = settled.are_owed;
+          line_rows = rw years settled.line_rows;
+          owed_rows = rw owed settled.owed_rows;
+        };
+  }
+
+pub migrated_kept : (old new : Database) (version : ℕ) (before : Tables) (s : State)
+    → IsMigrated old new → IsEarlier version
+    → StandsAs version old before → StandsForEarlier version before s → IsSound s
     → lacks_sequence old.schema ≡ false → IsKept new s
-migrated_kept old new first s migrated stands_first stands sound lacks =
-    let second = (migrated first stands_first stands.meta lacks).0 in record {
-      tables = second.0;
-      stands = second.1;
-      stands_for = migrated_stands first second.0 s second.2 stands;
+migrated_kept old new version before s migrated earlier stands_as stands sound lacks =
+    let after = (migrated version earlier before stands_as stands.meta lacks).0 in record {
+      tables = after.0;
+      stands = after.1;
+      stands_for = migrated_stands version before after.0 after.2 earlier s stands;
       sound = sound;
     }

@@ -20,7 +20,8 @@ use Rattle.ftd_machine.specs.declared.entries.Account.{Account}
 use Rattle.ftd_machine.specs.declared.requests.Request.{Request}
 use Rattle.ftd_machine.specs.declared.requests.Request.TheVariants.{Enrol}
 use Rattle.ftd_machine.specs.declared.replies.Reply.TheVariants.{Done}
-use Rattle.ftd_machine.specs.State.{State, Enrolled, Entry, entries_of, is_of, holidays}
+use Rattle.ftd_machine.specs.State.{State, Enrolled, Entry, entries_of, is_of, holidays, moves_in}
+use Rattle.ftd_machine.specs.State.{account_in_force}
 use Rattle.ftd_machine.specs.History.{form_of, live_sums, year_of_line, year_of_entry, AreLinesOf}
 use Rattle.ftd_machine.specs.Checks.{Answer, first_of, Decides}
 use Rattle.ftd_machine.specs.Requests.{enrol_checks}
@@ -31,10 +32,10 @@ use Rattle.ftd_machine.proofs.Members.{has_filtered}
 use Rattle.ftd_machine.proofs.Others.{others}
 use Rattle.ftd_machine.proofs.Heads.{Gives, gives_new, skip_needs}
 use Rattle.ftd_entries.specs.Standing.{StandsFor, IsSettled, enrolled_row, enrolled_form}
-use Rattle.ftd_entries.specs.Known.{KnowsAccount, with_enrolled}
+use Rattle.ftd_entries.specs.Known.{KnowsEnrolled, with_enrolled}
 
 -- where no year is open, the form and the account make no difference to what is owed
-owed_none : (form other : Form) (sums others : List DaySum) (holidays : List ℕ)
+pub owed_none : (form other : Form) (sums others : List DaySum) (holidays : List ℕ)
     (rows : List Obligation) → AreObligations form [] sums holidays rows
     → AreObligations other [] others holidays rows
 owed_none form other sums others holidays rows are = record {
@@ -58,7 +59,7 @@ no_entry name s sound none = go (filter (is_of name) s.open_years) refl
         ∙ ap is_some none))
 
 -- the lines of an account with no open year are none
-lines_none : (lines : List YearLine) → map year_of_line lines ≡ [] → lines ≡ []
+pub lines_none : (lines : List YearLine) → map year_of_line lines ≡ [] → lines ≡ []
 lines_none [] e = refl
 lines_none (line ∷ lines) e = absurd cc
 
@@ -69,7 +70,7 @@ module _ (name : List ℕ) (account : Account) where
   -- a check decides
   pub enrol_decided : (known : Option Account) (answer : Answer)
       → first_of (enrol_checks name account known) ≡ Some answer
-      → (t : Tables) (s : State) → StandsFor t s → IsSound s → KnowsAccount name known t
+      → (t : Tables) (s : State) → StandsFor t s → IsSound s → KnowsEnrolled name known t
       → Step s Asked answer s
   enrol_decided known answer decided t s stands sound knows =
       subst (λ k. Decides (first_of (enrol_checks name account k)) s answer s
@@ -121,7 +122,7 @@ module _ (name : List ℕ) (account : Account) where
 
   -- all checks pass
   pub enrol_done : (known : Option Account) → first_of (enrol_checks name account known) ≡ None
-      → (t : Tables) (s : State) → StandsFor t s → IsSound s → KnowsAccount name known t
+      → (t : Tables) (s : State) → StandsFor t s → IsSound s → KnowsEnrolled name known t
       → (next : State) × Step s Asked (Ok Done) next × StandsFor (with_enrolled name account t) next
   enrol_done known passed t s stands sound knows =
       let answer : Answer = Ok Done in
@@ -133,7 +134,8 @@ module _ (name : List ℕ) (account : Account) where
       (sym passed) (refl, refl)) in
       let new : Gives (enrol_checks name account known) (known ≡ None) =
       skip_needs _ _ _ _ (skip_needs _ _ _ _ (gives_new _ _ _ _)) in
-      let none : (entries_of s name).account ≡ None = knows s stands ∙ new.fact passed in (
+      let none : (entries_of s name).account ≡ None =
+      ap (λ o. account_in_force o (moves_in s name)) (knows s stands ∙ new.fact passed) in (
         Next s,
         step,
         record {
@@ -151,6 +153,10 @@ module _ (name : List ℕ) (account : Account) where
           added_days = stands.added_days;
           runs = stands.runs;
           payments = stands.payments;
+          corrected = stands.corrected;
+          corrected_years = stands.corrected_years;
+          changed_days = stands.changed_days;
+          moved = stands.moved;
           settled = λ other. by_name t s sound none stands step other (bytes_eq name other) refl;
         },
       )

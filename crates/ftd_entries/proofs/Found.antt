@@ -18,7 +18,7 @@ use Rattle.ftd_machine.specs.declared.entries.Account.{Account}
 use Rattle.ftd_machine.specs.State.{Enrolled, is_named, account_of}
 use Rattle.ftd_entries.specs.Standing.{enrolled_row, enrolled_form}
 use Rattle.ftd_entries.proofs.Permuted.{one_filtered, at_most_one}
-use Rattle.ftd_entries.specs.Known.{KnowsAccount, HasForm, joined}
+use Rattle.ftd_entries.specs.Known.{KnowsEnrolled, HasForm, joined}
 
 pub day_is : (a b : ℕ) → day_number a ≡ day_number b → a ≡ b
 day_is a b h =
@@ -75,9 +75,10 @@ account_is name found form (x ∷ xs) h k = step (bytes_eq x.name name) found fo
         let kind : enrolled_form x ≡ form_row name f = cc in
         ap Some (same_account name x a f row kind)
 
-pub knows_account : (name : List ℕ) (found : Option StoredAccount) (form : Option Form) (t : Tables)
-    → FindsAccount name found t → FindsForm name form t → KnowsAccount name (joined found form) t
-knows_account name found form t account kind s stands =
+pub knows_enrolled : (name : List ℕ) (found : Option StoredAccount) (form : Option Form)
+    (t : Tables)
+    → FindsAccount name found t → FindsForm name form t → KnowsEnrolled name (joined found form) t
+knows_enrolled name found form t account kind s stands =
     account_is name found form s.accounts (ap (filter (is_account name)) (sym stands.accounts)
     ∙ account) (one_filtered (is_form_of name) (t Forms) (map enrolled_form s.accounts)
     (rows_of (form_row name) form) stands.forms (at_most_one (form_row name) form) kind)
@@ -91,3 +92,35 @@ has_form name (Some x) (Some f) t finds a is =
     let known : Account = record { start = x.start; carried = x.carried; form = f } in
     let same : f ≡ a.form = ap (λ (o : Option Account). (unwrap_or o known).form) is in
     subst (λ k. FindsForm name (Some k) t) same finds
+
+-- ---- without its form
+
+abbrev pub stored_of : Account → StoredAccount
+stored_of a = record { start = a.start; carried = a.carried }
+
+same_stored : (name : List ℕ) (x : Enrolled) (a : StoredAccount)
+    → enrolled_row x ≡ account_row name a → stored_of x.account ≡ a
+same_stored name x a row =
+    let start = day_is x.account.start a.start (ap (λ (r : AccountRow). r.start) row) in
+    let carried = flag_is x.account.carried a.carried (ap (λ (r : AccountRow). r.carried) row) in
+    λ i. record { start = start i; carried = carried i }
+
+pub stored_is : (name : List ℕ) (found : Option StoredAccount) (xs : List Enrolled)
+    → filter (is_account name) (map enrolled_row xs) ≡ rows_of (account_row name) found
+    → option_map stored_of (option_map account_of (find (is_named name) xs)) ≡ found
+stored_is name None [] h = refl
+stored_is name (Some a) [] h = absurd cc
+stored_is name found (x ∷ xs) h = step (bytes_eq x.name name) found (stored_is name found xs) h
+  where
+    step : (b : Bool) (found : Option StoredAccount)
+        → (filter (is_account name) (map enrolled_row xs) ≡ rows_of (account_row name) found
+        → option_map stored_of (option_map account_of (find (is_named name) xs)) ≡ found)
+        → (if b then enrolled_row x ∷ filter (is_account name) (map enrolled_row xs) else filter
+        (is_account name) (map enrolled_row xs)) ≡ rows_of (account_row name) found
+        → option_map stored_of (option_map account_of (if b then Some x else find (is_named name) xs))
+        ≡ found
+    step false found more h = more h
+    step true None more h = absurd cc
+    step true (Some a) more h =
+        let row : enrolled_row x ≡ account_row name a = cc in
+        ap Some (same_stored name x a row)

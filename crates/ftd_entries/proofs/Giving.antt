@@ -10,22 +10,25 @@ use Rattle.std.proofs.lemmas.Grind.{flat_map-append}
 use Rattle.ftd_days.specs.Calendar.{year_of}
 use Rattle.ftd_days.specs.Business.{is_holiday}
 use Rattle.ftd_days.specs.Holidays.{YearDays, holidays_of, AreFew}
+use Rattle.ftd_days.proofs.Among.{is_among}
 use Rattle.ftd_rules.specs.declared.YearLine.{YearLine}
 use Rattle.ftd_rules.specs.declared.Obligation.{Obligation}
 use Rattle.ftd_rules.specs.Lists.{Has}
 use Rattle.ftd_rules.specs.Obligations.{AreObligations}
-use Rattle.ftd_rules.proofs.Rising.{all_has}
+use Rattle.ftd_rules.proofs.Rising.{all_has, has_all}
 use Rattle.ftd_rules.proofs.Resting.{obligations_later, obligations_same}
 use Rattle.ftd_rules.proofs.Stated.{rows_owed, rows_stated}
 use Rattle.ftd_schema.specs.Standing.{Tables}
 use Rattle.ftd_rows.specs.Rows.{holiday_row}
 use Rattle.ftd_rows.proofs.Found.{both}
 use Rattle.ftd_store.specs.Changes.{with_calendar}
+use Rattle.ftd_machine.proofs.Few.{few_in_force}
 use Rattle.ftd_machine.specs.declared.requests.Request.{Request}
 use Rattle.ftd_machine.specs.declared.requests.Request.TheVariants.{Calendar}
 use Rattle.ftd_machine.specs.declared.replies.Reply.TheVariants.{Done}
 use Rattle.ftd_machine.specs.Limits.{is_calendar, are_rising}
 use Rattle.ftd_machine.specs.State.{State, entries_of, is_of, is_given, calendar_at, holidays}
+use Rattle.ftd_machine.specs.State.{all_days, is_in_force}
 use Rattle.ftd_machine.specs.History.{form_of, live_sums, year_of_line, year_of_entry, AreLinesOf}
 use Rattle.ftd_machine.specs.Checks.{Answer, first_of, Decides}
 use Rattle.ftd_machine.specs.Requests.{calendar_checks}
@@ -63,12 +66,17 @@ days_of_its_year year days fits =
     all_has (λ day. year_of day ≡ year) days
     (λ day has. eqb-true (year_of day) year (passes (λ d. year_of d == year) days all day has))
 
-or_swap : (a b c : Bool) → ((a || c) || b) ≡ ((a || b) || c)
-or_swap true b c = refl
-or_swap false true true = refl
-or_swap false true false = refl
-or_swap false false true = refl
-or_swap false false false = refl
+of_either : (a b c d : Bool) → (((a || b) || c) && d) ≡ (((a || c) && d) || (b && d))
+of_either true b c true = refl
+of_either false true true true = refl
+of_either false true false true = refl
+of_either false false true true = refl
+of_either false false false true = refl
+of_either a b c false = rw (none ((a || b) || c), none (a || c), none b) refl
+  where
+    none : (b : Bool) → (b && false) ≡ false
+    none true = refl
+    none false = refl
 
 module _ (year : ℕ) (days : List ℕ) where
   abbrev Asked : Request
@@ -80,33 +88,54 @@ module _ (year : ℕ) (days : List ℕ) where
   abbrev Next : State → State
   Next s = record s { calendars = s.calendars ++ Given ∷ [] }
 
-  -- the added holidays, as a calendar that comes after the others
+  -- the holidays in force, as one calendar, and those of the new one
   abbrev Together : State → List YearDays
-  Together s = s.calendars ++ record { year = 0; days = s.added_days } ∷ []
+  Together s = record { year = 0; days = holidays s } ∷ []
 
-  last_days : (given : List YearDays) (c : YearDays) → holidays_of (given ++ c ∷ [])
-      ≡ holidays_of given ++ c.days
-  last_days given c = flat_map-append (λ (g : YearDays). g.days) given (c ∷ [])
-      ∙ ap (λ ds. holidays_of given ++ ds) (append-nil c.days)
+  abbrev Further : State → YearDays
+  Further s = record { year = year; days = filter (is_in_force s.changed_days) days }
+
+  together_are : (s : State) → holidays_of (Together s) ≡ holidays s
+  together_are s = append-nil (holidays s)
 
   any_last : (day : ℕ) (given : List YearDays) (c : YearDays)
       → is_holiday (holidays_of (given ++ c ∷ [])) day
       ≡ (is_holiday (holidays_of given) day || is_holiday c.days day)
-  any_last day given c = ap (λ ds. is_holiday ds day) (last_days given c)
+  any_last day given c =
+      ap (λ ds. is_holiday ds day)
+      (flat_map-append (λ (g : YearDays). g.days) given (c ∷ [])
+      ∙ ap (λ ds. holidays_of given ++ ds) (append-nil c.days))
       ∙ list_any-append (λ h. h == day) (holidays_of given) c.days
 
   -- the same days are holidays, in whatever order they stand
   same_holidays : (s : State) (day : ℕ) → is_holiday (holidays (Next s)) day ≡ is_holiday
-      (holidays_of (Together s ++ Given ∷ [])) day
+      (holidays_of (Together s ++ Further s ∷ [])) day
   same_holidays s day =
-      let added : YearDays = record { year = 0; days = s.added_days } in
-      let first = list_any-append (λ h. h == day) (holidays_of (s.calendars ++ Given ∷ []))
-      s.added_days
-      ∙ ap (λ b. b || is_holiday s.added_days day) (any_last day s.calendars Given) in
-      let second = any_last day (Together s) Given ∙ ap (λ b. b || is_holiday days day)
-      (any_last day s.calendars added) in
-      first ∙ or_swap (is_holiday (holidays_of s.calendars) day) (is_holiday s.added_days day)
-      (is_holiday days day) ∙ sym second
+      let force = is_in_force s.changed_days in
+      let before = is_holiday (holidays_of s.calendars) day in
+      let new = is_holiday days day in
+      let added = is_holiday s.added_days day in
+      let first : is_holiday (all_days (Next s)) day ≡ ((before || new) || added) =
+      list_any-append (λ h. h == day) (holidays_of (s.calendars ++ Given ∷ [])) s.added_days
+      ∙ ap (λ b. b || added) (any_last day s.calendars Given) in
+      let second : is_holiday (all_days s) day ≡ (before || added) =
+      list_any-append (λ h. h == day) (holidays_of s.calendars) s.added_days in
+      is_among force (all_days (Next s)) day
+      ∙ ap (λ b. b && force day) first
+      ∙ of_either before new added (force day)
+      ∙ sym (any_last day (Together s) (Further s)
+      ∙ ap (λ ds. is_holiday ds day || is_holiday (filter force days) day) (together_are s)
+      ∙ ap (λ b. b || is_holiday (filter force days) day)
+      (is_among force (all_days s) day ∙ ap (λ b. b && force day) second)
+      ∙ ap (λ b. ((before || added) && force day) || b) (is_among force days day))
+
+  days_in_force : (s : State) → is_calendar year days ≡ true
+      → All (λ day. year_of day ≡ year) (Further s).days
+  days_in_force s fits =
+      let force = is_in_force s.changed_days in
+      all_has (λ day. year_of day ≡ year) (filter force days)
+      (λ day has. has_all (λ d. year_of d ≡ year) days (days_of_its_year year days fits) day
+      (has_filtered force days day has).0)
 
   -- the calendar of a year that is neither open nor follows an open one changes no obligation
   owed_still : (s : State) (name : List ℕ) (lines : List YearLine) (owed : List Obligation)
@@ -118,9 +147,9 @@ module _ (year : ℕ) (days : List ℕ) where
   owed_still s name lines owed sound none fits are were =
       let form = form_of (entries_of s name).account in
       let sums = live_sums (entries_of s name) in
-      let all : holidays_of (Together s) ≡ holidays s = last_days s.calendars
-      (record { year = 0; days = s.added_days }) in
-      let few : AreFew (holidays_of (Together s)) = subst AreFew (sym all) sound.few in
+      let all = together_are s in
+      let few : AreFew (holidays_of (Together s)) =
+      subst AreFew (sym all) (few_in_force s sound.few) in
       let before : AreObligations form lines sums (holidays_of (Together s)) owed =
       subst (λ hs. AreObligations form lines sums hs owed) (sym all) were in
       let apart : (line : YearLine) → Has lines line → (line.year ≢ year) × (line.year + 1 ≢ year) =
@@ -128,11 +157,11 @@ module _ (year : ℕ) (days : List ℕ) where
         (λ is. true≢false (sym known.0 ∙ ap (is_given s) is ∙ ap is_some none)),
         (λ is. true≢false (sym known.1 ∙ ap (is_given s) is ∙ ap is_some none)),
       )) in
-      let later = obligations_later form lines sums (Together s) Given owed are.schedules.years few
-      (days_of_its_year year days fits) apart
+      let later = obligations_later form lines sums (Together s) (Further s) owed
+      are.schedules.years few (days_in_force s fits) apart
       (rows_owed form lines sums (holidays_of (Together s)) owed before) in
       rows_stated form lines sums (holidays (Next s)) owed
-      (obligations_same form lines sums sums (holidays_of (Together s ++ Given ∷ []))
+      (obligations_same form lines sums sums (holidays_of (Together s ++ Further s ∷ []))
       (holidays (Next s)) owed are.schedules.years (λ day lies. refl)
       (λ o has day from to. same_holidays s day) later)
 
@@ -192,6 +221,10 @@ module _ (year : ℕ) (days : List ℕ) where
           added_days = stands.added_days;
           runs = stands.runs;
           payments = stands.payments;
+          corrected = stands.corrected;
+          corrected_years = stands.corrected_years;
+          changed_days = stands.changed_days;
+          moved = stands.moved;
           settled = λ name. settled_still t s name sound none (fits.fact passed)
               (stands.settled name);
         },

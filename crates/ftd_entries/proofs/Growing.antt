@@ -17,6 +17,7 @@ use Rattle.ftd_schema.specs.declared.TableName.TheVariants.{Years, Obligations}
 use Rattle.ftd_schema.specs.Standing.{Tables}
 use Rattle.ftd_machine.specs.State.{State, Entry, Entries, entries_of, holidays}
 use Rattle.ftd_machine.specs.History.{start_of, form_of, is_carried, figure_of, figures, live}
+use Rattle.ftd_machine.specs.History.{quarter_figures, year_figures}
 use Rattle.ftd_machine.specs.History.{liability_of, live_sums, year_of_entry, IsLookbackOn}
 use Rattle.ftd_machine.specs.History.{AreCarried, AreLinesOf}
 use Rattle.ftd_entries.specs.Standing.{IsSettled}
@@ -30,17 +31,17 @@ pub record Grows (own more : Entries) : Type 0 where
   pub account : more.account ≡ own.account
   pub open_years : more.open_years ≡ own.open_years
   pub runs : more.runs ≡ own.runs
-  pub reported : AreAmong (figures own.reported) (figures more.reported)
-  pub reported_years : AreAmong (figures own.reported_years) (figures more.reported_years)
+  pub reported : AreAmong (quarter_figures own) (quarter_figures more)
+  pub reported_years : AreAmong (year_figures own) (year_figures more)
 
 -- the figures of an account stay where entries are added
-pub figures_more : (test : Entry Cents → Bool) (xs ys : List (Entry Cents))
-    → AreAmong (figures (filter test xs)) (figures (filter test (xs ++ ys)))
-figures_more test xs ys figure has =
+pub figures_more : (test : Entry Cents → Bool) (xs ys corrected : List (Entry Cents))
+    → AreAmong (figures (filter test xs) corrected) (figures (filter test (xs ++ ys)) corrected)
+figures_more test xs ys corrected figure has =
     subst (λ all. Has all figure)
-    (sym (ap figures (filter-append test xs ys) ∙ map-append figure_of (filter test xs)
-    (filter test ys)))
-    (has_left (figures (filter test xs)) (figures (filter test ys)) figure has)
+    (sym (ap (λ es. figures es corrected) (filter-append test xs ys)
+    ∙ map-append (figure_of corrected) (filter test xs) (filter test ys)))
+    (has_left (figures (filter test xs) corrected) (figures (filter test ys) corrected) figure has)
 
 -- ---- the lookback total of a year
 
@@ -75,13 +76,13 @@ module _ (own more : Entries) (grows : Grows own more) where
   lookback_on : (form : Form) (year : ℕ) (total : Cents) → IsLookbackOn form own year total
       → IsLookbackOn form more year total
   lookback_on F941 year total is =
-      subst (λ a. IsLookback (figures more.reported) (start_of a) year total.0) (sym grows.account)
-      (lookback_more (figures own.reported) (figures more.reported) (start_of own.account) year
+      subst (λ a. IsLookback (quarter_figures more) (start_of a) year total.0) (sym grows.account)
+      (lookback_more (quarter_figures own) (quarter_figures more) (start_of own.account) year
       total.0 grows.reported is)
   lookback_on F943 year total is =
-      subst (λ a. IsYearLookback (figures more.reported_years) (start_of a) year total)
+      subst (λ a. IsYearLookback (year_figures more) (start_of a) year total)
       (sym grows.account)
-      (year_more (figures own.reported_years) (figures more.reported_years) (start_of own.account)
+      (year_more (year_figures own) (year_figures more) (start_of own.account)
       year total grows.reported_years is)
 
   pub lines_grow : (lines : List YearLine) → AreLinesOf own lines → AreLinesOf more lines

@@ -20,7 +20,7 @@ use Rattle.ftd_store.specs.Finds.{FindsReported, FindsReportedYear, FindsRun, Fi
 use Rattle.ftd_store.specs.Finds.{CountsRuns, CountsPayments}
 use Rattle.ftd_machine.specs.State.{State, Entry, entries_of, is_of, has_key, content_of, kept_at}
 use Rattle.ftd_machine.specs.Step.{is_under}
-use Rattle.ftd_entries.specs.Standing.{StandsFor, quarter_entry, year_entry, run_entry}
+use Rattle.ftd_entries.specs.Standing.{StandsFor, KeepsFigures, quarter_entry, year_entry, run_entry}
 use Rattle.ftd_entries.specs.Standing.{payment_entry}
 use Rattle.ftd_entries.proofs.Found.{day_is, flag_is}
 
@@ -84,7 +84,7 @@ pub quarter_is : (a b : ℕ) → quarter_year a ≡ quarter_year b → quarter_n
     → a ≡ b
 quarter_is a b year number = omega arith
 
-same_quarter : (a b : ℕ) → (int_eq (pos (quarter_year a)) (pos (quarter_year b)) && int_eq
+pub same_quarter : (a b : ℕ) → (int_eq (pos (quarter_year a)) (pos (quarter_year b)) && int_eq
     (pos (quarter_number a)) (pos (quarter_number b))) ≡ (a == b)
 same_quarter a b =
     let years = Decides-eqb (quarter_year a) (quarter_year b) in
@@ -144,25 +144,43 @@ run_is name number e x is =
 
 -- ---- what is found, and counted
 
-module _ (name : List ℕ) (t : Tables) (s : State) (stands : StandsFor t s) where
-  pub kept_reported : (quarter : ℕ) (found : Option Cents) → FindsReported name quarter found t
+-- the rows of the figures of a state for which the tables stand
+pub figures_stand : (t : Tables) (s : State) → StandsFor t s → KeepsFigures t s
+figures_stand t s stands = record {
+  reported = stands.reported;
+  reported_years = stands.reported_years;
+  corrected = stands.corrected;
+  corrected_years = stands.corrected_years;
+}
+
+module _ (name : List ℕ) (t : Tables) (s : State) (keeps : KeepsFigures t s) where
+  pub first_kept : (quarter : ℕ) (found : Option Cents) → FindsReported name quarter found t
       → kept_at quarter (entries_of s name).reported ≡ found
-  kept_reported quarter found finds =
+  first_kept quarter found finds =
       let test : ReportedQuarterRow → Bool = is_reported name (pos (quarter_year quarter))
       (pos (quarter_number quarter)) in
       kept_is quarter_entry test name quarter (reported_row name quarter)
       (λ e. ap (λ b. bytes_eq e.name name && b) (same_quarter e.key quarter))
       (λ e x is. cents_is e.content x (ap (λ (r : ReportedQuarterRow). r.cents) is)) found
-      s.reported (ap (filter test) (sym stands.reported) ∙ finds)
+      s.reported (ap (filter test) (sym keeps.reported) ∙ finds)
 
-  pub kept_reported_year : (year : ℕ) (found : Option Cents) → FindsReportedYear name year found t
+  pub first_year_kept : (year : ℕ) (found : Option Cents) → FindsReportedYear name year found t
       → kept_at year (entries_of s name).reported_years ≡ found
-  kept_reported_year year found finds =
+  first_year_kept year found finds =
       let test : ReportedYearRow → Bool = is_reported_year name (pos year) in
       kept_is year_entry test name year (reported_year_row name year)
       (λ e. ap (λ b. bytes_eq e.name name && b) (same_number e.key year))
       (λ e x is. cents_is e.content x (ap (λ (r : ReportedYearRow). r.cents) is)) found
-      s.reported_years (ap (filter test) (sym stands.reported_years) ∙ finds)
+      s.reported_years (ap (filter test) (sym keeps.reported_years) ∙ finds)
+
+module _ (name : List ℕ) (t : Tables) (s : State) (stands : StandsFor t s) where
+  pub kept_reported : (quarter : ℕ) (found : Option Cents) → FindsReported name quarter found t
+      → kept_at quarter (entries_of s name).reported ≡ found
+  kept_reported = first_kept name t s (figures_stand t s stands)
+
+  pub kept_reported_year : (year : ℕ) (found : Option Cents) → FindsReportedYear name year found t
+      → kept_at year (entries_of s name).reported_years ≡ found
+  kept_reported_year = first_year_kept name t s (figures_stand t s stands)
 
   pub kept_run : (number : ℕ) (found : Option (Voidable PayRun)) → FindsRun name number found t
       → kept_at number (entries_of s name).runs ≡ found

@@ -7,6 +7,8 @@ pub mod Serving
 pub mod Growing
 pub mod Enrolling
 pub mod CalendarRows
+pub mod Corrections
+pub mod Corrected
 pub mod Giving
 pub mod Lines
 pub mod Opening
@@ -23,3 +25,5 @@ pub mod OwedRows
 pub mod Ends
 pub mod ListedRows
 pub mod QuarterDays
+pub mod DayChanges
+pub mod PutRight

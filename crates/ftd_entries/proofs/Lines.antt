@@ -1,7 +1,7 @@
 -- What the rows of an account's open years tell of its lines.
 use Rattle.std.proofs.Common.{◌≡◌, ℕ, Bool, true, false, pos, ◌+◌, List, [], ◌∷◌, map, Option, None}
-use Rattle.std.proofs.Common.{Some, Vec, inl, inr, refl, sym, ap, subst, ◌∙◌, arith}
-use Rattle.std.specs.Prelude.{filter, find, option_map, bytes_eq, if◌then◌else◌, IsTrue}
+use Rattle.std.proofs.Common.{Some, Vec, inl, inr, refl, sym, ap, ◌∙◌, arith}
+use Rattle.std.specs.Prelude.{option_map, IsTrue}
 use Rattle.std.proofs.lemmas.List.Sorted.{IsPermutation-trans, IsPermutation-sym}
 use Rattle.ftd_rules.specs.declared.Kind.{Kind}
 use Rattle.ftd_rules.specs.declared.Kind.TheVariants.{Monthly, Semiweekly}
@@ -10,20 +10,20 @@ use Rattle.ftd_rules.specs.Lists.{Has, KeysRise}
 use Rattle.ftd_rules.specs.Years.{YearsFrom, OnlyFirstCarried}
 use Rattle.ftd_rules.proofs.Rising.{sorted_is, next_do_not_fall}
 use Rattle.ftd_rules.proofs.Schedules.{years_within}
-use Rattle.ftd_schema.specs.Rows.{AccountRow, YearRow}
+use Rattle.ftd_schema.specs.Rows.{YearRow}
 use Rattle.ftd_schema.specs.Standing.{Tables}
-use Rattle.ftd_schema.specs.Tests.{is_account}
 use Rattle.ftd_rows.specs.declared.accounts.Account.{Account as StoredAccount}
 use Rattle.ftd_rows.specs.Cells.{day_number, schedule_number}
 use Rattle.ftd_rows.specs.Lists.{Pairs}
-use Rattle.ftd_rows.specs.Rows.{account_row, year_row}
-use Rattle.ftd_rows.specs.Years.{FirstCarriedAs}
-use Rattle.ftd_store.specs.Finds.{IsYear, ListsYears}
-use Rattle.ftd_machine.specs.State.{State, Enrolled, is_named, account_of, entries_of}
+use Rattle.ftd_rows.specs.Rows.{year_row}
+use Rattle.ftd_rows.specs.Years.{FirstCarriedAs, is_carried as is_carried_in}
+use Rattle.ftd_store.specs.Finds.{IsYear, ListsYears, FindsInForce}
+use Rattle.ftd_machine.specs.State.{State, entries_of}
 use Rattle.ftd_machine.specs.History.{is_carried, AreCarried}
 use Rattle.ftd_machine.proofs.Members.{has_mapped}
-use Rattle.ftd_entries.specs.Standing.{StandsFor, IsSettled, enrolled_row}
-use Rattle.ftd_entries.proofs.Found.{day_is, flag_is}
+use Rattle.ftd_entries.specs.Standing.{StandsFor, IsSettled}
+use Rattle.ftd_entries.proofs.Corrected.{carried_known}
+use Rattle.ftd_entries.proofs.Found.{day_is}
 use Rattle.ftd_entries.proofs.CalendarRows.{whole, whole_rises}
 
 -- ---- a line by its row
@@ -84,31 +84,15 @@ none_carried (line ∷ lines) off = (
   none_carried lines (λ other has. off other (inr has)),
 )
 
-carried_is : (name : List ℕ) (a : StoredAccount) (xs : List Enrolled) → filter (is_account name)
-    (map enrolled_row xs) ≡ account_row name a ∷ []
-    → is_carried (option_map account_of (find (is_named name) xs)) ≡ a.carried
-carried_is name a [] h = absurd cc
-carried_is name a (x ∷ xs) h = step (bytes_eq x.name name) h (carried_is name a xs)
-  where
-    step : (b : Bool)
-        → (if b then enrolled_row x ∷ filter (is_account name) (map enrolled_row xs) else filter
-        (is_account name) (map enrolled_row xs)) ≡ account_row name a ∷ []
-        → (filter (is_account name) (map enrolled_row xs) ≡ account_row name a ∷ []
-        → is_carried (option_map account_of (find (is_named name) xs)) ≡ a.carried)
-        → is_carried (option_map account_of (if b then Some x else find (is_named name) xs))
-        ≡ a.carried
-    step true h more =
-        let row : enrolled_row x ≡ account_row name a = cc in
-        flag_is x.account.carried a.carried (ap (λ (r : AccountRow). r.carried) row)
-    step false h more = more h
-
-listed_carried : (name : List ℕ) (s : State) (lines : List YearLine)
-    → FirstCarriedAs name (filter (is_account name) (map enrolled_row s.accounts)) lines
+listed_carried : (name : List ℕ) (t : Tables) (s : State) (found : Option StoredAccount)
+    (lines : List YearLine) → StandsFor t s → FindsInForce name found t → FirstCarriedAs found lines
     → OnlyFirstCarried lines
     → AreCarried (is_carried (entries_of s name).account) lines
-listed_carried name s [] first others = tt
-listed_carried name s (line ∷ lines) first others =
-    (first.2 ∙ sym (carried_is name first.0 s.accounts first.1), none_carried lines others)
+listed_carried name t s found [] stands finds first others = tt
+listed_carried name t s found (line ∷ lines) stands finds first others = (
+  first.2 ∙ sym (carried_known name found t s finds stands ∙ ap is_carried_in first.1),
+  none_carried lines others,
+)
 
 -- ---- lines in their order
 
@@ -151,9 +135,6 @@ lines_known name listed t s stands lists settled =
     (IsPermutation-trans _ _ _ (IsPermutation-sym _ _ settled.line_rows) l.same) in
     let rows : map (year_row name) listed.items ≡ map (year_row name) settled.lines =
     sym (paired name l.ordered listed.items l.pairs) ∙ sorted in
-    let first : FirstCarriedAs name (filter (is_account name) (map enrolled_row s.accounts))
-    listed.items =
-    subst (λ accounts. FirstCarriedAs name (filter (is_account name) accounts) listed.items)
-    stands.accounts lists.first in
     lines_are name (is_carried (entries_of s name).account) listed.items settled.lines rows
-    (listed_carried name s listed.items first lists.others) settled.are_lines.carried
+    (listed_carried name t s lists.first.0 listed.items stands lists.first.1 lists.first.2
+    lists.others) settled.are_lines.carried

@@ -559,6 +559,10 @@ module _ (name : List ℕ) (year : ℕ) where
                   added_days = stands.added_days;
                   runs = stands.runs;
                   payments = stands.payments;
+                  corrected = stands.corrected;
+                  corrected_years = stands.corrected_years;
+                  changed_days = stands.changed_days;
+                  moved = stands.moved;
                   settled = λ other. by_name other (bytes_eq name other) refl;
                 },
               )

@@ -47,6 +47,10 @@ paid_stands t s rows payments are stands = record {
   added_days = stands.added_days;
   runs = stands.runs;
   payments = are;
+  corrected = stands.corrected;
+  corrected_years = stands.corrected_years;
+  changed_days = stands.changed_days;
+  moved = stands.moved;
   settled = λ name.
       settled_grows t (with_rows Payments rows t) s (record s { payments = payments }) name refl
       refl refl

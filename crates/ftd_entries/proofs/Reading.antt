@@ -4,8 +4,10 @@ use Rattle.sqlite.specs.Store as store
 use Rattle.ftd_schema.specs.Standing.{Tables}
 use Rattle.ftd_store.specs.declared.tx.Tx.{Tx}
 use Rattle.ftd_rows.specs.declared.faults.StoreFault.{StoreFault}
-use Rattle.ftd_store.specs.Frame.{Reads, Writes, WritesOne}
+use Rattle.ftd_store.specs.Frame.{Reads, Writes, WritesOne, Rewrites}
+use Rattle.ftd_store.proofs.Going.{then_fails}
 use Rattle.ftd_store.proofs.Telling.{reads_on, then_reads}
+use Rattle.ftd_store.proofs.Turning.{turns_then}
 
 abbrev pub Both : {A B : Type 0} → (A → Tables → Type 0) → (B → Tables → Type 0) → A × B → Tables
     → Type 0
@@ -42,6 +44,18 @@ pub reads_as : {S A : Type 0} (g : store.Ghosts S) (old new : Tx S) (result : Re
     → Reads g old new result Fact → Reads g old new result More
 reads_as g old new (Ok x) Fact More tells r = reads_on g old new x x Fact More (tells x) r
 reads_as g old new (Err e) Fact More tells r = record { frame = r.frame; does = λ clean. tt }
+
+-- two changes, one after the other, of which the second may fail
+pub turn_then_turn : {S A B : Type 0} (g : store.Ghosts S) (old mid new : Tx S) (x : A)
+    (result : Result B StoreFault) (First : A → Tables → Tables → Type 0)
+    (Second All : B → Tables → Tables → Type 0)
+    → ((y : B) (t u v : Tables) → First x t u → Second y u v → All y t v)
+    → Rewrites g old mid (Ok x) First → Rewrites g mid new result Second
+    → Rewrites g old new result All
+turn_then_turn g old mid new x (Ok y) First Second All tells p q =
+    turns_then g old mid new x y y First Second All (tells y) p q
+turn_then_turn g old mid new x (Err e) First Second All tells p q =
+    record { frame = then_fails g old mid new x e p.frame q.frame; does = λ clean. tt }
 
 -- three readings, and four
 module _ {S A : Type 0} (g : store.Ghosts S) (start one two three : Tx S) (a b c : A)

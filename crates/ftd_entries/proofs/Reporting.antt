@@ -59,13 +59,18 @@ module _ (name : List ℕ) (quarter : ℕ) (cents : Cents) where
         added_days = stands.added_days;
         runs = stands.runs;
         payments = stands.payments;
+        corrected = stands.corrected;
+        corrected_years = stands.corrected_years;
+        changed_days = stands.changed_days;
+        moved = stands.moved;
         settled = λ other.
             settled_grows t (with_reported name quarter cents t) s (Next s) other refl refl refl
             (record {
               account = refl;
               open_years = refl;
               runs = refl;
-              reported = figures_more (is_of other) s.reported (more ∷ []);
+              reported = figures_more (is_of other) s.reported (more ∷ [])
+                  (entries_of s other).corrected;
               reported_years = λ figure has. has;
             }) (stands.settled other);
       }
@@ -128,6 +133,10 @@ module _ (name : List ℕ) (year : ℕ) (cents : Cents) where
         added_days = stands.added_days;
         runs = stands.runs;
         payments = stands.payments;
+        corrected = stands.corrected;
+        corrected_years = stands.corrected_years;
+        changed_days = stands.changed_days;
+        moved = stands.moved;
         settled = λ other.
             settled_grows t (with_reported_year name year cents t) s (NextYear s) other refl refl
             refl
@@ -136,7 +145,8 @@ module _ (name : List ℕ) (year : ℕ) (cents : Cents) where
               open_years = refl;
               runs = refl;
               reported = λ figure has. has;
-              reported_years = figures_more (is_of other) s.reported_years (more ∷ []);
+              reported_years = figures_more (is_of other) s.reported_years (more ∷ [])
+                  (entries_of s other).corrected_years;
             }) (stands.settled other);
       }
 

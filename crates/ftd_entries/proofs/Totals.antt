@@ -11,10 +11,14 @@ use Rattle.ftd_rules.specs.Lookback.{AreReportedOnce}
 use Rattle.ftd_rules.proofs.Owed.{has_append, has_left, has_right}
 use Rattle.ftd_machine.specs.declared.entries.Account.{Account}
 use Rattle.ftd_machine.specs.declared.replies.Refusal.{Refusal}
-use Rattle.ftd_machine.specs.State.{Entry, Entries, kept_at}
-use Rattle.ftd_machine.specs.History.{figures, IsLookbackOn, HasLookback, IsMissingOn, LacksFigure}
-use Rattle.ftd_entries.specs.Totals.{IsTotalOn941, IsTotalOn943, IsTotal, figure_at, figures_found}
-use Rattle.ftd_entries.specs.Totals.{year_figures}
+use Rattle.ftd_machine.specs.State.{State, entries_of, Entry, Entries, figure_at}
+use Rattle.ftd_machine.specs.History.{figures, quarter_figures, year_figures, IsLookbackOn}
+use Rattle.ftd_machine.specs.History.{HasLookback, IsMissingOn, LacksFigure}
+use Rattle.ftd_machine.specs.Sound.{IsSound}
+use Rattle.ftd_machine.proofs.Soundness.{sound_once}
+use Rattle.ftd_entries.specs.Totals.{IsTotalOn941, IsTotalOn943, IsTotal, as_figures, figures_found}
+use Rattle.ftd_entries.specs.Totals.{AreFiguresOnce}
+use Rattle.ftd_entries.specs.Totals.{figure_before}
 use Rattle.ftd_entries.proofs.Figures.{kept_has, kept_none}
 
 -- both lists have the same figures of the quarter, or of the year
@@ -83,7 +87,7 @@ module _ (some others : List (ℕ × Cents)) (start year : ℕ) where
 
 -- ---- what was found
 
-figure_is : (x : ℕ × Option Cents) (key : ℕ) (amount : Cents) → Has (figure_at x.0 x.1)
+figure_is : (x : ℕ × Option Cents) (key : ℕ) (amount : Cents) → Has (as_figures x.0 x.1)
     (key, amount) → (key, Some amount) ≡ x
 figure_is (k, None) key amount has = absurd has
 figure_is (k, Some cents) key amount (inl is) = ap (λ (p : ℕ × Cents). (p.0, Some p.1)) is
@@ -93,7 +97,7 @@ found_has : (found : List (ℕ × Option Cents)) (key : ℕ) (amount : Cents) �
     (key, amount) → Has found (key, Some amount)
 found_has [] key amount has = absurd has
 found_has (x ∷ more) key amount has =
-    elim (has_append (figure_at x.0 x.1) (figures_found more) (key, amount) has) [
+    elim (has_append (as_figures x.0 x.1) (figures_found more) (key, amount) has) [
       | inl here ↦ inl (figure_is x key amount here)
       | inr later ↦ inr (found_has more key amount later)
     ]
@@ -102,29 +106,29 @@ has_found : (found : List (ℕ × Option Cents)) (key : ℕ) (amount : Cents)
     → Has found (key, Some amount) → Has (figures_found found) (key, amount)
 has_found [] key amount has = absurd has
 has_found (x ∷ more) key amount (inl is) =
-    has_left (figure_at x.0 x.1) (figures_found more) (key, amount)
-    (subst (λ (p : ℕ × Option Cents). Has (figure_at p.0 p.1) (key, amount)) is (inl refl))
-has_found (x ∷ more) key amount (inr has) = has_right (figure_at x.0 x.1) (figures_found more)
+    has_left (as_figures x.0 x.1) (figures_found more) (key, amount)
+    (subst (λ (p : ℕ × Option Cents). Has (as_figures p.0 p.1) (key, amount)) is (inl refl))
+has_found (x ∷ more) key amount (inr has) = has_right (as_figures x.0 x.1) (figures_found more)
     (key, amount) (has_found more key amount has)
 
 -- where what was found is what is kept, and that stands once, its figures are those that are kept
-same_found : (reported : List (Entry Cents)) (found : List (ℕ × Option Cents))
-    → AreReportedOnce (figures reported) → ((key : ℕ) (o : Option Cents) → Has found (key, o)
-    → kept_at key reported ≡ o)
+same_found : (reported corrected : List (Entry Cents)) (found : List (ℕ × Option Cents))
+    → AreReportedOnce (figures reported corrected) → ((key : ℕ) (o : Option Cents) → Has found (key, o)
+    → figure_at key reported corrected ≡ o)
     → (key : ℕ) (o : Option Cents) → Has found (key, o) → SameAt (figures_found found)
-    (figures reported) key
-same_found reported found once kept key o there amount = (
-  (λ has. kept_has key reported amount
+    (figures reported corrected) key
+same_found reported corrected found once kept key o there amount = (
+  (λ has. kept_has key reported corrected amount
       (kept key (Some amount) (found_has found key amount has))),
   (λ has. back o there (kept key o there) has),
 )
   where
-    back : (o : Option Cents) → Has found (key, o) → kept_at key reported ≡ o
-        → Has (figures reported) (key, amount) → Has (figures_found found) (key, amount)
-    back None there is has = absurd (kept_none key reported is amount has)
+    back : (o : Option Cents) → Has found (key, o) → figure_at key reported corrected ≡ o
+        → Has (figures reported corrected) (key, amount) → Has (figures_found found) (key, amount)
+    back None there is has = absurd (kept_none key reported corrected is amount has)
     back (Some cents) there is has = has_found found key amount
         (subst (λ c. Has found (key, Some c))
-        (once key cents amount (kept_has key reported cents is) has) there)
+        (once key cents amount (kept_has key reported corrected cents is) has) there)
 
 -- ---- on Form 943
 
@@ -136,20 +140,20 @@ total_by some others start year (Ok total) same h = year_lookback_same some othe
 total_by some others start year (Err refusal) same h =
     (h.0, year_missing_same some others start year same h.0 h.1, h.2)
 
-pub total_known : (reported : List (Entry Cents)) (start year : ℕ) (found : Option Cents)
-    (total : Result Cents Refusal) → AreReportedOnce (figures reported)
-    → kept_at (year - 2) reported ≡ found
-    → IsTotalOn943 (year_figures year found) start year total
-    → IsTotalOn943 (figures reported) start year total
-total_known reported start year found total once is h =
-    total_by (year_figures year found) (figures reported) start year total
-    (same_found reported Only once only (year - 2) found (inl refl)) h
+pub total_known : (reported corrected : List (Entry Cents)) (start year : ℕ) (found : Option Cents)
+    (total : Result Cents Refusal) → AreReportedOnce (figures reported corrected)
+    → figure_at (year - 2) reported corrected ≡ found
+    → IsTotalOn943 (figure_before year found) start year total
+    → IsTotalOn943 (figures reported corrected) start year total
+total_known reported corrected start year found total once is h =
+    total_by (figure_before year found) (figures reported corrected) start year total
+    (same_found reported corrected Only once only (year - 2) found (inl refl)) h
   where
     Only : List (ℕ × Option Cents)
     Only = (year - 2, found) ∷ []
 
-    only : (key : ℕ) (o : Option Cents) → Has Only (key, o) → kept_at key reported ≡ o
-    only key o (inl same) = subst (λ (p : ℕ × Option Cents). kept_at p.0 reported ≡ p.1)
+    only : (key : ℕ) (o : Option Cents) → Has Only (key, o) → figure_at key reported corrected ≡ o
+    only key o (inl same) = subst (λ (p : ℕ × Option Cents). figure_at p.0 reported corrected ≡ p.1)
         (sym same) is
     only key o (inr none) = absurd none
 
@@ -163,50 +167,57 @@ total_on_941 some others start year (Ok total) same h = lookback_same some other
 total_on_941 some others start year (Err refusal) same h =
     (h.0, first_missing_same some others start year same h.0 h.1, h.2)
 
-module _ (reported : List (Entry Cents)) (start year : ℕ)
-    (once : AreReportedOnce (figures reported)) (third fourth first second : ℕ)
+module _ (reported corrected : List (Entry Cents)) (start year : ℕ)
+    (once : AreReportedOnce (figures reported corrected)) (third fourth first second : ℕ)
     (a b c d : Option Cents) where
   abbrev Found : List (ℕ × Option Cents)
   Found = (third, a) ∷ (fourth, b) ∷ (first, c) ∷ (second, d) ∷ []
 
-  module _ (kept_a : kept_at third reported ≡ a) (kept_b : kept_at fourth reported ≡ b)
-      (kept_c : kept_at first reported ≡ c) (kept_d : kept_at second reported ≡ d) where
-    among : (key : ℕ) (o : Option Cents) → Has Found (key, o) → kept_at key reported ≡ o
-    among key o (inl is) = subst (λ (p : ℕ × Option Cents). kept_at p.0 reported ≡ p.1)
+  module _ (kept_a : figure_at third reported corrected ≡ a) (kept_b : figure_at fourth reported corrected ≡ b)
+      (kept_c : figure_at first reported corrected ≡ c) (kept_d : figure_at second reported corrected ≡ d) where
+    among : (key : ℕ) (o : Option Cents) → Has Found (key, o) → figure_at key reported corrected ≡ o
+    among key o (inl is) = subst (λ (p : ℕ × Option Cents). figure_at p.0 reported corrected ≡ p.1)
         (sym is) kept_a
-    among key o (inr (inl is)) = subst (λ (p : ℕ × Option Cents). kept_at p.0 reported ≡ p.1)
+    among key o (inr (inl is)) = subst (λ (p : ℕ × Option Cents). figure_at p.0 reported corrected ≡ p.1)
         (sym is) kept_b
-    among key o (inr (inr (inl is))) = subst (λ (p : ℕ × Option Cents). kept_at p.0 reported ≡ p.1)
+    among key o (inr (inr (inl is))) = subst (λ (p : ℕ × Option Cents). figure_at p.0 reported corrected ≡ p.1)
         (sym is) kept_c
     among key o (inr (inr (inr (inl is)))) =
-        subst (λ (p : ℕ × Option Cents). kept_at p.0 reported ≡ p.1) (sym is) kept_d
+        subst (λ (p : ℕ × Option Cents). figure_at p.0 reported corrected ≡ p.1) (sym is) kept_d
     among key o (inr (inr (inr (inr none)))) = absurd none
 
     at_key : (key : ℕ) (o : Option Cents) → Has Found (key, o) → SameAt (figures_found Found)
-        (figures reported) key
-    at_key = same_found reported Found once among
+        (figures reported corrected) key
+    at_key = same_found reported corrected Found once among
 
     module _ (is_third : third ≡ lookback_first year) (is_fourth : fourth ≡ lookback_first year + 1)
         (is_first : first ≡ lookback_first year + 2)
         (is_second : second ≡ lookback_first year + 3) where
       same : (quarter : ℕ) → Has (lookback_quarters year) quarter → SameAt (figures_found Found)
-          (figures reported) quarter
-      same quarter (inl is) = subst (SameAt (figures_found Found) (figures reported))
+          (figures reported corrected) quarter
+      same quarter (inl is) = subst (SameAt (figures_found Found) (figures reported corrected))
           (is_third ∙ sym is) (at_key third a (inl refl))
-      same quarter (inr (inl is)) = subst (SameAt (figures_found Found) (figures reported))
+      same quarter (inr (inl is)) = subst (SameAt (figures_found Found) (figures reported corrected))
           (is_fourth ∙ sym is) (at_key fourth b (inr (inl refl)))
-      same quarter (inr (inr (inl is))) = subst (SameAt (figures_found Found) (figures reported))
+      same quarter (inr (inr (inl is))) = subst (SameAt (figures_found Found) (figures reported corrected))
           (is_first ∙ sym is) (at_key first c (inr (inr (inl refl))))
       same quarter (inr (inr (inr (inl is)))) =
-          subst (SameAt (figures_found Found) (figures reported)) (is_second ∙ sym is)
+          subst (SameAt (figures_found Found) (figures reported corrected)) (is_second ∙ sym is)
           (at_key second d (inr (inr (inr (inl refl)))))
       same quarter (inr (inr (inr (inr none)))) = absurd none
 
       pub quarters_known : (total : Result Cents Refusal)
           → IsTotalOn941 (figures_found Found) start year total
-          → IsTotalOn941 (figures reported) start year total
-      quarters_known total h = total_on_941 (figures_found Found) (figures reported) start year
+          → IsTotalOn941 (figures reported corrected) start year total
+      quarters_known total h = total_on_941 (figures_found Found) (figures reported corrected) start year
           total same h
+
+-- ---- the figures of a sound state
+
+pub figures_once : (s : State) → IsSound s → (name : List ℕ) → AreFiguresOnce (entries_of s name)
+figures_once s sound name =
+    let once = sound_once s sound name in
+    (once.quarters (entries_of s name).corrected, once.years (entries_of s name).corrected_years)
 
 -- ---- by the account's form
 
@@ -227,11 +238,11 @@ module _ (own : Entries) (account : Account) (year : ℕ) (is : own.account ≡ 
       (subst (λ f. IsMissingOn f Known year refusal) (sym same) h)
 
   pub on_941 : (total : Result Cents Refusal) → account.form ≡ F941
-      → IsTotalOn941 (figures own.reported) account.start year total → IsTotal own year total
+      → IsTotalOn941 (quarter_figures own) account.start year total → IsTotal own year total
   on_941 (Ok total) same h = has_lookback F941 total same h
   on_941 (Err refusal) same h = lacks_figure F941 refusal same h
 
   pub on_943 : (total : Result Cents Refusal) → account.form ≡ F943
-      → IsTotalOn943 (figures own.reported_years) account.start year total → IsTotal own year total
+      → IsTotalOn943 (year_figures own) account.start year total → IsTotal own year total
   on_943 (Ok total) same h = has_lookback F943 total same h
   on_943 (Err refusal) same h = lacks_figure F943 refusal same h

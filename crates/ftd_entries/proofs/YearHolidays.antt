@@ -1,112 +1,46 @@
 -- The holidays of a year, by its rows, are those that the state keeps of it.
-use Rattle.std.proofs.Common.{◌≡◌, ℕ, suc, pos, Bool, true, false, List, [], ◌∷◌, map, None, Some}
-use Rattle.std.proofs.Common.{Vec, inl, inr, refl, sym, ap, ◌∙◌}
-use Rattle.std.specs.Prelude.{◌==◌, ◌||◌, ◌&&◌, filter, find, nat_le, option_map, length, is_some}
-use Rattle.std.specs.Prelude.{if◌then◌else◌}
-use Rattle.std.specs.List.{list_any, list_all}
+use Rattle.std.proofs.Common.{◌≡◌, ℕ, suc, pos, Bool, false, List, [], ◌∷◌, map, None, Some}
+use Rattle.std.proofs.Common.{Vec, inl, inr, refl, sym, ap, subst, ◌∙◌}
+use Rattle.std.specs.Prelude.{◌==◌, ◌||◌, ◌&&◌, filter, length, is_some}
+use Rattle.std.specs.List.{list_any}
 use Rattle.std.specs.Ordering.{int_eq}
-use Rattle.std.proofs.lemmas.Bool.{true≢false, cases_Bool, eqb-true}
+use Rattle.std.proofs.lemmas.Bool.{true≢false, cases_Bool}
 use Rattle.std.proofs.lemmas.List.{length-map}
 use Rattle.std.proofs.lemmas.List.Folds.{list_any-append}
-use Rattle.std.proofs.lemmas.List.Concat.{flat_map-cons}
-use Rattle.std.proofs.lemmas.List.Sums.{AllPass-from_list_all}
 use Rattle.std.proofs.lemmas.List.Sorted.{list_any-IsPermutation, length_permutation}
 use Rattle.ftd_days.specs.Calendar.{year_of}
 use Rattle.ftd_days.specs.Business.{is_holiday}
-use Rattle.ftd_days.specs.Holidays.{YearDays, holidays_of}
-use Rattle.ftd_days.proofs.Years.{eq_same, eq_not}
-use Rattle.ftd_rules.specs.Lists.{Has}
-use Rattle.ftd_rules.proofs.Rising.{has_all}
+use Rattle.ftd_days.specs.Holidays.{holidays_of}
+use Rattle.ftd_days.proofs.Years.{eq_same}
 use Rattle.ftd_schema.specs.declared.TableName.TheVariants.{AddedHolidays}
 use Rattle.ftd_schema.specs.Rows.{HolidayRow}
 use Rattle.ftd_schema.specs.Standing.{Tables}
 use Rattle.ftd_schema.specs.Tests.{is_holiday_of}
 use Rattle.ftd_rows.specs.Cells.{day_number}
 use Rattle.ftd_rows.specs.Lists.{Pairs}
-use Rattle.ftd_rows.proofs.Found.{both}
 use Rattle.ftd_store.specs.Finds.{IsHoliday, FindsCalendar, ListsAdded}
-use Rattle.ftd_store.specs.Holidays.{HasHolidays}
-use Rattle.ftd_store.proofs.AddedYears.{or_false}
+use Rattle.ftd_store.specs.Corrections.{ListsHolidayChanges}
+use Rattle.ftd_store.specs.Holidays.{HasHolidays, is_holiday_in, is_kept}
+use Rattle.ftd_rows.specs.declared.corrections.HolidayChange.{HolidayChange}
 use Rattle.ftd_store.proofs.Sifted.{filter_in, filter_out}
-use Rattle.ftd_machine.specs.Limits.{are_rising}
-use Rattle.ftd_machine.specs.State.{State, days_of, calendar_at, added_in, holidays}
-use Rattle.ftd_machine.specs.Sound.{IsSound, AreDistinct, year_of_calendar}
+use Rattle.ftd_machine.specs.State.{State, days_of, calendar_at, added_in, holidays, all_days}
+use Rattle.ftd_machine.specs.State.{is_in_force}
+use Rattle.ftd_machine.specs.Sound.{IsSound}
+use Rattle.ftd_machine.proofs.InYear.{AreFiled, filed_of, in_calendar, none_of, own_year, never_added}
+use Rattle.ftd_machine.proofs.InYear.{is_in}
 use Rattle.ftd_machine.proofs.Keeping.{is_year}
 use Rattle.ftd_machine.proofs.Members.{found_none}
-use Rattle.ftd_entries.specs.Standing.{StandsFor, added_entry}
-use Rattle.ftd_entries.proofs.CalendarRows.{year_cell, calendar_known}
+use Rattle.ftd_entries.specs.Standing.{StandsFor, KeepsDays, added_entry}
+use Rattle.ftd_entries.proofs.CalendarRows.{year_cell, calendar_kept, days_stand}
 use Rattle.ftd_entries.proofs.DayCells.{same_day}
-
--- ---- the calendar of a year
-
--- each day is one of the year
-abbrev AreDaysOf : ℕ → List ℕ → Type 0
-AreDaysOf year days = (day : ℕ) → Has days day → year_of day ≡ year
-
-not_among : (day year : ℕ) (days : List ℕ) → AreDaysOf year days → (year ≡ year_of day → ⊥)
-    → is_holiday days day ≡ false
-not_among day year [] its other = refl
-not_among day year (d ∷ days) its other =
-    ap (λ b. b || is_holiday days day)
-    (eq_not d day (λ e. other (sym (its d (inl refl)) ∙ ap year_of e)))
-    ∙ not_among day year days (λ x has. its x (inr has)) other
-
--- each calendar has days of its year
-abbrev AreFiled : List YearDays → Type 0
-AreFiled cs = (c : YearDays) → Has cs c → AreDaysOf c.year c.days
-
-one_more : (day : ℕ) (c : YearDays) (cs : List YearDays) → is_holiday (holidays_of (c ∷ cs)) day
-    ≡ (is_holiday c.days day || is_holiday (holidays_of cs) day)
-one_more day c cs = ap (λ ds. is_holiday ds day) (flat_map-cons (λ (g : YearDays). g.days) c cs)
-    ∙ list_any-append (λ h. h == day) c.days (holidays_of cs)
-
-none_of : (day : ℕ) (cs : List YearDays) → AreFiled cs
-    → ((c : YearDays) → Has cs c → c.year ≡ year_of day → ⊥) → is_holiday (holidays_of cs) day
-    ≡ false
-none_of day [] filed other = refl
-none_of day (c ∷ cs) filed other =
-    one_more day c cs
-    ∙ (ap (λ b. b || is_holiday (holidays_of cs) day)
-    (not_among day c.year c.days (filed c (inl refl)) (other c (inl refl)))
-    ∙ none_of day cs (λ g has. filed g (inr has)) (λ g has. other g (inr has)))
-
-in_calendar : (day : ℕ) (cs : List YearDays) (days : List ℕ) → AreDistinct year_of_calendar cs
-    → AreFiled cs
-    → option_map days_of (find (is_year (year_of day)) cs) ≡ Some days
-    → is_holiday (holidays_of cs) day ≡ is_holiday days day
-in_calendar day [] days apart filed found = absurd cc
-in_calendar day (c ∷ cs) days apart filed found =
-    one_more day c cs ∙ step (c.year == year_of day) refl found
-    (in_calendar day cs days apart.1 (λ g has. filed g (inr has)))
-  where
-    step : (b : Bool) → (c.year == year_of day) ≡ b
-        → option_map days_of (if b then Some c else find (is_year (year_of day)) cs) ≡ Some days
-        → (option_map days_of (find (is_year (year_of day)) cs) ≡ Some days
-        → is_holiday (holidays_of cs) day ≡ is_holiday days day)
-        → (is_holiday c.days day || is_holiday (holidays_of cs) day) ≡ is_holiday days day
-    step true e found more =
-        let its : c.year ≡ year_of day = eqb-true c.year (year_of day) e in
-        let same : c.days ≡ days = cc in
-        let none = none_of day cs (λ g has. filed g (inr has))
-        (λ g has is. apart.0 g has (is ∙ sym its)) in
-        ap (λ b. is_holiday c.days day || b) none
-        ∙ (or_false (is_holiday c.days day) ∙ ap (λ ds. is_holiday ds day) same)
-    step false e found more =
-        ap (λ b. b || is_holiday (holidays_of cs) day)
-        (not_among day c.year c.days (filed c (inl refl)) (other (c.year == year_of day) e))
-        ∙ more found
-      where
-        other : (b : Bool) → b ≡ false → c.year ≡ year_of day → ⊥
-        other b off is = let yes_it = eq_same c.year (year_of day) is in absurd cc
+use Rattle.ftd_entries.proofs.DayChanges.{kept_known}
+use Rattle.ftd_days.proofs.Among.{is_among}
 
 -- ---- the holidays that were added to a year
 
 -- the row is that of the day
 abbrev is_row_of : ℕ → HolidayRow → Bool
 is_row_of day row = int_eq row.day (day_number day)
-
-abbrev is_in : ℕ → ℕ → Bool
-is_in year day = year_of day == year
 
 rows_of_year : (year : ℕ) (ds : List ℕ) → filter (is_holiday_of (pos year)) (map added_entry ds)
     ≡ map added_entry (filter (is_in year) ds)
@@ -150,33 +84,10 @@ count_paired year (row ∷ rows) [] pairs = absurd pairs
 count_paired year (row ∷ rows) (d ∷ days) pairs =
     ap (λ n. suc n) (count_paired year rows days pairs.1)
 
--- a day of a year is among those that were added to the year where it was added
-own_year : (day : ℕ) (ds : List ℕ) → is_holiday (filter (is_in (year_of day)) ds) day
-    ≡ is_holiday ds day
-own_year day [] = refl
-own_year day (d ∷ ds) =
-    let rest = own_year day ds in
-    elim (cases_Bool (is_in (year_of day) d)) [
-      | inl mine ↦ ap (λ xs. is_holiday xs day) (filter_in (is_in (year_of day)) d ds mine)
-          ∙ ap (λ b. (d == day) || b) rest
-      | inr other ↦
-          ap (λ xs. is_holiday xs day) (filter_out (is_in (year_of day)) d ds other)
-          ∙ (rest ∙ sym
-          (ap (λ b. b || is_holiday ds day)
-          (eq_not d day (λ e. true≢false (sym (eq_same (year_of d) (year_of day) (ap year_of e))
-          ∙ other)))))
-    ]
-
-never_added : (day : ℕ) (ds : List ℕ) → ((d : ℕ) → Has ds d → d ≡ day → ⊥)
-    → is_holiday ds day ≡ false
-never_added day [] none = refl
-never_added day (d ∷ ds) none = ap (λ b. b || is_holiday ds day) (eq_not d day (none d (inl refl)))
-    ∙ never_added day ds (λ x has. none x (inr has))
-
-module _ {A : Type 0} (year : ℕ) (added : Vec ℕ A) (t : Tables) (s : State) (stands : StandsFor t s)
+module _ {A : Type 0} (year : ℕ) (added : Vec ℕ A) (t : Tables) (s : State) (keeps : KeepsDays t s)
     (listed : ListsAdded year added t) where
   rows_are : filter (is_holiday_of (pos year)) (t AddedHolidays) ≡ map added_entry (added_in s year)
-  rows_are = ap (filter (is_holiday_of (pos year))) stands.added_days
+  rows_are = ap (filter (is_holiday_of (pos year))) keeps.added_days
       ∙ rows_of_year year s.added_days
 
   -- the days that were listed as added to the year are those that the state keeps so
@@ -197,38 +108,40 @@ module _ {A : Type 0} (year : ℕ) (added : Vec ℕ A) (t : Tables) (s : State) 
 
 -- ---- both
 
-module _ (t : Tables) (s : State) (stands : StandsFor t s) (sound : IsSound s) where
+module _ (t : Tables) (s : State) (keeps : KeepsDays t s) (sound : IsSound s) where
   filed : AreFiled s.calendars
-  filed c has day in_days =
-      let fits = (sound.are_calendars c has).1 in
-      let rest =
-      (both (nat_le _ 60) (list_all (λ d. year_of d == c.year) c.days && are_rising c.days)
-      fits).1 in
-      let all = (both (list_all (λ d. year_of d == c.year) c.days) (are_rising c.days) rest).0 in
-      eqb-true (year_of day) c.year (has_all (λ d. (year_of d == c.year) ≡ true) c.days
-      (AllPass-from_list_all (λ d. year_of d == c.year) c.days all) day in_days)
+  filed = filed_of s sound
 
-  -- a day of a year whose calendar was found is a holiday if it was given or added
-  pub holiday_known : {A B : Type 0} (given : Vec ℕ A) (added : Vec ℕ B) (year day : ℕ)
-      → FindsCalendar year (Some given) t → ListsAdded year added t → year_of day ≡ year
-      → is_holiday (holidays s) day ≡ (is_holiday given.items day || is_holiday added.items day)
-  holiday_known given added year day finds lists its =
+  -- a day of a year whose calendar was found is a holiday if it was given or added, and no change
+  -- took it back
+  pub holiday_known : {A B C : Type 0} (given : Vec ℕ A) (added : Vec ℕ B)
+      (changes : Vec HolidayChange C) (year day : ℕ)
+      → FindsCalendar year (Some given) t → ListsAdded year added t
+      → ListsHolidayChanges year changes t → year_of day ≡ year
+      → is_holiday (holidays s) day ≡ is_holiday_in given.items added.items changes.items day
+  holiday_known given added changes year day finds lists all its =
       let known : calendar_at s (year_of day) ≡ Some given.items = ap (calendar_at s) its
-      ∙ calendar_known year (Some given) t s stands sound finds in
+      ∙ calendar_kept year (Some given) t s keeps sound finds in
       let of_given = in_calendar day s.calendars given.items sound.calendars filed known in
       let of_added : is_holiday s.added_days day ≡ is_holiday added.items day =
       sym (own_year day s.added_days) ∙ (ap (λ y. is_holiday (added_in s y) day) its
-      ∙ sym (added_known year added t s stands lists day)) in
-      list_any-append (λ h. h == day) (holidays_of s.calendars) s.added_days
+      ∙ sym (added_known year added t s keeps lists day)) in
+      let kept : is_kept changes.items day ≡ is_in_force s.changed_days day =
+      kept_known day changes t s.changed_days keeps.changed_days
+      (subst (λ y. ListsHolidayChanges y changes t) (sym its) all) in
+      is_among (is_in_force s.changed_days) (all_days s) day
+      ∙ ap (λ b. b && is_in_force s.changed_days day)
+      (list_any-append (λ h. h == day) (holidays_of s.calendars) s.added_days
       ∙ (ap (λ b. b || is_holiday s.added_days day) of_given
-      ∙ ap (λ b. is_holiday given.items day || b) of_added)
+      ∙ ap (λ b. is_holiday given.items day || b) of_added))
+      ∙ ap (λ b. (is_holiday given.items day || is_holiday added.items day) && b) (sym kept)
 
   -- no day of a year whose calendar was not found is one
   pub holiday_unknown : (A : Type 0) (year day : ℕ) → FindsCalendar {A = A} year None t
       → year_of day ≡ year → is_holiday (holidays s) day ≡ false
   holiday_unknown A year day finds its =
       let none : calendar_at s (year_of day) ≡ None = ap (calendar_at s) its
-      ∙ calendar_known {A = A} year None t s stands sound finds in
+      ∙ calendar_kept {A = A} year None t s keeps sound finds in
       let of_given : is_holiday (holidays_of s.calendars) day ≡ false =
       none_of day s.calendars filed
       (λ c has same. found_none days_of (is_year (year_of day)) s.calendars none c has
@@ -236,11 +149,20 @@ module _ (t : Tables) (s : State) (stands : StandsFor t s) (sound : IsSound s) w
       let of_added : is_holiday s.added_days day ≡ false =
       never_added day s.added_days (λ d has same. true≢false (sym (sound.added_days d has)
       ∙ (ap (λ x. is_some (calendar_at s (year_of x))) same ∙ ap is_some none))) in
-      list_any-append (λ h. h == day) (holidays_of s.calendars) s.added_days
-      ∙ (ap (λ b. b || is_holiday s.added_days day) of_given ∙ of_added)
+      is_among (is_in_force s.changed_days) (all_days s) day
+      ∙ ap (λ b. b && is_in_force s.changed_days day)
+      (list_any-append (λ h. h == day) (holidays_of s.calendars) s.added_days
+      ∙ (ap (λ b. b || is_holiday s.added_days day) of_given ∙ of_added))
 
-  -- a day of a year that was read is a holiday if the state keeps it as one
-  pub holiday_read : (read : List ℕ) (year day : ℕ) → HasHolidays t read year → year_of day ≡ year
-      → is_holiday (holidays s) day ≡ is_holiday read day
-  holiday_read read year day has its = holiday_known has.given has.added year day has.is_given
-      has.are_added its ∙ sym (has.same day its)
+-- a day of a year that was read is a holiday if the state keeps it as one
+pub holiday_kept : (t : Tables) (s : State) → KeepsDays t s → IsSound s → (read : List ℕ)
+    (year day : ℕ) → HasHolidays t read year → year_of day ≡ year
+    → is_holiday (holidays s) day ≡ is_holiday read day
+holiday_kept t s keeps sound read year day has its =
+    holiday_known t s keeps sound has.given has.added has.changes year day has.is_given
+    has.are_added has.are_changes its ∙ sym (has.same day its)
+
+pub holiday_read : (t : Tables) (s : State) → StandsFor t s → IsSound s → (read : List ℕ)
+    (year day : ℕ) → HasHolidays t read year → year_of day ≡ year
+    → is_holiday (holidays s) day ≡ is_holiday read day
+holiday_read t s stands = holiday_kept t s (days_stand t s stands)

@@ -1,14 +1,19 @@
 -- What the rows tell of an account, in the machine's words.
-use Rattle.std.specs.Prelude.{◌≡◌, ℕ, Bool, List, Option, None, Some}
+use Rattle.std.specs.Prelude.{◌≡◌, ℕ, Bool, List, map, Option, None, Some}
+use Rattle.ftd_days.specs.declared.cents.Cents.{Cents}
 use Rattle.ftd_rules.specs.declared.Form.{Form}
 use Rattle.ftd_rules.specs.declared.YearLine.{YearLine}
 use Rattle.ftd_schema.specs.Standing.{Tables}
 use Rattle.ftd_rows.specs.declared.accounts.Account.{Account as StoredAccount}
+use Rattle.ftd_rows.specs.declared.corrections.AccountCorrection.{AccountCorrection}
+use Rattle.ftd_rows.specs.declared.corrections.Correction.{Correction}
 use Rattle.ftd_store.specs.Changes.{with_account, with_form}
 use Rattle.ftd_store.specs.Finds.{FindsForm}
 use Rattle.ftd_machine.specs.declared.entries.Account.{Account}
-use Rattle.ftd_machine.specs.State.{State, entries_of, is_open}
-use Rattle.ftd_entries.specs.Standing.{StandsFor}
+use Rattle.ftd_machine.specs.declared.entries.Beginning.{Beginning}
+use Rattle.ftd_machine.specs.State.{State, entries_of, is_open, enrolled_in, moves_in, all_at}
+use Rattle.ftd_machine.specs.State.{figure_at}
+use Rattle.ftd_entries.specs.Standing.{StandsFor, KeepsFigures}
 
 -- the account that has these rows, if it has both
 abbrev pub joined : Option StoredAccount → Option Form → Option Account
@@ -16,7 +21,11 @@ joined (Some a) (Some form) = Some (record { start = a.start; carried = a.carrie
 joined (Some a) None = None
 joined None form = None
 
--- the account is what each state keeps for which the tables stand
+-- the account is what it was enrolled as in each state for which the tables stand
+abbrev pub KnowsEnrolled : List ℕ → Option Account → Tables → Type 0
+KnowsEnrolled name found t = (s : State) → StandsFor t s → enrolled_in s name ≡ found
+
+-- the account in force is what each state keeps for which the tables stand
 abbrev pub KnowsAccount : List ℕ → Option Account → Tables → Type 0
 KnowsAccount name found t = (s : State) → StandsFor t s → (entries_of s name).account ≡ found
 
@@ -40,3 +49,44 @@ with_enrolled name a t =
 -- whether the year of the account is open, as each state keeps it for which the tables stand
 abbrev pub KnowsYear : List ℕ → ℕ → Bool → Tables → Type 0
 KnowsYear name year there t = (s : State) → StandsFor t s → is_open (entries_of s name) year ≡ there
+
+-- ---- what was put right
+
+-- the amounts of corrections, and the beginnings of corrections of an account
+abbrev pub cents_of : Correction → Cents
+cents_of c = c.cents
+
+abbrev pub amounts_of : List Correction → List Cents
+amounts_of corrections = map cents_of corrections
+
+abbrev pub begins_at : AccountCorrection → Beginning
+begins_at c = record { start = c.account.start; carried = c.account.carried }
+
+abbrev pub beginnings_of : List AccountCorrection → List Beginning
+beginnings_of corrections = map begins_at corrections
+
+-- these are the corrections of the account's quarter, or of its year, the first one first, in each
+-- state of which the tables have the figures and their corrections
+abbrev pub KnowsCorrections : List ℕ → ℕ → List Correction → Tables → Type 0
+KnowsCorrections name quarter found t =
+    (s : State) → KeepsFigures t s → amounts_of found ≡ all_at quarter (entries_of s name).corrected
+
+abbrev pub KnowsYearCorrections : List ℕ → ℕ → List Correction → Tables → Type 0
+KnowsYearCorrections name year found t =
+    (s : State) → KeepsFigures t s → amounts_of found ≡ all_at year (entries_of s name).corrected_years
+
+-- those of the account itself, in each state for which the tables stand
+abbrev pub KnowsMoves : List ℕ → List AccountCorrection → Tables → Type 0
+KnowsMoves name found t = (s : State) → StandsFor t s → beginnings_of found ≡ moves_in s name
+
+-- the figure in force of the account's quarter, or of its year, if one was reported, in each state of
+-- which the tables have the figures and their corrections
+abbrev pub KnowsFigure : List ℕ → ℕ → Option Cents → Tables → Type 0
+KnowsFigure name quarter found t =
+    (s : State) → KeepsFigures t s
+    → figure_at quarter (entries_of s name).reported (entries_of s name).corrected ≡ found
+
+abbrev pub KnowsYearFigure : List ℕ → ℕ → Option Cents → Tables → Type 0
+KnowsYearFigure name year found t =
+    (s : State) → KeepsFigures t s
+    → figure_at year (entries_of s name).reported_years (entries_of s name).corrected_years ≡ found

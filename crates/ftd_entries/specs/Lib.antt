@@ -1,3 +1,4 @@
+pub mod Correcting
 pub mod Known
 pub mod Totals
 pub mod Opening

@@ -1,6 +1,7 @@
 -- When tables stand for a state: each holds the rows of its entries, in the order in which they
 -- were accepted, and the rows that follow from them are settled.
-use Rattle.std.specs.Prelude.{◌≡◌, ℕ, pos, Bool, bytes_eq, List, [], map, flat_map, filter}
+use Rattle.std.specs.Prelude.{◌≡◌, ℕ, ◌+◌, pos, Bool, bytes_eq, List, [], ◌∷◌, ◌++◌, map, flat_map}
+use Rattle.std.specs.Prelude.{filter, length}
 use Rattle.std.specs.Prelude.{IsPermutation}
 use Rattle.ftd_days.specs.Calendar.{year_of}
 use Rattle.ftd_days.specs.Holidays.{YearDays}
@@ -17,15 +18,22 @@ use Rattle.ftd_schema.specs.declared.TableName.TheVariants.{Metas, Accounts, Rep
 use Rattle.ftd_schema.specs.declared.TableName.TheVariants.{CalendarYears, Holidays, Years, Runs}
 use Rattle.ftd_schema.specs.declared.TableName.TheVariants.{Payments, Obligations, Forms}
 use Rattle.ftd_schema.specs.declared.TableName.TheVariants.{ReportedYears, AddedHolidays}
+use Rattle.ftd_schema.specs.declared.TableName.TheVariants.{CorrectedQuarters, CorrectedYears}
+use Rattle.ftd_schema.specs.declared.TableName.TheVariants.{ChangedHolidays, CorrectedAccounts}
 use Rattle.ftd_schema.specs.Rows.{AccountRow, FormRow, ReportedQuarterRow, ReportedYearRow}
 use Rattle.ftd_schema.specs.Rows.{CalendarYearRow, HolidayRow, RunRow, PaymentRow, ObligationRow}
+use Rattle.ftd_schema.specs.Rows.{CorrectedQuarterRow, CorrectedYearRow, ChangedHolidayRow}
+use Rattle.ftd_schema.specs.Rows.{CorrectedAccountRow}
 use Rattle.ftd_schema.specs.Standing.{Tables}
 use Rattle.ftd_schema.specs.Beginnings.{HasVersion}
 use Rattle.ftd_schema.specs.Tests.{is_year_of}
 use Rattle.ftd_rows.specs.Rows.{account_row, form_row, reported_row, reported_year_row}
 use Rattle.ftd_rows.specs.Rows.{calendar_year_row, holiday_row, year_row, run_row, payment_row}
-use Rattle.ftd_rows.specs.Rows.{obligation_row}
-use Rattle.ftd_machine.specs.State.{State, Enrolled, Entry, entries_of, holidays}
+use Rattle.ftd_rows.specs.Rows.{obligation_row, correction_row, year_correction_row}
+use Rattle.ftd_rows.specs.Rows.{account_correction_row, holiday_change_row}
+use Rattle.ftd_rows.specs.declared.corrections.Correction.{Correction}
+use Rattle.ftd_machine.specs.State.{State, Enrolled, Entry, DayChange, entries_of, holidays, is_of}
+use Rattle.ftd_machine.specs.State.{Move, all_at, changes_of, moves_of}
 use Rattle.ftd_machine.specs.History.{form_of, live_sums, AreLinesOf}
 
 -- ---- the rows of an entry
@@ -60,6 +68,40 @@ run_entry e = run_row e.name (pos e.key) e.content.value e.content.voided
 abbrev pub payment_entry : Entry (Voidable Payment) → PaymentRow
 payment_entry e = payment_row e.name (pos e.key) e.content.value e.content.voided
 
+-- ---- the rows of corrections
+
+-- each with those that came before it
+abbrev pub with_earlier : {X : Type 0} → List X → List X → List (List X × X)
+with_earlier before [] = []
+with_earlier before (x ∷ xs) = (before, x) ∷ with_earlier (before ++ x ∷ []) xs
+
+-- the number of a correction is one more than there are corrections before it of the same total, of
+-- the same day, or of the same account
+abbrev pub correction_of : List (Entry Cents) × Entry Cents → Correction
+correction_of p = record {
+  number = length (all_at p.1.key (filter (is_of p.1.name) p.0)) + 1;
+  cents = p.1.content;
+}
+
+abbrev pub correction_entry : List (Entry Cents) × Entry Cents → CorrectedQuarterRow
+correction_entry p = correction_row p.1.name p.1.key (correction_of p)
+
+abbrev pub year_correction_entry : List (Entry Cents) × Entry Cents → CorrectedYearRow
+year_correction_entry p = year_correction_row p.1.name p.1.key (correction_of p)
+
+abbrev pub change_entry : List DayChange × DayChange → ChangedHolidayRow
+change_entry p = holiday_change_row (year_of p.1.day) (record {
+  day = p.1.day;
+  number = length (changes_of p.1.day p.0) + 1;
+  is_holiday = p.1.is_holiday;
+})
+
+abbrev pub account_correction_entry : List Move × Move → CorrectedAccountRow
+account_correction_entry p = account_correction_row p.1.name (record {
+  number = length (moves_of p.1.name p.0) + 1;
+  account = record { start = p.1.beginning.start; carried = p.1.beginning.carried };
+})
+
 -- ---- what follows from the entries
 
 abbrev pub is_obligation_of : List ℕ → ObligationRow → Bool
@@ -77,9 +119,24 @@ pub record IsSettled (t : Tables) (s : State) (name : List ℕ) : Type 0 where
   pub owed_rows : IsPermutation (filter (is_obligation_of name) (t Obligations))
       (map (obligation_row name) owed)
 
--- the tables are marked as those of version 2, and stand for the state
+-- the rows of calendars, of added holidays and of changed days are those of the state
+pub record KeepsDays (t : Tables) (s : State) : Type 0 where
+  pub calendars : t CalendarYears ≡ map calendar_entry s.calendars
+  pub calendar_days : t Holidays ≡ flat_map holiday_entries s.calendars
+  pub added_days : t AddedHolidays ≡ map added_entry s.added_days
+  pub changed_days : t ChangedHolidays ≡ map change_entry (with_earlier [] s.changed_days)
+
+-- the rows of figures and of their corrections are those of the state
+pub record KeepsFigures (t : Tables) (s : State) : Type 0 where
+  pub reported : t ReportedQuarters ≡ map quarter_entry s.reported
+  pub reported_years : t ReportedYears ≡ map year_entry s.reported_years
+  pub corrected : t CorrectedQuarters ≡ map correction_entry (with_earlier [] s.corrected)
+  pub corrected_years : t CorrectedYears ≡ map year_correction_entry
+      (with_earlier [] s.corrected_years)
+
+-- the tables are marked as those of version 3, and stand for the state
 pub record StandsFor (t : Tables) (s : State) : Type 0 where
-  pub meta : HasVersion (t Metas) 2
+  pub meta : HasVersion (t Metas) 3
   pub accounts : t Accounts ≡ map enrolled_row s.accounts
   -- in any order: a migration adds the forms in the order in which it reads the accounts
   pub forms : IsPermutation (t Forms) (map enrolled_form s.accounts)
@@ -90,19 +147,39 @@ pub record StandsFor (t : Tables) (s : State) : Type 0 where
   pub added_days : t AddedHolidays ≡ map added_entry s.added_days
   pub runs : t Runs ≡ map run_entry s.runs
   pub payments : t Payments ≡ map payment_entry s.payments
+  pub corrected : t CorrectedQuarters ≡ map correction_entry (with_earlier [] s.corrected)
+  pub corrected_years : t CorrectedYears ≡ map year_correction_entry
+      (with_earlier [] s.corrected_years)
+  pub changed_days : t ChangedHolidays ≡ map change_entry (with_earlier [] s.changed_days)
+  pub moved : t CorrectedAccounts ≡ map account_correction_entry (with_earlier [] s.moved)
   pub settled : (name : List ℕ) → IsSettled t s name
 
--- ---- version 1
+-- ---- earlier versions
 
--- the tables are marked as those of version 1, and stand for the state
-pub record StandsForFirst (t : Tables) (s : State) : Type 0 where
-  pub meta : HasVersion (t Metas) 1
-  -- each account is on Form 941, no total of a year is reported, and no holiday is added: version 1
-  -- has no tables for these
+-- version 1 has no tables for forms, totals of years and added holidays: each account is on Form
+-- 941, and none of the others was entered
+pub record HasNoLater (s : State) : Type 0 where
   pub on_form_941 : (e : Enrolled) → Has s.accounts e → e.account.form ≡ F941
   pub no_years : s.reported_years ≡ []
   pub no_added : s.added_days ≡ []
-  -- the others hold the rows of their entries, and the rows that follow from them are settled
+
+-- version 2 has them
+pub record HasLater (t : Tables) (s : State) : Type 0 where
+  pub forms : IsPermutation (t Forms) (map enrolled_form s.accounts)
+  pub reported_years : t ReportedYears ≡ map year_entry s.reported_years
+  pub added_days : t AddedHolidays ≡ map added_entry s.added_days
+
+-- the tables are marked as those of an earlier version, and stand for the state: neither version has
+-- tables for corrections, and the other tables hold the rows of their entries, and the rows that
+-- follow from them are settled
+pub record StandsForEarlier (version : ℕ) (t : Tables) (s : State) : Type 0 where
+  pub meta : HasVersion (t Metas) version
+  pub first : version ≡ 1 → HasNoLater s
+  pub second : version ≡ 2 → HasLater t s
+  pub no_corrected : s.corrected ≡ []
+  pub no_corrected_years : s.corrected_years ≡ []
+  pub no_changed : s.changed_days ≡ []
+  pub no_moved : s.moved ≡ []
   pub accounts : t Accounts ≡ map enrolled_row s.accounts
   pub reported : t ReportedQuarters ≡ map quarter_entry s.reported
   pub calendars : t CalendarYears ≡ map calendar_entry s.calendars

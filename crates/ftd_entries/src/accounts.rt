@@ -3,7 +3,8 @@
 ghost use Rattle.std.specs.Prelude.{◌≡◌};
 ghost use Rattle.ftd_store.specs.Seen.{shown};
 ghost use Rattle.ftd_store.specs.Frame.{Calls, Reads, Writes};
-ghost use Rattle.ftd_entries.specs.Known.{KnowsAccount, HasForm, joined, with_enrolled};
+ghost use Rattle.ftd_entries.specs.Known.{KnowsAccount, KnowsEnrolled, HasForm, joined};
+ghost use Rattle.ftd_entries.specs.Known.{with_enrolled};
 ghost use Rattle.ftd_machine.specs.declared.requests.Request.TheVariants.{Enrol};
 ghost use Rattle.ftd_entries.specs.Words.{Serves};
 
@@ -12,13 +13,29 @@ use ftd_machine::{Account, Answer, Reply, enrol_check};
 use ftd_rules::Form;
 use ftd_store::{StoreFault, Tx};
 use sqlite::Alter;
+use std::alloc::Global;
 
-/// What is kept of an account: its first day and whether it was carried, and its form.
-pub fn known<S: Alter>(tx: &mut Tx<'_, S>, name: &str) -> Result<Option<Account>, StoreFault>
-    ensures call { Reads S.Store tx.old tx.new result (KnowsAccount name.now) }
+/// As what an account was enrolled: its first day and whether it was carried, and its form.
+pub fn enrolled<S: Alter>(tx: &mut Tx<'_, S>, name: &str) -> Result<Option<Account>, StoreFault>
+    ensures call { Reads S.Store tx.old tx.new result (KnowsEnrolled name.now) }
     ensures form { Reads S.Store tx.old tx.new result (HasForm name.now) }
 {
     let found = tx.account(name)?;
+    let form = tx.form(name)?;
+    Ok(joined(found, form))
+}
+
+/// What is in force of an account: its first day and whether it was carried, as they were put right
+/// last, and its form.
+pub fn known<S: Alter>(
+    tx: &mut Tx<'_, S>,
+    alloc: Global,
+    name: &str,
+) -> Result<Option<Account>, StoreFault>
+    ensures call { Reads S.Store tx.old tx.new result (KnowsAccount name.now) }
+    ensures form { Reads S.Store tx.old tx.new result (HasForm name.now) }
+{
+    let found = tx.account_in_force(alloc, name)?;
     let form = tx.form(name)?;
     Ok(joined(found, form))
 }
@@ -44,7 +61,7 @@ pub fn enrol<S: Alter>(
     ensures call { Calls S.Store tx.old tx.new result
         (Serves (Enrol name.now account.start account.carried account.form)) }
 {
-    let known = known(tx, name)?;
+    let known = enrolled(tx, name)?;
     if let Some(answer) = enrol_check(name, &account, known) {
         return Ok(answer);
     }

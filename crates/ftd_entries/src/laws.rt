@@ -1,14 +1,14 @@
 //! What a database stands for once it is opened: each function's contract is a law, its body is
 //! empty.
 
-ghost use Rattle.std.specs.Prelude.{◌≡◌, false};
+ghost use Rattle.std.specs.Prelude.{◌≡◌, ℕ, false};
 ghost use Rattle.sqlite.specs.Effect.{Database};
 ghost use Rattle.sqlite.specs.Does.{lacks_sequence};
-ghost use Rattle.ftd_schema.specs.Standing.{Tables, StandsAsFirst};
-ghost use Rattle.ftd_schema.specs.Beginnings.{IsMade, IsMigrated};
+ghost use Rattle.ftd_schema.specs.Standing.{Tables, StandsAs};
+ghost use Rattle.ftd_schema.specs.Beginnings.{IsEarlier, IsMade, IsMigrated};
 ghost use Rattle.ftd_machine.specs.State.{State, nothing};
 ghost use Rattle.ftd_machine.specs.Sound.{IsSound};
-ghost use Rattle.ftd_entries.specs.Standing.{StandsForFirst};
+ghost use Rattle.ftd_entries.specs.Standing.{StandsForEarlier};
 ghost use Rattle.ftd_entries.specs.Words.{IsKept};
 
 /// A database in which the tables were made stands for a desk to which nothing was entered.
@@ -17,10 +17,12 @@ pub fn new_tables_stand_for_nothing()
     ensures { (old new : Database) → IsMade old new → IsKept new nothing }
 {}
 
-/// A database of version 1 that was migrated stands for the state that it stood for. The last
-/// premise leaves out databases that count rows (AUTOINCREMENT) and have lost the table of counts.
+/// A database of an earlier version that was migrated stands for the state that it stood for. The
+/// last premise leaves out databases that count rows (AUTOINCREMENT) and have lost the table of
+/// counts.
 pub fn migrated_tables_stand_for_the_same()
-    ensures { (old new : Database) (first : Tables) (s : State) → IsMigrated old new
-        → StandsAsFirst old first → StandsForFirst first s → IsSound s
+    ensures { (old new : Database) (version : ℕ) (before : Tables) (s : State)
+        → IsMigrated old new → IsEarlier version
+        → StandsAs version old before → StandsForEarlier version before s → IsSound s
         → lacks_sequence old.schema ≡ false → IsKept new s }
 {}

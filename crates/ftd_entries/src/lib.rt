@@ -4,7 +4,9 @@
 #![tactic(auto)]
 
 mod accounts;
+mod beginnings;
 mod calendars;
+mod in_force;
 pub mod laws;
 mod lookbacks;
 mod open_years;
@@ -13,7 +15,10 @@ mod reported;
 mod years;
 
 pub use crate::accounts::{enrol, known};
+pub use crate::beginnings::correct_account;
 pub use crate::calendars::take_calendar;
+pub use crate::in_force::{figure, year_figure};
+pub use crate::lookbacks::lookback_total;
 pub use crate::open_years::open_year;
 pub use crate::payments::{pay, void_payment};
 pub use crate::reported::{report, report_year};

@@ -3,8 +3,9 @@
 ghost use Rattle.std.specs.Prelude.{◌≡◌, ◌≤◌, All, IfOk};
 ghost use Rattle.ftd_store.specs.Frame.{Reads};
 ghost use Rattle.ftd_entries.specs.Totals.{IsTotalOn941, IsTotalOn943, KnowsTotal, KnowsTotalOn941};
-ghost use Rattle.ftd_entries.specs.Totals.{KnowsTotalOn943, figures_found, year_figures};
+ghost use Rattle.ftd_entries.specs.Totals.{KnowsTotalOn943, figures_found, figure_before};
 
+use crate::in_force::{figure, year_figure};
 use ftd_days::{Cents, Day, Quarter};
 use ftd_machine::{Account, Refusal};
 use ftd_rules::{Form, lookback, lookback_943};
@@ -14,7 +15,7 @@ use std::alloc::{AllocError, Global};
 
 /// The total of the account's lookback period of the year, or the refusal that names which of its
 /// figures is missing.
-pub(crate) fn lookback_total<S: Alter>(
+pub fn lookback_total<S: Alter>(
     tx: &mut Tx<'_, S>,
     alloc: Global,
     name: &str,
@@ -27,7 +28,7 @@ pub(crate) fn lookback_total<S: Alter>(
 {
     match account.form {
         Form::F941 => total_941(tx, alloc, name, account.start, year),
-        Form::F943 => total_943(tx, name, account.start, year),
+        Form::F943 => total_943(tx, alloc, name, account.start, year),
     }
 }
 
@@ -48,10 +49,10 @@ fn total_941<S: Alter>(
     let (third, fourth) = (Quarter::at(quarters), Quarter::at(quarters + 1));
     let (first, second) = (Quarter::at(quarters + 2), Quarter::at(quarters + 3));
     let found = [
-        (third, tx.reported(name, third)?),
-        (fourth, tx.reported(name, fourth)?),
-        (first, tx.reported(name, first)?),
-        (second, tx.reported(name, second)?),
+        (third, figure(tx, alloc, name, third)?),
+        (fourth, figure(tx, alloc, name, fourth)?),
+        (first, figure(tx, alloc, name, first)?),
+        (second, figure(tx, alloc, name, second)?),
     ];
     match total_of_found(alloc, &found, start, year) {
         Ok(total) => Ok(total),
@@ -99,6 +100,7 @@ fn figures_found(
 /// The lookback total on Form 943, or the refusal that names the year whose figure is missing.
 fn total_943<S: Alter>(
     tx: &mut Tx<'_, S>,
+    alloc: Global,
     name: &str,
     start: Day,
     year: u32,
@@ -107,7 +109,7 @@ fn total_943<S: Alter>(
     requires to { year ≤ 2098 }
     ensures call { Reads S.Store tx.old tx.new result (KnowsTotalOn943 name.now start year) }
 {
-    let found = tx.reported_year(name, year - 2)?;
+    let found = year_figure(tx, alloc, name, year - 2)?;
     Ok(total_of_year(found, start, year))
 }
 
@@ -115,7 +117,7 @@ fn total_943<S: Alter>(
 fn total_of_year(found: Option<Cents>, start: Day, year: u32) -> Result<Cents, Refusal>
     requires from { 2001 ≤ year }
     requires to { year ≤ 2098 }
-    ensures { IsTotalOn943 (year_figures year found) start year result }
+    ensures { IsTotalOn943 (figure_before year found) start year result }
 {
     match found {
         Some(cents) => total_of_years(&[(year - 2, cents)], start, year),

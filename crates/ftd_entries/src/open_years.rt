@@ -42,7 +42,7 @@ fn known_year<S: Alter>(
 ) -> Result<KnownYear, StoreFault>
     ensures call { Reads S.Store tx.old tx.new result (KnowsToOpen name.now year) }
 {
-    let account = known(tx, name)?;
+    let account = known(tx, alloc, name)?;
     let lines = tx.years(alloc, name)?;
     let given = tx.calendar(alloc, year)?;
     let next = tx.calendar(alloc, year.saturating_add(1))?;

@@ -38,7 +38,7 @@ fn known_for_pay<S: Alter>(
     ensures call { Reads S.Store tx.old tx.new result
         (KnowsForPay name.now number (year_of for_day)) }
 {
-    let account = known(tx, name)?;
+    let account = known(tx, alloc, name)?;
     let payment = tx.payment(name, number)?;
     let is_open = is_open(tx, alloc, name, for_day.year())?;
     Ok(KnownForPay {
@@ -83,12 +83,13 @@ pub fn pay<S: Alter>(
 /// Voids the account's payment of the number.
 pub fn void_payment<S: Alter>(
     tx: &mut Tx<'_, S>,
+    alloc: Global,
     name: &str,
     number: u32,
 ) -> Result<Answer, StoreFault>
     ensures call { Calls S.Store tx.old tx.new result (Serves (VoidPay name.now number)) }
 {
-    let account = known(tx, name)?;
+    let account = known(tx, alloc, name)?;
     let kept = tx.payment(name, number)?;
     if let Some(answer) = void_payment_check(name, number, account, kept) {
         return Ok(answer);

@@ -9,17 +9,19 @@ use ftd_days::{Cents, Quarter};
 use ftd_machine::{Answer, Reply, report_check, report_year_check};
 use ftd_store::{StoreFault, Tx};
 use sqlite::Alter;
+use std::alloc::Global;
 
 /// Takes the total that an account on Form 941 reported for a quarter, in cents.
 pub fn report<S: Alter>(
     tx: &mut Tx<'_, S>,
+    alloc: Global,
     name: &str,
     quarter: Quarter,
     cents: Cents,
 ) -> Result<Answer, StoreFault>
     ensures call { Calls S.Store tx.old tx.new result (Serves (Report name.now quarter cents)) }
 {
-    let account = known(tx, name)?;
+    let account = known(tx, alloc, name)?;
     let reported = tx.reported(name, quarter)?;
     if let Some(answer) = report_check(name, quarter, cents, account, reported) {
         return Ok(answer);
@@ -31,13 +33,14 @@ pub fn report<S: Alter>(
 /// Takes the total that an account on Form 943 reported for a year, in cents.
 pub fn report_year<S: Alter>(
     tx: &mut Tx<'_, S>,
+    alloc: Global,
     name: &str,
     year: u32,
     cents: Cents,
 ) -> Result<Answer, StoreFault>
     ensures call { Calls S.Store tx.old tx.new result (Serves (ReportYear name.now year cents)) }
 {
-    let account = known(tx, name)?;
+    let account = known(tx, alloc, name)?;
     let reported = tx.reported_year(name, year)?;
     if let Some(answer) = report_year_check(name, year, cents, account, reported) {
         return Ok(answer);

@@ -1,30 +1,19 @@
 -- A holiday that is added: what is answered, and the tables stand for the machine's next state.
 use Rattle.std.proofs.Common.{◌≡◌, ℕ, ◌+◌, Bool, true, false, List, [], ◌∷◌, ◌++◌, map, length}
-use Rattle.std.proofs.Common.{Option, None, Some, Vec, Ok, refl, sym, ap, subst, ◌∙◌, arith}
-use Rattle.std.specs.Prelude.{filter, option_map, nat_lt, ◌||◌, ◌==◌}
-use Rattle.std.specs.List.Sorted.{IsPermutation}
+use Rattle.std.proofs.Common.{Option, None, Some, Vec, Ok, refl, sym, ap, subst, ◌∙◌}
+use Rattle.std.specs.Prelude.{filter, option_map, nat_lt, ◌||◌, ◌&&◌, ◌==◌, if◌then◌else◌}
+use Rattle.std.proofs.lemmas.Bool.{true≢false, eqb-true}
+use Rattle.std.proofs.Common.{inl, inr}
 use Rattle.std.proofs.lemmas.List.{map-append, length-append}
 use Rattle.std.proofs.lemmas.List.Folds.{list_any-append}
 use Rattle.ftd_days.specs.Calendar.{year_of}
 use Rattle.ftd_days.specs.Business.{is_holiday}
 use Rattle.ftd_days.specs.Holidays.{holidays_of, IsWithHoliday}
-use Rattle.ftd_days.proofs.Months.{year_later}
-use Rattle.ftd_rules.specs.declared.Obligation.{Obligation}
-use Rattle.ftd_rules.specs.Due.{IsDue}
-use Rattle.ftd_rules.specs.Laws.{EqualHolidays}
-use Rattle.ftd_rules.specs.Obligations.{IsObligation}
-use Rattle.ftd_rules.proofs.DueDates.{due_one}
-use Rattle.ftd_rules.proofs.Near.{due_near}
-use Rattle.ftd_rules.proofs.Resting.{due_from, due_same, from_later}
-use Rattle.ftd_rules.proofs.Stated.{due_by}
-use Rattle.ftd_schema.specs.declared.TableName.TheVariants.{Metas, Accounts, ReportedQuarters}
-use Rattle.ftd_schema.specs.declared.TableName.TheVariants.{CalendarYears, Holidays, Years, Runs}
-use Rattle.ftd_schema.specs.declared.TableName.TheVariants.{Payments, Obligations, Forms}
-use Rattle.ftd_schema.specs.declared.TableName.TheVariants.{ReportedYears, AddedHolidays}
-use Rattle.ftd_schema.specs.Rows.{YearRow, FormRow}
+use Rattle.ftd_days.proofs.Among.{is_among}
+use Rattle.ftd_rules.specs.Lists.{Has}
 use Rattle.ftd_schema.specs.Standing.{Tables}
-use Rattle.ftd_schema.specs.Tests.{is_year_of}
-use Rattle.ftd_rows.specs.Rows.{year_row, holiday_row}
+use Rattle.ftd_rows.specs.Rows.{holiday_row}
+use Rattle.ftd_store.specs.Changes.{with_added_holiday}
 use Rattle.ftd_store.specs.Finds.{FindsCalendar, ListsAdded}
 use Rattle.ftd_machine.specs.declared.requests.Request.{Request}
 use Rattle.ftd_machine.specs.declared.requests.Request.TheVariants.{AddHoliday}
@@ -32,20 +21,21 @@ use Rattle.ftd_machine.specs.declared.replies.Reply.TheVariants.{Done}
 use Rattle.ftd_machine.specs.declared.replies.Refusal.TheVariants.{BadDay, BadCalendar}
 use Rattle.ftd_machine.specs.declared.replies.Refusal.TheVariants.{CalendarMissing}
 use Rattle.ftd_machine.specs.Limits.{is_between, most_holidays}
-use Rattle.ftd_machine.specs.State.{State, entries_of, calendar_at, added_in, holidays}
-use Rattle.ftd_machine.specs.History.{form_of, live_sums}
+use Rattle.ftd_machine.specs.State.{State, calendar_at, added_in, holidays, all_days}
+use Rattle.ftd_machine.specs.State.{DayChange, changes_of, says_holiday, is_on_day, is_in_force, latest}
 use Rattle.ftd_machine.specs.Checks.{Answer, first_of, needs, done_if, finds, Decides}
-use Rattle.ftd_machine.specs.Requests.{add_holiday_checks}
+use Rattle.ftd_machine.specs.Requests.{add_holiday_checks, days_of_year}
 use Rattle.ftd_machine.specs.Step.{Step}
 use Rattle.ftd_machine.specs.Sound.{IsSound}
+use Rattle.ftd_machine.proofs.Heads.{Gives, gives_done, skip_needs}
+use Rattle.ftd_machine.proofs.InYear.{filed_of, in_year}
 use Rattle.ftd_machine.proofs.Soundness.{step_sound}
-use Rattle.ftd_entries.specs.Standing.{StandsFor, IsSettled, added_entry, enrolled_form}
-use Rattle.ftd_entries.proofs.CalendarRows.{days_found, calendar_known}
+use Rattle.ftd_entries.specs.Standing.{StandsFor, KeepsDays, added_entry}
+use Rattle.ftd_entries.proofs.CalendarRows.{days_found, calendar_known, days_stand}
 use Rattle.ftd_entries.proofs.YearHolidays.{added_known, added_counted}
-use Rattle.ftd_holidays.specs.Moved.{AddsHoliday}
-use Rattle.ftd_holidays.proofs.DueAgain.{due_again, again, is_due_again, HasDays, days_of_owed}
-use Rattle.ftd_holidays.proofs.DueAgain.{due_as_before, rows_again}
-use Rattle.ftd_holidays.proofs.MovedOwed.{IsOver, owed_after}
+use Rattle.ftd_holidays.specs.Moved.{EntersDay}
+use Rattle.ftd_holidays.specs.declared.moving.DayEntry.TheVariants.{Added}
+use Rattle.ftd_holidays.proofs.DayTurned.{entered_stands}
 
 -- ---- the checks
 
@@ -74,87 +64,77 @@ same_checks day (Some given) some others there count =
 
 -- ---- the holidays with the day
 
-or_last : (a b c : Bool) → (a || (b || (c || false))) ≡ ((a || b) || c)
-or_last true b c = refl
-or_last false true c = refl
-or_last false false true = refl
-or_last false false false = refl
-
 abbrev Next : ℕ → State → State
 Next day s = record s { added_days = s.added_days ++ day ∷ [] }
 
-with_the_day : (day : ℕ) (s : State) → IsWithHoliday (holidays s) day (holidays (Next day s))
-with_the_day day s d =
+no_change_of : (day : ℕ) (all : List ℕ) (changes : List DayChange)
+    → ((c : DayChange) → Has changes c → is_holiday all c.day ≡ true)
+    → is_holiday all day ≡ false → changes_of day changes ≡ []
+no_change_of day all [] known new = refl
+no_change_of day all (c ∷ cs) known new =
+    step (c.day == day) refl (no_change_of day all cs (λ x has. known x (inr has)) new)
+  where
+    step : (same : Bool) → (c.day == day) ≡ same → changes_of day cs ≡ []
+        → map says_holiday (if same then c ∷ filter (is_on_day day) cs else filter (is_on_day day) cs)
+        ≡ []
+    step true e more =
+        absurd (true≢false (sym (known c (inl refl)) ∙ ap (is_holiday all) (eqb-true c.day day e)
+        ∙ new))
+    step false e more = more
+
+-- a day that is no holiday yet was never changed
+in_force_if_new : (day : ℕ) (s : State) → IsSound s → is_holiday (all_days s) day ≡ false
+    → is_in_force s.changed_days day ≡ true
+in_force_if_new day s sound new =
+    ap (latest true) (no_change_of day (all_days s) s.changed_days sound.changed new)
+
+with_the_day : (day : ℕ) (s : State) → is_in_force s.changed_days day ≡ true
+    → IsWithHoliday (holidays s) day (holidays (Next day s))
+with_the_day day s forced d =
     let p : ℕ → Bool = λ h. h == d in
-    let given = holidays_of s.calendars in
-    list_any-append p given (s.added_days ++ day ∷ [])
-    ∙ (ap (λ b. is_holiday given d || b) (list_any-append p s.added_days (day ∷ []))
-    ∙ (or_last (is_holiday given d) (is_holiday s.added_days d) (day == d)
-    ∙ ap (λ b. b || (day == d)) (sym (list_any-append p given s.added_days))))
+    let force = is_in_force s.changed_days in
+    let given = is_holiday (holidays_of s.calendars) d in
+    let added = is_holiday s.added_days d in
+    is_among force (all_days (Next day s)) d
+    ∙ ap (λ b. b && force d) (list_any-append p (holidays_of s.calendars) (s.added_days ++ day ∷ [])
+    ∙ ap (λ b. given || b) (list_any-append p s.added_days (day ∷ [])))
+    ∙ step given added (day == d) refl
+    ∙ ap (λ b. b || (day == d)) (sym (is_among force (all_days s) d
+    ∙ ap (λ b. b && force d) (list_any-append p (holidays_of s.calendars) s.added_days)))
+  where
+    apart : (a b f : Bool) → ((a || (b || (false || false))) && f) ≡ (((a || b) && f) || false)
+    apart true b true = refl
+    apart true b false = refl
+    apart false true true = refl
+    apart false true false = refl
+    apart false false f = refl
 
--- ---- what is settled
+    here : (a b : Bool) → ((a || (b || (true || false))) && true) ≡ (((a || b) && true) || true)
+    here true b = refl
+    here false true = refl
+    here false false = refl
 
-module _ (day : ℕ) (t u : Tables) (s : State) (stands : StandsFor t s) (sound : IsSound s)
-    (next_sound : IsSound (Next day s)) (adds : AddsHoliday day t u) (name : List ℕ) where
-  abbrev after : List ℕ
-  after = holidays (Next day s)
-
-  abbrev was : IsSettled t s name
-  was = stands.settled name
-
-  abbrev IsOwed : Obligation → Type 0
-  IsOwed o = IsObligation (form_of (entries_of s name).account) was.lines
-      (live_sums (entries_of s name)) (holidays s) o
-
-  owed_days : (o : Obligation) → IsOwed o → HasDays o
-  owed_days o is = days_of_owed (form_of (entries_of s name).account) was.lines
-      (live_sums (entries_of s name)) (holidays s) o was.are_lines.schedules is
-
-  -- what is due by the holidays that were read is due by all
-  agree : (o : Obligation) → IsOwed o → IsOver day o → (due : ℕ)
-      → IsDue adds.holidays o.rule o.last due → due ≡ due_again after o
-  agree o is over due dated =
-      let days = owed_days o is in
-      let some = days.some in let known = days.known in let one_year = days.one_year in
-      let early = days.to_2098 in
-      let over0 = over.0 in let over1 = over.1 in
-      let now : ℕ = due_again after o in
-      let old = due_near (holidays s) o.rule o.last o.due sound.few (omega arith)
-      (due_by (holidays s) o.rule o.last o.due is.due) in
-      let old1 = old.1.0 in let old2 = old.1.1 in
-      let new = due_near after o.rule o.last now next_sound.few (omega arith)
-      (is_due_again after o) in
-      let new1 = new.1.0 in let new2 = new.1.1 in
-      let begins = year_later o.first day (omega arith) (omega arith) in
-      let ends = year_later day o.due over1 old2 in
-      let from = from_later o.rule o.last known in
-      let same : EqualHolidays (due_from o.rule o.last) now after adds.holidays =
-      λ d low high. (
-      let first = year_later o.last d (omega arith) (omega arith) in
-      let last = year_later d now high new2 in
-      adds.known s stands sound d (omega arith) (omega arith) ∙ sym (with_the_day day s d)) in
-      due_one adds.holidays o.rule o.last due now (due_by adds.holidays o.rule o.last due dated)
-      (due_same after adds.holidays o.rule o.last now now same (omega arith) (is_due_again after o))
-
-  still_settled : IsSettled u (Next day s) name
-  still_settled = record {
-    lines = was.lines;
-    are_lines = was.are_lines;
-    owed = map (again after) was.owed;
-    are_owed = rows_again (form_of (entries_of s name).account) was.lines
-        (live_sums (entries_of s name)) (holidays s) after was.owed was.are_owed;
-    line_rows = subst (λ (rows : List YearRow). IsPermutation (filter (is_year_of name) rows)
-        (map (year_row name) was.lines)) (sym (adds.moves.only Years)) was.line_rows;
-    owed_rows =
-        owed_after day adds.holidays after adds.obligations.items (t Obligations)
-        (u Obligations) adds.listed adds.moves.rows name was.owed was.are_owed.by_first_day
-        was.owed_rows
-        (λ o has over due dated. agree o ((was.are_owed.all o).0 has) over due dated)
-        (λ o has out. let is = (was.are_owed.all o).0 has in
-        due_as_before (holidays s) after day o (with_the_day day s) (owed_days o is) is.due out);
-  }
+    step : (a b same : Bool) → (day == d) ≡ same
+        → ((a || (b || (same || false))) && is_in_force s.changed_days d)
+        ≡ (((a || b) && is_in_force s.changed_days d) || same)
+    step a b false e = apart a b (is_in_force s.changed_days d)
+    step a b true e =
+        let its : is_in_force s.changed_days d ≡ true =
+        ap (is_in_force s.changed_days) (sym (eqb-true day d e)) ∙ forced in
+        rw its (here a b)
 
 -- ---- the request
+
+-- the rows of the days with the day
+keeps_added : (day : ℕ) (t : Tables) (s : State) → StandsFor t s
+    → KeepsDays (with_added_holiday day t) (Next day s)
+keeps_added day t s stands = record {
+  calendars = stands.calendars;
+  calendar_days = stands.calendar_days;
+  added_days = ap (λ rows. rows ++ holiday_row (year_of day) day ∷ []) stands.added_days
+      ∙ sym (map-append added_entry s.added_days (day ∷ []));
+  changed_days = stands.changed_days;
+}
 
 module _ {A B : Type 0} (day year : ℕ) (its : year ≡ year_of day) (found : Option (Vec ℕ A))
     (added : Vec ℕ B) where
@@ -173,8 +153,8 @@ module _ {A B : Type 0} (day year : ℕ) (its : year ≡ year_of day) (found : O
       ∙ (ap (λ y. first_of (add_holiday_checks day (option_map days_found found) (added_in s y)))
       (sym its)
       ∙ same_checks day (option_map days_found found) (added_in s year) added.items
-      (sym (added_known year added t s stands lists day))
-      (sym (added_counted year added t s stands lists)))
+      (sym (added_known year added t s (days_stand t s stands) lists day))
+      (sym (added_counted year added t s (days_stand t s stands) lists)))
 
   -- a check decides
   pub added_decided : (answer : Answer) → checks ≡ Some answer → (t : Tables) (s : State)
@@ -186,9 +166,9 @@ module _ {A B : Type 0} (day year : ℕ) (its : year ≡ year_of day) (found : O
 
   -- all checks pass
   pub added_done : checks ≡ None → (t u : Tables) (s : State) → StandsFor t s → IsSound s
-      → FindsCalendar year found t × ListsAdded year added t → AddsHoliday day t u
+      → FindsCalendar year found t × ListsAdded year added t → EntersDay (Added day) t u
       → (next : State) × Step s (AddHoliday day) (Ok Done) next × StandsFor u next
-  added_done passed t u s stands sound knows adds =
+  added_done passed t u s stands sound knows enters =
       let answer : Answer = Ok Done in
       let request : Request = AddHoliday day in
       let next : State = Next day s in
@@ -196,23 +176,15 @@ module _ {A B : Type 0} (day year : ℕ) (its : year ≡ year_of day) (found : O
       subst (λ o. Decides o s answer next ((answer ≡ Ok Done) × (next ≡ next)))
       (sym (checks_known t s stands sound knows.0 knows.1 ∙ passed)) (refl, refl) in
       let next_sound = step_sound s request answer next step sound in
-      let only = adds.moves.only in (
+      let not_yet : Gives (add_holiday_checks day (calendar_at s (year_of day))
+      (added_in s (year_of day))) (is_holiday (days_of_year (calendar_at s (year_of day))
+      (added_in s (year_of day))) day ≡ false) = skip_needs _ _ _ _ (gives_done _ _) in
+      let new : is_holiday (all_days s) day ≡ false =
+      in_year s sound.calendars (filed_of s sound) sound.added_days day
+      ∙ not_yet.fact (checks_known t s stands sound knows.0 knows.1 ∙ passed) in
+      let forced = in_force_if_new day s sound new in (
         next,
         step,
-        record {
-          meta = only Metas ∙ stands.meta;
-          accounts = only Accounts ∙ stands.accounts;
-          forms = subst (λ (rows : List FormRow). IsPermutation rows (map enrolled_form s.accounts))
-              (sym (only Forms)) stands.forms;
-          reported = only ReportedQuarters ∙ stands.reported;
-          reported_years = only ReportedYears ∙ stands.reported_years;
-          calendars = only CalendarYears ∙ stands.calendars;
-          calendar_days = only Holidays ∙ stands.calendar_days;
-          added_days = only AddedHolidays
-              ∙ (ap (λ rows. rows ++ holiday_row (year_of day) day ∷ []) stands.added_days
-              ∙ sym (map-append added_entry s.added_days (day ∷ [])));
-          runs = only Runs ∙ stands.runs;
-          payments = only Payments ∙ stands.payments;
-          settled = λ name. still_settled day t u s stands sound next_sound adds name;
-        },
+        entered_stands (Added day) t u s (s.added_days ++ day ∷ []) s.changed_days stands sound
+            enters next_sound (keeps_added day t s stands) (inl (with_the_day day s forced)),
       )

@@ -1,10 +1,11 @@
 -- Obligations by other holidays: each has the due date that they give it, and is else the same.
 use Rattle.std.proofs.Common.{◌≡◌, ℕ, ◌≤◌, ◌<◌, ◌⊎◌, List, [], ◌∷◌, map, inl, inr, sym, ap, ◌∙◌}
-use Rattle.std.proofs.Common.{subst, arith}
+use Rattle.std.proofs.Common.{subst, arith, Bool, true, false, ◌||◌, ◌==◌, refl}
 use Rattle.ftd_days.specs.Calendar.{last_day, year_of}
 use Rattle.ftd_days.specs.Holidays.{IsWithHoliday}
 use Rattle.ftd_days.proofs.Months.{in_month, year_is}
-use Rattle.ftd_days.proofs.Years.{same_or_not}
+use Rattle.ftd_days.proofs.Years.{same_or_not, eq_not}
+use Rattle.ftd_days.specs.Business.{is_holiday}
 use Rattle.ftd_rules.specs.declared.Form.{Form}
 use Rattle.ftd_rules.specs.declared.Rule.{Rule}
 use Rattle.ftd_rules.specs.declared.Rule.TheVariants.{Monthly, Semiweekly, NextDay}
@@ -12,6 +13,7 @@ use Rattle.ftd_rules.specs.declared.DaySum.{DaySum}
 use Rattle.ftd_rules.specs.declared.YearLine.{YearLine}
 use Rattle.ftd_rules.specs.declared.Obligation.{Obligation}
 use Rattle.ftd_rules.specs.Due.{IsDue}
+use Rattle.ftd_rules.specs.Laws.{EqualHolidays}
 use Rattle.ftd_rules.specs.Lists.{Has}
 use Rattle.ftd_rules.specs.Obligations.{IsObligation, ByFirstDay, AreObligations}
 use Rattle.ftd_rules.specs.Years.{AreLines}
@@ -19,7 +21,7 @@ use Rattle.ftd_rules.specs.Private.Due.{IsDueBy, first_counted}
 use Rattle.ftd_rules.proofs.Covering.{within_period, line_is}
 use Rattle.ftd_rules.proofs.DueDates.{due_some, due_one}
 use Rattle.ftd_rules.proofs.Moving.{due_moves}
-use Rattle.ftd_rules.proofs.Resting.{from_later}
+use Rattle.ftd_rules.proofs.Resting.{from_later, due_from, due_same}
 use Rattle.ftd_rules.proofs.Schedules.{year_facts}
 use Rattle.ftd_rules.proofs.Stated.{piece_owed, due_by, due_stated}
 use Rattle.ftd_machine.proofs.Members.{has_mapped, mapped_has}
@@ -104,6 +106,57 @@ due_as_before before after added o with days is out =
           let some = days.some in
           absurd (elim out [ inl early ↦ omega arith | inr late ↦ omega arith ]))
     ]
+
+-- so does a holiday that is taken back
+pub due_as_before_back : (before after : List ℕ) (removed : ℕ) (o : Obligation)
+    → IsWithHoliday after removed before → HasDays o → IsDue before o.rule o.last o.due
+    → (removed ≤ o.first) ⊎ (o.due < removed) → due_again after o ≡ o.due
+due_as_before_back before after removed o with days is (inl early) =
+    elim (same_or_not o.due (due_again after o)) [
+      | inl same ↦ sym same
+      | inr moved ↦
+          (let counted =
+          (due_moves after before removed o.rule o.last (due_again after o) o.due with
+          (is_due_again after o) (due_by before o.rule o.last o.due is)).0 moved in
+          let from = counted.1 in
+          let later = counted_later o.rule o.last days.known in
+          let some = days.some in
+          absurd (omega arith))
+    ]
+due_as_before_back before after removed o with days is (inr late) =
+    let same : EqualHolidays (due_from o.rule o.last) o.due before after =
+    λ d low high. (
+    let other : (removed == d) ≡ false = eq_not removed d (λ e. omega (arith, e, late, high)) in
+    sym (with d ∙ ap (λ b. is_holiday after d || b) other ∙ or_none (is_holiday after d))) in
+    due_one after o.rule o.last (due_again after o) o.due (is_due_again after o)
+    (due_same before after o.rule o.last o.due o.due same (omega arith)
+    (due_by before o.rule o.last o.due is))
+  where
+    or_none : (b : Bool) → (b || false) ≡ b
+    or_none true = refl
+    or_none false = refl
+
+-- of two lists of holidays one has the day more than the other, or they have the same days
+abbrev pub Turns : List ℕ → ℕ → List ℕ → Type 0
+Turns before day after =
+    IsWithHoliday before day after
+    ⊎ (IsWithHoliday after day before
+    ⊎ ((other : ℕ) → is_holiday after other ≡ is_holiday before other))
+
+-- either way a due date moves only where the day is counted
+pub due_as_turned : (before after : List ℕ) (day : ℕ) (o : Obligation) → Turns before day after
+    → HasDays o → IsDue before o.rule o.last o.due → (day ≤ o.first) ⊎ (o.due < day)
+    → due_again after o ≡ o.due
+due_as_turned before after day o (inl more) days is out =
+    due_as_before before after day o more days is out
+due_as_turned before after day o (inr (inl less)) days is out =
+    due_as_before_back before after day o less days is out
+due_as_turned before after day o (inr (inr same)) days is out =
+    let known = days.known in
+    let from = from_later o.rule o.last known in
+    due_one after o.rule o.last (due_again after o) o.due (is_due_again after o)
+    (due_same before after o.rule o.last o.due o.due (λ d low high. same d) (omega arith)
+    (due_by before o.rule o.last o.due is))
 
 -- ---- all of them
 

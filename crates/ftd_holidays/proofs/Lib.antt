@@ -1,5 +1,7 @@
-pub mod ReadYears
-pub mod DueAgain
-pub mod MovedRows
-pub mod MovedOwed
-pub mod AddedDay
+mod AddedDay
+mod ChangedDay
+mod DayTurned
+mod DueAgain
+mod MovedOwed
+mod MovedRows
+mod ReadYears

@@ -4,48 +4,47 @@ use Rattle.std.proofs.Common.{inr, refl, sym, ap, ◌∙◌, subst, arith}
 use Rattle.std.specs.Prelude.{◌==◌, ◌||◌, ◌&&◌}
 use Rattle.ftd_days.specs.Calendar.{year_of}
 use Rattle.ftd_days.specs.Business.{is_holiday}
-use Rattle.ftd_days.specs.Holidays.{IsWithHoliday}
 use Rattle.ftd_days.proofs.Years.{eq_same, eq_not, same_or_not}
 use Rattle.ftd_schema.specs.Standing.{Tables}
 use Rattle.ftd_store.specs.Finds.{HasCalendar}
-use Rattle.ftd_store.specs.Holidays.{AddsYear, AddsIfGiven}
+use Rattle.ftd_store.specs.Holidays.{AddsYear, AddsIfGiven, is_holiday_in}
 use Rattle.ftd_store.proofs.AddedYears.{or_false}
 use Rattle.ftd_machine.specs.State.{State, holidays}
 use Rattle.ftd_machine.specs.Sound.{IsSound}
-use Rattle.ftd_entries.specs.Standing.{StandsFor}
+use Rattle.ftd_entries.specs.Standing.{KeepsDays}
 use Rattle.ftd_entries.proofs.YearHolidays.{holiday_known, holiday_unknown}
 use Rattle.ftd_holidays.specs.Known.{KnowsHolidays}
 
 -- ---- one year
 
--- the holidays of a year are added to others, as each state keeps them for which the tables stand
+-- the holidays of a year are added to others, as each state keeps them whose days the tables have
 abbrev pub AddsKeptYear : ℕ → List ℕ → List ℕ → Tables → Type 0
-AddsKeptYear year old new t = (s : State) → StandsFor t s → IsSound s → (day : ℕ)
+AddsKeptYear year old new t = (s : State) → KeepsDays t s → IsSound s → (day : ℕ)
     → is_holiday new day
     ≡ (is_holiday old day || ((year_of day == year) && is_holiday (holidays s) day))
 
 -- a year whose calendar was not given has no holidays
 none_kept : (year : ℕ) (old : List ℕ) (t : Tables) → HasCalendar year false t
     → AddsKeptYear year old old t
-none_kept year old t finds s stands sound day =
+none_kept year old t finds s keeps sound day =
     let off : ((year_of day == year) && is_holiday (holidays s) day) ≡ false =
     elim (same_or_not (year_of day) year) [
       | inl its ↦ ap (λ b. b && is_holiday (holidays s) day) (eq_same (year_of day) year its)
-          ∙ holiday_unknown t s stands sound Global year day finds its
+          ∙ holiday_unknown t s keeps sound Global year day finds its
       | inr other ↦ ap (λ b. b && is_holiday (holidays s) day) (eq_not (year_of day) year other)
     ] in
     sym (ap (λ b. is_holiday old day || b) off ∙ or_false (is_holiday old day))
 
--- another one those that it was given with, and those that were added
+-- another one those that it was given with, or that were added, and that no change took back
 both_kept : (year : ℕ) (old new : List ℕ) (t : Tables) → AddsYear year old new t
     → AddsKeptYear year old new t
-both_kept year old new t adds s stands sound day =
-    let here : (is_holiday adds.given.items day || is_holiday adds.added.items day)
+both_kept year old new t adds s keeps sound day =
+    let here : is_holiday_in adds.given.items adds.added.items adds.changes.items day
     ≡ ((year_of day == year) && is_holiday (holidays s) day) =
     elim (same_or_not (year_of day) year) [
       | inl its ↦ sym (ap (λ b. b && is_holiday (holidays s) day) (eq_same (year_of day) year its)
-          ∙ holiday_known t s stands sound adds.given adds.added year day adds.is_given
-          adds.are_added its)
+          ∙ holiday_known t s keeps sound adds.given adds.added adds.changes year day
+          adds.is_given adds.are_added adds.are_changes its)
       | inr other ↦ adds.elsewhere day other
           ∙ sym (ap (λ b. b && is_holiday (holidays s) day) (eq_not (year_of day) year other))
     ] in
@@ -109,20 +108,19 @@ in_three year y b some low high =
           ∙ (ap (λ e. together false false e b) (eq_same y (year + 1) after) ∙ third_one b))
     ]
 
--- the holidays of the three years about an added holiday, and it, are known
-pub three_years : (added year : ℕ) (none before here after all : List ℕ) (t : Tables)
-    → year ≡ year_of added → 1 ≤ year → none ≡ [] → IsWithHoliday after added all
+-- the holidays of the three years about a day are known
+pub three_years : (about year : ℕ) (none before here after : List ℕ) (t : Tables)
+    → year ≡ year_of about → 1 ≤ year → none ≡ []
     → AddsKeptYear (year - 1) none before t → AddsKeptYear year before here t
-    → AddsKeptYear (year + 1) here after t → KnowsHolidays added all t
-three_years added year none before here after all t is some empty with one two three s stands sound
-    day low high =
+    → AddsKeptYear (year + 1) here after t → KnowsHolidays about after t
+three_years about year none before here after t is some empty one two three s keeps sound day low
+    high =
     let b = is_holiday (holidays s) day in
     let y = year_of day in
-    let first : is_holiday before day ≡ ((y == (year - 1)) && b) = one s stands sound day
+    let first : is_holiday before day ≡ ((y == (year - 1)) && b) = one s keeps sound day
     ∙ ap (λ hs. is_holiday hs day || ((y == (year - 1)) && b)) empty in
     let second : is_holiday here day ≡ (((y == (year - 1)) && b) || ((y == year) && b)) =
-    two s stands sound day ∙ ap (λ x. x || ((y == year) && b)) first in
+    two s keeps sound day ∙ ap (λ x. x || ((y == year) && b)) first in
     let third : is_holiday after day ≡ together (y == (year - 1)) (y == year) (y == (year + 1)) b =
-    three s stands sound day ∙ ap (λ x. x || ((y == (year + 1)) && b)) second in
-    with day ∙ ap (λ x. x || (added == day)) (third ∙ in_three year y b some (omega arith)
-    (omega arith))
+    three s keeps sound day ∙ ap (λ x. x || ((y == (year + 1)) && b)) second in
+    third ∙ in_three year y b some (omega arith) (omega arith)

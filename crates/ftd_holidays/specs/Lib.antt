@@ -1,3 +1,4 @@
+pub mod Changing
 pub mod Known
 pub mod Moved
 pub use Rattle.ftd_days.specs.Calendar

@@ -12,8 +12,10 @@ use Rattle.ftd_rows.specs.declared.obligations.AccountObligation.{AccountObligat
 use Rattle.ftd_rows.specs.Cells.{day_number}
 use Rattle.ftd_rows.specs.Lists.{Pairs}
 use Rattle.ftd_store.specs.Finds.{ListsDueOver}
-use Rattle.ftd_store.specs.Changes.{with_added_holiday}
+use Rattle.ftd_store.specs.Changes.{with_added_holiday, with_holiday_change}
 use Rattle.ftd_holidays.specs.Known.{KnowsHolidays}
+use Rattle.ftd_holidays.specs.declared.moving.DayEntry.{DayEntry}
+use Rattle.ftd_holidays.specs.declared.moving.DayEntry.TheVariants.{Added, Changed}
 
 -- the row is the one of the account and the first day of the obligation
 abbrev pub is_row_of : AccountObligation → ObligationRow → Bool
@@ -48,11 +50,25 @@ pub record MovesDue (holidays : List ℕ) (obligations : List AccountObligation)
   pub rows : Pairs (IsAfter holidays obligations) (old Obligations) (new Obligations)
   pub only : (n : TableName) → new n ≡ with_rows Obligations (new Obligations) old n
 
--- the holiday is added to its year, and the obligations that begin before it and are due on it or
--- later have the due dates that they have with it
-pub record AddsHoliday (day : ℕ) (old new : Tables) : Type 0 where
-  pub holidays : List ℕ
-  pub known : KnowsHolidays day holidays old
+-- the obligations that begin before the day and are due on it or later have the due dates that they
+-- have by the holidays
+pub record MovesOver (day : ℕ) (holidays : List ℕ) (old new : Tables) : Type 0 where
   pub obligations : Vec AccountObligation
   pub listed : ListsDueOver day obligations old
-  pub moves : MovesDue holidays obligations.items (with_added_holiday day old) new
+  pub moves : MovesDue holidays obligations.items old new
+
+-- the day of which something is entered
+abbrev pub day_of : DayEntry → ℕ
+day_of (Added day) = day
+day_of (Changed change) = change.day
+
+-- a holiday more in its year, or one more change of a day
+abbrev pub with_entered : DayEntry → Tables → Tables
+with_entered (Added day) = with_added_holiday day
+with_entered (Changed change) = with_holiday_change change
+
+-- it is entered, and then the due dates are moved by the holidays as they are with it
+pub record EntersDay (entry : DayEntry) (old new : Tables) : Type 0 where
+  pub holidays : List ℕ
+  pub known : KnowsHolidays (day_of entry) holidays (with_entered entry old)
+  pub moved : MovesOver (day_of entry) holidays (with_entered entry old) new

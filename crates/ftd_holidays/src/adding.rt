@@ -4,7 +4,7 @@ ghost use Rattle.ftd_store.specs.Frame.{Calls};
 ghost use Rattle.ftd_machine.specs.declared.requests.Request.TheVariants.{AddHoliday};
 ghost use Rattle.ftd_entries.specs.Words.{Serves};
 
-use crate::moving::add_and_move;
+use crate::moving::{DayEntry, enter_and_move};
 use ftd_days::Day;
 use ftd_machine::{Answer, Reply, add_holiday_check};
 use ftd_store::{StoreFault, Tx};
@@ -26,6 +26,6 @@ pub fn add_holiday<S: Alter>(
     if let Some(answer) = add_holiday_check(day, calendar.as_deref(), &added) {
         return Ok(answer);
     }
-    add_and_move(tx, alloc, day)?;
+    enter_and_move(tx, alloc, &DayEntry::Added(day))?;
     Ok(Ok(Reply::Done))
 }

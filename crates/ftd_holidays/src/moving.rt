@@ -1,21 +1,52 @@
-//! Due dates that an added holiday moves.
+//! Due dates that a change of the holidays moves.
 
-ghost use Rattle.std.specs.Prelude.{◌≤◌, ◌≢◌, filter, string_bytes, MatchOption};
+ghost use Rattle.std.specs.Prelude.{◌≡◌, ◌≤◌, ◌≢◌, filter, string_bytes, MatchOption};
 ghost use Rattle.ftd_days.specs.Calendar.{year_of};
 ghost use Rattle.ftd_days.specs.Holidays.{holidays_of};
 ghost use Rattle.ftd_rules.specs.Due.{IsDue};
 ghost use Rattle.ftd_schema.specs.declared.TableName.TheVariants.{Obligations};
-ghost use Rattle.ftd_store.specs.Changes.{with_added_holiday, with_due_date};
-ghost use Rattle.ftd_store.specs.Frame.{Rewrites, WritesOne};
-ghost use Rattle.ftd_holidays.specs.Moved.{AddsHoliday, MovesDue, is_row_of};
+ghost use Rattle.ftd_store.specs.Changes.{with_due_date};
+ghost use Rattle.ftd_store.specs.Frame.{Rewrites, Writes, WritesOne};
+ghost use Rattle.ftd_holidays.specs.Moved.{EntersDay, MovesOver, day_of, is_row_of, with_entered};
 
-use crate::reading::holidays_with;
+use crate::reading::holidays_about;
 use ftd_days::{Day, Holidays};
-use ftd_rows::AccountObligation;
+use ftd_rows::{AccountObligation, HolidayChange};
 use ftd_rules::{Obligation, due_of};
 use ftd_store::{StoreFault, Tx};
 use sqlite::Alter;
 use std::alloc::Global;
+
+/// What is entered of a day.
+#[derive(Clone, Copy)]
+pub(crate) enum DayEntry {
+    /// It is a holiday more of its year.
+    Added(Day),
+    /// It is taken back as a holiday, or made one again.
+    Changed(HolidayChange),
+}
+
+impl DayEntry {
+    /// The day of which it is entered.
+    fn day(&self) -> Day
+        ensures { result ≡ day_of self.now }
+    {
+        match self {
+            DayEntry::Added(day) => *day,
+            DayEntry::Changed(change) => change.day,
+        }
+    }
+}
+
+/// Enters it, beside what was entered of the day before.
+fn enter<S: Alter>(tx: &mut Tx<'_, S>, entry: &DayEntry) -> Result<(), StoreFault>
+    ensures call { Writes S.Store tx.old tx.new result (with_entered entry.now) }
+{
+    match entry {
+        DayEntry::Added(day) => tx.add_added(*day),
+        DayEntry::Changed(change) => tx.add_holiday_change(*change),
+    }
+}
 
 /// The due date of the obligation by the holidays, where that is another one than it has.
 fn new_due(obligation: &Obligation, holidays: &Holidays) -> Option<Day>
@@ -46,19 +77,19 @@ fn move_row<S: Alter>(
     tx.move_due(account, owed.obligation.first, due)
 }
 
-/// Adds the holiday to its year, and gives each of the obligations the due date that it has by the
-/// holidays, where that is another one. `Failed` also where an obligation ends after 2098.
-fn add_to_year<S: Alter>(
+/// Gives each obligation that begins before the day and is due on it or later the due date that it
+/// has by the holidays, where that is another one. `Failed` also where one ends after 2098.
+fn move_over<S: Alter>(
     tx: &mut Tx<'_, S>,
+    alloc: Global,
     day: Day,
-    obligations: &[AccountObligation],
     holidays: &Holidays,
 ) -> Result<(), StoreFault>
-    ensures call { Rewrites S.Store tx.old tx.new result (λ done old.
-        MovesDue (holidays_of holidays.now) obligations.now (with_added_holiday day old)) }
+    ensures call { Rewrites S.Store tx.old tx.new result
+        (λ done. MovesOver day (holidays_of holidays.now)) }
 {
-    tx.add_added(day)?;
-    for owed in obligations {
+    let obligations = tx.due_over(alloc, day)?;
+    for owed in &obligations {
         if owed.obligation.last.year() > 2098 {
             return tx.give_up(StoreFault::Failed);
         }
@@ -69,16 +100,17 @@ fn add_to_year<S: Alter>(
     Ok(())
 }
 
-/// Adds the holiday, a day up to 2099, to its year, and moves the due dates that count it.
-pub(crate) fn add_and_move<S: Alter>(
+/// Enters it, of a day up to 2099, and moves the due dates that count the day. `Failed` also where
+/// the rows are no calendars of the years about it, and where an obligation ends after 2098.
+pub(crate) fn enter_and_move<S: Alter>(
     tx: &mut Tx<'_, S>,
     alloc: Global,
-    day: Day,
+    entry: &DayEntry,
 ) -> Result<(), StoreFault>
-    requires { year_of day ≤ 2099 }
-    ensures call { Rewrites S.Store tx.old tx.new result (λ done. AddsHoliday day) }
+    requires { year_of (day_of entry.now) ≤ 2099 }
+    ensures call { Rewrites S.Store tx.old tx.new result (λ done. EntersDay entry.now) }
 {
-    let holidays = holidays_with(tx, alloc, day)?;
-    let obligations = tx.due_over(alloc, day)?;
-    add_to_year(tx, day, &obligations, &holidays)
+    enter(tx, entry)?;
+    let holidays = holidays_about(tx, alloc, entry.day())?;
+    move_over(tx, alloc, entry.day(), &holidays)
 }

@@ -1,5 +1,5 @@
 -- The records of a text, in lists.
-use Rattle.std.proofs.Common.{◌≡◌, ◌⊎◌, sym, subst, refl, inl, inr, rules, true, ℕ, List, Some, Ok}
+use Rattle.std.proofs.Common.{◌≡◌, ◌⊎◌, sym, subst, inl, inr, rules, true, ℕ, List, Some, Ok}
 use Rattle.std.proofs.Common.{Err}
 use Rattle.std.proofs.lemmas.Bool.{false≢true}
 use Rattle.ftd_csv.specs.Answers.{RecordsFail}

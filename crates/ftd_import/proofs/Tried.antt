@@ -1,5 +1,5 @@
 -- Records that are answered, and not posted.
-use Rattle.std.proofs.Common.{◌≡◌, ◌⊎◌, ◌∙◌, ◌∷◌, ◌++◌, [], sym, subst, ap, false, ℕ, List, Ok, length}
+use Rattle.std.proofs.Common.{◌≡◌, ◌⊎◌, ◌∙◌, ◌++◌, [], sym, subst, ap, false, ℕ, List, Ok, length}
 use Rattle.std.proofs.Common.{arith, inl, inr}
 use Rattle.std.specs.List.{filter_map, list_any}
 use Rattle.std.proofs.lemmas.List.{append-nil}
@@ -12,20 +12,18 @@ use Rattle.ftd_csv.specs.declared.reading.Records.{Records}
 use Rattle.ftd_csv.specs.declared.sheets.Sheet.{Sheet}
 use Rattle.ftd_csv.proofs.Left.{records_first}
 use Rattle.ftd_machine.specs.Checks.{Answer}
-use Rattle.ftd_machine.specs.State.{State}
 use Rattle.ftd_machine.specs.declared.requests.Request.{Request}
 use Rattle.ftd_desk.specs.Desks.{Held}
 use Rattle.ftd_desk.specs.Trials.{Tries}
 use Rattle.ftd_desk.specs.Words.{AreAnswers, AreSteps, is_fault}
 use Rattle.ftd_import.specs.Lists.{TakesList}
-use Rattle.ftd_import.specs.Outcomes.{CountsAnswers, IsNothing, IsSame, IsSummary, answer_in}
+use Rattle.ftd_import.specs.Outcomes.{CountsAnswers, IsNothing, IsSame, answer_in}
 use Rattle.ftd_import.specs.Outcomes.{posts_of, text_cause}
-use Rattle.ftd_import.specs.Imports.{AreOutcomes, numbered_in}
+use Rattle.ftd_import.specs.Imports.{AreOutcomes}
 use Rattle.ftd_import.specs.Trials.{FailsFor, FailsTrial, WouldImport, WouldPost}
 use Rattle.ftd_import.specs.declared.reading.RecordList.{RecordList}
 use Rattle.ftd_import.specs.declared.summary.StopCause.{StopCause}
 use Rattle.ftd_import.specs.declared.summary.StopCause.TheVariants as cause
-use Rattle.ftd_import.specs.declared.summary.Stopped.{Stopped}
 use Rattle.ftd_import.specs.declared.summary.Summary.{Summary}
 use Rattle.ftd_import.proofs.Again.{none_faulty, requests_of_records}
 use Rattle.ftd_import.proofs.Counting.{nothing}

@@ -149,6 +149,10 @@ fault_of (Err refusal.TooManyPayments) = None
 fault_of (Err refusal.WrongForm) = None
 fault_of (Err refusal.YearDiffers) = None
 fault_of (Err (refusal.YearMissing year)) = None
+fault_of (Err refusal.CorrectionDiffers) = None
+fault_of (Err (refusal.NumberSkipped count)) = None
+fault_of (Err refusal.NoHoliday) = None
+fault_of (Err refusal.AccountInUse) = None
 
 abbrev pub fault_in : Outcome → Option StopCause
 fault_in (posted number it answer) = fault_of answer

@@ -105,7 +105,11 @@ pub(crate) fn fault_of(answer: &Answer) -> Option<StopCause>
             | Refusal::TooManyPayments
             | Refusal::WrongForm
             | Refusal::YearDiffers
-            | Refusal::YearMissing(_),
+            | Refusal::YearMissing(_)
+            | Refusal::CorrectionDiffers
+            | Refusal::NumberSkipped(_)
+            | Refusal::NoHoliday
+            | Refusal::AccountInUse,
         ) => None,
     }
 }

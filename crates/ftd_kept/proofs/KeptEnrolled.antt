@@ -1,177 +1,111 @@
--- The accounts that were read, each with its form, are those that are enrolled.
-use Rattle.std.proofs.Common.{◌≡◌, ◌∙◌, inl, inr, refl, sym, ap, subst, ℕ, true}
-use Rattle.std.proofs.Common.{List, [], ◌∷◌, map, Some}
-use Rattle.std.specs.Prelude.{filter, find, bytes_eq, option_map, string_bytes}
-use Rattle.std.proofs.lemmas.Bool.{cases_Bool}
-use Rattle.std.proofs.lemmas.List.Sorted.{IsPermutation-sym}
+-- The accounts that are told by the rows of the table are all that are enrolled.
+use Rattle.std.proofs.Common.{◌≡◌, ◌∙◌, refl, sym, ap, subst, ℕ, List, [], ◌∷◌, Some, None}
+use Rattle.std.proofs.Common.{Option, ◌++◌, ◌+◌, ◌<◌, ◌≤◌, take, length, get_or}
+use Rattle.ftd_rows.specs.Lists.{Lists, Pairs}
+use Rattle.ftd_store.proofs.Items.{taken, pairs_more}
+use Rattle.ftd_store.proofs.Replaced.{all_taken}
+use Rattle.ftd_entries.specs.Known.{KnowsAccount}
+use Rattle.std.specs.Prelude.{filter, string_bytes, unwrap_or}
 use Rattle.ftd_rules.specs.Lists.{Has}
-use Rattle.ftd_rules.proofs.Rising.{has_permuted}
-use Rattle.ftd_schema.specs.Orders.{NamesRise, FormsRise}
-use Rattle.ftd_schema.specs.Rows.{AccountRow, FormRow}
+use Rattle.ftd_schema.specs.Orders.{NamesRise}
+use Rattle.ftd_schema.specs.Rows.{AccountRow}
 use Rattle.ftd_schema.specs.Standing.{Tables}
-use Rattle.ftd_schema.specs.Tests.{is_any_account, is_any_form}
-use Rattle.ftd_schema.specs.declared.TableName.TheVariants.{Accounts, Forms}
-use Rattle.ftd_rows.specs.Lists.{Lists}
-use Rattle.ftd_rows.specs.Rows.{account_row, form_row}
+use Rattle.ftd_schema.specs.Tests.{is_any_account}
+use Rattle.ftd_schema.specs.declared.TableName.TheVariants.{Accounts}
+use Rattle.ftd_rows.specs.Rows.{account_row}
 use Rattle.ftd_rows.specs.declared.kept.NamedAccount.{NamedAccount}
-use Rattle.ftd_rows.specs.declared.kept.NamedForm.{NamedForm}
-use Rattle.ftd_store.specs.Kept.{IsNamedAccount, IsNamedForm}
+use Rattle.ftd_store.specs.Kept.{IsNamedAccount}
 use Rattle.ftd_machine.specs.Agenda.{EachToLater}
 use Rattle.ftd_machine.specs.Kept.{IsAccountBefore, IsEnrolled}
-use Rattle.ftd_machine.specs.Sound.{IsSound, AreDistinct, name_of}
-use Rattle.ftd_machine.specs.State.{State, Enrolled, account_of, is_named}
+use Rattle.ftd_machine.specs.State.{State, Enrolled, account_of, is_named, enrolled_in, moves_in}
+use Rattle.ftd_machine.specs.State.{account_in_force, entries_of}
+use Rattle.ftd_machine.specs.declared.entries.Account.{Account}
+use Rattle.ftd_machine.specs.declared.entries.Beginning.{Beginning}
 use Rattle.ftd_machine.specs.declared.kept.KeptAccount.{KeptAccount}
-use Rattle.ftd_machine.proofs.Adding.{own_name, same_name}
-use Rattle.ftd_machine.proofs.KeptOne.{account_one}
-use Rattle.ftd_machine.proofs.Members.{found_some, has_mapped, mapped_has}
-use Rattle.ftd_entries.specs.Standing.{StandsFor, enrolled_row, enrolled_form}
-use Rattle.ftd_entries.proofs.Found.{same_account}
-use Rattle.ftd_entries.proofs.ListedRows.{value_passes, passing_value}
-use Rattle.ftd_kept.specs.Kept.{AreJoined, JoinsTo, KnowsAccounts}
-
--- ---- members with a key of their own
-
--- of two members with one key there is one
-one_of : {X K : Type 0} (key : X → K) (xs : List X) → AreDistinct key xs → (x y : X) → Has xs x
-    → Has xs y → key x ≡ key y → x ≡ y
-one_of key [] distinct x y here there same = absurd here
-one_of key (z ∷ xs) distinct x y (inl here) (inl there) same = here ∙ sym there
-one_of key (z ∷ xs) distinct x y (inl here) (inr there) same =
-    absurd (distinct.0 y there (sym same ∙ ap key here))
-one_of key (z ∷ xs) distinct x y (inr here) (inl there) same =
-    absurd (distinct.0 x here (same ∙ ap key there))
-one_of key (z ∷ xs) distinct x y (inr here) (inr there) same =
-    one_of key xs distinct.1 x y here there same
-
--- where no two have the same name, each is what is found under its name
-found_as : (name : List ℕ) (xs : List Enrolled) → AreDistinct name_of xs → (e : Enrolled)
-    → Has xs e → e.name ≡ name → option_map account_of (find (is_named name) xs) ≡ Some e.account
-found_as name [] distinct e has named = absurd has
-found_as name (z ∷ xs) distinct e (inl is) named =
-    let mine : bytes_eq z.name name ≡ true =
-    ap (λ n. bytes_eq n name) (ap name_of (sym is) ∙ named) ∙ own_name name in
-    rw mine (ap Some (ap account_of (sym is)))
-found_as name (z ∷ xs) distinct e (inr has) named =
-    let rest = found_as name xs distinct.1 e has named in
-    elim (cases_Bool (bytes_eq z.name name)) [
-      | inr other ↦ rw other rest
-      | inl mine ↦ absurd (distinct.0 e has (named ∙ sym (same_name z.name name mine)))
-    ]
-
--- ---- lists that go three by three
-
-joined_from : (accounts : List NamedAccount) (forms : List NamedForm) (xs : List KeptAccount)
-    → AreJoined accounts forms xs → (x : KeptAccount) → Has xs x
-    → (a : NamedAccount) × (f : NamedForm) × Has accounts a × Has forms f × JoinsTo a f x
-joined_from [] [] [] all x has = absurd has
-joined_from [] [] (y ∷ ys) all x has = absurd all
-joined_from [] (g ∷ gs) ys all x has = absurd all
-joined_from (b ∷ bs) [] ys all x has = absurd all
-joined_from (b ∷ bs) (g ∷ gs) [] all x has = absurd all
-joined_from (b ∷ bs) (g ∷ gs) (y ∷ ys) all x (inl is) =
-    (b, g, inl refl, inl refl, subst (JoinsTo b g) (sym is) all.0)
-joined_from (b ∷ bs) (g ∷ gs) (y ∷ ys) all x (inr has) =
-    let rest = joined_from bs gs ys all.1 x has in
-    (rest.0, rest.1, inr rest.2, inr rest.3, rest.4)
-
-joined_to : (accounts : List NamedAccount) (forms : List NamedForm) (xs : List KeptAccount)
-    → AreJoined accounts forms xs → (a : NamedAccount) → Has accounts a
-    → (f : NamedForm) × (x : KeptAccount) × Has xs x × JoinsTo a f x
-joined_to [] [] [] all a has = absurd has
-joined_to [] [] (y ∷ ys) all a has = absurd all
-joined_to [] (g ∷ gs) ys all a has = absurd all
-joined_to (b ∷ bs) [] ys all a has = absurd all
-joined_to (b ∷ bs) (g ∷ gs) [] all a has = absurd all
-joined_to (b ∷ bs) (g ∷ gs) (y ∷ ys) all a (inl is) =
-    (g, y, inl refl, subst (λ c. JoinsTo c g y) (sym is) all.0)
-joined_to (b ∷ bs) (g ∷ gs) (y ∷ ys) all a (inr has) =
-    let rest = joined_to bs gs ys all.1 a has in
-    (rest.0, rest.1, inr rest.2, rest.3)
-
--- ---- the two tables
+use Rattle.ftd_machine.proofs.Adding.{same_name}
+use Rattle.ftd_machine.proofs.Members.{found_some, mapped_has}
+use Rattle.ftd_entries.specs.Standing.{StandsFor, enrolled_row}
+use Rattle.ftd_entries.proofs.ListedRows.{passing_value}
+use Rattle.ftd_kept.specs.Kept.{AreToldAccounts, IsToldAccount, KnowsAccounts, kept_account}
+use Rattle.ftd_kept.proofs.Items.{pair_before, pair_after}
 
 abbrev row_of : NamedAccount → AccountRow
 row_of a = account_row (string_bytes a.name) a.account
 
-abbrev form_row_of : NamedForm → FormRow
-form_row_of f = form_row (string_bytes f.account) f.form
+-- what is in force was enrolled
+was_enrolled : (o : Option Account) (moves : List Beginning) (a : Account)
+    → account_in_force o moves ≡ Some a → (first : Account) × (o ≡ Some first)
+was_enrolled None moves a is = absurd cc
+was_enrolled (Some first) moves a is = (first, refl)
 
-module _ (named : List NamedAccount) (forms : List NamedForm) (rows : List KeptAccount)
-    (joined : AreJoined named forms rows) (t : Tables)
-    (listed : Lists NamesRise IsNamedAccount (filter is_any_account (t Accounts)) named)
-    (formed : Lists FormsRise IsNamedForm (filter is_any_form (t Forms)) forms)
-    (s : State) (stands : StandsFor t s) (sound : IsSound s) where
-  -- the entry of an account that was read
-  of_account : (a : NamedAccount) → Has named a
-      → (e : Enrolled) × Has s.accounts e × (enrolled_row e ≡ row_of a)
-  of_account a has =
-      let there = value_passes row_of NamesRise is_any_account (t Accounts) named listed a has in
-      let from = has_mapped enrolled_row s.accounts (row_of a)
-      (subst (λ rs. Has rs (row_of a)) stands.accounts there.0) in
-      (from.0, from.1, sym from.2)
+same_some : (a b : Account) → Some a ≡ Some b → a ≡ b
+same_some a b is = ap (λ o. unwrap_or o a) is
 
-  -- and that of a form
-  of_form : (f : NamedForm) → Has forms f
-      → (e : Enrolled) × Has s.accounts e × (enrolled_form e ≡ form_row_of f)
-  of_form f has =
-      let there = value_passes form_row_of FormsRise is_any_form (t Forms) forms formed f has in
-      let kept = has_permuted (map enrolled_form s.accounts) (t Forms)
-      (IsPermutation-sym (t Forms) (map enrolled_form s.accounts) stands.forms) (form_row_of f)
-      there.0 in
-      let from = has_mapped enrolled_form s.accounts (form_row_of f) kept in
-      (from.0, from.1, sym from.2)
+same_row : (x y : KeptAccount) → x.name ≡ y.name → x.account ≡ y.account → x ≡ y
+same_row x y name account = λ i. record { name = name i; account = account i }
 
-  enrolled_in : (x : KeptAccount) → Has rows x → IsEnrolled s x
-  enrolled_in x has =
-      let part = joined_from named forms rows joined x has in
-      let a = part.0 in
-      let f = part.1 in
-      let joins = part.4 in
-      let one = of_account a part.2 in
-      let other = of_form f part.3 in
-      let name : one.0.name ≡ string_bytes a.name = ap (λ (r : AccountRow). r.name) one.2 in
-      let form_name : other.0.name ≡ string_bytes f.account =
-      ap (λ (r : FormRow). r.account) other.2 in
-      let same : one.0 ≡ other.0 = one_of name_of s.accounts sound.accounts one.0 other.0 one.1
-      other.1 (name ∙ joins.same ∙ sym form_name) in
-      let form : enrolled_form one.0 ≡ form_row (string_bytes a.name) f.form =
-      ap enrolled_form same ∙ other.2 ∙ ap (λ n. form_row n f.form) (sym joins.same) in
-      let account : one.0.account ≡ x.account =
-      same_account (string_bytes a.name) one.0 a.account f.form one.2 form ∙ as_told a f x joins in
-      found_as x.name s.accounts sound.accounts one.0 one.1 (name ∙ sym joins.name)
-      ∙ ap Some account
-    where
-      as_told : (a : NamedAccount) (f : NamedForm) (x : KeptAccount) → JoinsTo a f x
-          → record { start = a.account.start; carried = a.account.carried; form = f.form }
-          ≡ x.account
-      as_told a f x joins = rw (sym joins.start, sym joins.carried, sym joins.form_is) refl
+module _ (rows : List KeptAccount) (t : Tables) (told : AreToldAccounts rows t) (s : State)
+    (stands : StandsFor t s) where
+  told_is : (x : KeptAccount) → Has rows x → IsEnrolled s x
+  told_is x has =
+      let from = pair_before (IsToldAccount t) told.named rows told.are_told x has in
+      ap (λ n. (entries_of s n).account) from.2.0 ∙ from.2.1 s stands
 
-  enrolled_there : (x : KeptAccount) → IsEnrolled s x → Has rows x
-  enrolled_there x is =
-      let found = found_some account_of (is_named x.name) s.accounts x.account is in
+  is_told : (x : KeptAccount) → IsEnrolled s x → Has rows x
+  is_told x is =
+      let first = was_enrolled (enrolled_in s x.name) (moves_in s x.name) x.account is in
+      let found = found_some account_of (is_named x.name) s.accounts first.0 first.1 in
       let e : Enrolled = found.0 in
       let row : Has (t Accounts) (enrolled_row e) =
       subst (λ rs. Has rs (enrolled_row e)) (sym stands.accounts)
       (mapped_has enrolled_row s.accounts e found.1) in
-      let item = passing_value row_of NamesRise is_any_account (t Accounts) named listed
+      let item = passing_value row_of NamesRise is_any_account (t Accounts) told.named told.are_named
       (enrolled_row e) row refl in
-      let part = joined_to named forms rows joined item.0 item.1 in
-      let name : part.1.name ≡ x.name =
-      part.3.name ∙ ap (λ (r : AccountRow). r.name) (sym item.2)
-      ∙ same_name e.name x.name found.2 in
-      let same : part.1 ≡ x =
-      account_one s part.1 x name (enrolled_in part.1 part.2) is in
-      subst (Has rows) same part.2
+      let own : string_bytes item.0.name ≡ x.name =
+      ap (λ (r : AccountRow). r.name) (sym item.2) ∙ same_name e.name x.name found.2 in
+      let as_told = pair_after (IsToldAccount t) told.named rows told.are_told item.0 item.1 in
+      let name : as_told.0.name ≡ x.name = as_told.2.0 ∙ own in
+      let account : as_told.0.account ≡ x.account =
+      same_some as_told.0.account x.account (sym (as_told.2.1 s stands)
+      ∙ ap (λ n. (entries_of s n).account) own ∙ is) in
+      subst (Has rows) (same_row as_told.0 x name account) as_told.1
 
 -- they are all accounts, by name
-pub knows_accounts : (named : List NamedAccount) (forms : List NamedForm) (rows : List KeptAccount)
-    (t : Tables) → EachToLater IsAccountBefore rows → AreJoined named forms rows
-    → Lists NamesRise IsNamedAccount (filter is_any_account (t Accounts)) named
-    → Lists FormsRise IsNamedForm (filter is_any_form (t Forms)) forms → KnowsAccounts rows t
-knows_accounts named forms rows t rise joined listed formed = record {
+pub knows_accounts : (rows : List KeptAccount) (t : Tables) → EachToLater IsAccountBefore rows
+    → AreToldAccounts rows t → KnowsAccounts rows t
+knows_accounts rows t rise told = record {
   by_name = rise;
-  all = λ s stands sound x. (
-    enrolled_in named forms rows joined t listed formed s stands sound x,
-    enrolled_there named forms rows joined t listed formed s stands sound x,
-  );
+  all = λ s stands sound x. (told_is rows t told s stands x, is_told rows t told s stands x);
+}
+
+-- ---- row after row
+
+abbrev pub SoFarTold : List NamedAccount → ℕ → List KeptAccount → Tables → Type 0
+SoFarTold items i rows t =
+    Lists NamesRise IsNamedAccount (filter is_any_account (t Accounts)) items
+    × Pairs (IsToldAccount t) (take i items) rows
+
+pub told_more : (items : List NamedAccount) (i : ℕ) (row : NamedAccount) (name again : List ℕ)
+    (found : Option Account) (account : Account) (rows new : List KeptAccount) (t : Tables)
+    → i < length items → row ≡ get_or items i row → name ≡ string_bytes row.name
+    → again ≡ string_bytes row.name → found ≡ Some account
+    → new ≡ rows ++ kept_account again account ∷ []
+    → SoFarTold items i rows t → KnowsAccount name found t → SoFarTold items (i + 1) new t
+told_more items i row name again found account rows new t some is named same there added so_far knows =
+    let known : KnowsAccount (string_bytes row.name) (Some account) t =
+    subst (λ n. KnowsAccount n (Some account) t) named
+    (subst (λ f. KnowsAccount name f t) there knows) in (
+      so_far.0,
+      subst (λ l. Pairs (IsToldAccount t) l new) (sym (taken items i row some is))
+          (subst (Pairs (IsToldAccount t) (take i items ++ row ∷ [])) (sym added)
+          (pairs_more (IsToldAccount t) (take i items) rows row (kept_account again account)
+          so_far.1 (same, known))),
+    )
+
+pub told_all : (items : List NamedAccount) (i : ℕ) (rows : List KeptAccount) (t : Tables)
+    → length items ≤ i → SoFarTold items i rows t → AreToldAccounts rows t
+told_all items i rows t through so_far = record {
+  named = items;
+  are_named = so_far.0;
+  are_told = subst (λ l. Pairs (IsToldAccount t) l rows) (all_taken items i through) so_far.1;
 }

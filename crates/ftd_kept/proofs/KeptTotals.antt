@@ -15,7 +15,6 @@ use Rattle.ftd_rows.specs.Rows.{reported_row, reported_year_row}
 use Rattle.ftd_rows.specs.declared.kept.QuarterTotal.{QuarterTotal}
 use Rattle.ftd_rows.specs.declared.kept.YearTotal.{YearTotal}
 use Rattle.ftd_store.specs.Kept.{IsQuarterTotal, IsYearTotal}
-use Rattle.ftd_machine.specs.Kept.{IsTotal}
 use Rattle.ftd_machine.specs.Sound.{IsSound}
 use Rattle.ftd_machine.specs.State.{State, Entry, entries_of, kept_at}
 use Rattle.ftd_machine.specs.declared.kept.KeptTotal.{KeptTotal}
@@ -25,7 +24,7 @@ use Rattle.ftd_machine.proofs.Members.{has_mapped, mapped_has}
 use Rattle.ftd_entries.specs.Standing.{StandsFor, quarter_entry, year_entry}
 use Rattle.ftd_entries.proofs.Kept.{same_nat, cents_is, quarter_is}
 use Rattle.ftd_entries.proofs.ListedRows.{value_passes, passing_value}
-use Rattle.ftd_kept.specs.Kept.{kept_quarter, kept_year}
+use Rattle.ftd_kept.specs.Kept.{kept_quarter, kept_year, IsFirstTotal}
 use Rattle.ftd_machine.proofs.Entered.{is_kept, of_kept}
 
 -- the rows of an account's totals
@@ -96,11 +95,11 @@ module _ (name : List ℕ) (t : Tables) (s : State) (stands : StandsFor t s) (so
         (mapped_has kept_quarter found item.0 item.1)
 
     pub quarters_are : (x : KeptTotal) → Has (map kept_quarter found) x
-        ↔ IsTotal F941 (entries_of s name) x
+        ↔ IsFirstTotal F941 (entries_of s name) x
     quarters_are (OfQuarter quarter cents) = (
       (λ has.
           (let from = has_mapped kept_quarter found (OfQuarter quarter cents) has in
-          subst (IsTotal F941 (entries_of s name)) (sym from.2) (quarter_in from.0 from.1))),
+          subst (IsFirstTotal F941 (entries_of s name)) (sym from.2) (quarter_in from.0 from.1))),
       (λ is. quarter_there quarter cents is),
     )
     quarters_are (OfYear year cents) = (
@@ -156,11 +155,11 @@ module _ (name : List ℕ) (t : Tables) (s : State) (stands : StandsFor t s) (so
         subst (Has (map kept_year found)) (sym same) (mapped_has kept_year found item.0 item.1)
 
     pub years_are : (x : KeptTotal) → Has (map kept_year found) x
-        ↔ IsTotal F943 (entries_of s name) x
+        ↔ IsFirstTotal F943 (entries_of s name) x
     years_are (OfYear year cents) = (
       (λ has.
           (let from = has_mapped kept_year found (OfYear year cents) has in
-          subst (IsTotal F943 (entries_of s name)) (sym from.2) (year_in from.0 from.1))),
+          subst (IsFirstTotal F943 (entries_of s name)) (sym from.2) (year_in from.0 from.1))),
       (λ is. year_there year cents is),
     )
     years_are (OfQuarter quarter cents) = (

@@ -5,7 +5,6 @@ pub mod KeptPayments
 mod KeptTotals
 mod KeptMore
 mod KeptHeld
-mod KeptJoined
 mod KeptYears
 mod TotalsKnown
 mod KeptEnrolled

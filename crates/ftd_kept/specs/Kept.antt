@@ -1,15 +1,21 @@
 -- Rows of what is kept, as they are told, and what is known of them by what the tables have.
-use Rattle.std.specs.Prelude.{◌≡◌, ◌==◌, ◌&&◌, ◌||◌, ◌↔◌, ℕ, nat_lt, Bool, List, [], ◌∷◌, drop, zip}
-use Rattle.std.specs.Prelude.{string_bytes, Option, None, Some, min, not}
+use Rattle.std.specs.Prelude.{◌≡◌, ◌==◌, ◌&&◌, ◌||◌, ◌↔◌, ℕ, nat_lt, Bool, List, drop, zip}
+use Rattle.std.specs.Prelude.{filter, string_bytes, Option, None, Some, min, not}
 use Rattle.std.specs.List.{list_all}
 use Rattle.std.specs.Ordering.{is_lt, nat_cmp}
 use Rattle.std.specs.Cmp.Lexicographic.{slice_cmp}
 use Rattle.ftd_rules.specs.declared.Form.{Form}
+use Rattle.ftd_rules.specs.declared.Form.TheVariants.{F941, F943}
 use Rattle.ftd_rules.specs.declared.Obligation.{Obligation}
 use Rattle.ftd_rules.specs.Lists.{Has}
+use Rattle.ftd_schema.specs.Orders.{NamesRise}
 use Rattle.ftd_schema.specs.Standing.{Tables}
+use Rattle.ftd_schema.specs.Tests.{is_any_account}
+use Rattle.ftd_schema.specs.declared.TableName.TheVariants.{Accounts}
+use Rattle.ftd_rows.specs.Lists.{Lists, Pairs}
+use Rattle.ftd_store.specs.Kept.{IsNamedAccount}
+use Rattle.ftd_days.specs.declared.cents.Cents.{Cents}
 use Rattle.ftd_rows.specs.declared.kept.NamedAccount.{NamedAccount}
-use Rattle.ftd_rows.specs.declared.kept.NamedForm.{NamedForm}
 use Rattle.ftd_rows.specs.declared.kept.NumberedPayment.{NumberedPayment}
 use Rattle.ftd_rows.specs.declared.kept.NumberedRun.{NumberedRun}
 use Rattle.ftd_rows.specs.declared.kept.QuarterTotal.{QuarterTotal}
@@ -19,12 +25,14 @@ use Rattle.ftd_machine.specs.Kept.{IsAccountBefore, IsEnrolled, IsHeldBy, IsTota
 use Rattle.ftd_machine.specs.Kept.{IsPaymentBefore, period_of}
 use Rattle.ftd_machine.specs.Explaining.{IsPaymentOf}
 use Rattle.ftd_machine.specs.Sound.{IsSound}
-use Rattle.ftd_machine.specs.State.{State, entries_of}
+use Rattle.ftd_machine.specs.State.{State, Entries, entries_of, kept_at}
+use Rattle.ftd_machine.specs.declared.entries.Account.{Account}
 use Rattle.ftd_machine.specs.declared.kept.KeptAccount.{KeptAccount}
 use Rattle.ftd_machine.specs.declared.kept.KeptPayment.{KeptPayment}
 use Rattle.ftd_machine.specs.declared.kept.KeptRun.{KeptRun}
 use Rattle.ftd_machine.specs.declared.kept.KeptTotal.{KeptTotal}
 use Rattle.ftd_machine.specs.declared.kept.KeptTotal.TheVariants.{OfQuarter, OfYear}
+use Rattle.ftd_entries.specs.Known.{KnowsAccount, KnowsFigure, KnowsYearFigure}
 use Rattle.ftd_entries.specs.Standing.{StandsFor}
 
 -- each stands so to the next
@@ -36,21 +44,19 @@ are_in_order is_before xs = list_all (λ (x, next). is_before x next) (zip xs (d
 abbrev pub is_account_before : KeptAccount → KeptAccount → Bool
 is_account_before a b = is_lt (slice_cmp nat_cmp a.name b.name)
 
--- the account has the name of both, the first day and the carry of the one, and the form of the
--- other
-pub record JoinsTo (account : NamedAccount) (form : NamedForm) (x : KeptAccount) : Type 0 where
-  pub same : string_bytes account.name ≡ string_bytes form.account
-  pub name : x.name ≡ string_bytes account.name
-  pub start : x.account.start ≡ account.account.start
-  pub carried : x.account.carried ≡ account.account.carried
-  pub form_is : x.account.form ≡ form.form
+abbrev pub kept_account : List ℕ → Account → KeptAccount
+kept_account name account = record { name = name; account = account }
 
--- the lists go three by three
-abbrev pub AreJoined : List NamedAccount → List NamedForm → List KeptAccount → Type 0
-AreJoined [] [] [] = Unit {0}
-AreJoined (account ∷ accounts) (form ∷ forms) (x ∷ xs) =
-    JoinsTo account form x × AreJoined accounts forms xs
-AreJoined accounts forms xs = ⊥
+-- the account of the row is told as it is in force
+abbrev pub IsToldAccount : Tables → NamedAccount → KeptAccount → Type 0
+IsToldAccount t row x =
+    (x.name ≡ string_bytes row.name) × KnowsAccount (string_bytes row.name) (Some x.account) t
+
+-- they are all accounts, by the rows of the table
+pub record AreToldAccounts (rows : List KeptAccount) (t : Tables) : Type 0 where
+  pub named : List NamedAccount
+  pub are_named : Lists NamesRise IsNamedAccount (filter is_any_account (t Accounts)) named
+  pub are_told : Pairs (IsToldAccount t) named rows
 
 -- they are all accounts, by name, in each sound state for which the tables stand
 pub record KnowsAccounts (rows : List KeptAccount) (t : Tables) : Type 0 where
@@ -68,6 +74,26 @@ kept_year row = OfYear row.year row.cents
 
 abbrev pub is_total_before : KeptTotal → KeptTotal → Bool
 is_total_before a b = nat_lt (period_of a) (period_of b)
+
+-- the account on the form reported it so first
+abbrev pub IsFirstTotal : Form → Entries → KeptTotal → Type 0
+IsFirstTotal F941 own (OfQuarter quarter cents) = kept_at quarter own.reported ≡ Some cents
+IsFirstTotal F941 own (OfYear year cents) = ⊥
+IsFirstTotal F943 own (OfQuarter quarter cents) = ⊥
+IsFirstTotal F943 own (OfYear year cents) = kept_at year own.reported_years ≡ Some cents
+
+pub record KnowsFirstTotals (name : List ℕ) (form : Form) (rows : List KeptTotal) (t : Tables)
+    : Type 0 where
+  pub by_period : EachToLater IsTotalBefore rows
+  pub all : (s : State) → StandsFor t s → IsSound s → (x : KeptTotal)
+      → Has rows x ↔ IsFirstTotal form (entries_of s name) x
+
+-- the total of the account is told as it is in force
+abbrev pub IsInForce : List ℕ → Tables → KeptTotal → KeptTotal → Type 0
+IsInForce name t (OfQuarter quarter first) x =
+    (cents : Cents) × (x ≡ OfQuarter quarter cents) × KnowsFigure name quarter (Some cents) t
+IsInForce name t (OfYear year first) x =
+    (cents : Cents) × (x ≡ OfYear year cents) × KnowsYearFigure name year (Some cents) t
 
 -- they are all totals of the account on the form, in each sound state for which the tables stand
 pub record KnowsTotals (name : List ℕ) (form : Form) (rows : List KeptTotal) (t : Tables)

@@ -5,11 +5,15 @@ ghost use Rattle.ftd_machine.specs.declared.requests.Kept.TheVariants as kept;
 ghost use Rattle.ftd_machine.specs.declared.requests.Question.TheVariants as questions;
 ghost use Rattle.ftd_machine.specs.declared.requests.Request.TheVariants.{Question};
 ghost use Rattle.ftd_entries.specs.Words.{Serves};
-ghost use Rattle.ftd_kept.specs.Kept.{KnowsAccounts, KnowsTotals, KnowsPaymentsOf};
+ghost use Rattle.ftd_kept.specs.Kept.{AreToldAccounts, IsInForce, KnowsAccounts, KnowsFirstTotals};
+ghost use Rattle.ftd_kept.specs.Kept.{KnowsPaymentsOf, KnowsTotals};
 
-use crate::rows::{told_accounts, told_for, told_payments, told_quarters, told_runs, told_years};
+use crate::rows::{
+    add_account, add_total, are_accounts_in_order, told_for, told_payments, told_quarters,
+    told_runs, told_years,
+};
 use ftd_days::{Day, Quarter};
-use ftd_entries::known;
+use ftd_entries::{figure, known, year_figure};
 use ftd_machine::{
     Answer, Days, Kept, KeptAccount, KeptAccounts, KeptPayment, KeptPayments, KeptRows, KeptRuns,
     KeptTotal, KeptTotals, KeptYears, Refusal, Reply, are_rising, holidays_check,
@@ -35,20 +39,40 @@ pub fn kept<S: Alter>(tx: &mut Tx<'_, S>, alloc: Global, asked: &Kept) -> Result
     }
 }
 
-/// All accounts, by name. `Failed` also where the tables of accounts and of forms differ, or do not
-/// go on by name.
+/// All accounts as they are in force, in the order of their rows. `Failed` also where one has no
+/// form.
+fn accounts_in_force<S: Alter>(
+    tx: &mut Tx<'_, S>,
+    alloc: Global,
+) -> Result<Vec<KeptAccount>, StoreFault>
+    ensures call { Reads S.Store tx.old tx.new result (λ rows. AreToldAccounts rows.items) }
+{
+    let named = tx.enrolled(alloc)?;
+    let mut rows: Vec<KeptAccount> = Vec::new(alloc);
+    for row in &named {
+        let Some(account) = known(tx, alloc, &row.name)? else {
+            return tx.give_up(StoreFault::Failed);
+        };
+        if let Err(fault) = add_account(alloc, &row.name, account, &mut rows) {
+            return tx.give_up(fault);
+        }
+    }
+    Ok(rows)
+}
+
+/// All accounts as they are in force, by name. `Failed` also where one has no form, and where they
+/// do not go on by name.
 pub fn all_accounts<S: Alter>(
     tx: &mut Tx<'_, S>,
     alloc: Global,
 ) -> Result<Vec<KeptAccount>, StoreFault>
     ensures call { Reads S.Store tx.old tx.new result (λ rows. KnowsAccounts rows.items) }
 {
-    let named = tx.enrolled(alloc)?;
-    let forms = tx.forms(alloc)?;
-    match told_accounts(alloc, &named, &forms) {
-        Ok(rows) => Ok(rows),
-        Err(fault) => tx.give_up(fault),
+    let rows = accounts_in_force(tx, alloc)?;
+    if !are_accounts_in_order(&rows) {
+        return tx.give_up(StoreFault::Failed);
     }
+    Ok(rows)
 }
 
 /// Tells all accounts, by name.
@@ -65,7 +89,7 @@ fn years<S: Alter>(tx: &mut Tx<'_, S>, alloc: Global, name: &str) -> Result<Answ
     ensures call { Calls S.Store tx.old tx.new result
         (Serves (Question (questions.Kept (kept.Years name.now)))) }
 {
-    let account = known(tx, name)?;
+    let account = known(tx, alloc, name)?;
     let lines = tx.years(alloc, name)?;
     if let Some(answer) = kept_of_check(name, account) {
         return Ok(answer);
@@ -73,16 +97,16 @@ fn years<S: Alter>(tx: &mut Tx<'_, S>, alloc: Global, name: &str) -> Result<Answ
     Ok(Ok(Reply::Kept(KeptRows::Years(KeptYears::from_vec(lines)))))
 }
 
-/// The totals that an account on this form reported. `Failed` also where they do not go on by
-/// quarter or year.
-fn totals<S: Alter>(
+/// The totals that an account on this form reported, as they were first given. `Failed` also where
+/// they do not go on by quarter or year.
+fn first_totals<S: Alter>(
     tx: &mut Tx<'_, S>,
     alloc: Global,
     name: &str,
     form: Form,
 ) -> Result<Vec<KeptTotal>, StoreFault>
     ensures call { Reads S.Store tx.old tx.new result
-        (λ rows. KnowsTotals name.now form rows.items) }
+        (λ rows. KnowsFirstTotals name.now form rows.items) }
 {
     let quarters = tx.reported_totals(alloc, name)?;
     let years = tx.reported_year_totals(alloc, name)?;
@@ -96,12 +120,60 @@ fn totals<S: Alter>(
     }
 }
 
+/// A total as it is in force. `Failed` also where none was reported.
+fn total_in_force<S: Alter>(
+    tx: &mut Tx<'_, S>,
+    alloc: Global,
+    name: &str,
+    total: &KeptTotal,
+) -> Result<KeptTotal, StoreFault>
+    ensures call { Reads S.Store tx.old tx.new result
+        (λ told t. IsInForce name.now t total.now told) }
+{
+    match total {
+        KeptTotal::OfQuarter(quarter, _) => {
+            let Some(cents) = figure(tx, alloc, name, *quarter)? else {
+                return tx.give_up(StoreFault::Failed);
+            };
+            Ok(KeptTotal::OfQuarter(*quarter, cents))
+        }
+        KeptTotal::OfYear(year, _) => {
+            let Some(cents) = year_figure(tx, alloc, name, *year)? else {
+                return tx.give_up(StoreFault::Failed);
+            };
+            Ok(KeptTotal::OfYear(*year, cents))
+        }
+    }
+}
+
+/// The totals that an account on this form reported, as they are in force. `Failed` also where they
+/// do not go on by quarter or year.
+fn totals<S: Alter>(
+    tx: &mut Tx<'_, S>,
+    alloc: Global,
+    name: &str,
+    form: Form,
+) -> Result<Vec<KeptTotal>, StoreFault>
+    ensures call { Reads S.Store tx.old tx.new result
+        (λ rows. KnowsTotals name.now form rows.items) }
+{
+    let first = first_totals(tx, alloc, name, form)?;
+    let mut totals: Vec<KeptTotal> = Vec::new(alloc);
+    for total in &first {
+        let told = total_in_force(tx, alloc, name, total)?;
+        if let Err(fault) = add_total(told, &mut totals) {
+            return tx.give_up(fault);
+        }
+    }
+    Ok(totals)
+}
+
 /// Tells the totals that an account reported.
 fn reported<S: Alter>(tx: &mut Tx<'_, S>, alloc: Global, name: &str) -> Result<Answer, StoreFault>
     ensures call { Calls S.Store tx.old tx.new result
         (Serves (Question (questions.Kept (kept.Reported name.now)))) }
 {
-    let found = known(tx, name)?;
+    let found = known(tx, alloc, name)?;
     if let Some(answer) = kept_of_check(name, found) {
         return Ok(answer);
     }
@@ -146,7 +218,7 @@ fn runs<S: Alter>(
     ensures call { Calls S.Store tx.old tx.new result
         (Serves (Question (questions.Kept (kept.Runs name.now quarter)))) }
 {
-    let account = known(tx, name)?;
+    let account = known(tx, alloc, name)?;
     let found = tx.kept_runs(alloc, name, quarter.first(), quarter.last())?;
     if let Some(answer) = kept_in_quarter_check(name, quarter, account) {
         return Ok(answer);
@@ -168,7 +240,7 @@ fn payments<S: Alter>(
     ensures call { Calls S.Store tx.old tx.new result
         (Serves (Question (questions.Kept (kept.Payments name.now quarter)))) }
 {
-    let account = known(tx, name)?;
+    let account = known(tx, alloc, name)?;
     let found = tx.kept_payments(alloc, name, quarter.first(), quarter.last())?;
     let owed = tx.obligations(alloc, name, Day::first_of_month(0), quarter.last())?;
     if let Some(answer) = kept_in_quarter_check(name, quarter, account) {

@@ -1,22 +1,30 @@
 //! Rows of what is kept, as they are told.
 
-ghost use Rattle.std.specs.Prelude.{◌≡◌, ◌↔◌, IfOk, IsTrue, filter, map};
+ghost use Rattle.std.specs.Prelude.{◌≡◌, ◌↔◌, ◌++◌, ◌∷◌, [], IfOk, OnOk, IsTrue, filter, map};
 ghost use Rattle.ftd_rules.specs.Laws.{Covers};
 ghost use Rattle.ftd_machine.specs.Agenda.{EachToLater};
-ghost use Rattle.ftd_machine.specs.Kept.{IsAccountBefore, IsTotalBefore, IsRunBefore};
+ghost use Rattle.ftd_machine.specs.Kept.{IsTotalBefore, IsRunBefore};
 ghost use Rattle.ftd_machine.specs.Kept.{IsPaymentBefore, IsHeldBy, period_of};
 ghost use Rattle.ftd_rows.specs.Lists.{Pairs};
 ghost use Rattle.ftd_kept.specs.Kept.{kept_run, kept_quarter, kept_year, is_account_before};
 ghost use Rattle.ftd_kept.specs.Kept.{is_run_before, is_payment_before, is_total_before};
-ghost use Rattle.ftd_kept.specs.Kept.{are_in_order, JoinsTo, AreJoined, IsKeptPayment, earlier};
+ghost use Rattle.ftd_kept.specs.Kept.{are_in_order, kept_account, IsKeptPayment, earlier};
 ghost use Rattle.ftd_kept.specs.Kept.{kept_payment, is_live_payment, IsPaymentFor};
 
 use ftd_days::Day;
 use ftd_machine::{Account, AccountName, KeptAccount, KeptPayment, KeptRun, KeptTotal};
-use ftd_rows::{NamedAccount, NamedForm, NumberedPayment, NumberedRun, QuarterTotal, YearTotal};
+use ftd_rows::{NumberedPayment, NumberedRun, QuarterTotal, YearTotal};
 use ftd_rules::Obligation;
 use ftd_store::StoreFault;
 use std::alloc::{AllocError, Global};
+
+/// Adds a total. `Memory` where there was none.
+pub(crate) fn add_total(total: KeptTotal, totals: &mut Vec<KeptTotal>) -> Result<(), StoreFault>
+    ensures { OnOk result (totals.new.items ≡ totals.old.items ++ total ∷ []) }
+{
+    totals.push(total)?;
+    Ok(())
+}
 
 // ---- runs
 
@@ -83,7 +91,7 @@ fn is_account_before(account: &KeptAccount, next: &KeptAccount) -> bool
 }
 
 /// Whether each account comes before the next.
-fn are_accounts_in_order(accounts: &[KeptAccount]) -> bool
+pub(crate) fn are_accounts_in_order(accounts: &[KeptAccount]) -> bool
     ensures { result ≡ are_in_order is_account_before accounts.now }
 {
     accounts
@@ -92,65 +100,20 @@ fn are_accounts_in_order(accounts: &[KeptAccount]) -> bool
         .all(|(account, next)| is_account_before(account, next))
 }
 
-/// The account of a name, first day and form. `Failed` where the form is another account's, and
-/// `Memory` where there was no memory.
-fn joined(
+/// Adds an account, as it is told. `Memory` where there was none.
+pub(crate) fn add_account(
     alloc: Global,
-    account: &NamedAccount,
-    form: &NamedForm,
-) -> Result<KeptAccount, StoreFault>
-    ensures { IfOk result (λ joined. JoinsTo account.now form.now joined) }
+    name: &str,
+    account: Account,
+    rows: &mut Vec<KeptAccount>,
+) -> Result<(), StoreFault>
+    ensures { OnOk result
+        (rows.new.items ≡ rows.old.items ++ kept_account name.now account ∷ []) }
 {
-    if account.name != form.account {
-        return Err(StoreFault::Failed);
-    }
-    let name = String::from_str(alloc, &account.name)?;
-    Ok(KeptAccount {
-        name: AccountName::from_string(name),
-        account: Account {
-            start: account.account.start,
-            carried: account.account.carried,
-            form: form.form,
-        },
-    })
-}
-
-/// The accounts, each with its form. `Failed` where the two lists differ, and `Memory` where there
-/// was no memory.
-#[tactic(auto, using(crate::proofs::KeptJoined::joined_more))]
-fn all_joined(
-    alloc: Global,
-    accounts: &[NamedAccount],
-    forms: &[NamedForm],
-) -> Result<Vec<KeptAccount>, StoreFault>
-    ensures { IfOk result (λ joined. AreJoined accounts.now forms.now joined.items) }
-{
-    if accounts.len() != forms.len() {
-        return Err(StoreFault::Failed);
-    }
-    let mut rows = Vec::new(alloc);
-    for place in 0..accounts.len() {
-        rows.push(joined(alloc, &accounts[place], &forms[place])?)?;
-    }
-    Ok(rows)
-}
-
-/// The accounts, as they are told. `Failed` where the two lists differ, or do not go on by name,
-/// and `Memory` where there was no memory.
-#[tactic(auto, using(crate::proofs::KeptOrder::accounts_in_order))]
-pub(crate) fn told_accounts(
-    alloc: Global,
-    accounts: &[NamedAccount],
-    forms: &[NamedForm],
-) -> Result<Vec<KeptAccount>, StoreFault>
-    ensures told { IfOk result (λ joined. AreJoined accounts.now forms.now joined.items) }
-    ensures in_order { IfOk result (λ joined. EachToLater IsAccountBefore joined.items) }
-{
-    let rows = all_joined(alloc, accounts, forms)?;
-    if !are_accounts_in_order(&rows) {
-        return Err(StoreFault::Failed);
-    }
-    Ok(rows)
+    let name = String::from_str(alloc, name)?;
+    let name = AccountName::from_string(name);
+    rows.push(KeptAccount { name, account })?;
+    Ok(())
 }
 
 // ---- reported totals

@@ -25,7 +25,7 @@ use Rattle.ftd_machine.specs.declared.entries.Account.{Account}
 use Rattle.ftd_machine.specs.declared.lists.AgendaRow.{AgendaRow}
 use Rattle.ftd_machine.specs.declared.replies.Reply.TheVariants.{Agenda}
 use Rattle.ftd_machine.proofs.Adding.{same_name}
-use Rattle.ftd_machine.proofs.Members.{found_some}
+use Rattle.ftd_machine.proofs.Members.{enrolled_of, found_some}
 use Rattle.ftd_machine.proofs.Single.{IsOnce, owed_one}
 use Rattle.ftd_machine.proofs.Lined.{owed_some}
 use Rattle.ftd_machine.proofs.DueSome.{Or, both_or, le_or, row_some}
@@ -146,7 +146,8 @@ module _ (s : State) (as_of : ℕ) (once : (name : List ℕ) → IsOnce (entries
   named : (x : AgendaRow) → IsAgendaRow s as_of x
       → (e : Enrolled) × Has s.accounts e × (x.account ≡ e.name)
   named x h =
-      let found = found_some account_of (is_named x.account) s.accounts h.account h.enrolled in
+      let was = enrolled_of s x.account h.account h.enrolled in
+      let found = found_some account_of (is_named x.account) s.accounts was.0 was.1 in
       (found.0, found.1, sym (same_name found.0.name x.account found.2))
 
   pub agenda_some : (IsAsked : AgendaRow → Type 0) → ((x : AgendaRow) → Or (IsAsked x))

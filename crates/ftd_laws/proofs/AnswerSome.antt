@@ -2,6 +2,7 @@
 use Rattle.std.proofs.Common.{◌≡◌, inl, inr, refl, ℕ, Bool, true}
 use Rattle.std.proofs.Common.{List, [], Option, None, Some, Ok, Err}
 use Rattle.std.specs.Prelude.{is_some}
+use Rattle.ftd_days.specs.Calendar.{year_start, quarter_start}
 use Rattle.ftd_rules.specs.declared.run.PayRun.{PayRun}
 use Rattle.ftd_rules.specs.declared.run.Voidable.{Voidable}
 use Rattle.ftd_rules.specs.declared.YearLine.{YearLine}
@@ -22,12 +23,14 @@ use Rattle.ftd_machine.specs.declared.requests.Request.{Request}
 use Rattle.ftd_machine.specs.declared.requests.Request.TheVariants.{Enrol, Calendar, AddHoliday}
 use Rattle.ftd_machine.specs.declared.requests.Request.TheVariants.{Report, ReportYear, OpenYear}
 use Rattle.ftd_machine.specs.declared.requests.Request.TheVariants.{Post, Void, Pay, VoidPay}
+use Rattle.ftd_machine.specs.declared.requests.Request.TheVariants.{CorrectReport, CorrectReportYear}
+use Rattle.ftd_machine.specs.declared.requests.Request.TheVariants.{ChangeHoliday, CorrectAccount}
 use Rattle.ftd_machine.specs.declared.requests.Request.TheVariants.{Question}
 use Rattle.ftd_machine.specs.Sound.{IsSound}
 use Rattle.ftd_machine.proofs.Members.{some_of}
 use Rattle.ftd_machine.proofs.Heads.{gives_finds, skip_needs, skip_finds, skip_done}
 use Rattle.ftd_machine.proofs.Lined.{lines_of_sound}
-use Rattle.ftd_laws.proofs.PostedSome.{posted_some}
+use Rattle.ftd_laws.proofs.PostedSome.{posted_some, corrected_some}
 use Rattle.ftd_laws.proofs.Questions.{tells_some}
 use Rattle.ftd_machine.proofs.ToldSome.{total_or}
 use Rattle.ftd_machine.proofs.Single.{IsOnce}
@@ -81,7 +84,14 @@ lines_answer s (Post name number payday fit ss medicare) once lines =
     let after = record s { runs = with_entry s.runs name number (taken run) } in
     decides s _ (λ a n. (n ≡ after) × IsPosted (holidays s) own (entries_of n name) payday a) (λ e.
     (let p = posted_some (holidays s) own (entries_of after name) payday (lines name).0
-    (record { account = refl; reported = refl; reported_years = refl; open_years = refl })
+    (record {
+      account = refl;
+      reported = refl;
+      reported_years = refl;
+      corrected = refl;
+      corrected_years = refl;
+      open_years = refl;
+    })
     (lines name).1 in
     (p.0, after, (refl, p.1))))
 lines_answer s (Void name number) once lines =
@@ -92,11 +102,50 @@ lines_answer s (Void name number) once lines =
     × IsPosted (holidays s) own (entries_of n name) run.value.payday a) (λ e.
     (let run = some_of known (known_of_void name number own.account known e) in
     let p = posted_some (holidays s) own (entries_of after name) run.0.value.payday (lines name).0
-    (record { account = refl; reported = refl; reported_years = refl; open_years = refl })
+    (record {
+      account = refl;
+      reported = refl;
+      reported_years = refl;
+      corrected = refl;
+      corrected_years = refl;
+      open_years = refl;
+    })
     (lines name).1 in
     (p.0, after, (run.0, run.1, refl, p.1))))
 lines_answer s (Pay name number paid for_day cents) once lines = done s _ _
 lines_answer s (VoidPay name number) once lines = done s _ _
+lines_answer s (CorrectReport name quarter number cents) once lines =
+    let own = entries_of s name in
+    let after = record s { corrected = with_entry s.corrected name quarter cents } in
+    let first = quarter_start quarter in
+    decides s _ (λ a n. (n ≡ after) × IsPosted (holidays s) own (entries_of n name) first a) (λ e.
+    (let p = corrected_some (holidays s) own (entries_of after name) first (lines name).0
+    (record {
+      account = refl;
+      reported = refl;
+      reported_years = refl;
+      open_years = refl;
+      runs = refl;
+    })
+    (lines name).1 in
+    (p.0, after, (refl, p.1))))
+lines_answer s (CorrectReportYear name year number cents) once lines =
+    let own = entries_of s name in
+    let after = record s { corrected_years = with_entry s.corrected_years name year cents } in
+    let first = year_start year in
+    decides s _ (λ a n. (n ≡ after) × IsPosted (holidays s) own (entries_of n name) first a) (λ e.
+    (let p = corrected_some (holidays s) own (entries_of after name) first (lines name).0
+    (record {
+      account = refl;
+      reported = refl;
+      reported_years = refl;
+      open_years = refl;
+      runs = refl;
+    })
+    (lines name).1 in
+    (p.0, after, (refl, p.1))))
+lines_answer s (ChangeHoliday day number is_holiday) once lines = done s _ _
+lines_answer s (CorrectAccount name number start carried) once lines = done s _ _
 lines_answer s (Question question) once lines =
     decides s _ (λ a n. (n ≡ s) × Tells s question a) (λ e.
     (let p = tells_some s question once lines e in (p.0, s, (refl, p.1))))

@@ -2,6 +2,7 @@
 use Rattle.std.proofs.Common.{◌≡◌, ◌∙◌, inl, inr, refl, sym, ap, subst, ℕ, List, Option, None, Some}
 use Rattle.std.proofs.Common.{Ok, Err}
 use Rattle.std.specs.Prelude.{unwrap_or}
+use Rattle.ftd_days.specs.Calendar.{year_start, quarter_start}
 use Rattle.ftd_rules.specs.declared.run.PayRun.{PayRun}
 use Rattle.ftd_rules.specs.declared.run.Voidable.{Voidable}
 use Rattle.ftd_machine.specs.State.{State, Entries, entries_of, holidays}
@@ -14,6 +15,8 @@ use Rattle.ftd_machine.specs.declared.requests.Request.{Request}
 use Rattle.ftd_machine.specs.declared.requests.Request.TheVariants.{Enrol, Calendar, AddHoliday}
 use Rattle.ftd_machine.specs.declared.requests.Request.TheVariants.{Report, ReportYear, OpenYear}
 use Rattle.ftd_machine.specs.declared.requests.Request.TheVariants.{Post, Void, Pay, VoidPay}
+use Rattle.ftd_machine.specs.declared.requests.Request.TheVariants.{CorrectReport, CorrectReportYear}
+use Rattle.ftd_machine.specs.declared.requests.Request.TheVariants.{ChangeHoliday, CorrectAccount}
 use Rattle.ftd_machine.specs.declared.requests.Request.TheVariants.{Question}
 use Rattle.ftd_machine.proofs.Single.{IsOnce, lacks_none, lacks_one, posted_one}
 use Rattle.ftd_laws.proofs.Questions.{tells_one}
@@ -88,10 +91,13 @@ module _ (s : State) (a b : Answer) (m n : State) where
   open_same (Some given) name year g h = (g.0 ∙ sym h.0, g.1 ∙ sym h.1)
   open_same None name year g h = next_same name year g h
 
--- after a run was posted or voided, the figures are as they were
+-- after a run was posted or voided, or a figure was put right, what was reported is as it was
 still_once : (own : Entries) (after : Entries) → after.reported ≡ own.reported
     → after.reported_years ≡ own.reported_years → IsOnce own → IsOnce after
-still_once own after e f once = record { quarters = rw e once.quarters; years = rw f once.years }
+still_once own after e f once = record {
+  quarters = λ corrected. rw e (once.quarters corrected);
+  years = λ corrected. rw f (once.years corrected);
+}
 
 pub one_answer : (s : State) (request : Request) (a b : Answer) (m n : State)
     → ((name : List ℕ) → IsOnce (entries_of s name))
@@ -110,5 +116,15 @@ one_answer s (Void name number) a b m n once g h =
     (once name)) g h
 one_answer s (Pay name number paid for_day cents) a b m n once g h = done_same s a b m n _ _ g h
 one_answer s (VoidPay name number) a b m n once g h = done_same s a b m n _ _ g h
+one_answer s (CorrectReport name quarter number cents) a b m n once g h =
+    post_same s a b m n _ name _ (quarter_start quarter) (once name)
+    (still_once (entries_of s name) _ refl refl (once name)) g h
+one_answer s (CorrectReportYear name year number cents) a b m n once g h =
+    post_same s a b m n _ name _ (year_start year) (once name)
+    (still_once (entries_of s name) _ refl refl (once name)) g h
+one_answer s (ChangeHoliday day number is_holiday) a b m n once g h =
+    done_same s a b m n _ _ g h
+one_answer s (CorrectAccount name number start carried) a b m n once g h =
+    done_same s a b m n _ _ g h
 one_answer s (Question question) a b m n once g h = asked_same s a b m n _ _
     (λ x y. tells_one s question x y once) g h

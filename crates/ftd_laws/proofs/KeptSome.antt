@@ -3,6 +3,7 @@ use Rattle.std.proofs.Common.{◌≡◌, ◌∙◌, ◌⊎◌, inl, inr, refl, s
 use Rattle.std.proofs.Common.{List, [], ◌∷◌, Option, None, Some, arith}
 use Rattle.std.specs.Prelude.{◌↔◌}
 use Rattle.std.proofs.lemmas.Bool.Decides.{eqb_tells}
+use Rattle.std.specs.Prelude.{option_map}
 use Rattle.ftd_days.specs.Calendar.{year_of, quarter_of}
 use Rattle.ftd_days.specs.declared.cents.Cents.{Cents}
 use Rattle.ftd_rules.specs.declared.Form.{Form}
@@ -16,7 +17,8 @@ use Rattle.ftd_rules.specs.Lists.{Has}
 use Rattle.ftd_rules.proofs.Cuts.{lt_or_le}
 use Rattle.ftd_rules.specs.Laws.{Covers}
 use Rattle.ftd_machine.specs.State.{State, Enrolled, Entries, entries_of, holidays, calendar_at}
-use Rattle.ftd_machine.specs.State.{is_given, kept_at, account_of, is_named}
+use Rattle.ftd_machine.specs.State.{is_given, kept_at, account_of, is_named, figure_at, latest}
+use Rattle.ftd_machine.specs.State.{all_at}
 use Rattle.ftd_machine.specs.History.{form_of, AreLinesOf}
 use Rattle.ftd_machine.specs.Checks.{Answer, first_of}
 use Rattle.ftd_machine.specs.Agenda.{EachToLater}
@@ -38,7 +40,8 @@ use Rattle.ftd_machine.specs.declared.requests.Kept.TheVariants.{Accounts, Years
 use Rattle.ftd_machine.specs.declared.requests.Kept.TheVariants.{Holidays, Runs, Payments}
 use Rattle.ftd_machine.proofs.Adding.{same_name}
 use Rattle.ftd_machine.proofs.Heads.{gives_needs, skip_needs}
-use Rattle.ftd_machine.proofs.Members.{found_some, some_of}
+use Rattle.ftd_machine.proofs.Numbers.{first_of_force}
+use Rattle.ftd_machine.proofs.Members.{enrolled_of, found_some, some_of}
 use Rattle.ftd_machine.proofs.Lined.{owed_some}
 use Rattle.ftd_machine.proofs.DueSome.{Or, both_or, le_or}
 use Rattle.ftd_laws.proofs.Choosing.{chosen, made_some, kept_some}
@@ -89,7 +92,8 @@ accounts_some s =
           (let h = (made.1 x).0 has in
           subst (IsEnrolled s) (sym h.2.2) h.2.1)),
       (λ is.
-          (let found = found_some account_of (is_named x.name) s.accounts x.account is in
+          (let was = enrolled_of s x.name x.account is in
+          let found = found_some account_of (is_named x.name) s.accounts was.0 was.1 in
           let named : x.name ≡ found.0.name = sym (same_name found.0.name x.name found.2) in
           (made.1 x).1 (
             found.0,
@@ -113,44 +117,59 @@ total_one : (form : Form) (own : Entries) (x y : KeptTotal) → period_of x ≡ 
     → IsTotal form own x → IsTotal form own y → x ≡ y
 total_one F941 own (OfQuarter a c) (OfQuarter b d) same g h =
     let cents : c ≡ d = inside c d
-    (sym g ∙ subst (λ k. kept_at k own.reported ≡ Some d) (sym same) h) in
+    (sym g ∙ subst (λ k. figure_at k own.reported own.corrected ≡ Some d) (sym same) h) in
     rw (same, cents) refl
 total_one F941 own (OfQuarter a c) (OfYear b d) same g h = absurd h
 total_one F941 own (OfYear a c) y same g h = absurd g
 total_one F943 own (OfYear a c) (OfYear b d) same g h =
     let cents : c ≡ d = inside c d
-    (sym g ∙ subst (λ k. kept_at k own.reported_years ≡ Some d) (sym same) h) in
+    (sym g ∙ subst (λ k. figure_at k own.reported_years own.corrected_years ≡ Some d) (sym same) h) in
     rw (same, cents) refl
 total_one F943 own (OfYear a c) (OfQuarter b d) same g h = absurd h
 total_one F943 own (OfQuarter a c) y same g h = absurd g
 
+abbrev quarter_of_figure : Entries → ℕ → Cents → KeptTotal
+quarter_of_figure own key first = OfQuarter key (latest first (all_at key own.corrected))
+
+abbrev year_of_figure : Entries → ℕ → Cents → KeptTotal
+year_of_figure own key first = OfYear key (latest first (all_at key own.corrected_years))
+
 totals_are : (form : Form) (own : Entries)
     → (xs : List KeptTotal) × ((x : KeptTotal) → Has xs x ↔ IsTotal form own x)
 totals_are F941 own =
-    let made = kept_some OfQuarter own.reported in (
+    let made = kept_some (quarter_of_figure own) own.reported in (
       made.0,
       λ x. (
-        (λ has. (let h = (made.1 x).0 has in subst (IsTotal F941 own) (sym h.3) h.2)),
+        (λ has. (let h = (made.1 x).0 has in
+            subst (IsTotal F941 own) (sym h.3)
+            (ap (option_map (λ first. latest first (all_at h.0 own.corrected))) h.2))),
         (λ is. (made.1 x).1 (back x is)),
       ),
     )
   where
     back : (x : KeptTotal) → IsTotal F941 own x → (k : ℕ) × (c : Cents)
-        × (kept_at k own.reported ≡ Some c) × (x ≡ OfQuarter k c)
-    back (OfQuarter quarter cents) is = (quarter, cents, is, refl)
+        × (kept_at k own.reported ≡ Some c) × (x ≡ quarter_of_figure own k c)
+    back (OfQuarter quarter cents) is =
+        let f = first_of_force (kept_at quarter own.reported) (all_at quarter own.corrected) cents is in
+        (quarter, f.0, f.1, ap (OfQuarter quarter) f.2)
     back (OfYear year cents) is = absurd is
 totals_are F943 own =
-    let made = kept_some OfYear own.reported_years in (
+    let made = kept_some (year_of_figure own) own.reported_years in (
       made.0,
       λ x. (
-        (λ has. (let h = (made.1 x).0 has in subst (IsTotal F943 own) (sym h.3) h.2)),
+        (λ has. (let h = (made.1 x).0 has in
+            subst (IsTotal F943 own) (sym h.3)
+            (ap (option_map (λ first. latest first (all_at h.0 own.corrected_years))) h.2))),
         (λ is. (made.1 x).1 (back x is)),
       ),
     )
   where
     back : (x : KeptTotal) → IsTotal F943 own x → (k : ℕ) × (c : Cents)
-        × (kept_at k own.reported_years ≡ Some c) × (x ≡ OfYear k c)
-    back (OfYear year cents) is = (year, cents, is, refl)
+        × (kept_at k own.reported_years ≡ Some c) × (x ≡ year_of_figure own k c)
+    back (OfYear year cents) is =
+        let f = first_of_force (kept_at year own.reported_years) (all_at year own.corrected_years) cents
+        is in
+        (year, f.0, f.1, ap (OfYear year) f.2)
     back (OfQuarter quarter cents) is = absurd is
 
 totals_some : (own : Entries) → (answer : Answer) × AreTotals own answer

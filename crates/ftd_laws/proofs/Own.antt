@@ -1,31 +1,37 @@
 -- Two states that agree on an account's entries answer the same to what names it.
 use Rattle.std.proofs.Common.{◌≡◌, ◌∙◌, inl, inr, refl, sym, ap, subst, ℕ, ◌+◌, length, List}
-use Rattle.std.proofs.Common.{Option, None, Some, Ok}
+use Rattle.std.proofs.Common.{[], ◌∷◌, ◌++◌, Bool, Option, None, Some, Ok}
 use Rattle.std.specs.Option.{option_or}
-use Rattle.ftd_days.specs.Calendar.{year_of}
+use Rattle.ftd_days.specs.Calendar.{year_of, year_start, quarter_start}
 use Rattle.ftd_days.specs.declared.cents.Cents.{Cents}
 use Rattle.ftd_machine.specs.declared.entries.Account.{Account}
+use Rattle.ftd_machine.specs.declared.entries.Beginning.{Beginning}
 use Rattle.ftd_rules.specs.declared.run.PayRun.{PayRun}
 use Rattle.ftd_rules.specs.declared.payment.Payment.{Payment}
 use Rattle.ftd_rules.specs.declared.run.Voidable.{Voidable}
 use Rattle.ftd_machine.specs.State.{State, Entries, entries_of, kept_at, is_open, is_given}
+use Rattle.ftd_machine.specs.State.{account_in_force, all_at, numbered}
 use Rattle.ftd_machine.specs.State.{holidays}
 use Rattle.ftd_machine.specs.History.{HasLookback, LacksFigure}
 use Rattle.ftd_machine.specs.Checks.{Answer, first_of, Decides}
 use Rattle.ftd_machine.specs.Requests.{enrol_checks, report_checks, report_year_checks}
 use Rattle.ftd_machine.specs.Requests.{open_year_checks, post_checks, void_checks, pay_checks}
-use Rattle.ftd_machine.specs.Requests.{void_payment_checks}
+use Rattle.ftd_machine.specs.Requests.{void_payment_checks, correct_report_checks}
+use Rattle.ftd_machine.specs.Requests.{correct_report_year_checks, correct_account_checks}
+use Rattle.ftd_machine.specs.Requests.{is_unused}
 use Rattle.ftd_machine.specs.Posting.{IsPosted}
 use Rattle.ftd_machine.specs.Step.{Step, OpensNext, may_open, taken, with_account, with_entry}
-use Rattle.ftd_machine.specs.Step.{with_voided}
+use Rattle.ftd_machine.specs.Step.{with_voided, with_move}
 use Rattle.ftd_machine.specs.Laws.{Names, AgreeOn}
 use Rattle.ftd_machine.specs.declared.replies.Reply.TheVariants.{Done}
 use Rattle.ftd_machine.specs.declared.requests.Request.{Request}
 use Rattle.ftd_machine.specs.declared.requests.Request.TheVariants.{Enrol, Calendar, AddHoliday}
 use Rattle.ftd_machine.specs.declared.requests.Request.TheVariants.{Report, ReportYear, OpenYear}
 use Rattle.ftd_machine.specs.declared.requests.Request.TheVariants.{Post, Void, Pay, VoidPay}
+use Rattle.ftd_machine.specs.declared.requests.Request.TheVariants.{CorrectReport, CorrectReportYear}
+use Rattle.ftd_machine.specs.declared.requests.Request.TheVariants.{ChangeHoliday, CorrectAccount}
 use Rattle.ftd_machine.specs.declared.requests.Request.TheVariants.{Question}
-use Rattle.ftd_machine.proofs.Adding.{account_own, entry_own, voided_own}
+use Rattle.ftd_machine.proofs.Adding.{account_own, entry_own, voided_own, moved_own}
 use Rattle.ftd_laws.proofs.Questions.{same_holidays, same_checks, same_told}
 
 -- ---- the same change of both
@@ -43,7 +49,10 @@ module _ (name : List ℕ) (s t : State) (agree : AgreeOn name s t) where
   agree_account account = record {
     own =
         let F : Entries → Entries =
-        λ own. record own { account = option_or own.account (Some account) } in
+        λ own. record own {
+          enrolled = option_or own.enrolled (Some account);
+          account = account_in_force (option_or own.enrolled (Some account)) own.moves;
+        } in
         let after_s : entries_of (record s { accounts = with_account s.accounts name account }) name
         ≡ F own_s = rw (account_own s.accounts name account) refl in
         let after_t : entries_of (record t { accounts = with_account t.accounts name account }) name
@@ -51,6 +60,7 @@ module _ (name : List ℕ) (s t : State) (agree : AgreeOn name s t) where
         after_t ∙ ap F agree.own ∙ sym after_s;
     calendars = agree.calendars;
     added_days = agree.added_days;
+    changed_days = agree.changed_days;
   }
 
   agree_reported : (key : ℕ) (cents : Cents)
@@ -67,6 +77,7 @@ module _ (name : List ℕ) (s t : State) (agree : AgreeOn name s t) where
         after_t ∙ ap F agree.own ∙ sym after_s;
     calendars = agree.calendars;
     added_days = agree.added_days;
+    changed_days = agree.changed_days;
   }
 
   agree_reported_year : (key : ℕ) (cents : Cents)
@@ -85,6 +96,7 @@ module _ (name : List ℕ) (s t : State) (agree : AgreeOn name s t) where
         after_t ∙ ap F agree.own ∙ sym after_s;
     calendars = agree.calendars;
     added_days = agree.added_days;
+    changed_days = agree.changed_days;
   }
 
   agree_open : (year : ℕ)
@@ -101,6 +113,7 @@ module _ (name : List ℕ) (s t : State) (agree : AgreeOn name s t) where
         after_t ∙ ap F agree.own ∙ sym after_s;
     calendars = agree.calendars;
     added_days = agree.added_days;
+    changed_days = agree.changed_days;
   }
 
   agree_run : (number : ℕ) (run : Voidable PayRun)
@@ -117,6 +130,7 @@ module _ (name : List ℕ) (s t : State) (agree : AgreeOn name s t) where
         after_t ∙ ap F agree.own ∙ sym after_s;
     calendars = agree.calendars;
     added_days = agree.added_days;
+    changed_days = agree.changed_days;
   }
 
   agree_void : (number : ℕ)
@@ -132,6 +146,7 @@ module _ (name : List ℕ) (s t : State) (agree : AgreeOn name s t) where
         after_t ∙ ap F agree.own ∙ sym after_s;
     calendars = agree.calendars;
     added_days = agree.added_days;
+    changed_days = agree.changed_days;
   }
 
   agree_payment : (number : ℕ) (payment : Voidable Payment)
@@ -148,6 +163,7 @@ module _ (name : List ℕ) (s t : State) (agree : AgreeOn name s t) where
         after_t ∙ ap F agree.own ∙ sym after_s;
     calendars = agree.calendars;
     added_days = agree.added_days;
+    changed_days = agree.changed_days;
   }
 
   agree_void_payment : (number : ℕ)
@@ -164,6 +180,63 @@ module _ (name : List ℕ) (s t : State) (agree : AgreeOn name s t) where
         after_t ∙ ap F agree.own ∙ sym after_s;
     calendars = agree.calendars;
     added_days = agree.added_days;
+    changed_days = agree.changed_days;
+  }
+
+  agree_corrected : (key : ℕ) (cents : Cents)
+      → AgreeOn name (record s { corrected = with_entry s.corrected name key cents })
+      (record t { corrected = with_entry t.corrected name key cents })
+  agree_corrected key cents = record {
+    own =
+        let F : Entries → Entries =
+        λ own. record own { corrected = with_entry own.corrected name key cents } in
+        let after_s : entries_of (record s { corrected = with_entry s.corrected name key cents })
+        name ≡ F own_s = rw (entry_own s.corrected name key cents) refl in
+        let after_t : entries_of (record t { corrected = with_entry t.corrected name key cents })
+        name ≡ F own_t = rw (entry_own t.corrected name key cents) refl in
+        after_t ∙ ap F agree.own ∙ sym after_s;
+    calendars = agree.calendars;
+    added_days = agree.added_days;
+    changed_days = agree.changed_days;
+  }
+
+  agree_corrected_year : (key : ℕ) (cents : Cents)
+      → AgreeOn name (record s { corrected_years = with_entry s.corrected_years name key cents })
+      (record t { corrected_years = with_entry t.corrected_years name key cents })
+  agree_corrected_year key cents = record {
+    own =
+        let F : Entries → Entries =
+        λ own. record own { corrected_years = with_entry own.corrected_years name key cents } in
+        let after_s : entries_of
+        (record s { corrected_years = with_entry s.corrected_years name key cents }) name ≡ F own_s =
+        rw (entry_own s.corrected_years name key cents) refl in
+        let after_t : entries_of
+        (record t { corrected_years = with_entry t.corrected_years name key cents }) name ≡ F own_t =
+        rw (entry_own t.corrected_years name key cents) refl in
+        after_t ∙ ap F agree.own ∙ sym after_s;
+    calendars = agree.calendars;
+    added_days = agree.added_days;
+    changed_days = agree.changed_days;
+  }
+
+  agree_moved : (beginning : Beginning)
+      → AgreeOn name (record s { moved = with_move s.moved name beginning })
+      (record t { moved = with_move t.moved name beginning })
+  agree_moved beginning = record {
+    own =
+        let F : Entries → Entries =
+        λ own. record own {
+          moves = own.moves ++ beginning ∷ [];
+          account = account_in_force own.enrolled (own.moves ++ beginning ∷ []);
+        } in
+        let after_s : entries_of (record s { moved = with_move s.moved name beginning }) name
+        ≡ F own_s = rw (moved_own s.moved name beginning) refl in
+        let after_t : entries_of (record t { moved = with_move t.moved name beginning }) name
+        ≡ F own_t = rw (moved_own t.moved name beginning) refl in
+        after_t ∙ ap F agree.own ∙ sym after_s;
+    calendars = agree.calendars;
+    added_days = agree.added_days;
+    changed_days = agree.changed_days;
   }
 
 -- ---- the same answer
@@ -293,7 +366,7 @@ follows s t (Enrol own start carried form) answer new name named agree step =
     subst (λ x. (then : State) × Step t (Enrol own start carried form) answer then
     × AgreeOn x new then) named
     (done_follows own s t agrees answer new _ _ _ _
-    (ap (λ (e : Entries). first_of (enrol_checks own account e.account)) agrees.own)
+    (ap (λ (e : Entries). first_of (enrol_checks own account e.enrolled)) agrees.own)
     (agree_account own s t agrees account) step)
 follows s t (Calendar year days) answer new name named agree step = absurd named
 follows s t (AddHoliday day) answer new name named agree step = absurd named
@@ -353,6 +426,34 @@ follows s t (VoidPay own number) answer new name named agree step =
     (ap (λ (e : Entries). first_of (void_payment_checks own number e.account
     (kept_at number e.payments))) agrees.own)
     (agree_void_payment own s t agrees number) step)
+follows s t (CorrectReport own quarter number cents) answer new name named agree step =
+    let agrees : AgreeOn own s t = subst (λ x. AgreeOn x s t) (sym named) agree in
+    subst (λ x. (then : State) × Step t (CorrectReport own quarter number cents) answer then
+    × AgreeOn x new then) named
+    (post_follows own s t agrees answer new _ _ _ _ (quarter_start quarter)
+    (ap (λ (e : Entries). first_of (correct_report_checks own quarter number cents e.account
+    (kept_at quarter e.reported) (numbered number (all_at quarter e.corrected))
+    (length (all_at quarter e.corrected)))) agrees.own)
+    (agree_corrected own s t agrees quarter cents) step)
+follows s t (CorrectReportYear own year number cents) answer new name named agree step =
+    let agrees : AgreeOn own s t = subst (λ x. AgreeOn x s t) (sym named) agree in
+    subst (λ x. (then : State) × Step t (CorrectReportYear own year number cents) answer then
+    × AgreeOn x new then) named
+    (post_follows own s t agrees answer new _ _ _ _ (year_start year)
+    (ap (λ (e : Entries). first_of (correct_report_year_checks own year number cents e.account
+    (kept_at year e.reported_years) (numbered number (all_at year e.corrected_years))
+    (length (all_at year e.corrected_years)))) agrees.own)
+    (agree_corrected_year own s t agrees year cents) step)
+follows s t (ChangeHoliday day number is_holiday) answer new name named agree step = absurd named
+follows s t (CorrectAccount own number start carried) answer new name named agree step =
+    let agrees : AgreeOn own s t = subst (λ x. AgreeOn x s t) (sym named) agree in
+    subst (λ x. (then : State) × Step t (CorrectAccount own number start carried) answer then
+    × AgreeOn x new then) named
+    (done_follows own s t agrees answer new _ _ _ _
+    (ap (λ (e : Entries). first_of (correct_account_checks own number
+    (record { start = start; carried = carried }) e.account
+    (numbered number e.moves) (is_unused e) (length e.moves))) agrees.own)
+    (agree_moved own s t agrees (record { start = start; carried = carried })) step)
 follows s t (Question question) answer new name named agree step =
     asked_follows name s t agree answer new _ _ _ _ (same_checks s t question name named agree)
     (same_told s t question name named agree answer) step

@@ -1,4 +1,5 @@
--- A pay run that is posted or voided has an answer, where the account has lines.
+-- A pay run that is posted or voided, and a figure that is put right, has an answer, where the account
+-- has lines.
 use Rattle.std.proofs.Common.{◌≡◌, ◌⊎◌, inl, inr, refl, sym, ap, subst, ℕ, ◌≤◌}
 use Rattle.std.proofs.Common.{List, [], ◌∷◌, ◌++◌, length, arith, Ok}
 use Rattle.std.proofs.lemmas.Bool.Decides.{eqb_tells}
@@ -14,8 +15,8 @@ use Rattle.ftd_machine.specs.History.{AreLinesOf}
 use Rattle.ftd_machine.specs.Checks.{Answer}
 use Rattle.ftd_machine.specs.Posting.{AreOnlyIn, Spans, IsPosted}
 use Rattle.ftd_machine.specs.declared.replies.Reply.TheVariants.{Posted}
-use Rattle.ftd_machine.proofs.Totals.{SameButRuns}
-use Rattle.ftd_machine.proofs.Lined.{lines_after, owed_some}
+use Rattle.ftd_machine.proofs.Totals.{SameButRuns, SameButFigures}
+use Rattle.ftd_machine.proofs.Lined.{lines_after, lines_again, owed_some}
 
 -- ---- rows that differ
 
@@ -161,14 +162,13 @@ days_some : (rows : List Obligation) (payday : ℕ) → (from : ℕ) × (to : �
 days_some [] payday = (payday, payday, inr (refl, refl, refl))
 days_some (x ∷ rows) payday = let s = spans_some x rows in (s.0, s.1, inl s.2)
 
--- the answer to a pay run that is posted or voided exists
-pub posted_some : (holidays : List ℕ) (own after : Entries) (payday : ℕ) (lines : List YearLine)
-    → SameButRuns own after → AreLinesOf own lines
+-- the answer that tells how the obligations differ exists, where there are lines before and after
+told_some : (holidays : List ℕ) (own after : Entries) (payday : ℕ) (lines others : List YearLine)
+    → AreLinesOf own lines → AreLinesOf after others
     → (answer : Answer) × IsPosted holidays own after payday answer
-posted_some holidays own after payday lines same h =
-    let others = lines_after own after lines same h in
+told_some holidays own after payday lines others h h_after =
     let rows = owed_some holidays own lines h in
-    let rows_after = owed_some holidays after others.0 others.1 in
+    let rows_after = owed_some holidays after others h_after in
     let gone = only_some rows.0 rows_after.0 rows.1.2.by_first_day in
     let come = only_some rows_after.0 rows.0 rows_after.1.2.by_first_day in
     let days = days_some (gone.0 ++ come.0) payday in (
@@ -194,3 +194,19 @@ posted_some holidays own after payday lines same h =
         told = refl;
       },
     )
+
+-- so does that to a pay run that is posted or voided
+pub posted_some : (holidays : List ℕ) (own after : Entries) (payday : ℕ) (lines : List YearLine)
+    → SameButRuns own after → AreLinesOf own lines
+    → (answer : Answer) × IsPosted holidays own after payday answer
+posted_some holidays own after payday lines same h =
+    let others = lines_after own after lines same h in
+    told_some holidays own after payday lines others.0 h others.1
+
+-- and that to a figure that is put right
+pub corrected_some : (holidays : List ℕ) (own after : Entries) (first : ℕ) (lines : List YearLine)
+    → SameButFigures own after → AreLinesOf own lines
+    → (answer : Answer) × IsPosted holidays own after first answer
+corrected_some holidays own after first lines same h =
+    let others = lines_again own after lines same h in
+    told_some holidays own after first lines others.0 h others.1

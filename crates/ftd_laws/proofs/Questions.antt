@@ -45,7 +45,7 @@ use Rattle.ftd_laws.proofs.AgendaSome.{agenda_some, between_or, left_or}
 -- ---- states that agree on an account
 
 pub same_holidays : (name : List ℕ) (s t : State) → AgreeOn name s t → holidays t ≡ holidays s
-same_holidays name s t agree = rw (agree.calendars, agree.added_days) refl
+same_holidays name s t agree = rw (agree.calendars, agree.added_days, agree.changed_days) refl
 
 -- they agree on the account that is named
 agree_on : (own name : List ℕ) (s t : State) → Some own ≡ Some name → AgreeOn name s t

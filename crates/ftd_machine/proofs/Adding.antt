@@ -1,15 +1,18 @@
 -- Entries that are added or voided, beside those of one account.
 use Rattle.std.proofs.Common.{◌≡◌, refl, sym, ap, ◌∙◌, ℕ, Bool, true, false, cond, List, [], ◌∷◌}
-use Rattle.std.proofs.Common.{◌++◌, filter, Some, bytes_eq}
-use Rattle.std.specs.Prelude.{find, option_map}
-use Rattle.std.proofs.lemmas.List.{append-nil}
+use Rattle.std.proofs.Common.{◌++◌, filter, map, Option, None, Some, bytes_eq}
+use Rattle.std.specs.Prelude.{find, option_map, is_some}
+use Rattle.std.proofs.lemmas.List.{append-nil, map-append}
 use Rattle.std.proofs.lemmas.List.Elements.{filter-append}
 use Rattle.std.proofs.lemmas.Slice.Eq.{bytes_eq-Decides}
 use Rattle.ftd_machine.specs.declared.entries.Account.{Account}
+use Rattle.ftd_machine.specs.declared.entries.Beginning.{Beginning}
 use Rattle.ftd_rules.specs.declared.run.Voidable.{Voidable}
 use Rattle.std.specs.Option.{option_or}
-use Rattle.ftd_machine.specs.State.{Enrolled, Entry, is_named, account_of, is_of}
-use Rattle.ftd_machine.specs.Step.{with_account, with_entry, with_voided, voided_if}
+use Rattle.ftd_machine.specs.State.{Enrolled, Entry, Move, is_named, account_of, is_of, is_move_of}
+use Rattle.ftd_machine.specs.State.{account_in_force, beginning_of, moves_of}
+use Rattle.ftd_machine.specs.History.{form_of}
+use Rattle.ftd_machine.specs.Step.{with_account, with_entry, with_move, with_voided, voided_if}
 
 -- ---- names
 
@@ -123,3 +126,28 @@ pub account_own : (xs : List Enrolled) (name : List ℕ) (account : Account)
     → option_map account_of (find (is_named name) (with_account xs name account))
     ≡ option_or (option_map account_of (find (is_named name) xs)) (Some account)
 account_own xs name account = find_own (is_named name) xs _ (own_name name)
+
+-- ---- an account that is put right
+
+pub moved_other : (xs : List Move) (name : List ℕ) (beginning : Beginning) (other : List ℕ)
+    → (name ≡ other → ⊥) → moves_of other (with_move xs name beginning) ≡ moves_of other xs
+moved_other xs name beginning other apart =
+    ap (map beginning_of) (filter_more (is_move_of other) xs _ false (other_name name other apart))
+
+pub moved_own : (xs : List Move) (name : List ℕ) (beginning : Beginning)
+    → moves_of name (with_move xs name beginning) ≡ moves_of name xs ++ beginning ∷ []
+moved_own xs name beginning =
+    ap (map beginning_of) (filter_more (is_move_of name) xs _ true (own_name name))
+    ∙ map-append beginning_of (filter (is_move_of name) xs) _
+
+-- an account that is in force was enrolled
+pub was_enrolled : (enrolled : Option Account) (moves : List Beginning)
+    → is_some (account_in_force enrolled moves) ≡ true → is_some enrolled ≡ true
+was_enrolled None moves e = absurd cc
+was_enrolled (Some account) moves e = refl
+
+-- whatever was put right, its form is the one with which it was enrolled
+pub same_form : (enrolled : Option Account) (moves : List Beginning)
+    → form_of (account_in_force enrolled moves) ≡ form_of enrolled
+same_form None moves = refl
+same_form (Some account) moves = refl

@@ -1,6 +1,6 @@
 -- A request that was done is answered Already from then on.
 use Rattle.std.proofs.Common.{◌≡◌, refl, sym, subst, ℕ, ◌==◌, Bool, true, false, List, [], ◌∷◌}
-use Rattle.std.proofs.Common.{Option, None, Some}
+use Rattle.std.proofs.Common.{◌++◌, length, Option, None, Some}
 use Rattle.std.specs.Prelude.{nat_le}
 use Rattle.std.proofs.lemmas.Bool.{eq-eqb}
 use Rattle.ftd_days.specs.Calendar.{year_of}
@@ -9,28 +9,35 @@ use Rattle.ftd_days.specs.declared.cents.Cents.{Cents}
 use Rattle.ftd_rules.specs.declared.Form.{Form}
 use Rattle.ftd_rules.specs.declared.Form.TheVariants.{F941, F943}
 use Rattle.ftd_machine.specs.declared.entries.Account.{Account}
+use Rattle.ftd_machine.specs.declared.entries.Beginning.{Beginning}
 use Rattle.ftd_rules.specs.declared.run.PayRun.{PayRun}
 use Rattle.ftd_rules.specs.declared.payment.Payment.{Payment}
 use Rattle.ftd_rules.specs.declared.run.Voidable.{Voidable}
 use Rattle.ftd_rules.specs.Accounts.{is_account_name}
-use Rattle.ftd_machine.specs.Checks.{first_of, finds, meets}
+use Rattle.ftd_machine.specs.Checks.{Answer, first_of, needs, finds, meets}
+use Rattle.ftd_machine.specs.State.{numbered}
 use Rattle.ftd_machine.specs.Requests.{is_form, same_flag, same_account, same_amount, same_run}
 use Rattle.ftd_machine.specs.Requests.{same_payment, same_days, is_voided, is_on, days_of_year}
 use Rattle.ftd_machine.specs.Requests.{enrol_checks, calendar_checks, add_holiday_checks}
 use Rattle.ftd_machine.specs.Requests.{report_checks, report_year_checks, open_year_checks}
 use Rattle.ftd_machine.specs.Requests.{post_checks, void_checks, pay_checks, void_payment_checks}
+use Rattle.ftd_machine.specs.Requests.{correct_report_checks, correct_report_year_checks}
+use Rattle.ftd_machine.specs.Requests.{change_holiday_checks, correct_account_checks, same_beginning}
 use Rattle.ftd_machine.specs.declared.replies.Refusal.{Refusal}
 use Rattle.ftd_machine.specs.declared.replies.Refusal.TheVariants.{UnknownAccount, AccountDiffers}
 use Rattle.ftd_machine.specs.declared.replies.Refusal.TheVariants.{CalendarDiffers, QuarterDiffers}
 use Rattle.ftd_machine.specs.declared.replies.Refusal.TheVariants.{RunDiffers, PaymentDiffers}
 use Rattle.ftd_machine.specs.declared.replies.Refusal.TheVariants.{UnknownRun, UnknownPayment}
 use Rattle.ftd_machine.specs.declared.replies.Refusal.TheVariants.{CalendarMissing, YearDiffers}
+use Rattle.ftd_machine.specs.declared.replies.Refusal.TheVariants.{QuarterMissing, YearMissing}
+use Rattle.ftd_machine.specs.declared.replies.Refusal.TheVariants.{CorrectionDiffers, AccountInUse}
 use Rattle.ftd_machine.proofs.Adding.{own_name}
 use Rattle.ftd_machine.proofs.Heads.{quiet_none, quiet_needs, quiet_finds, Turns, turns_needs}
 use Rattle.ftd_machine.proofs.Heads.{turns_finds, turns_new, turns_done, firm_none, firm_needs}
 use Rattle.ftd_machine.proofs.Heads.{firm_finds, Stays, stays_needs, stays_finds, stays_new}
 use Rattle.ftd_machine.proofs.Heads.{stays_done}
 use Rattle.ftd_machine.proofs.Keeping.{IsStill}
+use Rattle.ftd_machine.proofs.Numbers.{numbered_next}
 
 -- ---- equal content
 
@@ -49,6 +56,9 @@ pub account_same : (account : Account) → same_account account account ≡ true
 account_same account = rw (same account.start, flag_same account.carried, form_same account.form)
     refl
 
+pub beginning_same : (b : Beginning) → same_beginning b b ≡ true
+beginning_same b = rw (same b.start, flag_same b.carried) refl
+
 pub amount_same : (cents : Cents) → same_amount cents cents ≡ true
 amount_same cents = same cents.0
 
@@ -63,19 +73,42 @@ payment_same payment voided = rw (same payment.paid, same payment.for_day, same 
 
 -- ---- the checks before and after
 
--- a fact that stays where the account does
-meets_still : (test : Account → Bool) (o p : Option Account)
-    → ((a : Account) → o ≡ Some a → p ≡ Some a) → meets test o ≡ true → meets test p ≡ true
-meets_still test (Some a) p still e = rw (still a refl) e
-meets_still test None p still e = absurd cc
+-- the account stays, and its form
+abbrev pub StillThere : Option Account → Option Account → Type 0
+StillThere o p = (a : Account) → o ≡ Some a → (b : Account) × (p ≡ Some b) × (b.form ≡ a.form)
+
+stays_there : (o p : Option Account) (refusal : Refusal) (Q Q' : List (Option Answer))
+    → StillThere o p → Stays Q Q' → Stays (finds o refusal ∷ Q) (finds p refusal ∷ Q')
+stays_there (Some a) p refusal Q Q' still stays =
+    let b = still a refl in record { still = λ e. rw (b.1) (stays.still e) }
+stays_there None p refusal Q Q' still stays = record { still = λ e. absurd cc }
+
+-- a fact of its form stays too
+on_still : (form : Form) (o p : Option Account) → StillThere o p → meets (is_on form) o ≡ true
+    → meets (is_on form) p ≡ true
+on_still form (Some a) p still e = let b = still a refl in rw (b.1, b.2) e
+on_still form None p still e = absurd cc
 
 always : (b : Bool) → b ≡ true → b ≡ true
 always b e = e
 
-module _ (name : List ℕ) where
-  abbrev pub StillThere : Option Account → Option Account → Type 0
-  StillThere o p = (a : Account) → o ≡ Some a → p ≡ Some a
+-- where one stands there, one does afterwards
+turns_any : (o p : Option Account) (refusal : Refusal) (Q Q' : List (Option Answer))
+    → ((a : Account) → o ≡ Some a → (b : Account) × (p ≡ Some b)) → Turns Q Q'
+    → Turns (finds o refusal ∷ Q) (finds p refusal ∷ Q')
+turns_any (Some a) p refusal Q Q' there turns =
+    let b = there a refl in
+    record { no_change = turns.no_change; done = λ e. rw (b.1) (turns.done e) }
+turns_any None p refusal Q Q' there turns =
+    record { no_change = refl; done = λ e. absurd cc }
 
+-- what comes behind a check that passes
+after_needs : (holds : Bool) (refusal : Refusal) (Q : List (Option Answer))
+    → first_of (needs holds refusal ∷ Q) ≡ None → first_of Q ≡ None
+after_needs true refusal Q e = e
+after_needs false refusal Q e = absurd cc
+
+module _ (name : List ℕ) where
   -- Enrol
   pub enrol_turns : (account : Account) (o p : Option Account) → (o ≡ None → p ≡ Some account)
       → Turns (enrol_checks name account o) (enrol_checks name account p)
@@ -83,9 +116,10 @@ module _ (name : List ℕ) where
       turns_needs _ _ _ _ _ (always (is_account_name name))
       (turns_needs _ _ _ _ _ (always (nat_le (year_of account.start) 2098))
       (turns_new o p (same_account account) AccountDiffers [] []
-      (λ none. (account, there none, account_same account)) quiet_none))
+      (λ none rest. (account, there none, account_same account)) quiet_none))
 
-  pub enrol_stays : (account : Account) (o p : Option Account) → StillThere o p
+  pub enrol_stays : (account : Account) (o p : Option Account)
+      → ((a : Account) → o ≡ Some a → p ≡ Some a)
       → Stays (enrol_checks name account o) (enrol_checks name account p)
   enrol_stays account o p still =
       stays_needs _ _ _ _ _ (always (is_account_name name))
@@ -105,7 +139,7 @@ module _ (name : List ℕ) where
       (turns_finds account account UnknownAccount _ _ (λ a e. e)
       (turns_needs _ _ _ _ _ (always _)
       (turns_new o p (same_amount cents) QuarterDiffers _ _
-      (λ none. (cents, there none, amount_same cents)) (quiet_needs _ _ [] quiet_none))))))
+      (λ none rest. (cents, there none, amount_same cents)) (quiet_needs _ _ [] quiet_none))))))
 
   pub report_stays : (quarter : ℕ) (cents : Cents) (account account' : Option Account)
       (o p : Option Cents)
@@ -116,8 +150,8 @@ module _ (name : List ℕ) where
       stays_needs _ _ _ _ _ (always _)
       (stays_needs _ _ _ _ _ (always _)
       (stays_needs _ _ _ _ _ (always _)
-      (stays_finds account account' UnknownAccount _ _ here
-      (stays_needs _ _ _ _ _ (meets_still (is_on F941) account account' here)
+      (stays_there account account' UnknownAccount _ _ here
+      (stays_needs _ _ _ _ _ (on_still F941 account account' here)
       (stays_new o p (same_amount cents) QuarterDiffers _ _ (λ x is. (x, still x is, λ e. e))
       (firm_needs _ _ [] firm_none))))))
 
@@ -132,7 +166,7 @@ module _ (name : List ℕ) where
       (turns_finds account account UnknownAccount _ _ (λ a e. e)
       (turns_needs _ _ _ _ _ (always _)
       (turns_new o p (same_amount cents) YearDiffers _ _
-      (λ none. (cents, there none, amount_same cents)) (quiet_needs _ _ [] quiet_none))))))
+      (λ none rest. (cents, there none, amount_same cents)) (quiet_needs _ _ [] quiet_none))))))
 
   pub report_year_stays : (year : ℕ) (cents : Cents) (account account' : Option Account)
       (o p : Option Cents)
@@ -143,8 +177,8 @@ module _ (name : List ℕ) where
       stays_needs _ _ _ _ _ (always _)
       (stays_needs _ _ _ _ _ (always _)
       (stays_needs _ _ _ _ _ (always _)
-      (stays_finds account account' UnknownAccount _ _ here
-      (stays_needs _ _ _ _ _ (meets_still (is_on F943) account account' here)
+      (stays_there account account' UnknownAccount _ _ here
+      (stays_needs _ _ _ _ _ (on_still F943 account account' here)
       (stays_new o p (same_amount cents) YearDiffers _ _ (λ x is. (x, still x is, λ e. e))
       (firm_needs _ _ [] firm_none))))))
 
@@ -168,7 +202,7 @@ module _ (name : List ℕ) where
   open_stays year account account' there after calendar next calendar' next' here still =
       stays_needs _ _ _ _ _ (always _)
       (stays_needs _ _ _ _ _ (always _)
-      (stays_finds account account' UnknownAccount _ _ here
+      (stays_there account account' UnknownAccount _ _ here
       (stays_done there after _ _ still
       (firm_needs _ _ _ (firm_needs _ _ _ (firm_needs _ _ [] firm_none))))))
 
@@ -185,7 +219,7 @@ module _ (name : List ℕ) where
       (turns_needs _ _ _ _ _ (always _)
       (turns_finds account account UnknownAccount _ _ (λ a e. e)
       (turns_new o p (same_run run) RunDiffers _ _
-      (λ none. (record { value = run; voided = false }, is none, run_same run false))
+      (λ none rest. (record { value = run; voided = false }, is none, run_same run false))
       (quiet_needs _ _ _ (quiet_needs _ _ _ (quiet_needs _ _ [] quiet_none))))))))
 
   abbrev pub StillKept : {X : Type 0} → Option (Voidable X) → Option (Voidable X) → Type 0
@@ -202,7 +236,7 @@ module _ (name : List ℕ) where
       (stays_needs _ _ _ _ _ (always _)
       (stays_needs _ _ _ _ _ (always _)
       (stays_needs _ _ _ _ _ (always _)
-      (stays_finds account account' UnknownAccount _ _ here
+      (stays_there account account' UnknownAccount _ _ here
       (stays_new o p (same_run run) RunDiffers _ _
       (λ v is. (let w = still v is in (
         w.0,
@@ -243,7 +277,7 @@ module _ (name : List ℕ) where
   void_stays number account account' o p here still =
       stays_needs _ _ _ _ _ (always _)
       (stays_needs _ _ _ _ _ (always _)
-      (stays_finds account account' UnknownAccount _ _ here
+      (stays_there account account' UnknownAccount _ _ here
       (stays_done _ _ _ _ (voided_still o p still) (firm_finds o UnknownRun [] firm_none))))
 
   -- Pay and VoidPay
@@ -259,7 +293,7 @@ module _ (name : List ℕ) where
       (turns_needs _ _ _ _ _ (always _)
       (turns_finds account account UnknownAccount _ _ (λ a e. e)
       (turns_new o p (same_payment payment) PaymentDiffers _ _
-      (λ none. (record { value = payment; voided = false }, is none, payment_same payment false))
+      (λ none rest. (record { value = payment; voided = false }, is none, payment_same payment false))
       (quiet_needs _ _ _ (quiet_needs _ _ _ (quiet_needs _ _ [] quiet_none))))))))
 
   pub pay_stays : (number : ℕ) (payment : Payment) (account account' : Option Account)
@@ -272,7 +306,7 @@ module _ (name : List ℕ) where
       (stays_needs _ _ _ _ _ (always _)
       (stays_needs _ _ _ _ _ (always _)
       (stays_needs _ _ _ _ _ (always _)
-      (stays_finds account account' UnknownAccount _ _ here
+      (stays_there account account' UnknownAccount _ _ here
       (stays_new o p (same_payment payment) PaymentDiffers _ _
       (λ v is. (let w = still v is in (
         w.0,
@@ -300,8 +334,123 @@ module _ (name : List ℕ) where
   void_payment_stays number account account' o p here still =
       stays_needs _ _ _ _ _ (always _)
       (stays_needs _ _ _ _ _ (always _)
-      (stays_finds account account' UnknownAccount _ _ here
+      (stays_there account account' UnknownAccount _ _ here
       (stays_done _ _ _ _ (voided_still o p still) (firm_finds o UnknownPayment [] firm_none))))
+
+  -- CorrectReport and CorrectReportYear
+  pub correct_report_turns : (quarter number : ℕ) (cents : Cents) (account : Option Account)
+      (reported : Option Cents) (xs ys : List Cents) → ys ≡ xs ++ cents ∷ []
+      → Turns
+      (correct_report_checks name quarter number cents account reported (numbered number xs)
+      (length xs))
+      (correct_report_checks name quarter number cents account reported (numbered number ys)
+      (length ys))
+  correct_report_turns quarter number cents account reported xs ys more =
+      turns_needs _ _ _ _ _ (always _)
+      (turns_needs _ _ _ _ _ (always _)
+      (turns_needs _ _ _ _ _ (always _)
+      (turns_needs _ _ _ _ _ (always _)
+      (turns_finds account account UnknownAccount _ _ (λ a e. e)
+      (turns_needs _ _ _ _ _ (always _)
+      (turns_finds reported reported (QuarterMissing quarter) _ _ (λ c e. e)
+      (turns_new (numbered number xs) (numbered number ys) (same_amount cents) CorrectionDiffers _ _
+      (λ none rest. (cents, numbered_next number xs ys cents more rest, amount_same cents))
+      (quiet_needs _ _ [] quiet_none))))))))
+
+  pub correct_report_stays : (quarter number : ℕ) (cents : Cents)
+      (account account' : Option Account) (reported reported' : Option Cents)
+      (o p : Option Cents) (count count' : ℕ)
+      → StillThere account account' → ((x : Cents) → reported ≡ Some x → reported' ≡ Some x)
+      → ((x : Cents) → o ≡ Some x → p ≡ Some x)
+      → Stays (correct_report_checks name quarter number cents account reported o count)
+      (correct_report_checks name quarter number cents account' reported' p count')
+  correct_report_stays quarter number cents account account' reported reported' o p count count'
+      here kept still =
+      stays_needs _ _ _ _ _ (always _)
+      (stays_needs _ _ _ _ _ (always _)
+      (stays_needs _ _ _ _ _ (always _)
+      (stays_needs _ _ _ _ _ (always _)
+      (stays_there account account' UnknownAccount _ _ here
+      (stays_needs _ _ _ _ _ (on_still F941 account account' here)
+      (stays_finds reported reported' (QuarterMissing quarter) _ _ kept
+      (stays_new o p (same_amount cents) CorrectionDiffers _ _ (λ x is. (x, still x is, λ e. e))
+      (firm_needs _ _ [] firm_none))))))))
+
+  pub correct_report_year_turns : (year number : ℕ) (cents : Cents) (account : Option Account)
+      (reported : Option Cents) (xs ys : List Cents) → ys ≡ xs ++ cents ∷ []
+      → Turns
+      (correct_report_year_checks name year number cents account reported (numbered number xs)
+      (length xs))
+      (correct_report_year_checks name year number cents account reported (numbered number ys)
+      (length ys))
+  correct_report_year_turns year number cents account reported xs ys more =
+      turns_needs _ _ _ _ _ (always _)
+      (turns_needs _ _ _ _ _ (always _)
+      (turns_needs _ _ _ _ _ (always _)
+      (turns_needs _ _ _ _ _ (always _)
+      (turns_finds account account UnknownAccount _ _ (λ a e. e)
+      (turns_needs _ _ _ _ _ (always _)
+      (turns_finds reported reported (YearMissing year) _ _ (λ c e. e)
+      (turns_new (numbered number xs) (numbered number ys) (same_amount cents) CorrectionDiffers _ _
+      (λ none rest. (cents, numbered_next number xs ys cents more rest, amount_same cents))
+      (quiet_needs _ _ [] quiet_none))))))))
+
+  pub correct_report_year_stays : (year number : ℕ) (cents : Cents)
+      (account account' : Option Account) (reported reported' : Option Cents)
+      (o p : Option Cents) (count count' : ℕ)
+      → StillThere account account' → ((x : Cents) → reported ≡ Some x → reported' ≡ Some x)
+      → ((x : Cents) → o ≡ Some x → p ≡ Some x)
+      → Stays (correct_report_year_checks name year number cents account reported o count)
+      (correct_report_year_checks name year number cents account' reported' p count')
+  correct_report_year_stays year number cents account account' reported reported' o p count count'
+      here kept still =
+      stays_needs _ _ _ _ _ (always _)
+      (stays_needs _ _ _ _ _ (always _)
+      (stays_needs _ _ _ _ _ (always _)
+      (stays_needs _ _ _ _ _ (always _)
+      (stays_there account account' UnknownAccount _ _ here
+      (stays_needs _ _ _ _ _ (on_still F943 account account' here)
+      (stays_finds reported reported' (YearMissing year) _ _ kept
+      (stays_new o p (same_amount cents) CorrectionDiffers _ _ (λ x is. (x, still x is, λ e. e))
+      (firm_needs _ _ [] firm_none))))))))
+
+  -- CorrectAccount
+  pub correct_account_turns : (number : ℕ) (beginning : Beginning) (unused unused' : Bool)
+      (xs ys : List Beginning) → ys ≡ xs ++ beginning ∷ [] → (o p : Option Account)
+      → ((a : Account) → o ≡ Some a → (b : Account) × (p ≡ Some b))
+      → Turns
+      (correct_account_checks name number beginning o (numbered number xs) unused (length xs))
+      (correct_account_checks name number beginning p (numbered number ys) unused' (length ys))
+  correct_account_turns number beginning unused unused' xs ys more o p there =
+      turns_needs _ _ _ _ _ (always _)
+      (turns_needs _ _ _ _ _ (always _)
+      (turns_needs _ _ _ _ _ (always _)
+      (turns_any o p UnknownAccount _ _ there
+      (turns_new (numbered number xs) (numbered number ys) (same_beginning beginning)
+      CorrectionDiffers _ _
+      (λ none rest. (
+        beginning,
+        numbered_next number xs ys beginning more
+            (after_needs unused AccountInUse _ rest),
+        beginning_same beginning,
+      ))
+      (quiet_needs _ _ _ (quiet_needs _ _ [] quiet_none))))))
+
+  pub correct_account_stays : (number : ℕ) (beginning : Beginning)
+      (account account' : Option Account) (o p : Option Beginning) (unused unused' : Bool)
+      (count count' : ℕ) → StillThere account account'
+      → ((x : Beginning) → o ≡ Some x → p ≡ Some x)
+      → Stays (correct_account_checks name number beginning account o unused count)
+      (correct_account_checks name number beginning account' p unused' count')
+  correct_account_stays number beginning account account' o p unused unused' count count' here
+      still =
+      stays_needs _ _ _ _ _ (always _)
+      (stays_needs _ _ _ _ _ (always _)
+      (stays_needs _ _ _ _ _ (always _)
+      (stays_there account account' UnknownAccount _ _ here
+      (stays_new o p (same_beginning beginning) CorrectionDiffers _ _
+      (λ x is. (x, still x is, λ e. e))
+      (firm_needs _ _ _ (firm_needs _ _ [] firm_none))))))
 
 -- Calendar
 pub calendar_turns : (year : ℕ) (days : List ℕ) (o p : Option (List ℕ)) → (o ≡ None → p ≡ Some days)
@@ -310,7 +459,7 @@ calendar_turns year days o p there =
     turns_needs _ _ _ _ _ (always _)
     (turns_needs _ _ _ _ _ (always _)
     (turns_new o p (same_days days) CalendarDiffers [] []
-    (λ none. (days, there none, own_name days)) quiet_none))
+    (λ none rest. (days, there none, own_name days)) quiet_none))
 
 pub calendar_stays : (year : ℕ) (days : List ℕ) (o p : Option (List ℕ))
     → ((x : List ℕ) → o ≡ Some x → p ≡ Some x)
@@ -337,3 +486,34 @@ holiday_stays day o p added more still =
     stays_needs _ _ _ _ _ (always _)
     (stays_done _ _ _ _ still (firm_finds o (CalendarMissing (year_of day)) _
     (firm_needs _ _ [] firm_none)))
+
+-- ChangeHoliday
+pub change_turns : (day number : ℕ) (is_one : Bool) (calendar : Option (List ℕ)) (added : List ℕ)
+    (xs ys : List Bool) → ys ≡ xs ++ is_one ∷ []
+    → Turns
+    (change_holiday_checks day number is_one calendar added (numbered number xs) (length xs))
+    (change_holiday_checks day number is_one calendar added (numbered number ys) (length ys))
+change_turns day number is_one calendar added xs ys more =
+    turns_needs _ _ _ _ _ (always _)
+    (turns_needs _ _ _ _ _ (always _)
+    (turns_finds calendar calendar (CalendarMissing (year_of day)) _ _ (λ x e. e)
+    (turns_needs _ _ _ _ _ (always _)
+    (turns_new (numbered number xs) (numbered number ys) (same_flag is_one) CorrectionDiffers _ _
+    (λ none rest. (is_one, numbered_next number xs ys is_one more rest, flag_same is_one))
+    (quiet_needs _ _ [] quiet_none)))))
+
+pub change_stays : (day number : ℕ) (is_one : Bool) (calendar calendar' : Option (List ℕ))
+    (added added' : List ℕ) (o p : Option Bool) (count count' : ℕ)
+    → ((x : List ℕ) → calendar ≡ Some x → calendar' ≡ Some x)
+    → (is_holiday (days_of_year calendar added) day ≡ true
+    → is_holiday (days_of_year calendar' added') day ≡ true)
+    → ((x : Bool) → o ≡ Some x → p ≡ Some x)
+    → Stays (change_holiday_checks day number is_one calendar added o count)
+    (change_holiday_checks day number is_one calendar' added' p count')
+change_stays day number is_one calendar calendar' added added' o p count count' given holiday still =
+    stays_needs _ _ _ _ _ (always _)
+    (stays_needs _ _ _ _ _ (always _)
+    (stays_finds calendar calendar' (CalendarMissing (year_of day)) _ _ given
+    (stays_needs _ _ _ _ _ holiday
+    (stays_new o p (same_flag is_one) CorrectionDiffers _ _ (λ x is. (x, still x is, λ e. e))
+    (firm_needs _ _ [] firm_none)))))

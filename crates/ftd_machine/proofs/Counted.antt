@@ -14,6 +14,8 @@ use Rattle.ftd_machine.specs.declared.requests.Request.{Request}
 use Rattle.ftd_machine.specs.declared.requests.Request.TheVariants.{Enrol, Calendar, AddHoliday}
 use Rattle.ftd_machine.specs.declared.requests.Request.TheVariants.{Report, ReportYear, OpenYear}
 use Rattle.ftd_machine.specs.declared.requests.Request.TheVariants.{Post, Void, Pay, VoidPay}
+use Rattle.ftd_machine.specs.declared.requests.Request.TheVariants.{CorrectReport, CorrectReportYear}
+use Rattle.ftd_machine.specs.declared.requests.Request.TheVariants.{ChangeHoliday, CorrectAccount}
 use Rattle.ftd_machine.specs.declared.requests.Request.TheVariants.{Question}
 use Rattle.ftd_machine.proofs.Adding.{entry_own}
 use Rattle.ftd_machine.proofs.Again.{post_turns, pay_turns}
@@ -77,6 +79,14 @@ counts_stay s (Pay name number paid for_day cents) answer next account other ste
 counts_stay s (VoidPay name number) answer next account other step =
     done_stays (counts_of account) s answer next _ _ step
     (ap (λ n. (runs_of account s, n)) (voided_count s.payments name number account))
+counts_stay s (CorrectReport name quarter number cents) answer next account other step =
+    post_stays (counts_of account) s answer next _ _ _ _ _ _ step refl
+counts_stay s (CorrectReportYear name year number cents) answer next account other step =
+    post_stays (counts_of account) s answer next _ _ _ _ _ _ step refl
+counts_stay s (ChangeHoliday day number is_holiday) answer next account other step =
+    done_stays (counts_of account) s answer next _ _ step refl
+counts_stay s (CorrectAccount name number start carried) answer next account other step =
+    done_stays (counts_of account) s answer next _ _ step refl
 counts_stay s (Question question) answer next account other step = ap (counts_of account)
     (asked_leaves _ s answer next _ step)
 

@@ -9,9 +9,11 @@ use Rattle.std.proofs.lemmas.List.Sums.{sum_by-append, sum_by-cons, count_by-le-
 use Rattle.std.proofs.lemmas.List.Sums.{length-filter}
 use Rattle.ftd_days.specs.Calendar.{year_of}
 use Rattle.ftd_days.specs.Holidays.{YearDays, holidays_of, AreFew}
+use Rattle.ftd_days.proofs.Among.{few_among}
 use Rattle.ftd_rules.specs.Lists.{Has}
 use Rattle.ftd_machine.specs.Limits.{is_calendar, are_rising}
-use Rattle.ftd_machine.specs.State.{State, holidays, days_of, calendar_at, is_given, added_in}
+use Rattle.ftd_machine.specs.State.{State, all_days, days_of, calendar_at, is_given, added_in}
+use Rattle.ftd_machine.specs.State.{holidays, is_in_force}
 use Rattle.ftd_machine.specs.Requests.{days_of_year}
 use Rattle.ftd_machine.specs.Sound.{AreDistinct, year_of_calendar}
 use Rattle.ftd_machine.proofs.Keeping.{same_key}
@@ -129,12 +131,12 @@ given_append (c ∷ xs) ys = ap (λ zs. c.days ++ zs) (given_append xs ys)
 
 -- ---- one more
 
-module _ (s : State) (few : AreFew (holidays s)) where
+module _ (s : State) (few : AreFew (all_days s)) where
   pub few_added : (day : ℕ) → AreDistinct year_of_calendar s.calendars
       → ((c : YearDays) → Has s.calendars c → Fits c)
       → nat_lt (length (days_of_year (calendar_at s (year_of day)) (added_in s (year_of day)))) 60
       ≡ true
-      → AreFew (holidays (record s { added_days = s.added_days ++ day ∷ [] }))
+      → AreFew (all_days (record s { added_days = s.added_days ++ day ∷ [] }))
   few_added day apart fits room year = one_more (lies_in year day) refl
     where
       sizes : (o : Option (List ℕ)) (added : List ℕ) → length (days_of_year o added)
@@ -181,7 +183,7 @@ module _ (s : State) (few : AreFew (holidays s)) where
       → ((c : YearDays) → Has s.calendars c → Fits c)
       → ((c : YearDays) → Has s.calendars c → c.year ≡ new → ⊥)
       → ((d : ℕ) → Has s.added_days d → is_given s (year_of d) ≡ true) → is_given s new ≡ false
-      → AreFew (holidays
+      → AreFew (all_days
       (record s { calendars = s.calendars ++ record { year = new; days = days } ∷ [] }))
   few_given new days fits all fresh added absent year = one_more (new == year) refl
     where
@@ -224,3 +226,7 @@ module _ (s : State) (few : AreFew (holidays s)) where
           let sum = counted in
           let empty : count year [] ≡ 0 = refl in
           omega arith
+
+-- so of those in force
+pub few_in_force : (s : State) → AreFew (all_days s) → AreFew (holidays s)
+few_in_force s few = few_among (is_in_force s.changed_days) (all_days s) few

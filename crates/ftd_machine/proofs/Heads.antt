@@ -67,13 +67,13 @@ turns_finds None p refusal Q Q' stays turns = record { no_change = refl; done = 
 
 pub turns_new : {X : Type 0} (o p : Option X) (same : X → Bool) (refusal : Refusal)
     (Q Q' : List (Option Answer))
-    → (o ≡ None → (x : X) × (p ≡ Some x) × (same x ≡ true)) → Quiet Q
+    → (o ≡ None → first_of Q ≡ None → (x : X) × (p ≡ Some x) × (same x ≡ true)) → Quiet Q
     → Turns (is_new o same refusal ∷ Q) (is_new p same refusal ∷ Q')
 turns_new (Some x) p same refusal Q Q' after quiet =
     record { no_change = same_quiet (same x) refusal; done = λ e. absurd cc }
 turns_new None p same refusal Q Q' after quiet = record {
   no_change = quiet.told;
-  done = λ e. (let is = after refl in rw (is.1, is.2) refl);
+  done = λ e. (let is = after refl e in rw (is.1, is.2) refl);
 }
 
 pub turns_done : (holds after : Bool) (Q Q' : List (Option Answer))

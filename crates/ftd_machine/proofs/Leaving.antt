@@ -13,6 +13,8 @@ use Rattle.ftd_machine.specs.declared.requests.Request.{Request}
 use Rattle.ftd_machine.specs.declared.requests.Request.TheVariants.{Enrol, Calendar, AddHoliday}
 use Rattle.ftd_machine.specs.declared.requests.Request.TheVariants.{Report, ReportYear, OpenYear}
 use Rattle.ftd_machine.specs.declared.requests.Request.TheVariants.{Post, Void, Pay, VoidPay}
+use Rattle.ftd_machine.specs.declared.requests.Request.TheVariants.{CorrectReport, CorrectReportYear}
+use Rattle.ftd_machine.specs.declared.requests.Request.TheVariants.{ChangeHoliday, CorrectAccount}
 use Rattle.ftd_machine.specs.declared.requests.Request.TheVariants.{Question}
 use Rattle.ftd_machine.proofs.Deciding.{either}
 
@@ -82,4 +84,12 @@ leaves s (Void name number) answer next step stays =
 leaves s (Pay name number paid for_day cents) answer next step stays =
     done_leaves _ s answer next _ step stays
 leaves s (VoidPay name number) answer next step stays = done_leaves _ s answer next _ step stays
+leaves s (CorrectReport name quarter number cents) answer next step stays =
+    post_leaves _ s answer next _ _ _ _ _ step stays
+leaves s (CorrectReportYear name year number cents) answer next step stays =
+    post_leaves _ s answer next _ _ _ _ _ step stays
+leaves s (ChangeHoliday day number is_holiday) answer next step stays =
+    done_leaves _ s answer next _ step stays
+leaves s (CorrectAccount name number start carried) answer next step stays =
+    done_leaves _ s answer next _ step stays
 leaves s (Question question) answer next step stays = asked_leaves _ s answer next _ step

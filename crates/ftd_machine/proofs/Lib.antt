@@ -5,6 +5,7 @@ pub mod Others
 pub mod Heads
 pub mod KeptChecks
 pub mod Keeping
+pub mod Numbers
 pub mod Again
 pub mod Single
 pub mod Ordered
@@ -29,3 +30,4 @@ pub mod ListsSmall
 pub mod Brief
 pub mod Listed
 pub mod Entered
+pub mod InYear

@@ -21,7 +21,8 @@ use Rattle.ftd_machine.specs.Sound.{Follow, FollowFrom, IsSound}
 use Rattle.ftd_machine.proofs.Adding.{same_name}
 use Rattle.ftd_machine.proofs.Few.{and_first, and_second}
 use Rattle.ftd_machine.proofs.Members.{has_mapped, mapped_has, has_filtered}
-use Rattle.ftd_machine.proofs.Totals.{SameButRuns, lookback_still}
+use Rattle.ftd_machine.proofs.Totals.{SameButRuns, lookback_still, SameButFigures}
+use Rattle.ftd_machine.proofs.Totals.{lookback_again}
 
 -- ---- the same but for the openings and the turns
 
@@ -160,6 +161,68 @@ lines_after own after lines same h =
             );
         carried = rw (same.account) (carried_same (is_carried own.account) lines others
             (sym found.1) h.carried);
+        schedules = found.2;
+      },
+    )
+
+-- ---- where a figure in force changes
+
+-- the lines with other lookback totals
+relined : (lines : List YearLine) (after : Entries)
+    → ((line : YearLine) → Has lines line → (new : Cents) × HasLookback after line.year new)
+    → (others : List YearLine) × (map year_of_line others ≡ map year_of_line lines)
+    × ((line : YearLine) → Has others line → HasLookback after line.year line.lookback)
+    × ((carried : Bool) → AreCarried carried lines → AreCarried carried others)
+relined [] after f = ([], refl, (λ line h. absurd h), (λ carried h. tt))
+relined (line ∷ lines) after f =
+    let rest = relined lines after (λ x h. f x (inr h)) in
+    let total = f line (inl refl) in
+    let new : YearLine = record line { lookback = total.0 } in (
+      new ∷ rest.0,
+      ap (λ ys. line.year ∷ ys) rest.1,
+      (λ x h. elim h [
+        | inl is ↦ subst (λ (l : YearLine). HasLookback after l.year l.lookback) (sym is) total.1
+        | inr has ↦ rest.2 x has
+      ]),
+      (λ carried h. (h.0, rest.3 false h.1)),
+    )
+
+from_same : (xs ys : List YearLine) (year : ℕ) → map year_of_line ys ≡ map year_of_line xs
+    → YearsFrom year xs → YearsFrom year ys
+from_same [] [] year e h = h
+from_same [] (y ∷ ys) year e h = absurd cc
+from_same (x ∷ xs) [] year e h = absurd cc
+from_same (x ∷ xs) (y ∷ ys) year e h =
+    let head : y.year ≡ x.year = cc in
+    let tail : map year_of_line ys ≡ map year_of_line xs = cc in
+    (head ∙ h.0, from_same xs ys (year + 1) tail h.1)
+
+pub lines_again : (own after : Entries) (lines : List YearLine) → SameButFigures own after
+    → AreLinesOf own lines → (others : List YearLine) × AreLinesOf after others
+lines_again own after lines same h =
+    let raw = relined lines after (λ line has.
+    lookback_again own after same line.year line.lookback (h.lookbacks line has)) in
+    let years : AreOpenYears raw.0 = (
+      h.schedules.years.0,
+      h.schedules.years.1,
+      from_same lines raw.0 h.schedules.years.0 raw.1 h.schedules.years.2,
+    ) in
+    let found = lines_some (live_sums after) raw.0 years in
+    let others = found.0 in (
+      others,
+      record {
+        years = years_same others raw.0 found.1 ∙ raw.1 ∙ h.years ∙ rw (same.open_years) refl;
+        lookbacks = λ line has. (
+            let c = counterpart others raw.0 line found.1 has in
+            let year : line.year ≡ c.0.year = ap (λ (z : ℕ × ℕ × Bool). z.0) c.2 in
+            let amount : line.lookback ≡ c.0.lookback =
+            ap (λ (z : ℕ × ℕ × Bool). record { 0 = z.1 }) c.2 in
+            like_lookback after line.year c.0.year line.lookback c.0.lookback year amount
+            (raw.2 c.0 c.1)
+            );
+        carried = subst (λ o. AreCarried (is_carried o) others) (sym same.account)
+            (carried_same (is_carried own.account) raw.0 others
+            (sym found.1) (raw.3 (is_carried own.account) h.carried));
         schedules = found.2;
       },
     )

@@ -11,6 +11,8 @@ use Rattle.ftd_machine.specs.declared.requests.Request.{Request}
 use Rattle.ftd_machine.specs.declared.requests.Request.TheVariants.{Enrol, Calendar, AddHoliday}
 use Rattle.ftd_machine.specs.declared.requests.Request.TheVariants.{Report, ReportYear, OpenYear}
 use Rattle.ftd_machine.specs.declared.requests.Request.TheVariants.{Post, Void, Pay, VoidPay}
+use Rattle.ftd_machine.specs.declared.requests.Request.TheVariants.{CorrectReport, CorrectReportYear}
+use Rattle.ftd_machine.specs.declared.requests.Request.TheVariants.{ChangeHoliday, CorrectAccount}
 use Rattle.ftd_machine.specs.declared.requests.Request.TheVariants.{Question}
 use Rattle.ftd_machine.proofs.Questions.{question_brief, tells_bounded}
 use Rattle.ftd_machine.proofs.Repeats.{checks_of}
@@ -68,6 +70,28 @@ answers_bounded s (VoidPay name number) answer next sound step =
     decided s answer next (checks_of s (VoidPay name number)) _
     (brief_needs _ _ _ (brief_needs _ _ _ (brief_finds _ _ _ (brief_done _ _
     (brief_finds _ _ [] brief_none)))))
+    (is_done answer next _) step
+answers_bounded s (CorrectReport name quarter number cents) answer next sound step =
+    decided s answer next (checks_of s (CorrectReport name quarter number cents)) _
+    (brief_needs _ _ _ (brief_needs _ _ _ (brief_needs _ _ _ (brief_needs _ _ _
+    (brief_finds _ _ _ (brief_needs _ _ _ (brief_finds _ _ _ (brief_new _ _ _ _
+    (brief_needs _ _ [] brief_none)))))))))
+    (λ posted. is_posted _ _ _ _ answer posted.1) step
+answers_bounded s (CorrectReportYear name year number cents) answer next sound step =
+    decided s answer next (checks_of s (CorrectReportYear name year number cents)) _
+    (brief_needs _ _ _ (brief_needs _ _ _ (brief_needs _ _ _ (brief_needs _ _ _
+    (brief_finds _ _ _ (brief_needs _ _ _ (brief_finds _ _ _ (brief_new _ _ _ _
+    (brief_needs _ _ [] brief_none)))))))))
+    (λ posted. is_posted _ _ _ _ answer posted.1) step
+answers_bounded s (ChangeHoliday day number is_holiday) answer next sound step =
+    decided s answer next (checks_of s (ChangeHoliday day number is_holiday)) _
+    (brief_needs _ _ _ (brief_needs _ _ _ (brief_finds _ _ _ (brief_needs _ _ _
+    (brief_new _ _ _ _ (brief_needs _ _ [] brief_none))))))
+    (is_done answer next _) step
+answers_bounded s (CorrectAccount name number start carried) answer next sound step =
+    decided s answer next (checks_of s (CorrectAccount name number start carried)) _
+    (brief_needs _ _ _ (brief_needs _ _ _ (brief_needs _ _ _ (brief_finds _ _ _
+    (brief_new _ _ _ _ (brief_needs _ _ _ (brief_needs _ _ [] brief_none)))))))
     (is_done answer next _) step
 answers_bounded s (Question question) answer next sound step =
     decided s answer next (checks_of s (Question question)) _ (question_brief s question)

@@ -12,8 +12,10 @@ use Rattle.ftd_machine.specs.declared.requests.Request.{Request}
 use Rattle.ftd_machine.specs.declared.requests.Request.TheVariants.{Enrol, Calendar, AddHoliday}
 use Rattle.ftd_machine.specs.declared.requests.Request.TheVariants.{Report, ReportYear, OpenYear}
 use Rattle.ftd_machine.specs.declared.requests.Request.TheVariants.{Post, Void, Pay, VoidPay}
+use Rattle.ftd_machine.specs.declared.requests.Request.TheVariants.{CorrectReport, CorrectReportYear}
+use Rattle.ftd_machine.specs.declared.requests.Request.TheVariants.{ChangeHoliday, CorrectAccount}
 use Rattle.ftd_machine.specs.declared.requests.Request.TheVariants.{Question}
-use Rattle.ftd_machine.proofs.Adding.{account_other, entry_other, voided_other}
+use Rattle.ftd_machine.proofs.Adding.{account_other, entry_other, voided_other, moved_other}
 use Rattle.ftd_machine.proofs.Leaving.{asked_leaves}
 
 -- what is told of a state, and stays where a request leaves what it is told of
@@ -91,5 +93,16 @@ others s (Pay name number paid for_day cents) answer next account step other =
 others s (VoidPay name number) answer next account step other =
     done_stays (λ x. entries_of x account) s answer next _ _ step
     (rw (voided_other s.payments name number account other) refl)
+others s (CorrectReport name quarter number cents) answer next account step other =
+    post_stays (λ x. entries_of x account) s answer next _ _ _ _ _ _ step
+    (rw (entry_other s.corrected name quarter cents account other) refl)
+others s (CorrectReportYear name year number cents) answer next account step other =
+    post_stays (λ x. entries_of x account) s answer next _ _ _ _ _ _ step
+    (rw (entry_other s.corrected_years name year cents account other) refl)
+others s (ChangeHoliday day number is_holiday) answer next account step other =
+    done_stays (λ x. entries_of x account) s answer next _ _ step refl
+others s (CorrectAccount name number start carried) answer next account step other =
+    done_stays (λ x. entries_of x account) s answer next _ _ step
+    (rw (moved_other s.moved name (record { start = start; carried = carried }) account other) refl)
 others s (Question question) answer next account step other = ap (λ x. entries_of x account)
     (asked_leaves _ s answer next _ step)

@@ -105,3 +105,7 @@ question_is (request.Post name number payday fit ss medicare) question e = absur
 question_is (request.Void name number) question e = absurd cc
 question_is (request.Pay name number paid for_day cents) question e = absurd cc
 question_is (request.VoidPay name number) question e = absurd cc
+question_is (request.CorrectReport name quarter number cents) question e = absurd cc
+question_is (request.CorrectReportYear name year number cents) question e = absurd cc
+question_is (request.ChangeHoliday day number is_holiday) question e = absurd cc
+question_is (request.CorrectAccount name number start carried) question e = absurd cc

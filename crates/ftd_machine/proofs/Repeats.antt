@@ -11,19 +11,25 @@ use Rattle.ftd_days.specs.Calendar.{year_of}
 use Rattle.ftd_days.specs.Business.{is_holiday}
 use Rattle.ftd_days.specs.declared.cents.Cents.{Cents}
 use Rattle.ftd_machine.specs.declared.entries.Account.{Account}
+use Rattle.ftd_machine.specs.declared.entries.Beginning.{Beginning}
 use Rattle.ftd_rules.specs.declared.run.PayRun.{PayRun}
 use Rattle.ftd_rules.specs.declared.payment.Payment.{Payment}
 use Rattle.ftd_rules.specs.declared.run.Voidable.{Voidable}
 use Rattle.ftd_machine.specs.State.{State, entries_of, is_named, account_of, kept_at, is_open}
-use Rattle.ftd_machine.specs.State.{is_given, calendar_at, days_of, added_in}
+use Rattle.ftd_machine.specs.State.{is_given, calendar_at, days_of, added_in, all_at, numbered}
+use Rattle.ftd_machine.specs.State.{DayChange, changes_of, enrolled_in, moves_in}
+use Rattle.ftd_machine.specs.State.{account_in_force, in_force, moves_of}
+use Rattle.ftd_machine.specs.History.{form_of}
 use Rattle.ftd_machine.specs.Checks.{Answer, first_of, Decides}
 use Rattle.ftd_machine.specs.Requests.{days_of_year, enrol_checks, calendar_checks}
 use Rattle.ftd_machine.specs.Requests.{add_holiday_checks, report_checks, report_year_checks}
 use Rattle.ftd_machine.specs.Requests.{open_year_checks, post_checks, void_checks, pay_checks}
-use Rattle.ftd_machine.specs.Requests.{void_payment_checks}
+use Rattle.ftd_machine.specs.Requests.{void_payment_checks, correct_report_checks}
+use Rattle.ftd_machine.specs.Requests.{correct_report_year_checks, change_holiday_checks}
+use Rattle.ftd_machine.specs.Requests.{correct_account_checks, is_unused}
 use Rattle.ftd_machine.specs.Questions.{question_checks}
 use Rattle.ftd_machine.specs.Step.{Step, OpensNext, may_open, taken, with_account, with_entry}
-use Rattle.ftd_machine.specs.Step.{with_voided}
+use Rattle.ftd_machine.specs.Step.{with_voided, with_move}
 use Rattle.ftd_machine.specs.Runs.{Goes, IsRun}
 use Rattle.ftd_machine.specs.Laws.{is_change, IsRepeat}
 use Rattle.ftd_machine.specs.declared.replies.Reply.TheVariants.{Done, Already}
@@ -31,10 +37,15 @@ use Rattle.ftd_machine.specs.declared.requests.Request.{Request}
 use Rattle.ftd_machine.specs.declared.requests.Request.TheVariants.{Enrol, Calendar, AddHoliday}
 use Rattle.ftd_machine.specs.declared.requests.Request.TheVariants.{Report, ReportYear, OpenYear}
 use Rattle.ftd_machine.specs.declared.requests.Request.TheVariants.{Post, Void, Pay, VoidPay}
+use Rattle.ftd_machine.specs.declared.requests.Request.TheVariants.{CorrectReport, CorrectReportYear}
+use Rattle.ftd_machine.specs.declared.requests.Request.TheVariants.{ChangeHoliday, CorrectAccount}
 use Rattle.ftd_machine.specs.declared.requests.Request.TheVariants.{Question}
 use Rattle.ftd_machine.proofs.Deciding.{either}
 use Rattle.ftd_machine.proofs.Leaving.{asked_leaves}
-use Rattle.ftd_machine.proofs.Adding.{own_name}
+use Rattle.ftd_machine.proofs.Adding.{own_name, moved_own, was_enrolled}
+use Rattle.ftd_machine.proofs.Members.{some_of}
+use Rattle.ftd_machine.proofs.Numbers.{KeepsNumbers, keeps_numbers, numbered_append, all_own}
+use Rattle.ftd_machine.proofs.Numbers.{changes_append, changes_own, moves_append}
 use Rattle.ftd_machine.proofs.Heads.{done_before, Quiet, quiet_none, quiet_needs, Turns, Firm}
 use Rattle.ftd_machine.proofs.Heads.{Stays}
 use Rattle.ftd_machine.proofs.Questions.{question_quiet, question_firm, told_is}
@@ -42,7 +53,11 @@ use Rattle.ftd_machine.proofs.Keeping.{found_append, found_last, is_year, same_k
 use Rattle.ftd_machine.proofs.Keeping.{kept_some}
 use Rattle.ftd_machine.proofs.Keeping.{Keeps, keeps_entry, KeepsVoidable, keeps_same, keeps_more}
 use Rattle.ftd_machine.proofs.Keeping.{keeps_voided, voided_kept}
-use Rattle.ftd_machine.proofs.Again.{enrol_turns, enrol_stays, report_turns, report_stays}
+use Rattle.ftd_machine.proofs.Again.{StillThere, enrol_turns, enrol_stays}
+use Rattle.ftd_machine.proofs.Again.{report_turns, report_stays, correct_report_turns}
+use Rattle.ftd_machine.proofs.Again.{correct_report_stays, correct_report_year_turns}
+use Rattle.ftd_machine.proofs.Again.{correct_report_year_stays, correct_account_turns}
+use Rattle.ftd_machine.proofs.Again.{correct_account_stays, change_turns, change_stays}
 use Rattle.ftd_machine.proofs.Again.{report_year_turns, report_year_stays, open_turns, open_stays}
 use Rattle.ftd_machine.proofs.Again.{post_turns, post_stays, void_turns, void_stays, pay_turns}
 use Rattle.ftd_machine.proofs.Again.{pay_stays, void_payment_turns, void_payment_stays}
@@ -52,7 +67,7 @@ use Rattle.ftd_machine.proofs.Again.{calendar_turns, calendar_stays, holiday_tur
 abbrev pub checks_of : State → Request → List (Option Answer)
 checks_of s (Enrol name start carried form) =
     enrol_checks name (record { start = start; carried = carried; form = form })
-    (entries_of s name).account
+    (entries_of s name).enrolled
 checks_of s (Calendar year days) = calendar_checks year days (calendar_at s year)
 checks_of s (AddHoliday day) = add_holiday_checks day (calendar_at s (year_of day))
     (added_in s (year_of day))
@@ -74,6 +89,23 @@ checks_of s (Pay name number paid for_day cents) =
     (is_open (entries_of s name) (year_of for_day)) (length (entries_of s name).payments)
 checks_of s (VoidPay name number) = void_payment_checks name number (entries_of s name).account
     (kept_at number (entries_of s name).payments)
+checks_of s (CorrectReport name quarter number cents) =
+    let known = all_at quarter (entries_of s name).corrected in
+    correct_report_checks name quarter number cents (entries_of s name).account
+    (kept_at quarter (entries_of s name).reported) (numbered number known) (length known)
+checks_of s (CorrectReportYear name year number cents) =
+    let known = all_at year (entries_of s name).corrected_years in
+    correct_report_year_checks name year number cents (entries_of s name).account
+    (kept_at year (entries_of s name).reported_years) (numbered number known) (length known)
+checks_of s (ChangeHoliday day number is_holiday) =
+    let known = changes_of day s.changed_days in
+    change_holiday_checks day number is_holiday (calendar_at s (year_of day))
+    (added_in s (year_of day)) (numbered number known) (length known)
+checks_of s (CorrectAccount name number start carried) =
+    correct_account_checks name number (record { start = start; carried = carried })
+    (entries_of s name).account
+    (numbered number (entries_of s name).moves) (is_unused (entries_of s name))
+    (length (entries_of s name).moves)
 checks_of s (Question question) = question_checks s question
 
 -- they answer that it was done before
@@ -128,8 +160,9 @@ holiday_given None (Some given) added day still e = list_any-append (is day) giv
 -- ---- what is kept stays
 
 pub record Extends (s t : State) : Type 0 where
-  pub accounts : (name : List ℕ) (account : Account) → (entries_of s name).account ≡ Some account
-      → (entries_of t name).account ≡ Some account
+  pub enrolled : (name : List ℕ) (account : Account) → enrolled_in s name ≡ Some account
+      → enrolled_in t name ≡ Some account
+  pub accounts : (name : List ℕ) → StillThere (entries_of s name).account (entries_of t name).account
   pub calendars : (year : ℕ) (days : List ℕ) → calendar_at s year ≡ Some days
       → calendar_at t year ≡ Some days
   pub holidays : (day : ℕ)
@@ -142,10 +175,19 @@ pub record Extends (s t : State) : Type 0 where
   pub open_years : Keeps s.open_years t.open_years
   pub runs : KeepsVoidable s.runs t.runs
   pub payments : KeepsVoidable s.payments t.payments
+  pub corrected : KeepsNumbers s.corrected t.corrected
+  pub corrected_years : KeepsNumbers s.corrected_years t.corrected_years
+  pub changes : (day number : ℕ) (one : Bool)
+      → numbered number (changes_of day s.changed_days) ≡ Some one
+      → numbered number (changes_of day t.changed_days) ≡ Some one
+  pub moves : (name : List ℕ) (number : ℕ) (beginning : Beginning)
+      → numbered number (moves_in s name) ≡ Some beginning
+      → numbered number (moves_in t name) ≡ Some beginning
 
 extends_same : (s : State) → Extends s s
 extends_same s = record {
-  accounts = λ name account there. there;
+  enrolled = λ name account there. there;
+  accounts = λ name a is. (a, is, refl);
   calendars = λ year days there. there;
   holidays = λ day there. there;
   reported = λ name key content there. there;
@@ -153,12 +195,24 @@ extends_same s = record {
   open_years = λ name key content there. there;
   runs = keeps_same s.runs;
   payments = keeps_same s.payments;
+  corrected = λ name key number content there. there;
+  corrected_years = λ name key number content there. there;
+  changes = λ day number one there. there;
+  moves = λ name number account there. there;
 }
 
 extends_account : (s : State) (name : List ℕ) (account : Account)
     → Extends s (record s { accounts = with_account s.accounts name account })
 extends_account s name account = record {
-  accounts = λ other a there. found_append account_of (is_named other) s.accounts _ a there;
+  enrolled = λ other a there. found_append account_of (is_named other) s.accounts _ a there;
+  accounts = λ other a is.
+      let was = some_of (enrolled_in s other)
+      (was_enrolled (enrolled_in s other) (moves_in s other) (ap is_some is)) in (
+        a,
+        ap (λ o. account_in_force o (moves_in s other))
+            (found_append account_of (is_named other) s.accounts _ was.0 was.1 ∙ sym was.1) ∙ is,
+        refl,
+      );
   calendars = λ year days there. there;
   holidays = λ day there. there;
   reported = λ name key content there. there;
@@ -166,6 +220,10 @@ extends_account s name account = record {
   open_years = λ name key content there. there;
   runs = keeps_same s.runs;
   payments = keeps_same s.payments;
+  corrected = λ name key number content there. there;
+  corrected_years = λ name key number content there. there;
+  changes = λ day number one there. there;
+  moves = λ name number account there. there;
 }
 
 pub calendar_still : (s : State) (year : ℕ) (days : List ℕ) (other : ℕ) (x : List ℕ)
@@ -178,7 +236,8 @@ calendar_still s year days other x there = found_append days_of (is_year other) 
 extends_calendar : (s : State) (year : ℕ) (days : List ℕ)
     → Extends s (record s { calendars = s.calendars ++ record { year = year; days = days } ∷ [] })
 extends_calendar s year days = record {
-  accounts = λ name account there. there;
+  enrolled = λ name account there. there;
+  accounts = λ name a is. (a, is, refl);
   calendars = calendar_still s year days;
   holidays = λ day there. holiday_given _ _ (added_in s (year_of day)) day
       (calendar_still s year days (year_of day)) there;
@@ -187,12 +246,17 @@ extends_calendar s year days = record {
   open_years = λ name key content there. there;
   runs = keeps_same s.runs;
   payments = keeps_same s.payments;
+  corrected = λ name key number content there. there;
+  corrected_years = λ name key number content there. there;
+  changes = λ day number one there. there;
+  moves = λ name number account there. there;
 }
 
 extends_added : (s : State) (more : ℕ)
     → Extends s (record s { added_days = s.added_days ++ more ∷ [] })
 extends_added s more = record {
-  accounts = λ name account there. there;
+  enrolled = λ name account there. there;
+  accounts = λ name a is. (a, is, refl);
   calendars = λ year days there. there;
   holidays = λ day there.
       let year = year_of day in
@@ -205,12 +269,17 @@ extends_added s more = record {
   open_years = λ name key content there. there;
   runs = keeps_same s.runs;
   payments = keeps_same s.payments;
+  corrected = λ name key number content there. there;
+  corrected_years = λ name key number content there. there;
+  changes = λ day number one there. there;
+  moves = λ name number account there. there;
 }
 
 extends_reported : (s : State) (name : List ℕ) (key : ℕ) (cents : Cents)
     → Extends s (record s { reported = with_entry s.reported name key cents })
 extends_reported s name key cents = record {
-  accounts = λ name account there. there;
+  enrolled = λ name account there. there;
+  accounts = λ name a is. (a, is, refl);
   calendars = λ year days there. there;
   holidays = λ day there. there;
   reported = keeps_entry s.reported name key cents;
@@ -218,12 +287,17 @@ extends_reported s name key cents = record {
   open_years = λ name key content there. there;
   runs = keeps_same s.runs;
   payments = keeps_same s.payments;
+  corrected = λ name key number content there. there;
+  corrected_years = λ name key number content there. there;
+  changes = λ day number one there. there;
+  moves = λ name number account there. there;
 }
 
 extends_reported_year : (s : State) (name : List ℕ) (key : ℕ) (cents : Cents)
     → Extends s (record s { reported_years = with_entry s.reported_years name key cents })
 extends_reported_year s name key cents = record {
-  accounts = λ name account there. there;
+  enrolled = λ name account there. there;
+  accounts = λ name a is. (a, is, refl);
   calendars = λ year days there. there;
   holidays = λ day there. there;
   reported = λ name key content there. there;
@@ -231,12 +305,17 @@ extends_reported_year s name key cents = record {
   open_years = λ name key content there. there;
   runs = keeps_same s.runs;
   payments = keeps_same s.payments;
+  corrected = λ name key number content there. there;
+  corrected_years = λ name key number content there. there;
+  changes = λ day number one there. there;
+  moves = λ name number account there. there;
 }
 
 extends_open : (s : State) (name : List ℕ) (year : ℕ)
     → Extends s (record s { open_years = with_entry s.open_years name year tt })
 extends_open s name year = record {
-  accounts = λ name account there. there;
+  enrolled = λ name account there. there;
+  accounts = λ name a is. (a, is, refl);
   calendars = λ year days there. there;
   holidays = λ day there. there;
   reported = λ name key content there. there;
@@ -244,12 +323,17 @@ extends_open s name year = record {
   open_years = keeps_entry s.open_years name year tt;
   runs = keeps_same s.runs;
   payments = keeps_same s.payments;
+  corrected = λ name key number content there. there;
+  corrected_years = λ name key number content there. there;
+  changes = λ day number one there. there;
+  moves = λ name number account there. there;
 }
 
 extends_run : (s : State) (name : List ℕ) (number : ℕ) (more : Voidable PayRun)
     → Extends s (record s { runs = with_entry s.runs name number more })
 extends_run s name number more = record {
-  accounts = λ name account there. there;
+  enrolled = λ name account there. there;
+  accounts = λ name a is. (a, is, refl);
   calendars = λ year days there. there;
   holidays = λ day there. there;
   reported = λ name key content there. there;
@@ -257,12 +341,17 @@ extends_run s name number more = record {
   open_years = λ name key content there. there;
   runs = keeps_more s.runs name number more;
   payments = keeps_same s.payments;
+  corrected = λ name key number content there. there;
+  corrected_years = λ name key number content there. there;
+  changes = λ day number one there. there;
+  moves = λ name number account there. there;
 }
 
 extends_void_run : (s : State) (name : List ℕ) (number : ℕ)
     → Extends s (record s { runs = with_voided s.runs name number })
 extends_void_run s name number = record {
-  accounts = λ name account there. there;
+  enrolled = λ name account there. there;
+  accounts = λ name a is. (a, is, refl);
   calendars = λ year days there. there;
   holidays = λ day there. there;
   reported = λ name key content there. there;
@@ -270,12 +359,17 @@ extends_void_run s name number = record {
   open_years = λ name key content there. there;
   runs = keeps_voided s.runs name number;
   payments = keeps_same s.payments;
+  corrected = λ name key number content there. there;
+  corrected_years = λ name key number content there. there;
+  changes = λ day number one there. there;
+  moves = λ name number account there. there;
 }
 
 extends_payment : (s : State) (name : List ℕ) (number : ℕ) (more : Voidable Payment)
     → Extends s (record s { payments = with_entry s.payments name number more })
 extends_payment s name number more = record {
-  accounts = λ name account there. there;
+  enrolled = λ name account there. there;
+  accounts = λ name a is. (a, is, refl);
   calendars = λ year days there. there;
   holidays = λ day there. there;
   reported = λ name key content there. there;
@@ -283,12 +377,17 @@ extends_payment s name number more = record {
   open_years = λ name key content there. there;
   runs = keeps_same s.runs;
   payments = keeps_more s.payments name number more;
+  corrected = λ name key number content there. there;
+  corrected_years = λ name key number content there. there;
+  changes = λ day number one there. there;
+  moves = λ name number account there. there;
 }
 
 extends_void_payment : (s : State) (name : List ℕ) (number : ℕ)
     → Extends s (record s { payments = with_voided s.payments name number })
 extends_void_payment s name number = record {
-  accounts = λ name account there. there;
+  enrolled = λ name account there. there;
+  accounts = λ name a is. (a, is, refl);
   calendars = λ year days there. there;
   holidays = λ day there. there;
   reported = λ name key content there. there;
@@ -296,6 +395,94 @@ extends_void_payment s name number = record {
   open_years = λ name key content there. there;
   runs = keeps_same s.runs;
   payments = keeps_voided s.payments name number;
+  corrected = λ name key number content there. there;
+  corrected_years = λ name key number content there. there;
+  changes = λ day number one there. there;
+  moves = λ name number account there. there;
+}
+
+extends_corrected : (s : State) (name : List ℕ) (key : ℕ) (cents : Cents)
+    → Extends s (record s { corrected = with_entry s.corrected name key cents })
+extends_corrected s name key cents = record {
+  enrolled = λ name account there. there;
+  accounts = λ name a is. (a, is, refl);
+  calendars = λ year days there. there;
+  holidays = λ day there. there;
+  reported = λ name key content there. there;
+  reported_years = λ name key content there. there;
+  open_years = λ name key content there. there;
+  runs = keeps_same s.runs;
+  payments = keeps_same s.payments;
+  corrected = keeps_numbers s.corrected name key cents;
+  corrected_years = λ name key number content there. there;
+  changes = λ day number one there. there;
+  moves = λ name number account there. there;
+}
+
+extends_corrected_year : (s : State) (name : List ℕ) (key : ℕ) (cents : Cents)
+    → Extends s (record s { corrected_years = with_entry s.corrected_years name key cents })
+extends_corrected_year s name key cents = record {
+  enrolled = λ name account there. there;
+  accounts = λ name a is. (a, is, refl);
+  calendars = λ year days there. there;
+  holidays = λ day there. there;
+  reported = λ name key content there. there;
+  reported_years = λ name key content there. there;
+  open_years = λ name key content there. there;
+  runs = keeps_same s.runs;
+  payments = keeps_same s.payments;
+  corrected = λ name key number content there. there;
+  corrected_years = keeps_numbers s.corrected_years name key cents;
+  changes = λ day number one there. there;
+  moves = λ name number account there. there;
+}
+
+extends_changed : (s : State) (change : DayChange)
+    → Extends s (record s { changed_days = s.changed_days ++ change ∷ [] })
+extends_changed s change = record {
+  enrolled = λ name account there. there;
+  accounts = λ name a is. (a, is, refl);
+  calendars = λ year days there. there;
+  holidays = λ day there. there;
+  reported = λ name key content there. there;
+  reported_years = λ name key content there. there;
+  open_years = λ name key content there. there;
+  runs = keeps_same s.runs;
+  payments = keeps_same s.payments;
+  corrected = λ name key number content there. there;
+  corrected_years = λ name key number content there. there;
+  changes = λ day number one there.
+      ap (numbered number) (changes_append day s.changed_days (change ∷ []))
+      ∙ numbered_append number (changes_of day s.changed_days) _ one there;
+  moves = λ name number account there. there;
+}
+
+-- an account that is put right stays, on its form
+moved_there : (enrolled : Option Account) (moves more : List Beginning)
+    → StillThere (account_in_force enrolled moves) (account_in_force enrolled more)
+moved_there None moves more a is = absurd cc
+moved_there (Some first) moves more a is =
+    (in_force more first, refl, ap (λ o. form_of o) is)
+
+extends_moved : (s : State) (name : List ℕ) (beginning : Beginning)
+    → Extends s (record s { moved = with_move s.moved name beginning })
+extends_moved s name beginning = record {
+  enrolled = λ name account there. there;
+  accounts = λ other. moved_there (enrolled_in s other) (moves_in s other)
+      (moves_of other (with_move s.moved name beginning));
+  calendars = λ year days there. there;
+  holidays = λ day there. there;
+  reported = λ name key content there. there;
+  reported_years = λ name key content there. there;
+  open_years = λ name key content there. there;
+  runs = keeps_same s.runs;
+  payments = keeps_same s.payments;
+  corrected = λ name key number content there. there;
+  corrected_years = λ name key number content there. there;
+  changes = λ day number one there. there;
+  moves = λ other number account there.
+      ap (numbered number) (moves_append other s.moved _)
+      ∙ numbered_append number (moves_in s other) _ account there;
 }
 
 pub some_still : {X : Type 0} (o p : Option X) → ((x : X) → o ≡ Some x → p ≡ Some x)
@@ -315,7 +502,7 @@ never s t request firm was = absurd (firm.never was.told)
 pub still_done : (s t : State) (request : Request) → Extends s t → WasDone s request
     → WasDone t request
 still_done s t (Enrol name start carried form) more =
-    through s t (Enrol name start carried form) (enrol_stays name _ _ _ (more.accounts name))
+    through s t (Enrol name start carried form) (enrol_stays name _ _ _ (more.enrolled name))
 still_done s t (Calendar year days) more = through s t (Calendar year days)
     (calendar_stays year days _ _ (more.calendars year))
 still_done s t (AddHoliday day) more = through s t (AddHoliday day)
@@ -354,6 +541,22 @@ still_done s t (Pay name number paid for_day cents) more =
 still_done s t (VoidPay name number) more =
     through s t (VoidPay name number) (void_payment_stays name number _ _ _ _ (more.accounts name)
     (more.payments name number))
+still_done s t (CorrectReport name quarter number cents) more =
+    through s t (CorrectReport name quarter number cents)
+    (correct_report_stays name quarter number cents _ _ _ _ _ _ _ _ (more.accounts name)
+    (more.reported name quarter) (more.corrected name quarter number))
+still_done s t (CorrectReportYear name year number cents) more =
+    through s t (CorrectReportYear name year number cents)
+    (correct_report_year_stays name year number cents _ _ _ _ _ _ _ _ (more.accounts name)
+    (more.reported_years name year) (more.corrected_years name year number))
+still_done s t (ChangeHoliday day number is_holiday) more =
+    through s t (ChangeHoliday day number is_holiday)
+    (change_stays day number is_holiday _ _ (added_in s (year_of day)) (added_in t (year_of day))
+    _ _ _ _ (more.calendars (year_of day)) (more.holidays day) (more.changes day number))
+still_done s t (CorrectAccount name number start carried) more =
+    through s t (CorrectAccount name number start carried)
+    (correct_account_stays name number (record { start = start; carried = carried }) _ _ _ _ _ _ _ _
+    (more.accounts name) (more.moves name number))
 still_done s t (Question question) more = never s t (Question question) (question_firm s question)
 
 -- ---- a step
@@ -510,6 +713,45 @@ step_done s (VoidPay name number) answer next step changes =
     done_after s answer next (record s { payments = with_voided s.payments name number })
     (VoidPay name number) _
     (void_payment_turns name number _ _ _ (voided_kept s.payments name number)) step changes
+step_done s (CorrectReport name quarter number cents) answer next step changes =
+    let after : State = record s { corrected = with_entry s.corrected name quarter cents } in
+    let here = entries_of s name in
+    let there = entries_of after name in
+    post_after s answer next after (CorrectReport name quarter number cents)
+    (checks_of s (CorrectReport name quarter number cents)) _
+    (correct_report_turns name quarter number cents here.account (kept_at quarter here.reported)
+    (all_at quarter here.corrected) (all_at quarter there.corrected)
+    (all_own s.corrected name quarter cents)) step changes
+step_done s (CorrectReportYear name year number cents) answer next step changes =
+    let after : State =
+    record s { corrected_years = with_entry s.corrected_years name year cents } in
+    let here = entries_of s name in
+    let there = entries_of after name in
+    post_after s answer next after (CorrectReportYear name year number cents)
+    (checks_of s (CorrectReportYear name year number cents)) _
+    (correct_report_year_turns name year number cents here.account
+    (kept_at year here.reported_years)
+    (all_at year here.corrected_years) (all_at year there.corrected_years)
+    (all_own s.corrected_years name year cents)) step changes
+step_done s (ChangeHoliday day number is_holiday) answer next step changes =
+    let change : DayChange = record { day = day; is_holiday = is_holiday } in
+    let after : State = record s { changed_days = s.changed_days ++ change ∷ [] } in
+    done_after s answer next after (ChangeHoliday day number is_holiday)
+    (checks_of s (ChangeHoliday day number is_holiday))
+    (change_turns day number is_holiday (calendar_at s (year_of day)) (added_in s (year_of day))
+    (changes_of day s.changed_days) (changes_of day after.changed_days)
+    (changes_own day s.changed_days is_holiday)) step changes
+step_done s (CorrectAccount name number start carried) answer next step changes =
+    let new : Beginning = record { start = start; carried = carried } in
+    let after : State = record s { moved = with_move s.moved name new } in
+    let here = entries_of s name in
+    let there = entries_of after name in
+    done_after s answer next after (CorrectAccount name number start carried)
+    (checks_of s (CorrectAccount name number start carried))
+    (correct_account_turns name number new (is_unused here) (is_unused there) here.moves
+    there.moves (moved_own s.moved name new) here.account there.account
+    (λ a is. (let b = moved_there here.enrolled here.moves there.moves a is in (b.0, b.1))))
+    step changes
 step_done s (Question question) answer next step changes =
     absurd (no_question s answer next (checks_of s (Question question)) _ (question_quiet s question)
     (told_is s question answer) step changes)
@@ -578,6 +820,15 @@ step_extends s (Pay name number paid for_day cents) answer next step =
     (taken (record { paid = paid; for_day = for_day; cents = cents })))
 step_extends s (VoidPay name number) answer next step = done_extends _ s answer next _ step
     (extends_void_payment s name number)
+step_extends s (CorrectReport name quarter number cents) answer next step =
+    post_extends _ s answer next _ _ step (extends_corrected s name quarter cents)
+step_extends s (CorrectReportYear name year number cents) answer next step =
+    post_extends _ s answer next _ _ step (extends_corrected_year s name year cents)
+step_extends s (ChangeHoliday day number is_holiday) answer next step =
+    done_extends _ s answer next _ step
+    (extends_changed s (record { day = day; is_holiday = is_holiday }))
+step_extends s (CorrectAccount name number start carried) answer next step =
+    done_extends _ s answer next _ step (extends_moved s name (record { start = start; carried = carried }))
 step_extends s (Question question) answer next step =
     subst (Extends s) (sym (asked_leaves _ s answer next _ step)) (extends_same s)
 
@@ -610,6 +861,14 @@ step_again s (Void name number) answer next was step = again_told _ s answer nex
 step_again s (Pay name number paid for_day cents) answer next was step =
     again_told _ s answer next _ was.told step
 step_again s (VoidPay name number) answer next was step = again_told _ s answer next _ was.told step
+step_again s (CorrectReport name quarter number cents) answer next was step =
+    again_told _ s answer next _ was.told step
+step_again s (CorrectReportYear name year number cents) answer next was step =
+    again_told _ s answer next _ was.told step
+step_again s (ChangeHoliday day number is_holiday) answer next was step =
+    again_told _ s answer next _ was.told step
+step_again s (CorrectAccount name number start carried) answer next was step =
+    again_told _ s answer next _ was.told step
 step_again s (Question question) answer next was step = again_told _ s answer next _ was.told step
 
 -- ---- a run

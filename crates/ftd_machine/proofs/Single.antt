@@ -20,8 +20,9 @@ use Rattle.ftd_rules.proofs.Stated.{lookback_together, rows_owed}
 use Rattle.ftd_rules.proofs.Lines.{lines_one}
 use Rattle.ftd_rules.proofs.Schedules.{line_one}
 use Rattle.ftd_rules.proofs.Only.{rows_one, obligations_one}
-use Rattle.ftd_machine.specs.State.{Entries}
-use Rattle.ftd_machine.specs.History.{start_of, form_of, is_carried, figures, live_sums}
+use Rattle.ftd_machine.specs.State.{Entry, Entries}
+use Rattle.ftd_machine.specs.History.{start_of, form_of, is_carried, live_sums}
+use Rattle.ftd_machine.specs.History.{figures, quarter_figures, year_figures}
 use Rattle.ftd_machine.specs.History.{IsLookbackOn, HasLookback, IsMissingOn, AreCarried}
 use Rattle.ftd_machine.specs.History.{year_of_line, AreLinesOf, AreOwed}
 use Rattle.ftd_machine.specs.Checks.{Answer}
@@ -66,28 +67,30 @@ members_one {X = X} key (x ∷ xs) (y ∷ ys) g h f b =
 
 -- ---- the lookback period
 
--- nothing is reported twice
+-- nothing is reported twice, whatever is put right of it
 pub record IsOnce (own : Entries) : Type 0 where
-  pub quarters : AreReportedOnce (figures own.reported)
-  pub years : AreReportedOnce (figures own.reported_years)
+  pub quarters : (corrected : List (Entry Cents)) → AreReportedOnce (figures own.reported corrected)
+  pub years : (corrected : List (Entry Cents))
+      → AreReportedOnce (figures own.reported_years corrected)
 
 lookback_one : (form : Form) (own : Entries) (year : ℕ) (c d : Cents) → IsOnce own
     → IsLookbackOn form own year c → IsLookbackOn form own year d → c.0 ≡ d.0
 lookback_one F941 own year c d once h k =
-    let reported = figures own.reported in
+    let reported = quarter_figures own in
     let start = start_of own.account in
-    together_one reported start (lookback_quarters year) c.0 d.0 once.quarters
+    together_one reported start (lookback_quarters year) c.0 d.0
+    (once.quarters own.corrected)
     (lookback_together reported start year c.0 h) (lookback_together reported start year d.0 k)
-lookback_one F943 own year c d once h k = year_one (figures own.reported_years)
-    (start_of own.account) year c d once.years h k
+lookback_one F943 own year c d once h k = year_one (year_figures own)
+    (start_of own.account) year c d (once.years own.corrected_years) h k
 
 pub lacks_none : (form : Form) (own : Entries) (year : ℕ) (refusal : Refusal) (c : Cents)
     → IsMissingOn form own year refusal → IsLookbackOn form own year c → ⊥
 lacks_none F941 own year refusal c missing h =
-    together_all (figures own.reported) (start_of own.account) (lookback_quarters year) c.0
+    together_all (quarter_figures own) (start_of own.account) (lookback_quarters year) c.0
     missing.0 missing.1.0 missing.1.1
-    (lookback_together (figures own.reported) (start_of own.account) year c.0 h)
-lacks_none F943 own year refusal c missing h = year_none (figures own.reported_years)
+    (lookback_together (quarter_figures own) (start_of own.account) year c.0 h)
+lacks_none F943 own year refusal c missing h = year_none (year_figures own)
     (start_of own.account) year missing.0 c missing.1 h
 
 neither_less : (a b : ℕ) → (a < b → ⊥) → (b < a → ⊥) → a ≡ b
@@ -101,7 +104,7 @@ first_one reported start year q r h k = neither_less q r (λ less. k.2 q h.0 les
 pub lacks_one : (form : Form) (own : Entries) (year : ℕ) (refusal other : Refusal)
     → IsMissingOn form own year refusal → IsMissingOn form own year other → refusal ≡ other
 lacks_one F941 own year refusal other h k =
-    h.2 ∙ ap QuarterMissing (first_one (figures own.reported) (start_of own.account) year h.0 k.0
+    h.2 ∙ ap QuarterMissing (first_one (quarter_figures own) (start_of own.account) year h.0 k.0
     h.1 k.1) ∙ sym k.2
 lacks_one F943 own year refusal other h k = h.2 ∙ ap YearMissing (h.1.0 ∙ sym k.1.0) ∙ sym k.2
 

@@ -1,6 +1,7 @@
 -- The sums of an account of a sound state are small.
 use Rattle.std.proofs.Common.{◌≡◌, ◌∙◌, inl, inr, sym, ap, subst, ℕ, ◌≤◌, ◌<◌, ◌*◌}
-use Rattle.std.proofs.Common.{◌&&◌, ◌||◌, Bool, true, false, cond, List, filter, length, arith}
+use Rattle.std.proofs.Common.{◌&&◌, ◌||◌, Bool, true, false, cond, List, [], ◌∷◌, filter, length}
+use Rattle.std.proofs.Common.{refl, arith}
 use Rattle.std.specs.Prelude.{min, nat_lt}
 use Rattle.std.specs.List.{sum_by}
 use Rattle.std.proofs.lemmas.Bool.{leb-true}
@@ -19,8 +20,9 @@ use Rattle.ftd_rules.specs.Payments.{paid_by, counts_by}
 use Rattle.ftd_rules.specs.Lookback.{Counts}
 use Rattle.ftd_rules.proofs.Rising.{all_has}
 use Rattle.ftd_machine.specs.Limits.{is_amount, are_amounts, most_entries, amounts_end}
-use Rattle.ftd_machine.specs.State.{State, Entry, entries_of, is_of}
-use Rattle.ftd_machine.specs.History.{form_of, figure_of, figures, live, is_live, value_of}
+use Rattle.ftd_machine.specs.State.{State, Entry, entries_of, is_of, has_key, content_of, latest}
+use Rattle.ftd_machine.specs.State.{all_at}
+use Rattle.ftd_machine.specs.History.{form_of, figure_of, figures, quarter_figures, live, is_live, value_of}
 use Rattle.ftd_machine.specs.History.{liability_of, live_sums, live_payments, HasLookback}
 use Rattle.ftd_machine.specs.History.{IsLookbackOn}
 use Rattle.ftd_machine.specs.Sound.{IsSound}
@@ -107,22 +109,49 @@ module _ (s : State) (name : List ℕ) (sound : IsSound s) where
       p.cents.0 in
       omega arith))
 
-  counts_small : (entries : List (Entry Cents))
+  -- what is in force of amounts is an amount
+  latest_small : (first : Cents) (later : List Cents) → first.0 ≤ 99_999_999_999
+      → ((c : Cents) → Has later c → c.0 ≤ 99_999_999_999)
+      → (latest first later).0 ≤ 99_999_999_999
+  latest_small first [] low each = low
+  latest_small first (c ∷ cs) low each =
+      latest_small c cs (each c (inl refl)) (λ x has. each x (inr has))
+
+  each_small : (entries : List (Entry Cents))
       → ((e : Entry Cents) → Has entries e → is_amount e.content ≡ true) → (key : ℕ) (cents : Cents)
-      → Has (figures (filter (is_of name) entries)) (key, cents) → cents.0 ≤ 99_999_999_999
-  counts_small entries each key cents has =
-      let from = has_mapped figure_of (filter (is_of name) entries) (key, cents) has in
-      let kept = has_filtered (is_of name) entries from.0 from.1 in
-      let is : cents ≡ from.0.content = ap (λ (f : ℕ × Cents). f.1) from.2 in
+      → Has (all_at key (filter (is_of name) entries)) cents → cents.0 ≤ 99_999_999_999
+  each_small entries each key cents has =
+      let from = has_mapped content_of (filter (has_key key) (filter (is_of name) entries)) cents
+      has in
+      let keyed = has_filtered (has_key key) (filter (is_of name) entries) from.0 from.1 in
+      let kept = has_filtered (is_of name) entries from.0 keyed.0 in
       let most = amount_le from.0.content (each from.0 kept.0) in
-      subst (λ (c : Cents). c.0 ≤ 99_999_999_999) (sym is) most
+      subst (λ (c : Cents). c.0 ≤ 99_999_999_999) (sym from.2) most
+
+  counts_small : (entries corrected : List (Entry Cents))
+      → ((e : Entry Cents) → Has entries e → is_amount e.content ≡ true)
+      → ((e : Entry Cents) → Has corrected e → is_amount e.content ≡ true)
+      → (key : ℕ) (cents : Cents)
+      → Has (figures (filter (is_of name) entries) (filter (is_of name) corrected)) (key, cents)
+      → cents.0 ≤ 99_999_999_999
+  counts_small entries corrected each later key cents has =
+      let own = filter (is_of name) corrected in
+      let from = has_mapped (figure_of own) (filter (is_of name) entries) (key, cents) has in
+      let kept = has_filtered (is_of name) entries from.0 from.1 in
+      let is : cents ≡ latest from.0.content (all_at from.0.key own) =
+      ap (λ (f : ℕ × Cents). f.1) from.2 in
+      let most = amount_le from.0.content (each from.0 kept.0) in
+      subst (λ (c : Cents). c.0 ≤ 99_999_999_999) (sym is)
+      (latest_small from.0.content (all_at from.0.key own) most
+      (λ c has. each_small corrected later from.0.key c has))
 
   quarter_small : (start quarter : ℕ) (cents : Cents)
-      → Counts (figures (entries_of s name).reported) start quarter cents
+      → Counts (quarter_figures (entries_of s name)) start quarter cents
       → cents.0 ≤ 99_999_999_999
   quarter_small start quarter cents (inl early) = let none = early.1 in omega arith
   quarter_small start quarter cents (inr late) =
-      counts_small s.reported sound.reported_amounts quarter cents late.1
+      counts_small s.reported s.corrected sound.reported_amounts sound.corrected_amounts quarter
+      cents late.1
 
   lookback_on : (form : Form) (year : ℕ) (total : Cents)
       → IsLookbackOn form (entries_of s name) year total → total.0 < amounts_end
@@ -135,7 +164,8 @@ module _ (s : State) (name : List ℕ) (sound : IsSound s) where
       omega arith
   lookback_on F943 year total (inl early) = let none = early.1 in omega arith
   lookback_on F943 year total (inr late) =
-      let most = counts_small s.reported_years sound.year_amounts _ total late.1 in omega arith
+      let most = counts_small s.reported_years s.corrected_years sound.year_amounts
+      sound.corrected_year_amounts _ total late.1 in omega arith
 
   pub lookback_small : (year : ℕ) (total : Cents) → HasLookback (entries_of s name) year total
       → total.0 < amounts_end

@@ -5,12 +5,15 @@ use Rattle.std.proofs.Common.{◌||◌, ◌&&◌, Bool, true, false, cond, List,
 use Rattle.std.proofs.Common.{length, Option, None, Some, Ok, arith, bytes_eq}
 use Rattle.std.specs.Prelude.{find, option_map, is_some, nat_le, nat_lt}
 use Rattle.std.proofs.lemmas.Bool.{eqb-true, leb-true, ltb-true}
+use Rattle.ftd_days.specs.Business.{is_holiday}
+use Rattle.ftd_days.specs.Holidays.{holidays_of}
 use Rattle.ftd_days.specs.Calendar.{year_of}
 use Rattle.ftd_days.specs.Holidays.{YearDays}
 use Rattle.ftd_days.specs.declared.cents.Cents.{Cents}
 use Rattle.ftd_rules.specs.Lists.{Has}
 use Rattle.ftd_rules.specs.Lookback.{AreReportedOnce}
 use Rattle.ftd_machine.specs.declared.entries.Account.{Account}
+use Rattle.ftd_machine.specs.declared.entries.Beginning.{Beginning}
 use Rattle.ftd_rules.specs.declared.run.PayRun.{PayRun}
 use Rattle.ftd_rules.specs.declared.payment.Payment.{Payment}
 use Rattle.ftd_rules.specs.declared.run.Voidable.{Voidable}
@@ -18,12 +21,13 @@ use Rattle.ftd_machine.specs.Limits.{is_between, is_calendar, is_amount, are_amo
 use Rattle.ftd_machine.specs.Limits.{is_number, most_entries}
 use Rattle.ftd_machine.specs.State.{State, nothing, Entry, entries_of, is_named, account_of, is_of}
 use Rattle.ftd_machine.specs.State.{has_key, content_of, kept_at, is_open, is_given, calendar_at}
-use Rattle.ftd_machine.specs.State.{days_of, added_in}
+use Rattle.ftd_machine.specs.State.{all_days, days_of, added_in, DayChange, enrolled_in, moves_in, latest}
+use Rattle.ftd_machine.specs.State.{account_in_force, all_at}
 use Rattle.ftd_machine.specs.History.{figure_of, figures, year_of_entry, HasLookback}
-use Rattle.ftd_machine.specs.Requests.{days_of_year}
+use Rattle.ftd_machine.specs.Requests.{days_of_year, is_unused}
 use Rattle.ftd_machine.specs.Checks.{Answer, first_of, Decides}
 use Rattle.ftd_machine.specs.Step.{Step, OpensNext, may_open, taken, with_account, with_entry}
-use Rattle.ftd_machine.specs.Step.{with_voided, voided_if, as_voided, is_under}
+use Rattle.ftd_machine.specs.Step.{with_voided, voided_if, as_voided, is_under, with_move}
 use Rattle.ftd_machine.specs.Sound.{AreDistinct, name_of, year_of_calendar, place_of, FollowFrom}
 use Rattle.ftd_machine.specs.Sound.{Follow, IsSound}
 use Rattle.ftd_machine.specs.Runs.{Goes, IsRun, IsReached}
@@ -32,16 +36,19 @@ use Rattle.ftd_machine.specs.declared.requests.Request.{Request}
 use Rattle.ftd_machine.specs.declared.requests.Request.TheVariants.{Enrol, Calendar, AddHoliday}
 use Rattle.ftd_machine.specs.declared.requests.Request.TheVariants.{Report, ReportYear, OpenYear}
 use Rattle.ftd_machine.specs.declared.requests.Request.TheVariants.{Post, Void, Pay, VoidPay}
+use Rattle.ftd_machine.specs.declared.requests.Request.TheVariants.{CorrectReport, CorrectReportYear}
+use Rattle.ftd_machine.specs.declared.requests.Request.TheVariants.{ChangeHoliday, CorrectAccount}
 use Rattle.ftd_machine.specs.declared.requests.Request.TheVariants.{Question}
 use Rattle.ftd_machine.proofs.Deciding.{either}
+use Rattle.ftd_machine.proofs.InYear.{filed_of, in_year, still_given, still_added}
 use Rattle.ftd_machine.proofs.Members.{has_last, has_mapped, has_filtered, found_none, has_kept}
 use Rattle.ftd_machine.proofs.Leaving.{asked_leaves}
 use Rattle.ftd_machine.proofs.Heads.{Gives, gives_finds, gives_needs, gives_done, gives_new}
 use Rattle.ftd_machine.proofs.Heads.{skip_needs, skip_finds, skip_new, skip_done}
-use Rattle.ftd_machine.proofs.Adding.{own_name, same_name, filter_more}
+use Rattle.ftd_machine.proofs.Adding.{own_name, same_name, filter_more, was_enrolled}
 use Rattle.ftd_machine.proofs.Keeping.{found_append, same_key, keeps_entry}
 use Rattle.ftd_machine.proofs.Totals.{totals_still, totals_account, totals_reported}
-use Rattle.ftd_machine.proofs.Totals.{totals_reported_year, totals_open}
+use Rattle.ftd_machine.proofs.Totals.{totals_reported_year, totals_open, totals_moved}
 use Rattle.ftd_machine.proofs.Bounded.{counts_more}
 use Rattle.ftd_machine.proofs.Counted.{voided_count}
 use Rattle.ftd_machine.proofs.Keeping.{is_year}
@@ -99,11 +106,11 @@ fresh_voided : {X : Type 0} (xs : List (Entry (Voidable X))) (name : List ℕ) (
 fresh_voided xs name key apart = distinct_mapped place_of (voided_if name key) xs (λ e. refl) apart
 
 -- figures of an account are reported once
-once_of : (xs : List (Entry Cents)) (name : List ℕ) → AreDistinct place_of xs
-    → AreReportedOnce (figures (filter (is_of name) xs))
-once_of xs name apart quarter figure other h k =
-    let a = has_mapped figure_of (filter (is_of name) xs) (quarter, figure) h in
-    let b = has_mapped figure_of (filter (is_of name) xs) (quarter, other) k in
+once_of : (xs corrected : List (Entry Cents)) (name : List ℕ) → AreDistinct place_of xs
+    → AreReportedOnce (figures (filter (is_of name) xs) corrected)
+once_of xs corrected name apart quarter figure other h k =
+    let a = has_mapped (figure_of corrected) (filter (is_of name) xs) (quarter, figure) h in
+    let b = has_mapped (figure_of corrected) (filter (is_of name) xs) (quarter, other) k in
     let c = has_filtered (is_of name) xs a.0 a.1 in
     let d = has_filtered (is_of name) xs b.0 b.1 in
     let names : b.0.name ≡ a.0.name = same_name b.0.name name d.1
@@ -112,18 +119,24 @@ once_of xs name apart quarter figure other h k =
     ∙ ap (λ (p : ℕ × Cents). p.0) a.2 in
     let places : place_of b.0 ≡ place_of a.0 = rw (names, keys) refl in
     let same : a.0 ≡ b.0 = distinct_same place_of xs apart a.0 b.0 c.0 d.0 places in
-    ap (λ (p : ℕ × Cents). p.1) a.2 ∙ ap (λ (e : Entry Cents). e.content) same
+    ap (λ (p : ℕ × Cents). p.1) a.2
+    ∙ ap (λ (e : Entry Cents). latest e.content (all_at e.key corrected)) same
     ∙ sym (ap (λ (p : ℕ × Cents). p.1) b.2)
 
 pub sound_once : (s : State) → IsSound s → (name : List ℕ) → IsOnce (entries_of s name)
 sound_once s sound name = record {
-  quarters = once_of s.reported name sound.reported;
-  years = once_of s.reported_years name sound.reported_years;
+  quarters = λ corrected. once_of s.reported corrected name sound.reported;
+  years = λ corrected. once_of s.reported_years corrected name sound.reported_years;
 }
 
 -- ---- the changes
 
-sound_account : (s : State) (name : List ℕ) (account : Account) → (entries_of s name).account ≡ None
+in_force_some : (enrolled : Option Account) (moves : List Beginning) → is_some enrolled ≡ true
+    → is_some (account_in_force enrolled moves) ≡ true
+in_force_some (Some account) moves e = refl
+in_force_some None moves e = absurd cc
+
+sound_account : (s : State) (name : List ℕ) (account : Account) → enrolled_in s name ≡ None
     → IsSound s
     → IsSound (record s { accounts = with_account s.accounts name account })
 sound_account s name account none sound = record {
@@ -138,8 +151,10 @@ sound_account s name account none sound = record {
   payments = sound.payments;
   are_calendars = sound.are_calendars;
   opened = sound.opened;
-  enrolled = λ e has. some_still _ _ (λ x. found_append account_of (is_named e.name) s.accounts _ x)
-      (sound.enrolled e has);
+  enrolled = λ e has. in_force_some _ (moves_in s e.name)
+      (some_still (enrolled_in s e.name) _
+      (λ x. found_append account_of (is_named e.name) s.accounts _ x)
+      (was_enrolled (enrolled_in s e.name) (moves_in s e.name) (sound.enrolled e has)));
   totals = totals_account s name account sound.enrolled sound.totals;
   in_turn = sound.in_turn;
   paydays = sound.paydays;
@@ -147,11 +162,14 @@ sound_account s name account none sound = record {
   counts = sound.counts;
   reported_amounts = sound.reported_amounts;
   year_amounts = sound.year_amounts;
+  corrected_amounts = sound.corrected_amounts;
+  corrected_year_amounts = sound.corrected_year_amounts;
   run_numbers = sound.run_numbers;
   run_amounts = sound.run_amounts;
   paid_amounts = sound.paid_amounts;
   added_days = sound.added_days;
   few = sound.few;
+  changed = sound.changed;
 }
 
 given_still : (s : State) (year : ℕ) (days : List ℕ) (other : ℕ) → is_given s other ≡ true
@@ -184,13 +202,15 @@ sound_calendar s year days none between fits sound = record {
   enrolled = sound.enrolled;
   totals = totals_still s
       (record s { calendars = s.calendars ++ record { year = year; days = days } ∷ [] })
-      refl refl refl refl sound.totals;
+      refl refl refl refl refl sound.totals;
   in_turn = sound.in_turn;
   paydays = sound.paydays;
   paid_days = sound.paid_days;
   counts = sound.counts;
   reported_amounts = sound.reported_amounts;
   year_amounts = sound.year_amounts;
+  corrected_amounts = sound.corrected_amounts;
+  corrected_year_amounts = sound.corrected_year_amounts;
   run_numbers = sound.run_numbers;
   run_amounts = sound.run_amounts;
   paid_amounts = sound.paid_amounts;
@@ -199,6 +219,8 @@ sound_calendar s year days none between fits sound = record {
       (λ c has same. found_none days_of (is_year year) s.calendars none c has
       (ap (λ k. k == year) same ∙ same_key year))
       sound.added_days (ap is_some none);
+  changed = λ c has. still_given s.calendars (record { year = year; days = days }) s.added_days
+      c.day (sound.changed c has);
 }
 
 sound_reported : (s : State) (name : List ℕ) (key : ℕ) (cents : Cents)
@@ -225,11 +247,14 @@ sound_reported s name key cents none fits sound = record {
     | inr is ↦ subst (λ (x : Entry Cents). is_amount x.content ≡ true) (sym is) fits
   ];
   year_amounts = sound.year_amounts;
+  corrected_amounts = sound.corrected_amounts;
+  corrected_year_amounts = sound.corrected_year_amounts;
   run_numbers = sound.run_numbers;
   run_amounts = sound.run_amounts;
   paid_amounts = sound.paid_amounts;
   added_days = sound.added_days;
   few = sound.few;
+  changed = sound.changed;
 }
 
 sound_reported_year : (s : State) (name : List ℕ) (key : ℕ) (cents : Cents)
@@ -256,11 +281,14 @@ sound_reported_year s name key cents none fits sound = record {
     | inl here ↦ sound.year_amounts e here
     | inr is ↦ subst (λ (x : Entry Cents). is_amount x.content ≡ true) (sym is) fits
   ];
+  corrected_amounts = sound.corrected_amounts;
+  corrected_year_amounts = sound.corrected_year_amounts;
   run_numbers = sound.run_numbers;
   run_amounts = sound.run_amounts;
   paid_amounts = sound.paid_amounts;
   added_days = sound.added_days;
   few = sound.few;
+  changed = sound.changed;
 }
 
 sound_added : (s : State) (day : ℕ) → is_given s (year_of day) ≡ true
@@ -280,13 +308,15 @@ sound_added s day given room sound = record {
   enrolled = sound.enrolled;
   totals = totals_still s
       (record s { added_days = s.added_days ++ day ∷ [] })
-      refl refl refl refl sound.totals;
+      refl refl refl refl refl sound.totals;
   in_turn = sound.in_turn;
   paydays = sound.paydays;
   paid_days = sound.paid_days;
   counts = sound.counts;
   reported_amounts = sound.reported_amounts;
   year_amounts = sound.year_amounts;
+  corrected_amounts = sound.corrected_amounts;
+  corrected_year_amounts = sound.corrected_year_amounts;
   run_numbers = sound.run_numbers;
   run_amounts = sound.run_amounts;
   paid_amounts = sound.paid_amounts;
@@ -295,6 +325,8 @@ sound_added s day given room sound = record {
     | inr is ↦ subst (λ x. is_given s (year_of x) ≡ true) (sym is) given
   ];
   few = few_added s sound.few day sound.calendars (λ c has. (sound.are_calendars c has).1) room;
+  changed = λ c has. still_added (holidays_of s.calendars) s.added_days day c.day
+      (sound.changed c has);
 }
 
 -- ---- years that follow one another
@@ -434,11 +466,14 @@ sound_open s name year there between given next first fresh total sound = record
   counts = sound.counts;
   reported_amounts = sound.reported_amounts;
   year_amounts = sound.year_amounts;
+  corrected_amounts = sound.corrected_amounts;
+  corrected_year_amounts = sound.corrected_year_amounts;
   run_numbers = sound.run_numbers;
   run_amounts = sound.run_amounts;
   paid_amounts = sound.paid_amounts;
   added_days = sound.added_days;
   few = sound.few;
+  changed = sound.changed;
 }
 
 -- ---- runs and payments
@@ -469,7 +504,7 @@ sound_run s name number value none there fits numbered room sound = record {
   enrolled = sound.enrolled;
   totals = totals_still s
       (record s { runs = with_entry s.runs name number (taken value) })
-      refl refl refl refl sound.totals;
+      refl refl refl refl refl sound.totals;
   in_turn = sound.in_turn;
   paydays = λ e has. elim (has_last s.runs _ e has) [
     | inl here ↦ sound.paydays e here
@@ -483,6 +518,8 @@ sound_run s name number value none there fits numbered room sound = record {
   );
   reported_amounts = sound.reported_amounts;
   year_amounts = sound.year_amounts;
+  corrected_amounts = sound.corrected_amounts;
+  corrected_year_amounts = sound.corrected_year_amounts;
   run_numbers = λ e has. elim (has_last s.runs _ e has) [
     | inl here ↦ sound.run_numbers e here
     | inr is ↦ subst (λ (x : Entry (Voidable PayRun)). is_number x.key ≡ true) (sym is) numbered
@@ -495,6 +532,7 @@ sound_run s name number value none there fits numbered room sound = record {
   paid_amounts = sound.paid_amounts;
   added_days = sound.added_days;
   few = sound.few;
+  changed = sound.changed;
 }
 
 sound_void_run : (s : State) (name : List ℕ) (number : ℕ) → IsSound s
@@ -512,7 +550,7 @@ sound_void_run s name number sound = record {
   enrolled = sound.enrolled;
   totals = totals_still s
       (record s { runs = with_voided s.runs name number })
-      refl refl refl refl sound.totals;
+      refl refl refl refl refl sound.totals;
   in_turn = sound.in_turn;
   paydays = λ e has.
       let from = has_mapped (voided_if name number) s.runs e has in
@@ -532,6 +570,8 @@ sound_void_run s name number sound = record {
   );
   reported_amounts = sound.reported_amounts;
   year_amounts = sound.year_amounts;
+  corrected_amounts = sound.corrected_amounts;
+  corrected_year_amounts = sound.corrected_year_amounts;
   run_numbers = λ e has.
       let from = has_mapped (voided_if name number) s.runs e has in
       subst (λ (x : Entry (Voidable PayRun)). is_number x.key ≡ true) (sym from.2)
@@ -543,6 +583,7 @@ sound_void_run s name number sound = record {
   paid_amounts = sound.paid_amounts;
   added_days = sound.added_days;
   few = sound.few;
+  changed = sound.changed;
 }
 
 sound_payment : (s : State) (name : List ℕ) (number : ℕ) (value : Payment)
@@ -563,7 +604,7 @@ sound_payment s name number value none there fits room sound = record {
   enrolled = sound.enrolled;
   totals = totals_still s
       (record s { payments = with_entry s.payments name number (taken value) })
-      refl refl refl refl sound.totals;
+      refl refl refl refl refl sound.totals;
   in_turn = sound.in_turn;
   paydays = sound.paydays;
   paid_days = λ e has. elim (has_last s.payments _ e has) [
@@ -577,6 +618,8 @@ sound_payment s name number value none there fits room sound = record {
   );
   reported_amounts = sound.reported_amounts;
   year_amounts = sound.year_amounts;
+  corrected_amounts = sound.corrected_amounts;
+  corrected_year_amounts = sound.corrected_year_amounts;
   run_numbers = sound.run_numbers;
   run_amounts = sound.run_amounts;
   paid_amounts = λ e has. elim (has_last s.payments _ e has) [
@@ -586,6 +629,7 @@ sound_payment s name number value none there fits room sound = record {
   ];
   added_days = sound.added_days;
   few = sound.few;
+  changed = sound.changed;
 }
 
 sound_void_payment : (s : State) (name : List ℕ) (number : ℕ) → IsSound s
@@ -603,7 +647,7 @@ sound_void_payment s name number sound = record {
   enrolled = sound.enrolled;
   totals = totals_still s
       (record s { payments = with_voided s.payments name number })
-      refl refl refl refl sound.totals;
+      refl refl refl refl refl sound.totals;
   in_turn = sound.in_turn;
   paydays = sound.paydays;
   paid_days = λ e has.
@@ -623,6 +667,8 @@ sound_void_payment s name number sound = record {
   );
   reported_amounts = sound.reported_amounts;
   year_amounts = sound.year_amounts;
+  corrected_amounts = sound.corrected_amounts;
+  corrected_year_amounts = sound.corrected_year_amounts;
   run_numbers = sound.run_numbers;
   run_amounts = sound.run_amounts;
   paid_amounts = λ e has.
@@ -632,6 +678,149 @@ sound_void_payment s name number sound = record {
       ∙ sound.paid_amounts from.0 from.1);
   added_days = sound.added_days;
   few = sound.few;
+  changed = sound.changed;
+}
+
+-- ---- corrections
+
+sound_corrected : (s : State) (name : List ℕ) (key : ℕ) (cents : Cents) → is_amount cents ≡ true
+    → IsSound s → IsSound (record s { corrected = with_entry s.corrected name key cents })
+sound_corrected s name key cents fits sound = record {
+  accounts = sound.accounts;
+  calendars = sound.calendars;
+  reported = sound.reported;
+  reported_years = sound.reported_years;
+  open_years = sound.open_years;
+  runs = sound.runs;
+  payments = sound.payments;
+  are_calendars = sound.are_calendars;
+  opened = sound.opened;
+  enrolled = sound.enrolled;
+  totals = totals_still s
+      (record s { corrected = with_entry s.corrected name key cents })
+      refl refl refl refl refl sound.totals;
+  in_turn = sound.in_turn;
+  paydays = sound.paydays;
+  paid_days = sound.paid_days;
+  counts = sound.counts;
+  reported_amounts = sound.reported_amounts;
+  year_amounts = sound.year_amounts;
+  corrected_amounts = λ e has. elim (has_last s.corrected _ e has) [
+    | inl here ↦ sound.corrected_amounts e here
+    | inr is ↦ subst (λ (x : Entry Cents). is_amount x.content ≡ true) (sym is) fits
+  ];
+  corrected_year_amounts = sound.corrected_year_amounts;
+  run_numbers = sound.run_numbers;
+  run_amounts = sound.run_amounts;
+  paid_amounts = sound.paid_amounts;
+  added_days = sound.added_days;
+  few = sound.few;
+  changed = sound.changed;
+}
+
+sound_corrected_year : (s : State) (name : List ℕ) (key : ℕ) (cents : Cents)
+    → is_amount cents ≡ true → IsSound s
+    → IsSound (record s { corrected_years = with_entry s.corrected_years name key cents })
+sound_corrected_year s name key cents fits sound = record {
+  accounts = sound.accounts;
+  calendars = sound.calendars;
+  reported = sound.reported;
+  reported_years = sound.reported_years;
+  open_years = sound.open_years;
+  runs = sound.runs;
+  payments = sound.payments;
+  are_calendars = sound.are_calendars;
+  opened = sound.opened;
+  enrolled = sound.enrolled;
+  totals = totals_still s
+      (record s { corrected_years = with_entry s.corrected_years name key cents })
+      refl refl refl refl refl sound.totals;
+  in_turn = sound.in_turn;
+  paydays = sound.paydays;
+  paid_days = sound.paid_days;
+  counts = sound.counts;
+  reported_amounts = sound.reported_amounts;
+  year_amounts = sound.year_amounts;
+  corrected_amounts = sound.corrected_amounts;
+  corrected_year_amounts = λ e has. elim (has_last s.corrected_years _ e has) [
+    | inl here ↦ sound.corrected_year_amounts e here
+    | inr is ↦ subst (λ (x : Entry Cents). is_amount x.content ≡ true) (sym is) fits
+  ];
+  run_numbers = sound.run_numbers;
+  run_amounts = sound.run_amounts;
+  paid_amounts = sound.paid_amounts;
+  added_days = sound.added_days;
+  few = sound.few;
+  changed = sound.changed;
+}
+
+sound_changed : (s : State) (change : DayChange) → is_holiday (all_days s) change.day ≡ true
+    → IsSound s
+    → IsSound (record s { changed_days = s.changed_days ++ change ∷ [] })
+sound_changed s change there sound = record {
+  accounts = sound.accounts;
+  calendars = sound.calendars;
+  reported = sound.reported;
+  reported_years = sound.reported_years;
+  open_years = sound.open_years;
+  runs = sound.runs;
+  payments = sound.payments;
+  are_calendars = sound.are_calendars;
+  opened = sound.opened;
+  enrolled = sound.enrolled;
+  totals = totals_still s
+      (record s { changed_days = s.changed_days ++ change ∷ [] })
+      refl refl refl refl refl sound.totals;
+  in_turn = sound.in_turn;
+  paydays = sound.paydays;
+  paid_days = sound.paid_days;
+  counts = sound.counts;
+  reported_amounts = sound.reported_amounts;
+  year_amounts = sound.year_amounts;
+  corrected_amounts = sound.corrected_amounts;
+  corrected_year_amounts = sound.corrected_year_amounts;
+  run_numbers = sound.run_numbers;
+  run_amounts = sound.run_amounts;
+  paid_amounts = sound.paid_amounts;
+  added_days = sound.added_days;
+  few = sound.few;
+  changed = λ c has. elim (has_last s.changed_days change c has) [
+    | inl here ↦ sound.changed c here
+    | inr is ↦ subst (λ (x : DayChange). is_holiday (all_days s) x.day ≡ true) (sym is) there
+  ];
+}
+
+sound_moved : (s : State) (name : List ℕ) (beginning : Beginning)
+    → (entries_of s name).open_years ≡ [] → IsSound s
+    → IsSound (record s { moved = with_move s.moved name beginning })
+sound_moved s name beginning none sound = record {
+  accounts = sound.accounts;
+  calendars = sound.calendars;
+  reported = sound.reported;
+  reported_years = sound.reported_years;
+  open_years = sound.open_years;
+  runs = sound.runs;
+  payments = sound.payments;
+  are_calendars = sound.are_calendars;
+  opened = sound.opened;
+  enrolled = λ e has. in_force_some (enrolled_in s e.name)
+      (moves_in (record s { moved = with_move s.moved name beginning }) e.name)
+      (was_enrolled (enrolled_in s e.name) (moves_in s e.name) (sound.enrolled e has));
+  totals = totals_moved s name beginning none sound.totals;
+  in_turn = sound.in_turn;
+  paydays = sound.paydays;
+  paid_days = sound.paid_days;
+  counts = sound.counts;
+  reported_amounts = sound.reported_amounts;
+  year_amounts = sound.year_amounts;
+  corrected_amounts = sound.corrected_amounts;
+  corrected_year_amounts = sound.corrected_year_amounts;
+  run_numbers = sound.run_numbers;
+  run_amounts = sound.run_amounts;
+  paid_amounts = sound.paid_amounts;
+  added_days = sound.added_days;
+  few = sound.few;
+  changed = sound.changed;
 }
 
 -- ---- a step
@@ -696,7 +885,7 @@ pub step_sound : (s : State) (request : Request) (answer : Answer) (next : State
 step_sound s (Enrol name start carried form) answer next step sound =
     let account : Account = record { start = start; carried = carried; form = form } in
     let none : Gives (checks_of s (Enrol name start carried form))
-    ((entries_of s name).account ≡ None) =
+    (enrolled_in s name ≡ None) =
     skip_needs _ _ _ _ (skip_needs _ _ _ _ (gives_new _ _ _ _)) in
     done_sound s answer next sound (checks_of s (Enrol name start carried form)) _ step
     (λ e. sound_account s name account (none.fact e) sound)
@@ -814,6 +1003,40 @@ step_sound s (Pay name number paid for_day cents) answer next step sound =
 step_sound s (VoidPay name number) answer next step sound =
     done_sound s answer next sound (checks_of s (VoidPay name number)) _ step
     (λ e. sound_void_payment s name number sound)
+step_sound s (CorrectReport name quarter number cents) answer next step sound =
+    let P = checks_of s (CorrectReport name quarter number cents) in
+    let fits : Gives P (is_amount cents ≡ true) =
+    skip_needs _ _ _ _ (skip_needs _ _ _ _ (gives_needs _ _ _)) in
+    post_sound s answer next sound P _ _ step
+    (λ e. sound_corrected s name quarter cents (fits.fact e) sound)
+step_sound s (CorrectReportYear name year number cents) answer next step sound =
+    let P = checks_of s (CorrectReportYear name year number cents) in
+    let fits : Gives P (is_amount cents ≡ true) =
+    skip_needs _ _ _ _ (skip_needs _ _ _ _ (gives_needs _ _ _)) in
+    post_sound s answer next sound P _ _ step
+    (λ e. sound_corrected_year s name year cents (fits.fact e) sound)
+step_sound s (ChangeHoliday day number is_one) answer next step sound =
+    let P = checks_of s (ChangeHoliday day number is_one) in
+    let there : Gives P (is_holiday (days_of_year (calendar_at s (year_of day))
+    (added_in s (year_of day))) day ≡ true) =
+    skip_needs _ _ _ _ (skip_needs _ _ _ _ (skip_finds _ _ _ _ (gives_needs _ _ _))) in
+    done_sound s answer next sound P _ step
+    (λ e. sound_changed s (record { day = day; is_holiday = is_one })
+    (in_year s sound.calendars (filed_of s sound) sound.added_days day ∙ there.fact e) sound)
+step_sound s (CorrectAccount name number start carried) answer next step sound =
+    let P = checks_of s (CorrectAccount name number start carried) in
+    let own = entries_of s name in
+    let unused : Gives P (is_unused own ≡ true) =
+    skip_needs _ _ _ _
+    (skip_needs _ _ _ _
+    (skip_needs _ _ _ _ (skip_finds _ _ _ _ (skip_new _ _ _ _ _ (gives_needs _ _ _))))) in
+    done_sound s answer next sound P _ step (λ e.
+    (let opened : (length own.open_years == 0) ≡ true =
+    and_second (length own.reported_years == 0) (length own.open_years == 0)
+    (and_second (length own.reported == 0)
+    ((length own.reported_years == 0) && (length own.open_years == 0)) (unused.fact e)) in
+    sound_moved s name (record { start = start; carried = carried })
+    (empty_of own.open_years opened) sound))
 step_sound s (Question question) answer next step sound =
     subst IsSound (sym (asked_leaves _ s answer next _ step)) sound
 
@@ -838,11 +1061,14 @@ nothing_sound = record {
   counts = λ name. (omega arith, omega arith);
   reported_amounts = λ e has. absurd has;
   year_amounts = λ e has. absurd has;
+  corrected_amounts = λ e has. absurd has;
+  corrected_year_amounts = λ e has. absurd has;
   run_numbers = λ e has. absurd has;
   run_amounts = λ e has. absurd has;
   paid_amounts = λ e has. absurd has;
   added_days = λ d has. absurd has;
   few = λ year. omega arith;
+  changed = λ c has. absurd has;
 }
 
 goes_sound : (s : State) (request : Request) (answer : Answer) (next : State)

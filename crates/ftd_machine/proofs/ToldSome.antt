@@ -24,7 +24,7 @@ use Rattle.ftd_rules.proofs.Owed.{has_left, has_right}
 use Rattle.ftd_machine.proofs.Members.{has_last}
 use Rattle.ftd_days.specs.Calendar.{year_start}
 use Rattle.ftd_machine.specs.State.{Entries, Entry, kept_at, content_of, has_key, is_open}
-use Rattle.ftd_machine.specs.History.{start_of, figures, live_sums, IsLookbackOn, IsMissingOn}
+use Rattle.ftd_machine.specs.History.{start_of, quarter_figures, year_figures, live_sums, IsLookbackOn, IsMissingOn}
 use Rattle.ftd_machine.specs.History.{year_of_line, year_of_entry, AreLinesOf}
 use Rattle.ftd_machine.specs.Checks.{Answer}
 use Rattle.ftd_machine.specs.Asking.{IsTurnBefore, HasNoTurnBefore, IsReason, IsStatus, day_of_sum}
@@ -160,13 +160,13 @@ first_or reported start year =
 pub total_or : (form : Form) (own : Entries) (year : ℕ)
     → ((refusal : Refusal) × IsMissingOn form own year refusal)
     ⊎ ((total : Cents) × IsLookbackOn form own year total)
-total_or F941 own year = elim (first_or (figures own.reported) (start_of own.account) year) [
+total_or F941 own year = elim (first_or (quarter_figures own) (start_of own.account) year) [
   | inl gap ↦ inl (QuarterMissing gap.0, (gap.0, gap.1, refl))
   | inr is ↦ inr (record { 0 = is.0 }, is.1)
 ]
 total_or F943 own year = elim (lt_or_le (start_of own.account) (year_start (year - 1))) [
   | inr early ↦ inr (record { 0 = 0 }, inl (early, refl))
-  | inl late ↦ elim (figure_or (figures own.reported_years) (year - 2)) [
+  | inl late ↦ elim (figure_or (year_figures own) (year - 2)) [
     | inl found ↦ inr (found.0, inr (late, found.1))
     | inr none ↦ inl (YearMissing (year - 2), (year - 2, (refl, late, none), refl))
   ]

@@ -18,7 +18,7 @@ use Rattle.ftd_rules.specs.declared.payment.Payment.{Payment}
 use Rattle.ftd_rules.specs.declared.run.Voidable.{Voidable}
 use Rattle.ftd_machine.specs.declared.replies.Refusal.{Refusal}
 use Rattle.ftd_machine.specs.declared.replies.Refusal.TheVariants.{QuarterMissing, YearMissing}
-use Rattle.ftd_machine.specs.State.{Entry, Entries}
+use Rattle.ftd_machine.specs.State.{Entry, Entries, latest, all_at}
 
 -- the first day, the form, and whether it came in as semiweekly, of an account that is enrolled.
 -- One that is not has no entries, and nothing rests on what stands here for it.
@@ -34,12 +34,18 @@ abbrev pub is_carried : Option Account → Bool
 is_carried None = false
 is_carried (Some account) = account.carried
 
--- the figures that were reported, each with its quarter or its year
-abbrev pub figure_of : Entry Cents → ℕ × Cents
-figure_of e = (e.key, e.content)
+-- the figures that were reported, as they are in force, each with its quarter or its year
+abbrev pub figure_of : List (Entry Cents) → Entry Cents → ℕ × Cents
+figure_of corrected e = (e.key, latest e.content (all_at e.key corrected))
 
-abbrev pub figures : List (Entry Cents) → List (ℕ × Cents)
-figures entries = map figure_of entries
+abbrev pub figures : List (Entry Cents) → List (Entry Cents) → List (ℕ × Cents)
+figures reported corrected = map (figure_of corrected) reported
+
+abbrev pub quarter_figures : Entries → List (ℕ × Cents)
+quarter_figures own = figures own.reported own.corrected
+
+abbrev pub year_figures : Entries → List (ℕ × Cents)
+year_figures own = figures own.reported_years own.corrected_years
 
 -- the runs or payments that are live: accepted, and not voided
 abbrev pub is_live : {X : Type 0} → Entry (Voidable X) → Bool
@@ -67,9 +73,9 @@ live_payments own = live own.payments
 -- the total of the lookback period of a year, by the account's form
 abbrev pub IsLookbackOn : Form → Entries → ℕ → Cents → Type 0
 IsLookbackOn F941 own year total =
-    IsLookback (figures own.reported) (start_of own.account) year total.0
+    IsLookback (quarter_figures own) (start_of own.account) year total.0
 IsLookbackOn F943 own year total =
-    IsYearLookback (figures own.reported_years) (start_of own.account) year total
+    IsYearLookback (year_figures own) (start_of own.account) year total
 
 abbrev pub HasLookback : Entries → ℕ → Cents → Type 0
 HasLookback own year total = IsLookbackOn (form_of own.account) own year total
@@ -77,10 +83,10 @@ HasLookback own year total = IsLookbackOn (form_of own.account) own year total
 -- a figure of the lookback period is missing, and this refusal names the earliest
 abbrev pub IsMissingOn : Form → Entries → ℕ → Refusal → Type 0
 IsMissingOn F941 own year refusal =
-    (quarter : ℕ) × IsFirstMissing (figures own.reported) (start_of own.account) year quarter
+    (quarter : ℕ) × IsFirstMissing (quarter_figures own) (start_of own.account) year quarter
     × (refusal ≡ QuarterMissing quarter)
 IsMissingOn F943 own year refusal =
-    (missing : ℕ) × IsYearMissing (figures own.reported_years) (start_of own.account) year missing
+    (missing : ℕ) × IsYearMissing (year_figures own) (start_of own.account) year missing
     × (refusal ≡ YearMissing missing)
 
 abbrev pub LacksFigure : Entries → ℕ → Refusal → Type 0

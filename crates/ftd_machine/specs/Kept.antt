@@ -8,7 +8,7 @@ use Rattle.ftd_rules.specs.declared.YearLine.{YearLine}
 use Rattle.ftd_rules.specs.Laws.{Covers}
 use Rattle.ftd_rules.specs.Lists.{Has}
 use Rattle.ftd_machine.specs.State.{State, Entries, entries_of, holidays, calendar_at, is_given}
-use Rattle.ftd_machine.specs.State.{kept_at}
+use Rattle.ftd_machine.specs.State.{kept_at, figure_at}
 use Rattle.ftd_machine.specs.History.{form_of, AreLinesOf, AreOwed}
 use Rattle.ftd_machine.specs.Checks.{Answer}
 use Rattle.ftd_machine.specs.Requests.{kept_of_checks, kept_in_quarter_checks, holidays_checks}
@@ -55,12 +55,14 @@ pub record AreYears (own : Entries) (answer : Answer) : Type 0 where
 
 -- ---- reported totals
 
--- it was reported: for a quarter on Form 941, for a year on Form 943
+-- it was reported, and is in force: for a quarter on Form 941, for a year on Form 943
 abbrev pub IsTotal : Form → Entries → KeptTotal → Type 0
-IsTotal F941 own (OfQuarter quarter cents) = kept_at quarter own.reported ≡ Some cents
+IsTotal F941 own (OfQuarter quarter cents) =
+    figure_at quarter own.reported own.corrected ≡ Some cents
 IsTotal F941 own (OfYear year cents) = ⊥
 IsTotal F943 own (OfQuarter quarter cents) = ⊥
-IsTotal F943 own (OfYear year cents) = kept_at year own.reported_years ≡ Some cents
+IsTotal F943 own (OfYear year cents) =
+    figure_at year own.reported_years own.corrected_years ≡ Some cents
 
 abbrev pub period_of : KeptTotal → ℕ
 period_of (OfQuarter quarter cents) = quarter

@@ -9,6 +9,8 @@ use Rattle.ftd_machine.specs.declared.requests.Request.{Request}
 use Rattle.ftd_machine.specs.declared.requests.Request.TheVariants.{Enrol, Calendar, AddHoliday}
 use Rattle.ftd_machine.specs.declared.requests.Request.TheVariants.{Report, ReportYear, OpenYear}
 use Rattle.ftd_machine.specs.declared.requests.Request.TheVariants.{Post, Void, Pay, VoidPay}
+use Rattle.ftd_machine.specs.declared.requests.Request.TheVariants.{CorrectReport, CorrectReportYear}
+use Rattle.ftd_machine.specs.declared.requests.Request.TheVariants.{ChangeHoliday, CorrectAccount}
 use Rattle.ftd_machine.specs.declared.requests.Request.TheVariants.{Question}
 
 -- the request was done, or its run was posted or voided
@@ -24,7 +26,7 @@ is_change (Ok (reply.Explained explained)) = false
 is_change (Ok (reply.Kept rows)) = false
 is_change (Err refusal) = false
 
--- the request names the account; a calendar and an added holiday name none
+-- the request names the account; a calendar and holidays name none
 abbrev pub Names : Request → List ℕ → Type 0
 Names (Enrol name start carried form) account = name ≡ account
 Names (Calendar year days) account = ⊥
@@ -36,6 +38,10 @@ Names (Post name number payday fit ss medicare) account = name ≡ account
 Names (Void name number) account = name ≡ account
 Names (Pay name number paid for_day cents) account = name ≡ account
 Names (VoidPay name number) account = name ≡ account
+Names (CorrectReport name quarter number cents) account = name ≡ account
+Names (CorrectReportYear name year number cents) account = name ≡ account
+Names (ChangeHoliday day number is_holiday) account = ⊥
+Names (CorrectAccount name number start carried) account = name ≡ account
 Names (Question question) account = AsksOf question account
 
 -- the request asks for a run or a payment more
@@ -50,6 +56,10 @@ adds_entry (Post name number payday fit ss medicare) = true
 adds_entry (Void name number) = false
 adds_entry (Pay name number paid for_day cents) = true
 adds_entry (VoidPay name number) = false
+adds_entry (CorrectReport name quarter number cents) = false
+adds_entry (CorrectReportYear name year number cents) = false
+adds_entry (ChangeHoliday day number is_holiday) = false
+adds_entry (CorrectAccount name number start carried) = false
 adds_entry (Question question) = false
 
 -- the request is on a run: it posts or voids one
@@ -64,6 +74,10 @@ is_on_run (Post name number payday fit ss medicare) = true
 is_on_run (Void name number) = true
 is_on_run (Pay name number paid for_day cents) = false
 is_on_run (VoidPay name number) = false
+is_on_run (CorrectReport name quarter number cents) = true
+is_on_run (CorrectReportYear name year number cents) = true
+is_on_run (ChangeHoliday day number is_holiday) = false
+is_on_run (CorrectAccount name number start carried) = false
 is_on_run (Question question) = false
 
 -- how many runs the account has, and how many payments, voided ones too
@@ -73,11 +87,13 @@ runs_of account s = length (entries_of s account).runs
 abbrev pub payments_of : List ℕ → State → ℕ
 payments_of account s = length (entries_of s account).payments
 
--- two states agree on the entries of an account, on the calendars and on the added holidays
+-- two states agree on the entries of an account, on the calendars, on the added holidays and on the
+-- changed days
 pub record AgreeOn (account : List ℕ) (s t : State) : Type 0 where
   pub own : entries_of t account ≡ entries_of s account
   pub calendars : t.calendars ≡ s.calendars
   pub added_days : t.added_days ≡ s.added_days
+  pub changed_days : t.changed_days ≡ s.changed_days
 
 -- what was asked for was done before, or there was a fault
 abbrev pub IsRepeat : Answer → Type 0

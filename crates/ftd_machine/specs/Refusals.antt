@@ -14,6 +14,9 @@ use Rattle.ftd_machine.specs.declared.replies.Refusal.TheVariants.{QuarterMissin
 use Rattle.ftd_machine.specs.declared.replies.Refusal.TheVariants.{TooManyRuns, TooManyPayments}
 use Rattle.ftd_machine.specs.declared.replies.Refusal.TheVariants.{Memory, Store, WrongForm}
 use Rattle.ftd_machine.specs.declared.replies.Refusal.TheVariants.{YearDiffers, YearMissing}
+use Rattle.ftd_machine.specs.declared.replies.Refusal.TheVariants.{CorrectionDiffers}
+use Rattle.ftd_machine.specs.declared.replies.Refusal.TheVariants.{NumberSkipped, NoHoliday}
+use Rattle.ftd_machine.specs.declared.replies.Refusal.TheVariants.{AccountInUse}
 
 abbrev pub number_of : Refusal → ℕ
 number_of BadName = 1
@@ -41,6 +44,10 @@ number_of Store = 22
 number_of WrongForm = 23
 number_of YearDiffers = 24
 number_of (YearMissing year) = 25
+number_of CorrectionDiffers = 26
+number_of (NumberSkipped count) = 27
+number_of NoHoliday = 28
+number_of AccountInUse = 29
 
 abbrev pub name_text : Refusal → List ℕ
 name_text BadName = codes "BadName"
@@ -68,6 +75,10 @@ name_text Store = codes "Store"
 name_text WrongForm = codes "WrongForm"
 name_text YearDiffers = codes "YearDiffers"
 name_text (YearMissing year) = codes "YearMissing"
+name_text CorrectionDiffers = codes "CorrectionDiffers"
+name_text (NumberSkipped count) = codes "NumberSkipped"
+name_text NoHoliday = codes "NoHoliday"
+name_text AccountInUse = codes "AccountInUse"
 
 -- a failure, and no refusal: there was no memory, or the store failed
 abbrev pub is_failure : Refusal → Bool
@@ -96,6 +107,10 @@ is_failure Store = true
 is_failure WrongForm = false
 is_failure YearDiffers = false
 is_failure (YearMissing year) = false
+is_failure CorrectionDiffers = false
+is_failure (NumberSkipped count) = false
+is_failure NoHoliday = false
+is_failure AccountInUse = false
 
 -- what it names
 abbrev pub named_by : Refusal → Named
@@ -124,3 +139,7 @@ named_by Store = named.Nothing
 named_by WrongForm = named.Nothing
 named_by YearDiffers = named.Nothing
 named_by (YearMissing year) = named.Year year
+named_by CorrectionDiffers = named.Nothing
+named_by (NumberSkipped count) = named.Number count
+named_by NoHoliday = named.Nothing
+named_by AccountInUse = named.Nothing

@@ -8,6 +8,7 @@ use Rattle.ftd_days.specs.declared.cents.Cents.{Cents}
 use Rattle.ftd_rules.specs.declared.Form.{Form}
 use Rattle.ftd_rules.specs.declared.Form.TheVariants.{F941, F943}
 use Rattle.ftd_machine.specs.declared.entries.Account.{Account}
+use Rattle.ftd_machine.specs.declared.entries.Beginning.{Beginning}
 use Rattle.ftd_rules.specs.declared.run.PayRun.{PayRun}
 use Rattle.ftd_rules.specs.declared.payment.Payment.{Payment}
 use Rattle.ftd_rules.specs.declared.run.Voidable.{Voidable}
@@ -15,6 +16,7 @@ use Rattle.ftd_rules.specs.Accounts.{is_account_name}
 use Rattle.ftd_machine.specs.Limits.{is_between, is_amount, are_amounts, is_number, is_calendar}
 use Rattle.ftd_machine.specs.Limits.{most_holidays, most_entries}
 use Rattle.ftd_machine.specs.Checks.{Answer, needs, done_if, finds, meets, is_new}
+use Rattle.ftd_machine.specs.State.{Entries}
 use Rattle.ftd_machine.specs.declared.replies.Refusal.TheVariants.{BadName, BadYear, BadDay}
 use Rattle.ftd_machine.specs.declared.replies.Refusal.TheVariants.{BadCents, BadCalendar, BadNumber}
 use Rattle.ftd_machine.specs.declared.replies.Refusal.TheVariants.{UnknownAccount, AccountDiffers}
@@ -24,7 +26,10 @@ use Rattle.ftd_machine.specs.declared.replies.Refusal.TheVariants.{UnknownRun, U
 use Rattle.ftd_machine.specs.declared.replies.Refusal.TheVariants.{BeforeStart, CalendarMissing}
 use Rattle.ftd_machine.specs.declared.replies.Refusal.TheVariants.{YearNotOpen, TooManyRuns}
 use Rattle.ftd_machine.specs.declared.replies.Refusal.TheVariants.{TooManyPayments, WrongForm}
-use Rattle.ftd_machine.specs.declared.replies.Refusal.TheVariants.{YearDiffers}
+use Rattle.ftd_machine.specs.declared.replies.Refusal.TheVariants.{YearDiffers, QuarterMissing}
+use Rattle.ftd_machine.specs.declared.replies.Refusal.TheVariants.{YearMissing, CorrectionDiffers}
+use Rattle.ftd_machine.specs.declared.replies.Refusal.TheVariants.{NumberSkipped, NoHoliday}
+use Rattle.ftd_machine.specs.declared.replies.Refusal.TheVariants.{AccountInUse}
 
 -- ---- equal content
 
@@ -215,6 +220,85 @@ void_payment_checks name number account known =
     ∷ done_if (meets is_voided known)
     ∷ finds known UnknownPayment
     ∷ []
+
+-- ---- corrections
+
+-- it has the next number: one more than there are corrections, which the refusal names
+abbrev pub is_next : ℕ → ℕ → Option Answer
+is_next number count = needs (number == count + 1) (NumberSkipped count)
+
+-- CorrectReport: the name; a quarter of 1999 to 2098; the amount; the number; the account, on Form
+-- 941; the quarter is reported; known, the correction was made before or differs; and the next number
+abbrev pub correct_report_checks
+    : List ℕ → ℕ → ℕ → Cents → Option Account → Option Cents → Option Cents → ℕ
+    → List (Option Answer)
+correct_report_checks name quarter number cents account reported known count =
+    needs (is_account_name name) BadName
+    ∷ needs (is_between 1999 2098 (quarter_year quarter)) BadYear
+    ∷ needs (is_amount cents) BadCents
+    ∷ needs (is_number number) BadNumber
+    ∷ finds account UnknownAccount
+    ∷ needs (meets (is_on F941) account) WrongForm
+    ∷ finds reported (QuarterMissing quarter)
+    ∷ is_new known (same_amount cents) CorrectionDiffers
+    ∷ is_next number count
+    ∷ []
+
+-- CorrectReportYear: the same of a year of 1999 to 2098, on Form 943
+abbrev pub correct_report_year_checks
+    : List ℕ → ℕ → ℕ → Cents → Option Account → Option Cents → Option Cents → ℕ
+    → List (Option Answer)
+correct_report_year_checks name year number cents account reported known count =
+    needs (is_account_name name) BadName
+    ∷ needs (is_between 1999 2098 year) BadYear
+    ∷ needs (is_amount cents) BadCents
+    ∷ needs (is_number number) BadNumber
+    ∷ finds account UnknownAccount
+    ∷ needs (meets (is_on F943) account) WrongForm
+    ∷ finds reported (YearMissing year)
+    ∷ is_new known (same_amount cents) CorrectionDiffers
+    ∷ is_next number count
+    ∷ []
+
+-- ChangeHoliday: a day of 2001 to 2099; the number; the year's calendar; a day that was given or added
+-- as a holiday; known, the change was made before or differs; and the next number
+abbrev pub change_holiday_checks
+    : ℕ → ℕ → Bool → Option (List ℕ) → List ℕ → Option Bool → ℕ → List (Option Answer)
+change_holiday_checks day number is_one calendar added known count =
+    needs (is_between 2001 2099 (year_of day)) BadDay
+    ∷ needs (is_number number) BadNumber
+    ∷ finds calendar (CalendarMissing (year_of day))
+    ∷ needs (is_holiday (days_of_year calendar added) day) NoHoliday
+    ∷ is_new known (same_flag is_one) CorrectionDiffers
+    ∷ is_next number count
+    ∷ []
+
+-- nothing rests on the account yet: no figure is reported, and no year is open
+abbrev pub is_unused : Entries → Bool
+is_unused own =
+    (length own.reported == 0)
+    && ((length own.reported_years == 0) && (length own.open_years == 0))
+
+-- the same first day, and carried or not
+abbrev pub same_beginning : Beginning → Beginning → Bool
+same_beginning beginning known =
+    (known.start == beginning.start) && same_flag known.carried beginning.carried
+
+-- CorrectAccount: the name; a first day not after 2098; the number; the account; known, the correction
+-- was made before or differs; nothing rests on the account; and the next number
+abbrev pub correct_account_checks
+    : List ℕ → ℕ → Beginning → Option Account → Option Beginning → Bool → ℕ → List (Option Answer)
+correct_account_checks name number beginning account known unused count =
+    needs (is_account_name name) BadName
+    ∷ needs (nat_le (year_of beginning.start) 2098) BadDay
+    ∷ needs (is_number number) BadNumber
+    ∷ finds account UnknownAccount
+    ∷ is_new known (same_beginning beginning) CorrectionDiffers
+    ∷ needs unused AccountInUse
+    ∷ is_next number count
+    ∷ []
+
+-- ---- questions
 
 -- the schedule of a day, and why an obligation is so: the name; a day of 2001 to 2098; the account; and the open year
 abbrev pub status_checks : List ℕ → ℕ → Option Account → Bool → List (Option Answer)

@@ -1,6 +1,7 @@
 -- What is so of every state that requests lead to.
 use Rattle.std.specs.Prelude.{is_some, ◌≡◌, ◌≤◌, ℕ, ◌+◌, true, List, [], ◌∷◌, map, filter, length}
 use Rattle.ftd_days.specs.Calendar.{year_of}
+use Rattle.ftd_days.specs.Business.{is_holiday}
 use Rattle.ftd_days.specs.Holidays.{YearDays, AreFew}
 use Rattle.ftd_days.specs.declared.cents.Cents.{Cents}
 use Rattle.ftd_rules.specs.Lists.{Has}
@@ -9,7 +10,7 @@ use Rattle.ftd_rules.specs.declared.payment.Payment.{Payment}
 use Rattle.ftd_rules.specs.declared.run.Voidable.{Voidable}
 use Rattle.ftd_machine.specs.Limits.{is_between, is_calendar, is_amount, are_amounts}
 use Rattle.ftd_machine.specs.Limits.{is_number, most_entries}
-use Rattle.ftd_machine.specs.State.{State, Enrolled, holidays, Entry, entries_of, is_of, is_open}
+use Rattle.ftd_machine.specs.State.{DayChange, State, Enrolled, all_days, Entry, entries_of, is_of, is_open}
 use Rattle.ftd_machine.specs.State.{is_given}
 use Rattle.ftd_machine.specs.History.{year_of_entry, HasLookback}
 
@@ -79,10 +80,16 @@ pub record IsSound (s : State) : Type 0 where
   -- each amount is at most 999,999,999.99
   pub reported_amounts : (e : Entry Cents) → Has s.reported e → is_amount e.content ≡ true
   pub year_amounts : (e : Entry Cents) → Has s.reported_years e → is_amount e.content ≡ true
+  pub corrected_amounts : (e : Entry Cents) → Has s.corrected e → is_amount e.content ≡ true
+  pub corrected_year_amounts : (e : Entry Cents) → Has s.corrected_years e
+      → is_amount e.content ≡ true
   pub run_amounts : (e : Entry (Voidable PayRun)) → Has s.runs e
       → are_amounts e.content.value ≡ true
   pub paid_amounts : (e : Entry (Voidable Payment)) → Has s.payments e
       → is_amount e.content.value.cents ≡ true
-  -- each added holiday is of a year whose calendar is given, and no year has more than 60 holidays
+  -- each added holiday is of a year whose calendar is given, and no year has more than 60 days that
+  -- were given or added
   pub added_days : (day : ℕ) → Has s.added_days day → is_given s (year_of day) ≡ true
-  pub few : AreFew (holidays s)
+  pub few : AreFew (all_days s)
+  -- each day that was taken back, or made a holiday again, was given or added as one
+  pub changed : (c : DayChange) → Has s.changed_days c → is_holiday (all_days s) c.day ≡ true

@@ -1,20 +1,23 @@
 -- What the desk answers to each request, and what it keeps then.
 use Rattle.std.specs.Prelude.{◌≡◌, ◌⊎◌, ◌||◌, ◌&&◌, ℕ, ◌-◌, ◌+◌, ◌==◌, Bool, true, false, List, []}
 use Rattle.std.specs.Prelude.{◌∷◌, ◌++◌, length, map, Option, Some, Ok, Err, if◌then◌else◌}
-use Rattle.ftd_days.specs.Calendar.{year_of}
+use Rattle.ftd_days.specs.Calendar.{year_of, year_start, quarter_start}
 use Rattle.ftd_days.specs.declared.cents.Cents.{Cents}
 use Rattle.ftd_machine.specs.declared.entries.Account.{Account}
+use Rattle.ftd_machine.specs.declared.entries.Beginning.{Beginning}
 use Rattle.ftd_rules.specs.declared.run.PayRun.{PayRun}
 use Rattle.ftd_rules.specs.declared.payment.Payment.{Payment}
 use Rattle.ftd_rules.specs.declared.run.Voidable.{Voidable}
 use Rattle.ftd_machine.specs.State.{State, Enrolled, Entries, Entry, holidays, calendar_at}
 use Rattle.ftd_machine.specs.State.{is_given, added_in, entries_of, is_of, has_key, kept_at}
-use Rattle.ftd_machine.specs.State.{is_open}
+use Rattle.ftd_machine.specs.State.{is_open, all_at, changes_of, numbered, DayChange, Move}
 use Rattle.ftd_machine.specs.History.{HasLookback, LacksFigure}
 use Rattle.ftd_machine.specs.Checks.{Answer, first_of, needs, Decides}
 use Rattle.ftd_machine.specs.Requests.{enrol_checks, calendar_checks, add_holiday_checks}
 use Rattle.ftd_machine.specs.Requests.{report_checks, report_year_checks, open_year_checks}
 use Rattle.ftd_machine.specs.Requests.{post_checks, void_checks, pay_checks, void_payment_checks}
+use Rattle.ftd_machine.specs.Requests.{correct_report_checks, correct_report_year_checks}
+use Rattle.ftd_machine.specs.Requests.{change_holiday_checks, correct_account_checks, is_unused}
 use Rattle.ftd_machine.specs.Posting.{IsPosted}
 use Rattle.ftd_machine.specs.Questions.{question_checks, Tells}
 use Rattle.ftd_machine.specs.declared.replies.Reply.TheVariants as reply
@@ -25,6 +28,8 @@ use Rattle.ftd_machine.specs.declared.requests.Request.{Request}
 use Rattle.ftd_machine.specs.declared.requests.Request.TheVariants.{Enrol, Calendar, AddHoliday}
 use Rattle.ftd_machine.specs.declared.requests.Request.TheVariants.{Report, ReportYear, OpenYear}
 use Rattle.ftd_machine.specs.declared.requests.Request.TheVariants.{Post, Void, Pay, VoidPay}
+use Rattle.ftd_machine.specs.declared.requests.Request.TheVariants.{CorrectReport, CorrectReportYear}
+use Rattle.ftd_machine.specs.declared.requests.Request.TheVariants.{ChangeHoliday, CorrectAccount}
 use Rattle.ftd_machine.specs.declared.requests.Request.TheVariants.{Question}
 
 -- an account more, under its name
@@ -61,6 +66,10 @@ abbrev pub may_open : Entries → ℕ → List (Option Answer)
 may_open own year =
     needs ((length own.open_years == 0) || is_open own (year - 1)) (YearNotOpen (year - 1)) ∷ []
 
+-- a correction more of how an account begins
+abbrev pub with_move : List Move → List ℕ → Beginning → List Move
+with_move moved name beginning = moved ++ record { name = name; beginning = beginning } ∷ []
+
 module _ (s : State) (answer : Answer) (new : State) where
   -- the first check that answers decides, and if all pass, what stands last
   abbrev pub Checks : List (Option Answer) → Type 0 → Type 0
@@ -78,7 +87,7 @@ module _ (s : State) (answer : Answer) (new : State) where
   abbrev pub Enrols : List ℕ → Account → Type 0
   Enrols name account =
       let own = entries_of s name in
-      Checks (enrol_checks name account own.account)
+      Checks (enrol_checks name account own.enrolled)
       (IsDone (record s { accounts = with_account s.accounts name account }))
 
   -- the calendar of a year is taken
@@ -162,6 +171,56 @@ module _ (s : State) (answer : Answer) (new : State) where
       Checks (void_payment_checks name number own.account (kept_at number own.payments))
       (IsDone (record s { payments = with_voided s.payments name number }))
 
+  -- a figure is corrected, and the obligations that differ are told
+  abbrev pub Corrects : List (Option Answer) → State → List ℕ → ℕ → Type 0
+  Corrects checks after name first =
+      Checks checks
+      ((new ≡ after)
+      × IsPosted (holidays s) (entries_of s name) (entries_of new name) first answer)
+
+  -- of a quarter
+  abbrev pub CorrectsReport : List ℕ → ℕ → ℕ → Cents → Type 0
+  CorrectsReport name quarter number cents =
+      let own = entries_of s name in
+      let known = all_at quarter own.corrected in
+      Corrects
+      (correct_report_checks name quarter number cents own.account (kept_at quarter own.reported)
+      (numbered number known) (length known))
+      (record s { corrected = with_entry s.corrected name quarter cents }) name
+      (quarter_start quarter)
+
+  -- of a year
+  abbrev pub CorrectsReportYear : List ℕ → ℕ → ℕ → Cents → Type 0
+  CorrectsReportYear name year number cents =
+      let own = entries_of s name in
+      let known = all_at year own.corrected_years in
+      Corrects
+      (correct_report_year_checks name year number cents own.account
+      (kept_at year own.reported_years) (numbered number known) (length known))
+      (record s { corrected_years = with_entry s.corrected_years name year cents }) name
+      (year_start year)
+
+  -- a day is taken back as a holiday, or made one again
+  abbrev pub Changes : ℕ → ℕ → Bool → Type 0
+  Changes day number is_holiday =
+      let year = year_of day in
+      let known = changes_of day s.changed_days in
+      Checks
+      (change_holiday_checks day number is_holiday (calendar_at s year) (added_in s year)
+      (numbered number known) (length known))
+      (IsDone (record s {
+        changed_days = s.changed_days ++ record { day = day; is_holiday = is_holiday } ∷ [];
+      }))
+
+  -- an account's first day, and whether it is carried, are put right; its form stays
+  abbrev pub Moves : List ℕ → ℕ → Beginning → Type 0
+  Moves name number beginning =
+      let own = entries_of s name in
+      Checks
+      (correct_account_checks name number beginning own.account (numbered number own.moves)
+      (is_unused own) (length own.moves))
+      (IsDone (record s { moved = with_move s.moved name beginning }))
+
   -- a question is answered, and nothing changes
   abbrev pub Answers : Questions → Type 0
   Answers question = Checks (question_checks s question) ((new ≡ s) × Tells s question answer)
@@ -182,4 +241,33 @@ Step s (Void name number) answer new = Voids s answer new name number
 Step s (Pay name number paid for_day cents) answer new =
     Pays s answer new name number (record { paid = paid; for_day = for_day; cents = cents })
 Step s (VoidPay name number) answer new = VoidsPayment s answer new name number
+Step s (CorrectReport name quarter number cents) answer new =
+    CorrectsReport s answer new name quarter number cents
+Step s (CorrectReportYear name year number cents) answer new =
+    CorrectsReportYear s answer new name year number cents
+Step s (ChangeHoliday day number is_holiday) answer new = Changes s answer new day number is_holiday
+Step s (CorrectAccount name number start carried) answer new =
+    Moves s answer new name number (record { start = start; carried = carried })
 Step s (Question question) answer new = Answers s answer new question
+
+-- the same request under another number: a correction, or a change of a holiday. Any other request
+-- stays as it is.
+abbrev pub with_number : Request → ℕ → Request
+with_number (Enrol name start carried form) number = Enrol name start carried form
+with_number (Calendar year days) number = Calendar year days
+with_number (AddHoliday day) number = AddHoliday day
+with_number (Report name quarter cents) number = Report name quarter cents
+with_number (ReportYear name year cents) number = ReportYear name year cents
+with_number (OpenYear name year) number = OpenYear name year
+with_number (Post name run payday fit ss medicare) number = Post name run payday fit ss medicare
+with_number (Void name run) number = Void name run
+with_number (Pay name payment paid for_day cents) number = Pay name payment paid for_day cents
+with_number (VoidPay name payment) number = VoidPay name payment
+with_number (CorrectReport name quarter known cents) number =
+    CorrectReport name quarter number cents
+with_number (CorrectReportYear name year known cents) number =
+    CorrectReportYear name year number cents
+with_number (ChangeHoliday day known is_holiday) number = ChangeHoliday day number is_holiday
+with_number (CorrectAccount name known start carried) number =
+    CorrectAccount name number start carried
+with_number (Question question) number = Question question

@@ -24,7 +24,7 @@ use ftd_rules::{Form, PayRun, Payment, Voidable, is_account_name};
 pub type Answer = Result<Reply, Refusal>;
 
 /// Done before, or known with other content.
-fn known_as(same: bool, differs: Refusal) -> Answer
+pub(crate) fn known_as(same: bool, differs: Refusal) -> Answer
     ensures { result ≡ (if same then Ok Reply.Already else Err differs) }
 {
     if same {
@@ -35,7 +35,7 @@ fn known_as(same: bool, differs: Refusal) -> Answer
 }
 
 /// Whether it is this form.
-fn is_form(form: Form, other: Form) -> bool
+pub(crate) fn is_form(form: Form, other: Form) -> bool
     ensures { result ≡ is_form form other }
 {
     match (form, other) {

@@ -14,3 +14,10 @@ pub struct Account {
     /// The return that the employer files.
     pub form: Form,
 }
+
+/// How an account begins: the employer's first day, and whether the account came in as semiweekly.
+#[derive(Clone, Copy, Debug, PartialEq, Eq)]
+pub struct Beginning {
+    pub start: Day,
+    pub carried: bool,
+}

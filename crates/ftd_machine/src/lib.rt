@@ -6,6 +6,7 @@
 #![tactic(auto)]
 
 mod checks;
+mod corrections;
 mod entries;
 mod explained;
 mod kept;
@@ -20,7 +21,10 @@ pub use crate::checks::{
     post_check, report_check, report_year_check, schedule_b_check, status_check, void_check,
     void_payment_check,
 };
-pub use crate::entries::Account;
+pub use crate::corrections::{
+    change_holiday_check, correct_account_check, correct_report_check, correct_report_year_check,
+};
+pub use crate::entries::{Account, Beginning};
 pub use crate::explained::{
     CountedDay, CountedDays, DayKind, Explanation, RunningSum, RunningSums,
 };

@@ -28,7 +28,8 @@ pub enum Reply {
     /// What was asked for was done before.
     Already,
     /// The obligations that went and those that came: the least first day and the greatest last day
-    /// among them, and how many there are of each. Where there are none, both days are the payday.
+    /// among them, and how many there are of each. Where there are none, both days are the payday, or
+    /// the first day of the quarter or the year whose total was corrected.
     Posted {
         from: Day,
         to: Day,
@@ -52,8 +53,8 @@ pub enum Reply {
     Kept(KeptRows),
 }
 
-/// Why the desk refuses a request. It prints with its number, and 16, 17, 18 and 25 with what they
-/// name: `refused 17 QuarterMissing 2024Q2`.
+/// Why the desk refuses a request. It prints with its number, and 16, 17, 18, 25 and 27 with what
+/// they name: `refused 17 QuarterMissing 2024Q2`.
 #[derive(Clone, Copy, Debug, PartialEq, Eq, Error)]
 pub enum Refusal {
     /// The text is no account name: 1 to 20 bytes, a lower-case letter, then lower-case letters,
@@ -133,6 +134,18 @@ pub enum Refusal {
     /// This year, the lookback period of a Form 943 account, is not reported.
     #[error("refused 25 YearMissing {0}")]
     YearMissing(u32),
+    /// The number is that of another correction.
+    #[error("refused 26 CorrectionDiffers")]
+    CorrectionDiffers,
+    /// The number is not the next one. It names how many corrections there are.
+    #[error("refused 27 NumberSkipped {0}")]
+    NumberSkipped(u32),
+    /// The day was neither given nor added as a holiday.
+    #[error("refused 28 NoHoliday")]
+    NoHoliday,
+    /// A figure of the account is reported, or a year of it is open.
+    #[error("refused 29 AccountInUse")]
+    AccountInUse,
 }
 
 /// What a refusal names.
@@ -144,12 +157,14 @@ pub enum Named {
     Year(u32),
     /// A quarter that is not reported.
     Quarter(Quarter),
+    /// How many corrections there are, of which the number of the next one is one more.
+    Number(u32),
 }
 
 impl Refusal {
     ghost use Rattle.ftd_machine.specs.Refusals.{is_failure, name_text, named_by, number_of};
 
-    /// The refusal's number, 1 to 25.
+    /// The refusal's number, 1 to 29.
     pub fn number(self) -> u8
         ensures { result ≡ number_of self }
     {
@@ -179,6 +194,10 @@ impl Refusal {
             Refusal::WrongForm => 23,
             Refusal::YearDiffers => 24,
             Refusal::YearMissing(_) => 25,
+            Refusal::CorrectionDiffers => 26,
+            Refusal::NumberSkipped(_) => 27,
+            Refusal::NoHoliday => 28,
+            Refusal::AccountInUse => 29,
         }
     }
 
@@ -212,6 +231,10 @@ impl Refusal {
             Refusal::WrongForm => "WrongForm",
             Refusal::YearDiffers => "YearDiffers",
             Refusal::YearMissing(_) => "YearMissing",
+            Refusal::CorrectionDiffers => "CorrectionDiffers",
+            Refusal::NumberSkipped(_) => "NumberSkipped",
+            Refusal::NoHoliday => "NoHoliday",
+            Refusal::AccountInUse => "AccountInUse",
         }
     }
 
@@ -243,11 +266,15 @@ impl Refusal {
             | Refusal::TooManyPayments
             | Refusal::WrongForm
             | Refusal::YearDiffers
-            | Refusal::YearMissing(_) => false,
+            | Refusal::YearMissing(_)
+            | Refusal::CorrectionDiffers
+            | Refusal::NumberSkipped(_)
+            | Refusal::NoHoliday
+            | Refusal::AccountInUse => false,
         }
     }
 
-    /// The year or the quarter that it names, if it names one.
+    /// The year, the quarter or the number that it names, if it names one.
     pub fn named(self) -> Named
         ensures { result ≡ named_by self }
     {
@@ -256,6 +283,7 @@ impl Refusal {
             Refusal::YearNotOpen(year) => Named::Year(year),
             Refusal::YearMissing(year) => Named::Year(year),
             Refusal::QuarterMissing(quarter) => Named::Quarter(quarter),
+            Refusal::NumberSkipped(count) => Named::Number(count),
             Refusal::BadName
             | Refusal::BadYear
             | Refusal::BadDay
@@ -276,7 +304,10 @@ impl Refusal {
             | Refusal::Memory
             | Refusal::Store
             | Refusal::WrongForm
-            | Refusal::YearDiffers => Named::Nothing,
+            | Refusal::YearDiffers
+            | Refusal::CorrectionDiffers
+            | Refusal::NoHoliday
+            | Refusal::AccountInUse => Named::Nothing,
         }
     }
 }

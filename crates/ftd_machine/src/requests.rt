@@ -3,6 +3,7 @@
 ghost use Rattle.std.specs.Prelude.{◌≡◌, None, Some, MatchOption, option_map};
 ghost use Rattle.ftd_machine.specs.Kept.{account_kept};
 ghost use Rattle.ftd_machine.specs.Questions.{account_asked, question_of};
+ghost use Rattle.ftd_machine.specs.Step.{with_number};
 
 use crate::lists::{AccountName, Days};
 use ftd_days::{Cents, Day, Quarter};
@@ -71,6 +72,37 @@ pub enum Request {
         account: AccountName,
         payment: u32,
     },
+    /// The total of a quarter that a Form 941 account reported is put right, in cents: its first
+    /// correction has number 1, the next one 2.
+    CorrectReport {
+        account: AccountName,
+        quarter: Quarter,
+        number: u32,
+        cents: Cents,
+    },
+    /// The total of a year that a Form 943 account reported is put right, in cents, as that of a
+    /// quarter is.
+    CorrectReportYear {
+        account: AccountName,
+        year: u32,
+        number: u32,
+        cents: Cents,
+    },
+    /// A day of a year whose calendar is given is taken back as a holiday, or made one again: its
+    /// first change has number 1, the next one 2.
+    ChangeHoliday {
+        day: Day,
+        number: u32,
+        is_holiday: bool,
+    },
+    /// The first day of an account, and whether it came in as semiweekly, are put right while nothing
+    /// rests on them: the first correction has number 1, the next one 2.
+    CorrectAccount {
+        account: AccountName,
+        number: u32,
+        start: Day,
+        carried: bool,
+    },
     /// A question. Its answer follows from what is kept, and nothing changes.
     Question(Question),
 }
@@ -92,8 +124,37 @@ impl Request {
             | Request::Post { .. }
             | Request::Void { .. }
             | Request::Pay { .. }
-            | Request::VoidPay { .. } => None,
+            | Request::VoidPay { .. }
+            | Request::CorrectReport { .. }
+            | Request::CorrectReportYear { .. }
+            | Request::ChangeHoliday { .. }
+            | Request::CorrectAccount { .. } => None,
         }
+    }
+
+    /// The same request under another number: a correction, or a change of a holiday. Any other
+    /// request stays as it is.
+    pub fn with_number(mut self, number: u32) -> Request
+        ensures { result ≡ with_number self number }
+    {
+        match &mut self {
+            Request::CorrectReport { number: own, .. } => *own = number,
+            Request::CorrectReportYear { number: own, .. } => *own = number,
+            Request::ChangeHoliday { number: own, .. } => *own = number,
+            Request::CorrectAccount { number: own, .. } => *own = number,
+            Request::Enrol { .. }
+            | Request::Calendar { .. }
+            | Request::AddHoliday { .. }
+            | Request::Report { .. }
+            | Request::ReportYear { .. }
+            | Request::OpenYear { .. }
+            | Request::Post { .. }
+            | Request::Void { .. }
+            | Request::Pay { .. }
+            | Request::VoidPay { .. }
+            | Request::Question(_) => {}
+        }
+        self
     }
 }
 

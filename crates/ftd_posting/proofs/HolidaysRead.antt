@@ -15,6 +15,7 @@ use Rattle.ftd_rules.proofs.Covering.{within_period, line_is}
 use Rattle.ftd_rules.proofs.Near.{due_near}
 use Rattle.ftd_rules.proofs.Schedules.{year_facts, year_start-mono}
 use Rattle.ftd_rules.proofs.Stated.{piece_owed}
+use Rattle.ftd_machine.proofs.Few.{few_in_force}
 use Rattle.ftd_machine.specs.State.{State, holidays}
 use Rattle.ftd_machine.specs.Sound.{IsSound}
 use Rattle.ftd_posting.specs.Books.{AreHolidaysIn}
@@ -37,7 +38,7 @@ holidays_near s sound form lines sums read year o are read_of begins owed day fr
     let i0 = inside.0 in let i1 = inside.1 in let i2 = inside.2 in
     let p1 = is.period.1 in let p2 = is.period.2 in
     let its = year_is is.line.year o.last (omega arith) (omega arith) (omega arith) (omega arith) in
-    let near = due_near (holidays s) o.rule o.last o.due sound.few (omega arith) is.due in
+    let near = due_near (holidays s) o.rule o.last o.due (few_in_force s sound.few) (omega arith) is.due in
     let near1 = near.1.0 in let in_days = near.1.1 in
     let low = year_later o.last day from (omega arith) in
     let high = year_later day o.due to in_days in

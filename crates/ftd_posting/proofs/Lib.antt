@@ -8,6 +8,9 @@ pub mod HolidaysRead
 pub mod RightByAll
 pub mod OwedSince
 pub mod LinesAfter
+pub mod Placed
 pub mod Reposting
 pub mod PostedRuns
 pub mod Booking
+pub mod CorrectedState
+pub mod CorrectedFigures

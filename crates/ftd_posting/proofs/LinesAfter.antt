@@ -11,11 +11,11 @@ use Rattle.ftd_rules.specs.declared.YearLine.{YearLine}
 use Rattle.ftd_rules.specs.declared.run.PayRun.{PayRun}
 use Rattle.ftd_rules.specs.declared.run.Voidable.{Voidable}
 use Rattle.ftd_rules.specs.Lists.{Has}
-use Rattle.ftd_rules.specs.Years.{AreLines, basis_of}
+use Rattle.ftd_rules.specs.Years.{AreLines, AreOpenYears, basis_of}
 use Rattle.ftd_rules.proofs.Earlier.{counterpart}
 use Rattle.ftd_rules.proofs.Schedules.{line_one}
 use Rattle.ftd_rows.specs.Lists.{Pairs}
-use Rattle.ftd_buckets.specs.Histories.{History, IsChange}
+use Rattle.ftd_buckets.specs.Histories.{History}
 use Rattle.ftd_buckets.specs.Patches.{AreChanged}
 use Rattle.ftd_machine.specs.State.{Entry, Entries}
 use Rattle.ftd_machine.specs.History.{year_of_line, form_of, is_carried, live_sums, AreCarried}
@@ -66,20 +66,19 @@ lines_or_not x y e =
 
 -- ---- the lines after a change
 
-module _ (day : ℕ) (before after : History) (changed : List YearLine)
-    (change : IsChange day before after) (are : AreChanged before after changed) where
+module _ (before after : History) (changed : List YearLine) (some : AreOpenYears before.lines)
+    (then : AreOpenYears after.lines) (same_years : map basis_of before.lines ≡ map basis_of after.lines)
+    (are : AreChanged before after changed) where
   -- a line of the history before, what was put for it, and the line of its year after
   one_after : (x y z : YearLine) → Has before.lines x → Has after.lines z → basis_of x ≡ basis_of z
       → IsAfter changed x y → y ≡ z
   one_after x y z in_before in_after e (inl (other, in_changed, same_year, is)) =
-      let years = change.is_after.years in
       let year : x.year ≡ z.year = ap (λ (g : ℕ × ℕ × Bool). g.0) e in
-      let one : other ≡ z = line_one years.0 after.lines other z years.2
+      let one : other ≡ z = line_one then.0 after.lines other z then.2
       ((are.all other).0 in_changed).0 in_after (same_year ∙ year) in
       is ∙ line_as (scheduled_as x other) z e (ap (λ (l : YearLine). l.opening) one)
       (ap (λ (l : YearLine). l.turn) one)
   one_after x y z in_before in_after e (inr (is, none)) =
-      let years = change.is_before.years in
       let year : z.year ≡ x.year = sym (ap (λ (g : ℕ × ℕ × Bool). g.0) e) in
       elim (lines_or_not x z e) [
         | inl same ↦ is ∙ same
@@ -88,7 +87,7 @@ module _ (day : ℕ) (before after : History) (changed : List YearLine)
             ((are.all z).1 (
               in_after,
               λ there. differs
-                  (sym (line_one years.0 before.lines z x years.2 there in_before year)),
+                  (sym (line_one some.0 before.lines z x some.2 there in_before year)),
             )) year)
       ]
 
@@ -111,12 +110,12 @@ module _ (day : ℕ) (before after : History) (changed : List YearLine)
       ap (λ l. l ∷ ys) here ∙ ap (λ ls. z ∷ ls) rest
 
   pub lines_after : (put : List YearLine) → AreAfter before.lines changed put → put ≡ after.lines
-  lines_after put pairs = all_after before.lines put after.lines pairs change.same_years
+  lines_after put pairs = all_after before.lines put after.lines pairs same_years
       (λ x has. has) (λ z has. has)
 
 -- ---- the lines of an account after a change of its runs
 
-years_same : (xs ys : List YearLine) → map basis_of xs ≡ map basis_of ys
+pub years_same : (xs ys : List YearLine) → map basis_of xs ≡ map basis_of ys
     → map year_of_line xs ≡ map year_of_line ys
 years_same [] [] e = refl
 years_same [] (y ∷ ys) e = absurd cc
@@ -127,7 +126,7 @@ years_same (x ∷ xs) (y ∷ ys) e =
     let year : x.year ≡ y.year = ap (λ (z : ℕ × ℕ × Bool). z.0) first in
     ap (λ n. n ∷ map year_of_line xs) year ∙ ap (λ ns. y.year ∷ ns) (years_same xs ys later)
 
-carried_same : (carried : Bool) (xs ys : List YearLine) → map basis_of xs ≡ map basis_of ys
+pub carried_same : (carried : Bool) (xs ys : List YearLine) → map basis_of xs ≡ map basis_of ys
     → AreCarried carried ys → AreCarried carried xs
 carried_same carried [] ys e are = tt
 carried_same carried (x ∷ xs) [] e are = absurd cc

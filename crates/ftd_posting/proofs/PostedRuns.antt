@@ -52,7 +52,7 @@ abbrev pub told : Difference → Answer
 told d = Ok (Posted d.from d.to d.removed d.added)
 
 -- the form of an account that is known
-form_is : (known : Option Account) (account : Account) (name : List ℕ) (t : Tables) (s : State)
+pub form_is : (known : Option Account) (account : Account) (name : List ℕ) (t : Tables) (s : State)
     → StandsFor t s → KnowsAccount name known t → known ≡ Some account
     → form_of (entries_of s name).account ≡ account.form
 form_is known account name t s stands knows is = ap form_of (knows s stands ∙ is)

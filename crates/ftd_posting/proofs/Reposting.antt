@@ -1,11 +1,8 @@
 -- The law: where the tables stood for a state, they stand for the state after a change of an
 -- account's runs of one day.
-use Rattle.std.proofs.Common.{◌≡◌, ◌≢◌, ◌∙◌, refl, sym, ap, subst, inl, ℕ, ◌+◌, ◌≤◌, Bool, true}
-use Rattle.std.proofs.Common.{false, List, [], ◌++◌, map, Ok, arith}
-use Rattle.std.specs.Prelude.{filter, bytes_eq}
-use Rattle.std.specs.List.Sorted.{IsPermutation}
-use Rattle.std.proofs.lemmas.Bool.{true≢false}
-use Rattle.std.proofs.lemmas.List.Sorted.{IsPermutation-trans}
+use Rattle.std.proofs.Common.{◌≡◌, ◌≢◌, refl, sym, ap, subst, inl, ℕ, ◌+◌, ◌≤◌, Bool, List, []}
+use Rattle.std.proofs.Common.{map, Ok, arith}
+use Rattle.std.specs.Prelude.{filter}
 use Rattle.ftd_days.specs.Calendar.{year_of, year_start}
 use Rattle.ftd_days.proofs.Months.{year_is}
 use Rattle.ftd_rules.specs.declared.DaySum.{DaySum}
@@ -22,46 +19,37 @@ use Rattle.ftd_rules.proofs.Covering.{line_is}
 use Rattle.ftd_rules.proofs.Earlier.{counterpart}
 use Rattle.ftd_rules.proofs.Opened.{lines_some}
 use Rattle.ftd_rules.proofs.Schedules.{year_facts}
-use Rattle.ftd_schema.specs.declared.TableName.TheVariants.{Metas, Accounts, ReportedQuarters}
-use Rattle.ftd_schema.specs.declared.TableName.TheVariants.{CalendarYears, Holidays, Years, Runs}
-use Rattle.ftd_schema.specs.declared.TableName.TheVariants.{Payments, Obligations, Forms}
-use Rattle.ftd_schema.specs.declared.TableName.TheVariants.{ReportedYears, AddedHolidays}
-use Rattle.ftd_schema.specs.Rows.{RunRow, ObligationRow, YearRow, FormRow}
+use Rattle.ftd_schema.specs.declared.TableName.TheVariants.{Runs}
+use Rattle.ftd_schema.specs.Rows.{RunRow}
 use Rattle.ftd_schema.specs.Standing.{Tables, with_rows}
-use Rattle.ftd_schema.specs.Tests.{is_year_of, is_live_run_between}
+use Rattle.ftd_schema.specs.Tests.{is_live_run_between}
 use Rattle.ftd_schema.specs.Orders.{RunsRise}
 use Rattle.ftd_rows.specs.Cells.{day_number}
 use Rattle.ftd_rows.specs.DaySums.{ListsDaySums}
-use Rattle.ftd_rows.specs.Rows.{year_row, obligation_row}
 use Rattle.ftd_buckets.specs.declared.Patch.{Patch}
 use Rattle.ftd_buckets.specs.declared.Window.{Window}
 use Rattle.ftd_buckets.specs.Histories.{History, IsChange}
 use Rattle.ftd_buckets.specs.Windows.{IsLastNeeded}
-use Rattle.ftd_buckets.specs.Patches.{IsOwed, IsPatch}
+use Rattle.ftd_buckets.specs.Patches.{IsPatch}
 use Rattle.ftd_machine.specs.State.{State, Entry, Entries, entries_of, is_of, holidays}
 use Rattle.ftd_machine.specs.History.{form_of, live_sums, live, AreLinesOf}
 use Rattle.ftd_machine.specs.Posting.{IsPosted}
 use Rattle.ftd_machine.specs.Sound.{IsSound}
 use Rattle.ftd_machine.specs.declared.replies.Reply.TheVariants.{Posted}
-use Rattle.ftd_machine.proofs.Adding.{same_name, own_name}
-use Rattle.ftd_store.proofs.Sifted.{sifted}
-use Rattle.ftd_entries.specs.Standing.{StandsFor, IsSettled, run_entry, is_obligation_of}
-use Rattle.ftd_entries.specs.Standing.{enrolled_form}
+use Rattle.ftd_entries.specs.Standing.{StandsFor, IsSettled, run_entry}
 use Rattle.ftd_entries.proofs.Lines.{lines_known}
 use Rattle.ftd_entries.proofs.YearHolidays.{holiday_read}
 use Rattle.ftd_repairs.specs.declared.Difference.{Difference}
 use Rattle.ftd_repairs.specs.Repaired.{RunsAre, Repairs}
 use Rattle.ftd_repairs.specs.Replaced.{patched}
-use Rattle.ftd_repairs.specs.Rescheduled.{AreAfter}
 use Rattle.ftd_repairs.specs.Reposted.{Repatches, IsReposted}
-use Rattle.ftd_posting.proofs.Patching.{patched_are}
-use Rattle.ftd_posting.proofs.Differing.{differ_whole}
-use Rattle.ftd_posting.proofs.RowsPlaced.{stays, placed_rows, gone_are, others_placed}
 use Rattle.ftd_posting.proofs.LiveRuns.{sums_listed}
 use Rattle.ftd_posting.specs.Books.{AreHolidaysIn}
-use Rattle.ftd_posting.proofs.HolidaysRead.{holidays_near}
-use Rattle.ftd_posting.proofs.RightByAll.{patch_by_all}
-use Rattle.ftd_posting.proofs.LinesAfter.{lines_after, lines_of_runs}
+use Rattle.ftd_posting.proofs.LinesAfter.{lines_of_runs}
+use Rattle.ftd_posting.proofs.Placed.{IsPlaced}
+use Rattle.ftd_posting.proofs.Placed.{are_owed as owed_after, come_later as rows_later}
+use Rattle.ftd_posting.proofs.Placed.{lines_put as put_are, placed_stands as all_stands}
+use Rattle.ftd_posting.proofs.Placed.{placed_told as all_told}
 
 -- the same state, but with these runs
 abbrev pub with_runs : State → List (Entry (Voidable PayRun)) → State
@@ -157,22 +145,6 @@ module _ (old new : Tables) (s : State) (name : List ℕ) (day : ℕ) (rows : Li
         let year = year_is line.year day (omega arith) (omega arith) (omega arith) (omega arith) in
         subst (λ n. year_start n ≤ repatches.patch.from) (sym year) (omega arith)
 
-    begins : (o : Obligation) → repatches.patch.from ≤ o.first → year_start (year_of day) ≤ o.first
-    begins o l = let low = since_year in omega arith
-
-    right_by_all : IsPatch (form_of own.account) day before after (holidays s) right.0
-        repatches.patch
-    right_by_all =
-        patch_by_all (form_of own.account) day before after known (holidays s) right.0
-        repatches.patch found_after.2
-        (λ o l owed. holidays_near s sound (form_of own.account) lines_then (live_sums own_after)
-        known (year_of day) o found_after.2 read_of (begins o l) owed) right.1
-
-    -- ---- the obligations after
-
-    abbrev pub owed_then : List Obligation
-    owed_then = patched repatches.patch.from repatches.patch.to was.owed repatches.patch.rows
-
     some_days : repatches.patch.from ≤ repatches.patch.to + 1
     some_days =
         let p = right.1 in
@@ -180,145 +152,81 @@ module _ (old new : Tables) (s : State) (name : List ℕ) (day : ℕ) (rows : Li
         let from = p.from in let to = p.to in
         omega arith
 
-    pub are_owed : AreObligations (form_of own.account) lines_then (live_sums own_after)
-        (holidays s) owed_then
-    are_owed =
-        let p = right_by_all in
-        let k = patched_are (IsOwed (form_of own.account) before (holidays s))
-        (IsOwed (form_of own.account) after (holidays s)) repatches.patch.from repatches.patch.to
-        was.owed
-        repatches.patch.rows some_days was.are_owed.by_first_day was.are_owed.all
-        (record { rise = p.rows.by_first_day; all = p.rows.all; elsewhere = p.elsewhere }) in
-        record { by_first_day = k.0; all = k.1 }
-
-    -- the rows of the patch begin on its first day or later
-    pub come_later : (o : Obligation) → Has repatches.patch.rows o → repatches.patch.from ≤ o.first
-    come_later o has = ((right_by_all.rows.all o).0 has).1
-
     pub are_lines : AreLinesOf own_after lines_then
     are_lines = lines_of_runs own (filter (is_of name) runs) was.lines lines_then was.are_lines
         found_after.1 found_after.2
 
-    pub lines_put : repatches.put.after ≡ lines_then
-    lines_put =
-        lines_after day before after repatches.patch.years change right_by_all.years
-        repatches.put.after
-        (subst (λ ls. AreAfter ls repatches.patch.years repatches.put.after) lines_are
-        repatches.put.are_after)
+    abbrev Placed : Type 0
+    Placed = IsPlaced old (with_rows Runs rows old) new s runs s.corrected s.corrected_years name day
+        (year_of day) before after lines known IsRight difference stands sound repatches
 
-    -- ---- the rows
-
-    abbrev rows_then : List ObligationRow
-    rows_then = filter (stays name repatches.patch.from repatches.patch.to) (old Obligations) ++ map
-        (obligation_row name) repatches.patch.rows
-
-    obligations_are : IsPermutation (new Obligations) rows_then
-    obligations_are = subst (λ (os : List ObligationRow). IsPermutation os rows_then)
-        (sym (repatches.put.puts.only Obligations)) repatches.put.rows.are
-
-    -- so those of an account
-    some_are : (test : ObligationRow → Bool) (os : List ObligationRow)
-        → IsPermutation (filter test rows_then) os → IsPermutation (filter test (new Obligations))
-        os
-    some_are test os are = IsPermutation-trans (filter test (new Obligations))
-        (filter test rows_then) os (sifted test (new Obligations) rows_then obligations_are) are
-
-    settled_own : IsSettled new Next name
-    settled_own = record {
-      lines = lines_then;
+    placed : Placed
+    placed = record {
+      lines_are = lines_are;
+      years = was.are_lines.schedules.years;
+      same_years = change.same_years;
+      owed = was.are_owed.all;
       are_lines = are_lines;
-      owed = owed_then;
-      are_owed = are_owed;
-      line_rows = subst (λ ls. IsPermutation (filter (is_year_of name) (new Years))
-          (map (year_row name) ls)) lines_put repatches.put.puts.has;
-      owed_rows =
-          some_are (is_obligation_of name) (map (obligation_row name) owed_then)
-          (placed_rows name repatches.patch.from repatches.patch.to (old Obligations) was.owed
-          repatches.patch.rows some_days was.owed_rows);
+      sums_are = refl;
+      others = λ other apart. ap (λ rs. record (entries_of s other) { runs = rs })
+          (changes.others other apart);
+      replaces = right.1.replaces;
+      from = since_year;
+      some = some_days;
+      read = read_of;
+      obligations = refl;
+      year_rows = λ other apart. refl;
+      entered = record {
+        meta = stands.meta;
+        accounts = stands.accounts;
+        forms = stands.forms;
+        reported = stands.reported;
+        reported_years = stands.reported_years;
+        calendars = stands.calendars;
+        calendar_days = stands.calendar_days;
+        added_days = stands.added_days;
+        runs = changes.rows_are;
+        payments = stands.payments;
+        corrected = stands.corrected;
+        corrected_years = stands.corrected_years;
+        changed_days = stands.changed_days;
+        moved = stands.moved;
+      };
     }
 
-    settled_other : (other : List ℕ) → other ≢ name → IsSettled new Next other
-    settled_other other apart =
-        let its = stands.settled other in
-        let theirs = entries_of s other in
-        let same = sym (changes.others other apart) in
-        record {
-          lines = its.lines;
-          are_lines = subst (λ rs. AreLinesOf (record theirs { runs = rs }) its.lines) same
-              its.are_lines;
-          owed = its.owed;
-          are_owed = subst (λ rs. AreObligations (form_of theirs.account) its.lines
-              (live_sums (record theirs { runs = rs })) (holidays s) its.owed) same its.are_owed;
-          line_rows =
-              subst (λ (ys : List YearRow). IsPermutation ys (map (year_row other) its.lines))
-              (sym (repatches.put.puts.others other apart ∙ ap (filter (is_year_of other))
-              (repatches.put.rows.only Years))) its.line_rows;
-          owed_rows =
-              some_are (is_obligation_of other) (map (obligation_row other) its.owed)
-              (subst (λ (os : List ObligationRow). IsPermutation os
-              (map (obligation_row other) its.owed))
-              (sym (others_placed name repatches.patch.from repatches.patch.to other apart
-              (old Obligations) repatches.patch.rows)) its.owed_rows);
-        }
+    -- ---- what follows
 
-    settled_each : (other : List ℕ) → IsSettled new Next other
-    settled_each other = by_name (bytes_eq other name) refl
-      where
-        by_name : (b : Bool) → bytes_eq other name ≡ b → IsSettled new Next other
-        by_name true is = subst (IsSettled new Next) (sym (same_name other name is)) settled_own
-        by_name false is =
-            settled_other other
-            (λ same. true≢false (sym (own_name name) ∙ (ap (λ n. bytes_eq n name) (sym same) ∙ is)))
+    abbrev pub owed_then : List Obligation
+    owed_then = patched repatches.patch.from repatches.patch.to was.owed repatches.patch.rows
+
+    pub are_owed : AreObligations (form_of own.account) lines_then (live_sums own_after)
+        (holidays s) owed_then
+    are_owed = owed_after old (with_rows Runs rows old) new s runs s.corrected s.corrected_years
+        name day (year_of day) before after lines known IsRight difference stands sound repatches
+        placed
+
+    pub come_later : (o : Obligation) → Has repatches.patch.rows o → repatches.patch.from ≤ o.first
+    come_later = rows_later old (with_rows Runs rows old) new s runs s.corrected s.corrected_years
+        name day (year_of day) before after lines known IsRight difference stands sound repatches
+        placed
+
+    pub lines_put : repatches.put.after ≡ lines_then
+    lines_put = put_are old (with_rows Runs rows old) new s runs s.corrected s.corrected_years
+        name day (year_of day) before after lines known IsRight difference stands sound repatches
+        placed
 
     -- the tables stand for the state after the change
     pub placed_stands : StandsFor new Next
-    placed_stands = record {
-      meta = repatches.put.puts.only Metas ∙ (repatches.put.rows.only Metas ∙ stands.meta);
-      accounts = repatches.put.puts.only Accounts
-          ∙ (repatches.put.rows.only Accounts ∙ stands.accounts);
-      forms = subst (λ (rows : List FormRow). IsPermutation rows
-          (map enrolled_form s.accounts))
-          (sym (repatches.put.puts.only Forms ∙ repatches.put.rows.only Forms)) stands.forms;
-      reported = repatches.put.puts.only ReportedQuarters
-          ∙ (repatches.put.rows.only ReportedQuarters ∙ stands.reported);
-      reported_years = repatches.put.puts.only ReportedYears
-          ∙ (repatches.put.rows.only ReportedYears ∙ stands.reported_years);
-      calendars = repatches.put.puts.only CalendarYears ∙ (repatches.put.rows.only CalendarYears
-          ∙ stands.calendars);
-      calendar_days = repatches.put.puts.only Holidays
-          ∙ (repatches.put.rows.only Holidays ∙ stands.calendar_days);
-      added_days = repatches.put.puts.only AddedHolidays ∙ (repatches.put.rows.only AddedHolidays
-          ∙ stands.added_days);
-      runs = repatches.put.puts.only Runs ∙ (repatches.put.rows.only Runs ∙ changes.rows_are);
-      payments = repatches.put.puts.only Payments
-          ∙ (repatches.put.rows.only Payments ∙ stands.payments);
-      settled = settled_each;
-    }
+    placed_stands = all_stands old (with_rows Runs rows old) new s runs s.corrected
+        s.corrected_years name day (year_of day) before after lines known IsRight difference stands
+        sound repatches placed
 
     -- and what is answered is how the obligations differ before and after
     pub placed_told : IsPosted (holidays s) own own_after day
         (Ok (Posted difference.from difference.to difference.removed difference.added))
-    placed_told =
-        let compared = repatches.compared in
-        let p = right_by_all in
-        record {
-          rows = was.owed;
-          owed = (was.lines, was.are_lines, was.are_owed);
-          rows_after = owed_then;
-          owed_after = (lines_then, are_lines, are_owed);
-          from = difference.from;
-          to = difference.to;
-          removed = difference.removed;
-          added = difference.added;
-          differ =
-              differ_whole repatches.patch.from repatches.patch.to was.owed repatches.patch.rows
-              compared.gone day difference.from difference.to difference.removed difference.added
-              (gone_are name repatches.patch.from repatches.patch.to (old Obligations) was.owed
-              compared.gone was.owed_rows compared.are_gone.are)
-              (λ o has. (let k = (p.rows.all o).0 has in let high = k.2 in (k.1, omega arith)))
-              (compared.differ p.rows.by_first_day);
-          told = refl;
-        }
+    placed_told = all_told old (with_rows Runs rows old) new s runs s.corrected
+        s.corrected_years name day (year_of day) before after lines known IsRight difference stands
+        sound repatches placed
 
 -- ---- a change whose repair read the tables
 

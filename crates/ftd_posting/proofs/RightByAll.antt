@@ -12,10 +12,9 @@ use Rattle.ftd_rules.proofs.DueDates.{due_some, due_one}
 use Rattle.ftd_rules.proofs.Resting.{due_same, from_later}
 use Rattle.ftd_rules.proofs.Schedules.{year_facts}
 use Rattle.ftd_rules.proofs.Stated.{piece_owed, due_by, due_stated}
-use Rattle.ftd_buckets.specs.declared.Window.{Window}
 use Rattle.ftd_buckets.specs.declared.Patch.{Patch}
 use Rattle.ftd_buckets.specs.Histories.{History, IsHistory}
-use Rattle.ftd_buckets.specs.Patches.{IsOwed, IsPatch}
+use Rattle.ftd_buckets.specs.Patches.{IsOwed, Replaces}
 use Rattle.ftd_posting.proofs.Differing.{BeginsElsewhere}
 
 -- an obligation with the due date that other holidays give it
@@ -72,16 +71,12 @@ stays_by form before after some all from to same o apart owed =
     (due_stated some o.rule o.last due.0 due.1) owed in
     with_due form after some all p o.due owed.due (same p apart found)
 
-pub patch_by_all : (form : Form) (day : ℕ) (before after : History) (some all : List ℕ)
-    (fed : Window) (patch : Patch) → IsHistory after
+pub replaces_by_all : (form : Form) (before after : History) (some all : List ℕ) (patch : Patch)
+    → IsHistory after
     → ((o : Obligation) → patch.from ≤ o.first → IsOwed form after all o
     → EqualHolidays o.last o.due some all)
-    → IsPatch form day before after some fed patch → IsPatch form day before after all fed patch
-patch_by_all form day before after some all fed patch are agree p = record {
-  period = p.period;
-  is_period = p.is_period;
-  from = p.from;
-  to = p.to;
+    → Replaces form before after some patch → Replaces form before after all patch
+replaces_by_all form before after some all patch are agree p = record {
   rows = record {
     by_first_day = p.rows.by_first_day;
     all = λ o. (

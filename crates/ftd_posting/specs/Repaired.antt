@@ -1,22 +1,30 @@
 -- What becomes of the tables where a run is posted or voided, whatever they hold.
-use Rattle.std.specs.Prelude.{◌≡◌, true, ℕ, List, Some, Ok}
+use Rattle.std.specs.Prelude.{◌≡◌, true, ℕ, ◌+◌, Bool, List, Some, Ok}
 use Rattle.sqlite.specs.Effect.{Database}
+use Rattle.ftd_days.specs.Calendar.{quarter_start, year_start}
+use Rattle.ftd_days.specs.declared.cents.Cents.{Cents}
 use Rattle.ftd_rules.specs.declared.Form.{Form}
 use Rattle.ftd_rules.specs.declared.run.PayRun.{PayRun}
 use Rattle.ftd_rules.specs.declared.run.Voidable.{Voidable}
 use Rattle.ftd_schema.specs.Standing.{Tables, Becomes}
 use Rattle.ftd_store.specs.Changes.{with_run, with_void_run}
 use Rattle.ftd_store.specs.Finds.{FindsForm, FindsRun}
+use Rattle.ftd_machine.specs.declared.entries.Account.{Account}
 use Rattle.ftd_machine.specs.Checks.{Answer}
 use Rattle.ftd_machine.specs.Laws.{is_change}
 use Rattle.ftd_machine.specs.declared.replies.Reply.TheVariants.{Posted}
 use Rattle.ftd_machine.specs.declared.requests.Request.{Request}
+use Rattle.ftd_machine.specs.declared.requests.Request.TheVariants.{CorrectReport, CorrectReportYear}
+use Rattle.ftd_machine.specs.declared.requests.Request.TheVariants.{ChangeHoliday, CorrectAccount}
 use Rattle.ftd_machine.specs.declared.requests.Request.TheVariants.{Enrol, Calendar, AddHoliday}
 use Rattle.ftd_machine.specs.declared.requests.Request.TheVariants.{Report, ReportYear, OpenYear}
 use Rattle.ftd_machine.specs.declared.requests.Request.TheVariants.{Post, Void, Pay, VoidPay}
 use Rattle.ftd_machine.specs.declared.requests.Request.TheVariants.{Question}
 use Rattle.ftd_repairs.specs.declared.Difference.{Difference}
 use Rattle.ftd_repairs.specs.Reposted.{IsReposted}
+use Rattle.ftd_posting.specs.Correcting.{EntersFigure, IsOnlyYearOf}
+use Rattle.ftd_posting.specs.declared.figures.FigureEntry.{FigureEntry}
+use Rattle.ftd_posting.specs.declared.figures.FigureEntry.TheVariants.{OfQuarter, OfYear}
 
 -- the rows of the account, whose runs of the day had changed, were repaired by the form of its row,
 -- and the answer tells how its obligations differ
@@ -39,13 +47,36 @@ VoidsRun name number answer old new =
     (run : Voidable PayRun) × FindsRun name number (Some run) old
     × IsRepaired name run.value.payday old (with_void_run name number old) new answer
 
+-- a figure of the account was corrected: its correction was entered, and where the year is open in
+-- whose lookback period it counts, the account's rows were repaired by the form of its row
+pub record IsCorrected (name : List ℕ) (first year : ℕ) (entry : FigureEntry) (answer : Answer)
+    (old new : Tables) : Type 0 where
+  pub account : Account
+  pub has_form : FindsForm name (Some account.form) old
+  pub is_open : Bool
+  pub difference : Difference
+  pub told : answer ≡ Ok (Posted difference.from difference.to difference.removed difference.added)
+  pub entered : EntersFigure name account is_open first year entry difference old new
+
+-- that of a quarter, or of a year
+abbrev pub CorrectsQuarter : List ℕ → ℕ → ℕ → Cents → Answer → Tables → Tables → Type 0
+CorrectsQuarter name quarter number cents answer old new =
+    (year : ℕ) × IsOnlyYearOf quarter year
+    × IsCorrected name (quarter_start quarter) year
+    (OfQuarter quarter (record { number = number; cents = cents })) answer old new
+
+abbrev pub CorrectsYear : List ℕ → ℕ → ℕ → Cents → Answer → Tables → Tables → Type 0
+CorrectsYear name year number cents answer old new =
+    IsCorrected name (year_start year) (year + 2)
+    (OfYear year (record { number = number; cents = cents })) answer old new
+
 -- where the answer tells of a change, the rows become others, which stand so to them
 abbrev pub Becoming : (Answer → Tables → Tables → Type 0)
     → Answer → Database → Database → Tables → Type 0
 Becoming So answer before after t =
     is_change answer ≡ true → (u : Tables) × So answer t u × Becomes before after u
 
--- so of a request that posts or voids a run; nothing is said here of others
+-- so of a request that posts or voids a run, or corrects a figure; nothing is said here of others
 unfoldable pub Repairs : Request → Answer → Database → Database → Tables → Type 0
 Repairs (Post name number payday fit ss medicare) =
     let run : PayRun = record { payday = payday; fit = fit; ss = ss; medicare = medicare } in
@@ -59,4 +90,10 @@ Repairs (ReportYear name year cents) = λ answer before after t. Unit {0}
 Repairs (OpenYear name year) = λ answer before after t. Unit {0}
 Repairs (Pay name number paid for_day cents) = λ answer before after t. Unit {0}
 Repairs (VoidPay name number) = λ answer before after t. Unit {0}
+Repairs (CorrectReport name quarter number cents) =
+    Becoming (CorrectsQuarter name quarter number cents)
+Repairs (CorrectReportYear name year number cents) =
+    Becoming (CorrectsYear name year number cents)
+Repairs (ChangeHoliday day number is_holiday) = λ answer before after t. Unit {0}
+Repairs (CorrectAccount name number start carried) = λ answer before after t. Unit {0}
 Repairs (Question question) = λ answer before after t. Unit {0}

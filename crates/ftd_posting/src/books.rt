@@ -26,10 +26,11 @@ use std::alloc::Global;
 const LAST_DAY: i32 = 84_005;
 
 /// The days from the first of the year to the last that there is. None before 1900 and after 2199.
-fn days_from(year: u32) -> Option<Window>
+pub(crate) fn days_from(year: u32) -> Option<Window>
     ensures first { IfSome result (λ days. days.from ≡ year_start year) }
     ensures of_year { IfSome result (λ days. year_of days.from ≡ year) }
     ensures last { IfSome result (λ days. days.to ≡ last_day) }
+    ensures to { IfSome result (λ days. year ≤ 2199) }
 {
     if year < 1900 || year > 2199 {
         return None;
@@ -71,7 +72,7 @@ impl Book {
             → IsSound s → MatchOption found (HasNoYear s name.now year) (IsBook s name.now)) }
         ensures year { IfOk result (λ found. IfSome found (λ book. first_year book ≡ year)) }
     {
-        let Some(account) = known(tx, name)? else {
+        let Some(account) = known(tx, alloc, name)? else {
             return Ok(None);
         };
         let there = is_open(tx, alloc, name, year)?;

@@ -35,12 +35,13 @@ pub(crate) struct KnownForPost {
 /// What is known of an account before its run of this number is voided.
 pub(crate) fn known_for_void<S: Alter>(
     tx: &mut Tx<'_, S>,
+    alloc: Global,
     name: &str,
     number: u32,
 ) -> Result<KnownForVoid, StoreFault>
     ensures call { Reads S.Store tx.old tx.new result (KnowsForVoid name.now number) }
 {
-    let account = known(tx, name)?;
+    let account = known(tx, alloc, name)?;
     let kept = tx.run(name, number)?;
     Ok(KnownForVoid { account, kept })
 }
@@ -56,7 +57,7 @@ pub(crate) fn known_for_post<S: Alter>(
     ensures call { Reads S.Store tx.old tx.new result
         (KnowsForPost name.now number (year_of payday)) }
 {
-    let before = known_for_void(tx, name, number)?;
+    let before = known_for_void(tx, alloc, name, number)?;
     let is_open = is_open(tx, alloc, name, payday.year())?;
     Ok(KnownForPost {
         account: before.account,

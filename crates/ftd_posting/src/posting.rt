@@ -64,7 +64,7 @@ pub fn void<S: Alter>(
     ensures repairs { Calls S.Store tx.old tx.new result (λ answer before after.
         Becoming (VoidsRun name.now number) answer before.now after.now) }
 {
-    let before = known_for_void(tx, name, number)?;
+    let before = known_for_void(tx, alloc, name, number)?;
     if let Some(answer) = void_check(name, number, before.account, before.kept) {
         return Ok(answer);
     }

@@ -2,3 +2,4 @@ pub mod Notes
 mod DueFacts
 mod Mended
 mod FaultLines
+mod Numbered

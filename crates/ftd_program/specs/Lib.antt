@@ -1,4 +1,5 @@
 pub mod Mending
+pub mod Numbering
 pub mod Performing
 pub mod Plain
 pub mod Summaries

@@ -45,6 +45,10 @@ KnowsQuarters s (request.Post account run payday fit ss medicare) first known = 
 KnowsQuarters s (request.Void account run) first known = known ≡ Nothing
 KnowsQuarters s (request.Pay account payment paid for_day cents) first known = known ≡ Nothing
 KnowsQuarters s (request.VoidPay account payment) first known = known ≡ Nothing
+KnowsQuarters s (request.CorrectReport account quarter number cents) first known = known ≡ Nothing
+KnowsQuarters s (request.CorrectReportYear account year number cents) first known = known ≡ Nothing
+KnowsQuarters s (request.ChangeHoliday day number is_holiday) first known = known ≡ Nothing
+KnowsQuarters s (request.CorrectAccount account number start carried) first known = known ≡ Nothing
 KnowsQuarters s (request.Question question) first known = known ≡ Nothing
 
 -- where a calendar differs, the days that it was given with
@@ -59,6 +63,10 @@ KnowsDays s (request.Post account run payday fit ss medicare) known = known ≡ 
 KnowsDays s (request.Void account run) known = known ≡ Nothing
 KnowsDays s (request.Pay account payment paid for_day cents) known = known ≡ Nothing
 KnowsDays s (request.VoidPay account payment) known = known ≡ Nothing
+KnowsDays s (request.CorrectReport account quarter number cents) known = known ≡ Nothing
+KnowsDays s (request.CorrectReportYear account year number cents) known = known ≡ Nothing
+KnowsDays s (request.ChangeHoliday day number is_holiday) known = known ≡ Nothing
+KnowsDays s (request.CorrectAccount account number start carried) known = known ≡ Nothing
 KnowsDays s (request.Question question) known = known ≡ Nothing
 
 -- where a year is not open, the first of the account's years, if that is a later one
@@ -94,6 +102,10 @@ KnowsFor s asked refusal.Store known = known ≡ Nothing
 KnowsFor s asked refusal.WrongForm known = known ≡ Nothing
 KnowsFor s asked refusal.YearDiffers known = known ≡ Nothing
 KnowsFor s asked (refusal.YearMissing year) known = known ≡ Nothing
+KnowsFor s asked refusal.CorrectionDiffers known = known ≡ Nothing
+KnowsFor s asked (refusal.NumberSkipped count) known = known ≡ Nothing
+KnowsFor s asked refusal.NoHoliday known = known ≡ Nothing
+KnowsFor s asked refusal.AccountInUse known = known ≡ Nothing
 
 -- what is known is so of the state after the request; in its place a fault may come
 abbrev pub KnowsOf : State → Request → Answer → Result Known Refusal → Type 0

@@ -1,9 +1,10 @@
 -- What the program prints of an answer, and its exit status.
-use Rattle.std.specs.Prelude.{◌≡◌, ◌⊎◌, ◌≤◌, ℕ, Bool, true, false, List, Option, Result}
+use Rattle.std.specs.Prelude.{◌≡◌, ◌⊎◌, ℕ, Bool, true, false, List, Option, Result}
 use Rattle.std.specs.Prelude.{Some, None, MatchResult, Ok, Err, codes}
 use Rattle.std.specs.Io.KnownBytes.{Appends}
 use Rattle.ftd_ports.specs.Writing.{WritesPrefix}
 use Rattle.sqlite.specs.State.{HasCleanDisk}
+use Rattle.sqlite.specs.Store as store
 use Rattle.ftd_rules.specs.declared.verdict.DueRow.{DueRow}
 use Rattle.ftd_reports.specs.DueLists.{due_text}
 use Rattle.ftd_machine.specs.State.{State}
@@ -11,6 +12,7 @@ use Rattle.ftd_machine.specs.Runs.{IsFault}
 use Rattle.ftd_machine.specs.Checks.{Answer}
 use Rattle.ftd_machine.specs.declared.replies.Refusal.{Refusal}
 use Rattle.ftd_machine.specs.declared.requests.Request.{Request}
+use Rattle.ftd_machine.specs.Step.{with_number}
 use Rattle.ftd_machine.specs.Questions.{question_of}
 use Rattle.ftd_machine.specs.declared.requests.Question.{Question as Questions}
 use Rattle.ftd_machine.specs.declared.requests.Question.TheVariants.{Status, Explain, DueList}
@@ -20,7 +22,8 @@ use Rattle.ftd_questions.specs.Shown.{ShowsRows}
 use Rattle.ftd_questions.specs.Telling.{Replies, Refuses}
 use Rattle.ftd_questions.specs.Walks.{StandIfOpen}
 use Rattle.ftd_schema.specs.Standing.{Tables}
-use Rattle.ftd_desk.specs.Desks.{Held, Keeps}
+use Rattle.ftd_desk.specs.Desks.{Held, IsStopped, Keeps, held}
+use Rattle.ftd_desk.specs.declared.desk.Desk.{Desk}
 use Rattle.ftd_desk.specs.Telling.{StandsAsBefore}
 use Rattle.ftd_desk.specs.Words.{Handles}
 use Rattle.ftd_csv.specs.declared.sheets.Sheet.{Sheet}
@@ -29,6 +32,7 @@ use Rattle.ftd_import.specs.Trials.{FailsTrial, WouldImport}
 use Rattle.ftd_import.specs.declared.summary.StopCause.{StopCause}
 use Rattle.ftd_import.specs.declared.summary.Stopped.{Stopped}
 use Rattle.ftd_import.specs.declared.summary.Summary.{Summary}
+use Rattle.ftd_words.specs.Values.{greatest_number}
 use Rattle.ftd_words.specs.declared.tasks.Job.{Job}
 use Rattle.ftd_words.specs.declared.tasks.Job.TheVariants as job
 use Rattle.ftd_hints.specs.Hints.{record_hints}
@@ -38,11 +42,13 @@ use Rattle.ftd_replies.specs.Refusals.{refusal_status}
 use Rattle.ftd_replies.specs.Replies.{reply_text}
 use Rattle.ftd_formats.specs.Formats.{list_format}
 use Rattle.ftd_formats.specs.declared.formats.Format.{Format}
+use Rattle.ftd_formats.specs.declared.formats.Format.TheVariants as formats
 use Rattle.ftd_formats.specs.declared.formats.ListFormat.{ListFormat}
 use Rattle.ftd_formats.specs.declared.formats.ListFormat.TheVariants.{Text, Csv, Json}
 use Rattle.ftd_replies.specs.declared.hints.Known.{Known}
 use Rattle.ftd_replies.specs.declared.hints.Known.TheVariants.{Nothing}
 use Rattle.ftd_program.specs.Mending.{KnowsAfter, KnowsOf, or_nothing}
+use Rattle.ftd_program.specs.Numbering.{next_of, number_text}
 use Rattle.ftd_program.specs.Summaries.{stop_status, stop_text, summary_status, summary_text}
 use Rattle.ftd_program.specs.declared.performing.Performed.{Performed}
 
@@ -125,14 +131,17 @@ module _ {O E : Type 0} (o_taken : O → Option (List ℕ)) (o_failed : O → Bo
   Prints db format request known (Ok reply) = PrintsReply (reply_text format request reply)
   Prints db format request known (Err refusal) = PrintsRefusal db request known refusal
 
-  -- the request was asked of the desk, and its answer printed
-  pub record Performs (old new : Held) (db : List ℕ) (format : Format) (request : Request)
-      : Type 0 where
-    pub answer : Answer
+  -- the request was asked of the desk, which answered this, and its answer printed
+  pub record PerformsBy (old new : Held) (db : List ℕ) (format : Format) (request : Request)
+      (answer : Answer) : Type 0 where
     pub handles : Handles old new request answer
     pub known : Result Known Refusal
     pub knows : KnowsAfter old new request answer known
     pub prints : Prints db format request (or_nothing known) answer
+
+  abbrev pub Performs : Held → Held → List ℕ → Format → Request → Type 0
+  Performs old new db format request =
+      (answer : Answer) × PerformsBy old new db format request answer
 
   -- a prefix of the due list was printed: there was no memory, or the store failed, in the middle
   -- of it
@@ -212,10 +221,50 @@ module _ {O E : Type 0} (o_taken : O → Option (List ℕ)) (o_failed : O → Bo
   abbrev pub Asks : Held → Held → List ℕ → Format → Request → Type 0
   Asks old new db format request = AsksBy old new db format request (question_of request)
 
+-- a reply that has several formats is told as text
+abbrev pub as_text : Format
+as_text = formats.List Text
+
+module _ {S O E : Type 0} (g : store.Ghosts S) (o_taken : O → Option (List ℕ)) (o_failed : O → Bool)
+    (e_taken : E → Option (List ℕ)) (e_failed : E → Bool)
+    (out : O) (err : E) (p : Performed O E) where
+  -- where the desk answered the request so, this was performed
+  abbrev pub PrintsAnswer : Desk S → Desk S → List ℕ → Format → Request → Answer → Type 0
+  PrintsAnswer old new db format request answer =
+      (before : Desk S) → Handles (held g before) (held g old) request answer
+      → PerformsBy o_taken o_failed e_taken e_failed out err p (held g before) (held g new) db format
+      request answer
+
+  -- the number was printed, and then the request asked, which is under it, and its answer printed; or
+  -- standard output took no more than a prefix of the number, and the request was not asked
+  pub data AsksUnder (old new : Desk S) (db : List ℕ) (request : Request) (number : ℕ) : Type 0
+    where
+      asked : (told : O) → Appends (o_taken out) (o_taken told) (number_text number)
+          → Performs o_taken o_failed e_taken e_failed told err p (held g old) (held g new) db as_text
+          request → AsksUnder old new db request number
+      unasked : new ≡ old
+          → FailsOutput o_taken o_failed e_taken e_failed out err p (number_text number)
+          → AsksUnder old new db request number
+
+  -- the correction was asked under the greatest number: it was answered how many there are, and
+  -- the correction asked under the next number; or its answer was printed
+  pub data AsksNext (old new : Desk S) (db : List ℕ) (request : Request) : Type 0 where
+    counted : (answer : Answer) (between : Desk S) (number : ℕ)
+        → Handles (held g old) (held g between) (with_number request greatest_number) answer
+        → next_of answer ≡ Some number
+        → AsksUnder between new db (with_number request number) number
+        → AsksNext old new db request
+    answered : (answer : Answer) → next_of answer ≡ None
+        → PerformsBy o_taken o_failed e_taken e_failed out err p (held g old) (held g new) db as_text
+        (with_number request greatest_number) answer → AsksNext old new db request
+
   -- the job of a task was done, with the desk of this file
-  abbrev pub Does : Type 0 → Held → Held → List ℕ → List ℕ → Job → Type 0
-  Does stopped old new input db (job.Import kind file false) =
-      PerformsImport stopped old new kind input
-  Does stopped old new input db (job.Import kind file true) = PerformsTrial old new kind input
-  Does stopped old new input db (job.Ask format request) =
-      Asks old new db format request
+  abbrev pub Does : Desk S → Desk S → List ℕ → List ℕ → Job → Type 0
+  Does old new input db (job.Import kind file false) =
+      PerformsImport o_taken o_failed e_taken e_failed out err p (IsStopped new) (held g old)
+      (held g new) kind input
+  Does old new input db (job.Import kind file true) =
+      PerformsTrial o_taken o_failed e_taken e_failed out err p (held g old) (held g new) kind input
+  Does old new input db (job.Ask format request) =
+      Asks o_taken o_failed e_taken e_failed out err p (held g old) (held g new) db format request
+  Does old new input db (job.AskNext request) = AsksNext old new db request

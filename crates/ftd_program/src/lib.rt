@@ -3,6 +3,7 @@
 
 mod deposits;
 mod mending;
+mod numbering;
 mod performing;
 mod summaries;
 

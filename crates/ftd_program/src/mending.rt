@@ -54,7 +54,11 @@ pub fn known_for<S: Alter>(
         | Refusal::Store
         | Refusal::WrongForm
         | Refusal::YearDiffers
-        | Refusal::YearMissing(_) => Ok(Known::Nothing),
+        | Refusal::YearMissing(_)
+        | Refusal::CorrectionDiffers
+        | Refusal::NumberSkipped(_)
+        | Refusal::NoHoliday
+        | Refusal::AccountInUse => Ok(Known::Nothing),
     }
 }
 
@@ -86,6 +90,10 @@ fn quarters_for<S: Alter>(
         | Request::Void { .. }
         | Request::Pay { .. }
         | Request::VoidPay { .. }
+        | Request::CorrectReport { .. }
+        | Request::CorrectReportYear { .. }
+        | Request::ChangeHoliday { .. }
+        | Request::CorrectAccount { .. }
         | Request::Question(_) => Ok(Known::Nothing),
     }
 }
@@ -112,6 +120,10 @@ fn days_for<S: Alter>(desk: &mut Desk<S>, request: &Request) -> Result<Known, Re
         | Request::Void { .. }
         | Request::Pay { .. }
         | Request::VoidPay { .. }
+        | Request::CorrectReport { .. }
+        | Request::CorrectReportYear { .. }
+        | Request::ChangeHoliday { .. }
+        | Request::CorrectAccount { .. }
         | Request::Question(_) => Ok(Known::Nothing),
     }
 }

@@ -1,10 +1,10 @@
 //! A request is asked of the desk, and what it answers is printed.
 
-ghost use Rattle.std.specs.Prelude.{◌≡◌, MatchBool, codes};
-ghost use Rattle.std.specs.String.{string_bytes};
+ghost use Rattle.std.specs.Prelude.{◌≡◌, IfOk, MatchBool, codes};
 ghost use Rattle.ftd_desk.specs.Desks.{IsStopped, held};
 ghost use Rattle.ftd_formats.specs.Formats.{list_format};
 ghost use Rattle.ftd_program.specs.Performing.{Asks, AsksDue, Does, Performs, PerformsDue};
+ghost use Rattle.ftd_program.specs.Performing.{PrintsAnswer};
 ghost use Rattle.ftd_program.specs.Performing.{PerformsImport, PerformsTrial, PrintsRefusal};
 ghost use Rattle.ftd_program.specs.Performing.{PrintsReply, PrintsStop, PrintsSummary};
 ghost use Rattle.ftd_machine.specs.Limits.{IsBounded};
@@ -17,6 +17,7 @@ ghost use Rattle.ftd_replies.specs.Replies.{reply_text};
 ghost use Rattle.ftd_program.specs.Summaries.{stop_status, stop_text, summary_status};
 
 use crate::mending::{known_for, or_nothing};
+use crate::numbering::ask_next;
 use crate::summaries::{write_bad_header, write_summary};
 use ftd_csv::Sheet;
 use ftd_days::{Day, Quarter};
@@ -24,11 +25,11 @@ use ftd_desk::{Desk, DueFault};
 use ftd_formats::{Format, ListFormat};
 use ftd_hints::write_record_hints;
 use ftd_import::{Progress, StopCause, Stopped, Summary, import, import_trial};
-use ftd_machine::{Question, Refusal, Reply, Request};
+use ftd_machine::{Answer, Question, Refusal, Reply, Request};
 use ftd_ports::Target;
 use ftd_replies::{Known, put, status_of, write_reply, write_told};
 use ftd_reports::{LateDueText, Unwritten};
-use ftd_words::{Job, LocalTask};
+use ftd_words::Job;
 use sqlite::Alter;
 use std::alloc::Global;
 
@@ -42,31 +43,33 @@ pub struct Performed<O, E> {
     pub err: E,
 }
 
-/// Does the job of a task: asks its request of the desk, or imports the entries of the input, CSV
-/// with the header of their sheet, or tells what an import would say of them. What came of it goes
-/// to `out`, and the line of a refusal or of a fault to `err`. What the desk took stands, also where `out` fails: the
-/// status is 3 then, and a prefix of the text was written. `progress` is told how far an import is,
-/// and its end before anything is printed.
+/// Does the job of a task, with the desk of this file: asks its request of the desk, or a correction
+/// under the next number, or imports the entries of the input, CSV with the header of their sheet, or
+/// tells what an import would say of them. What came of it goes to `out`, and the line of a refusal
+/// or of a fault to `err`. What the desk took stands, also where `out` fails: the status is 3 then,
+/// and a prefix of the text was written. `progress` is told how far an import is, and its end before
+/// anything is printed.
 pub fn perform<S: Alter, O: Target, E: Target, P: Progress>(
     alloc: Global,
-    task: &LocalTask,
+    db: &str,
+    job: Job,
     desk: &mut Desk<S>,
     input: &[u8],
     out: O,
     err: E,
     progress: &mut P,
 ) -> Performed<O, E>
-    ensures { Does O.taken O.failed E.taken E.failed out err result
-        (IsStopped desk.new) (held S.Store desk.old) (held S.Store desk.new) input.now
-        (string_bytes task.now.db) task.now.job }
+    ensures { Does S.Store O.taken O.failed E.taken E.failed out err result desk.old desk.new
+        input.now db.now job }
 {
-    match &task.job {
+    match job {
         Job::Import {
             sheet,
             is_trial,
             ..
-        } => import_or_try(alloc, desk, *sheet, *is_trial, input, out, err, progress),
-        Job::Ask { format, request } => ask(desk, &task.db, *format, request, out, err),
+        } => import_or_try(alloc, desk, sheet, is_trial, input, out, err, progress),
+        Job::Ask { format, request } => ask(desk, db, format, &request, out, err),
+        Job::AskNext { request } => ask_next(desk, db, request, out, err),
     }
 }
 
@@ -139,7 +142,7 @@ fn ask_due<S: Alter, O: Target, E: Target>(
 
 /// Asks the request of the desk. The text of its reply goes to `out`, and the line of a refusal to
 /// `err`, with its hints.
-fn answer<S: Alter, O: Target, E: Target>(
+pub(crate) fn answer<S: Alter, O: Target, E: Target>(
     desk: &mut Desk<S>,
     db: &str,
     format: Format,
@@ -151,7 +154,24 @@ fn answer<S: Alter, O: Target, E: Target>(
         (held S.Store desk.old) (held S.Store desk.new) db.now format request.now }
 {
     let answer = desk.handle(request);
-    match &answer {
+    print_answer(desk, db, format, request, &answer, out, err)
+}
+
+/// Prints what the desk answered to the request, with the hints of a refusal.
+pub(crate) fn print_answer<S: Alter, O: Target, E: Target>(
+    desk: &mut Desk<S>,
+    db: &str,
+    format: Format,
+    request: &Request,
+    answer: &Answer,
+    out: O,
+    err: E,
+) -> Performed<O, E>
+    requires bounded { IfOk answer.now IsBounded }
+    ensures { PrintsAnswer S.Store O.taken O.failed E.taken E.failed out err result
+        desk.old desk.new db.now format request.now answer.now }
+{
+    match answer {
         Ok(reply) => print_reply(format, request, reply, out, err),
         Err(refusal) => {
             let known = or_nothing(known_for(desk, request, *refusal));

@@ -19,6 +19,7 @@ use Rattle.ftd_store.proofs.Sifted.{keeps_has}
 use Rattle.ftd_machine.specs.History.{form_of, live_sums}
 use Rattle.ftd_machine.specs.Sound.{IsSound}
 use Rattle.ftd_machine.specs.State.{State, entries_of, holidays}
+use Rattle.ftd_machine.proofs.Few.{few_in_force}
 use Rattle.ftd_machine.proofs.Members.{has_filtered}
 use Rattle.ftd_entries.specs.Owed.{begins_on, KnowsObligations}
 use Rattle.ftd_entries.specs.Standing.{StandsFor}
@@ -65,7 +66,8 @@ module _ (from to : ℕ) (name : List ℕ) (t : Tables) (s : State) (stands : St
   begins_due o has since until =
       let settled = stands.settled name in
       let late = begins_late (form_of (entries_of s name).account) settled.lines
-      (live_sums (entries_of s name)) (holidays s) o settled.are_lines.schedules sound.few
+      (live_sums (entries_of s name)) (holidays s) o settled.are_lines.schedules
+      (few_in_force s sound.few)
       (piece name t s stands o has) from since in
       let some = some_days name t s stands o has in
       let after = due_after o has in

@@ -98,7 +98,7 @@ fn account_and_years<S: Alter>(
         KnowsAccount name.now (Some found.0) t
         × (KnowsLastYears last t → KnowsYears quarter found.1 t)) }
 {
-    let Some(account) = known(tx, name)? else {
+    let Some(account) = known(tx, alloc, name)? else {
         return tx.give_up(StoreFault::Failed);
     };
     if let Some(holidays) = last_years(last, quarter) {

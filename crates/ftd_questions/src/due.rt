@@ -48,7 +48,7 @@ pub(crate) fn known_for_due<S: Alter>(
 ) -> Result<KnownForDue, StoreFault>
     ensures call { Reads S.Store tx.old tx.new result (KnowsForDue name.now quarter) }
 {
-    let account = known(tx, name)?;
+    let account = known(tx, alloc, name)?;
     let is_open = is_open(tx, alloc, name, quarter.year())?;
     Ok(KnownForDue { account, is_open })
 }

@@ -139,7 +139,7 @@ fn first_year_in<S: Alter>(
 ) -> Result<Option<u32>, StoreFault>
     ensures call { Reads S.Store tx.old tx.new result (KnowsFirstYear name.now) }
 {
-    let account = known(tx, name)?;
+    let account = known(tx, alloc, name)?;
     let lines = tx.years(alloc, name)?;
     Ok(first_among(account, &lines))
 }

@@ -23,6 +23,7 @@ use Rattle.ftd_rows.proofs.Found.{both}
 use Rattle.ftd_schema.specs.Standing.{Tables}
 use Rattle.ftd_store.specs.Holidays.{HasYears}
 use Rattle.ftd_store.proofs.Sifted.{keeps_has}
+use Rattle.ftd_machine.proofs.Few.{few_in_force}
 use Rattle.ftd_machine.specs.Asking.{IsStatus, IsReason}
 use Rattle.ftd_machine.specs.Agenda.{EachToLater}
 use Rattle.ftd_machine.specs.Explaining.{IsCountedFrom, Explains, IsPaydayOf, day_of_payday}
@@ -124,7 +125,7 @@ module _ (name : List ℕ) (form : Form) (lines : List YearLine) (read : List �
       let to = to_2098 in
       let same = last_is in
       let due = ((are.2.all o).0 has).due in
-      let near = due_near all o.rule o.last o.due sound.few (omega arith)
+      let near = due_near all o.rule o.last o.due (few_in_force s sound.few) (omega arith)
       (due_by all o.rule o.last o.due due) in
       let soon = near.1.0 in
       let in_days = near.1.1 in
@@ -177,8 +178,8 @@ module _ (name : List ℕ) (form : Form) (lines : List YearLine) (read : List �
     days_rise = counted_rise read all o is.days.0 is.days.1 same_days e.days is.days.2;
     days = counted_are read all o is.days.0 is.days.1 same_days e.days is.days.2;
     return_due = subst (λ f. IsReturnDue f all (quarter_of o.first) e.return_due) (sym form_is)
-        (return_same read all year from_2001 to_2098 sound.few agree form (quarter_of o.first)
-        e.return_due (omega arith) is.return_due).0;
+        (return_same read all year from_2001 to_2098 (few_in_force s sound.few) agree form
+        (quarter_of o.first) e.return_due (omega arith) is.return_due).0;
     in_order = subst (EachToLater IsPaymentBefore) (sym is.payments_are) knows_payments.in_order;
     payments = subst (λ xs. (x : KeptPayment) → Has xs x ↔ IsPaymentOf own o x)
         (sym is.payments_are) (knows_payments.all s stands sound);

@@ -35,7 +35,7 @@ pub fn explain<S: Alter>(
 ) -> Result<Answer, StoreFault>
     ensures call { Calls S.Store tx.old tx.new result (Serves (Question (Explain name.now day))) }
 {
-    let account = known(tx, name)?;
+    let account = known(tx, alloc, name)?;
     let lines = tx.years(alloc, name)?;
     let there = has_year(&lines, day.year());
     if let Some(answer) = status_check(name, day, account, there) {

@@ -21,7 +21,7 @@ pub fn schedule_b<S: Alter>(
 ) -> Result<Answer, StoreFault>
     ensures call { Calls S.Store tx.old tx.new result (Serves (Question (ScheduleB name.now quarter))) }
 {
-    let account = known(tx, name)?;
+    let account = known(tx, alloc, name)?;
     let there = is_open(tx, alloc, name, quarter.year())?;
     if let Some(answer) = schedule_b_check(name, quarter, account, there) {
         return Ok(answer);

@@ -39,7 +39,7 @@ pub fn status<S: Alter>(
 ) -> Result<Answer, StoreFault>
     ensures call { Calls S.Store tx.old tx.new result (Serves (Question (Status name.now day))) }
 {
-    let account = known(tx, name)?;
+    let account = known(tx, alloc, name)?;
     let lines = tx.years(alloc, name)?;
     let there = has_year(&lines, day.year());
     if let Some(answer) = status_check(name, day, account, there) {

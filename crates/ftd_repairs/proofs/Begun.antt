@@ -1,5 +1,5 @@
 -- A loop of readings that has read nothing yet, or something.
-use Rattle.std.proofs.Common.{◌≡◌, ◌⊎◌, inl, inr, Result, Ok, subst}
+use Rattle.std.proofs.Common.{◌≡◌, ◌⊎◌, inl, inr, Result, Ok, Err, subst}
 use Rattle.sqlite.specs.Store as store
 use Rattle.ftd_schema.specs.Standing.{Tables}
 use Rattle.ftd_rows.specs.declared.faults.StoreFault.{StoreFault}
@@ -30,3 +30,13 @@ module _ {S : Type 0} (g : store.Ghosts S) where
       frame
   begun_goes old mid new result Fact (inr read) frame = then_call g old mid new tt result read.frame
       frame
+
+  -- a last reading, which may fail
+  pub begun_ends : {A : Type 0} (old mid new : Tx S) (result : Result A StoreFault) (Fact : Tables
+      → Type 0) (More Both : A → Tables → Type 0)
+      → ((x : A) (t : Tables) → Fact t → More x t → Both x t)
+      → IsBegun g old mid Fact → Reads g mid new result More → Reads g old new result Both
+  begun_ends old mid new (Ok x) Fact More Both tells begun r = begun_reads old mid new x x Fact More
+      Both (tells x) begun r
+  begun_ends old mid new (Err e) Fact More Both tells begun r =
+      record { frame = begun_goes old mid new (Err e) Fact begun r.frame; does = λ clean. tt }

@@ -5,3 +5,8 @@ pub mod YearRows
 pub mod Putting
 pub mod RowsPut
 pub mod Reposting
+pub mod LinesAnew
+pub mod RowsAnew
+pub mod YearsAnew
+pub mod Totaled
+pub mod SameSchedules

@@ -51,7 +51,7 @@ puts_one account xs b line ys first base t years year h =
     }
 
 -- a line with its own year and another schedule keeps the years in turn
-years_put : (first : ℕ) (xs : List YearLine) (b line : YearLine) (ys : List YearLine)
+pub years_put : (first : ℕ) (xs : List YearLine) (b line : YearLine) (ys : List YearLine)
     → b.year ≡ line.year → YearsFrom first (xs ++ b ∷ ys) → YearsFrom first (xs ++ line ∷ ys)
 years_put first [] b line ys same years = (sym same ∙ years.0, years.1)
 years_put first (x ∷ xs) b line ys same years =

@@ -25,7 +25,7 @@ use Rattle.ftd_repairs.proofs.Differing.{are_listed}
 use Rattle.ftd_store.proofs.Turning.{reads_turn, turns_then}
 
 -- the rows are those of the lines that were read, and stay so where only other tables change
-has_lines : (account : List ℕ) (day : ℕ) (known : KnownYears) (t u : Tables)
+pub has_lines : (account : List ℕ) (day : ℕ) (known : KnownYears) (t u : Tables)
     → KnowsYears account day known t → u Years ≡ t Years → HasLines account known.lines.items u
 has_lines account day known t u told same =
     let rows : List YearRow = map (year_row account) known.lines.items in (

@@ -4,6 +4,9 @@ pub mod Replaced
 pub mod Placing
 pub mod Rescheduled
 pub mod Reposted
+pub mod Reopening
+pub mod Anew
+pub mod Reopened
 pub use Rattle.ftd_buckets.specs.Histories
 pub use Rattle.ftd_days.specs.Holidays
 pub use Rattle.ftd_machine.specs.History

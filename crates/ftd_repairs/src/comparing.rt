@@ -1,4 +1,4 @@
-//! How an account's obligations differ before and after a change of its runs.
+//! How an account's obligations differ before and after a change.
 
 ghost use Rattle.std.specs.Prelude.{◌≡◌, ◌⊎◌, ◌↔◌, [], length, IsTrue, IfOk};
 ghost use Rattle.ftd_rules.specs.Lists.{Has};
@@ -63,7 +63,7 @@ fn count(rows: &[Obligation]) -> Result<u32, StoreFault>
     }
 }
 
-/// How the rows differ before and after a change of the runs of the day.
+/// How the rows differ before and after a change. The day is told twice where they do not.
 pub(crate) fn difference(
     alloc: Global,
     day: Day,

@@ -1,7 +1,8 @@
-//! Repair of an account's rows after its runs of one day have changed, whatever the tables hold.
+//! Repair of an account's rows after its runs of one day have changed, or the lookback total of one
+//! of its years, whatever the tables hold.
 //!
-//! Of the account's obligations those are read and replaced that a change of one day's runs
-//! reaches, and of its open years those whose opening or turn differs. No other row is touched.
+//! Of the account's obligations those are read and replaced that the change reaches, and of its
+//! open years those whose opening or turn differs. No other row is touched.
 #![tactic(auto)]
 
 use ftd_days::Day;
@@ -12,20 +13,24 @@ mod patching;
 mod placing;
 mod posting;
 mod reading;
+mod reopening;
 mod repairing;
+mod retotaling;
 mod summing;
 mod windows;
 
 pub use crate::ledgers::Ledger;
 pub use crate::posting::{add_repaired, void_repaired};
 pub use crate::reading::KnownYears;
+pub use crate::retotaling::correct_lookback;
 
-/// How an account's obligations differ before and after a change of its runs.
+/// How an account's obligations differ before and after a change.
 #[derive(Clone, Copy, Debug, PartialEq, Eq)]
 pub struct Difference {
-    /// The least first day of the obligations that went or came; the payday where none did.
+    /// The least first day of the obligations that went or came; where none did, the payday, or the
+    /// day that was given.
     pub from: Day,
-    /// The greatest last day of these; the payday where none did.
+    /// The greatest last day of these; the same day where none did.
     pub to: Day,
     /// How many obligations went.
     pub removed: u32,

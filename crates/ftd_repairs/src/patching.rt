@@ -123,7 +123,7 @@ fn put_rows<S: Alter>(
 }
 
 /// The line becomes another one, here and in the account's row of its year.
-fn put_line<S: Alter>(
+pub(crate) fn put_line<S: Alter>(
     tx: &mut Tx<'_, S>,
     account: &str,
     line: &mut YearLine,

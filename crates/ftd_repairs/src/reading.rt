@@ -1,5 +1,4 @@
-//! What is read of an account before its runs change: its open years, the holidays, and its
-//! obligations.
+//! What is read of an account before it changes: its open years, the holidays, and its obligations.
 
 ghost use Rattle.std.specs.Prelude.{◌<◌, ◌≤◌, IsTrue};
 ghost use Rattle.ftd_rules.specs.Lists.{Has};
@@ -15,12 +14,12 @@ use ftd_store::{StoreFault, Tx};
 use sqlite::Alter;
 use std::alloc::Global;
 
-/// What is read of an account before its runs change.
+/// What is read of an account before it changes.
 #[derive(Drop)]
 pub struct KnownYears {
     /// The lines of its open years, by year.
     pub lines: Vec<YearLine>,
-    /// The holidays of these years from the payday's on, and of the years after them.
+    /// The holidays of these years from that of a day on, and of the years after them.
     pub holidays: Holidays,
 }
 

@@ -1,6 +1,6 @@
 -- What can be done about a refusal: lines below it, each of which begins with `hint: `.
-use Rattle.std.specs.Prelude.{ℕ, ◌==◌, ◌||◌, ◌++◌, not, Bool, List, [], ◌∷◌, Option, Some, None}
-use Rattle.std.specs.Prelude.{codes, find, if◌then◌else◌, unwrap_or}
+use Rattle.std.specs.Prelude.{ℕ, ◌+◌, ◌==◌, ◌||◌, ◌++◌, not, Bool, List, [], ◌∷◌, Option, Some}
+use Rattle.std.specs.Prelude.{None, codes, find, if◌then◌else◌, unwrap_or}
 use Rattle.std.specs.Char.{is_ascii_alphanumeric}
 use Rattle.std.specs.Fmt.{decimal}
 use Rattle.std.specs.List.{concat, flat_map, list_all}
@@ -51,6 +51,10 @@ account_in (request.Post account run payday fit ss medicare) = account
 account_in (request.Void account run) = account
 account_in (request.Pay account payment paid for_day cents) = account
 account_in (request.VoidPay account payment) = account
+account_in (request.CorrectReport account quarter number cents) = account
+account_in (request.CorrectReportYear account year number cents) = account
+account_in (request.ChangeHoliday day number is_holiday) = []
+account_in (request.CorrectAccount account number start carried) = account
 account_in (request.Question asked) = unwrap_or (account_asked asked) []
 
 abbrev pub number_in : Request → ℕ
@@ -64,6 +68,10 @@ number_in (request.Post account run payday fit ss medicare) = run
 number_in (request.Void account run) = 0
 number_in (request.Pay account payment paid for_day cents) = payment
 number_in (request.VoidPay account payment) = 0
+number_in (request.CorrectReport account quarter number cents) = 0
+number_in (request.CorrectReportYear account year number cents) = 0
+number_in (request.ChangeHoliday day number is_holiday) = 0
+number_in (request.CorrectAccount account number start carried) = 0
 number_in (request.Question question) = 0
 
 -- ---- what is said of a refusal that names nothing, by the request
@@ -82,13 +90,22 @@ years_text (request.Post account run payday fit ss medicare) = paydays_years
 years_text (request.Void account run) = paydays_years
 years_text (request.Pay account payment paid for_day cents) = paydays_years
 years_text (request.VoidPay account payment) = paydays_years
+years_text (request.CorrectReport account quarter number cents) = totals_years
+years_text (request.CorrectReportYear account year number cents) = totals_years
+years_text (request.ChangeHoliday day number is_holiday) = paydays_years
+years_text (request.CorrectAccount account number start carried) = paydays_years
 years_text (request.Question question) = years_asked question
 
+abbrev first_days : List ℕ
+first_days = codes "hint: an employer's first day is not after 2098-12-31\n"
+
+abbrev holidays_days : List ℕ
+holidays_days = codes "hint: the days of holidays are those of 2001 to 2099\n"
+
 abbrev pub days_text : Request → List ℕ
-days_text (request.Enrol account start carried form) =
-    codes "hint: an employer's first day is not after 2098-12-31\n"
+days_text (request.Enrol account start carried form) = first_days
 days_text (request.Calendar year days) = paydays_days
-days_text (request.AddHoliday day) = codes "hint: the days of holidays are those of 2001 to 2099\n"
+days_text (request.AddHoliday day) = holidays_days
 days_text (request.Report account quarter cents) = paydays_days
 days_text (request.ReportYear account year cents) = paydays_days
 days_text (request.OpenYear account year) = paydays_days
@@ -97,6 +114,10 @@ days_text (request.Void account run) = paydays_days
 days_text (request.Pay account payment paid for_day cents) =
     codes "hint: a payment is made in 2001 to 2099, for a day of 2001 to 2098\n"
 days_text (request.VoidPay account payment) = paydays_days
+days_text (request.CorrectReport account quarter number cents) = paydays_days
+days_text (request.CorrectReportYear account year number cents) = paydays_days
+days_text (request.ChangeHoliday day number is_holiday) = holidays_days
+days_text (request.CorrectAccount account number start carried) = first_days
 days_text (request.Question asked) = days_asked asked
 
 abbrev calendar_days : List ℕ
@@ -113,6 +134,10 @@ calendar_text (request.Post account run payday fit ss medicare) = calendar_days
 calendar_text (request.Void account run) = calendar_days
 calendar_text (request.Pay account payment paid for_day cents) = calendar_days
 calendar_text (request.VoidPay account payment) = calendar_days
+calendar_text (request.CorrectReport account quarter number cents) = calendar_days
+calendar_text (request.CorrectReportYear account year number cents) = calendar_days
+calendar_text (request.ChangeHoliday day number is_holiday) = calendar_days
+calendar_text (request.CorrectAccount account number start carried) = calendar_days
 calendar_text (request.Question question) = calendar_days
 
 abbrev no_schedule_b : List ℕ
@@ -131,6 +156,12 @@ form_text (request.Post account run payday fit ss medicare) = no_schedule_b
 form_text (request.Void account run) = no_schedule_b
 form_text (request.Pay account payment paid for_day cents) = no_schedule_b
 form_text (request.VoidPay account payment) = no_schedule_b
+form_text (request.CorrectReport account quarter number cents) =
+    codes "hint: the account is on Form 943: ftd correct-report-year corrects its totals\n"
+form_text (request.CorrectReportYear account year number cents) =
+    codes "hint: the account is on Form 941: ftd correct-report corrects its totals\n"
+form_text (request.ChangeHoliday day number is_holiday) = no_schedule_b
+form_text (request.CorrectAccount account number start carried) = no_schedule_b
 form_text (request.Question question) = no_schedule_b
 
 -- what is said of a refusal that no command mends; nothing of the others
@@ -143,12 +174,7 @@ said_text asked refusal.BadCents =
     codes "hint: an amount is at most 999999999.99, and a payment at least 0.01\n"
 said_text asked refusal.BadCalendar = calendar_text asked
 said_text asked refusal.BadNumber = codes "hint: numbers are 1 to 999999999\n"
-said_text asked refusal.AccountDiffers =
-    codes "hint: the account has another first day or form, or is carried otherwise\n"
 said_text asked refusal.CalendarDiffers = codes "hint: ftd add-holiday adds a holiday\n"
-said_text asked refusal.QuarterDiffers =
-    codes "hint: the quarter is reported with another amount\n"
-said_text asked refusal.YearDiffers = codes "hint: the year is reported with another amount\n"
 said_text asked refusal.UnknownRun = codes "hint: the account has no run of this number\n"
 said_text asked refusal.UnknownPayment =
     codes "hint: the account has no payment of this number\n"
@@ -158,7 +184,17 @@ said_text asked refusal.TooManyRuns =
 said_text asked refusal.TooManyPayments =
     codes "hint: an account has at most 20000 payments, void ones too\n"
 said_text asked refusal.WrongForm = form_text asked
+said_text asked refusal.CorrectionDiffers =
+    codes "hint: take the next number, or leave it out\n"
+said_text asked refusal.NoHoliday =
+    codes "hint: the day was never a holiday; ftd add-holiday adds one\n"
+said_text asked refusal.AccountInUse =
+    codes "hint: a total is reported, or a year is open; enrol a new account by another name\n"
 said_text asked refusal.UnknownAccount = []
+said_text asked refusal.AccountDiffers = []
+said_text asked refusal.QuarterDiffers = []
+said_text asked refusal.YearDiffers = []
+said_text asked (refusal.NumberSkipped count) = []
 said_text asked refusal.RunDiffers = []
 said_text asked refusal.PaymentDiffers = []
 said_text asked (refusal.CalendarMissing year) = []
@@ -189,7 +225,55 @@ enrolled_as (request.Post account run payday fit ss medicare) = codes " START\n"
 enrolled_as (request.Void account run) = codes " START\n"
 enrolled_as (request.Pay account payment paid for_day cents) = codes " START\n"
 enrolled_as (request.VoidPay account payment) = codes " START\n"
+enrolled_as (request.CorrectReport account quarter number cents) = codes " START\n"
+enrolled_as (request.CorrectReportYear account year number cents) = codes " START --form 943\n"
+enrolled_as (request.ChangeHoliday day number is_holiday) = codes " START\n"
+enrolled_as (request.CorrectAccount account number start carried) = codes " START\n"
 enrolled_as (request.Question question) = codes " START\n"
+
+-- the command that corrects what is known otherwise: the first day of an account, and whether it is
+-- carried, or a reported total
+abbrev enrolled_otherwise : List ℕ
+enrolled_otherwise =
+    codes "hint: the account has another first day or form, or is carried otherwise\n"
+    ++ codes "hint: if its first day or carried is wrong, ftd correct-account --db "
+
+abbrev quarter_otherwise : List ℕ
+quarter_otherwise =
+    codes "hint: the quarter is reported with another amount\n"
+    ++ codes "hint: if that is wrong, ftd correct-report --db "
+
+abbrev year_otherwise : List ℕ
+year_otherwise =
+    codes "hint: the year is reported with another amount\n"
+    ++ codes "hint: if that is wrong, ftd correct-report-year --db "
+
+abbrev pub correct_text : List ℕ → Request → List ℕ
+correct_text db (request.Enrol account start carried form) =
+    command_on enrolled_otherwise db account (codes " START\n")
+correct_text db (request.Calendar year days) = []
+correct_text db (request.AddHoliday day) = []
+correct_text db (request.Report account quarter cents) =
+    command_of quarter_otherwise db account (quarter_text quarter) (codes " AMOUNT\n")
+correct_text db (request.ReportYear account year cents) =
+    command_of year_otherwise db account (decimal year) (codes " AMOUNT\n")
+correct_text db (request.OpenYear account year) = []
+correct_text db (request.Post account run payday fit ss medicare) = []
+correct_text db (request.Void account run) = []
+correct_text db (request.Pay account payment paid for_day cents) = []
+correct_text db (request.VoidPay account payment) = []
+correct_text db (request.CorrectReport account quarter number cents) = []
+correct_text db (request.CorrectReportYear account year number cents) = []
+correct_text db (request.ChangeHoliday day number is_holiday) = []
+correct_text db (request.CorrectAccount account number start carried) = []
+correct_text db (request.Question question) = []
+
+-- the next number, where there are so many
+abbrev pub next_text : ℕ → List ℕ
+next_text count =
+    concat
+    (codes "hint: the next number is " ∷ decimal (count + 1)
+    ∷ codes ", which is taken where none is given\n" ∷ [])
 
 -- which command mends a refusal, with the year or the quarter that it is for; where none does,
 -- something is said of it
@@ -201,15 +285,17 @@ hint_of (refusal.CalendarMissing year) = hint.Calendar year
 hint_of (refusal.QuarterMissing quarter) = hint.Report quarter
 hint_of (refusal.YearNotOpen year) = hint.OpenYear year
 hint_of (refusal.YearMissing year) = hint.ReportYear year
+hint_of refusal.AccountDiffers = hint.Correct
+hint_of refusal.QuarterDiffers = hint.Correct
+hint_of refusal.YearDiffers = hint.Correct
+hint_of (refusal.NumberSkipped count) = hint.Next count
 hint_of refusal.BadName = hint.Said
 hint_of refusal.BadYear = hint.Said
 hint_of refusal.BadDay = hint.Said
 hint_of refusal.BadCents = hint.Said
 hint_of refusal.BadCalendar = hint.Said
 hint_of refusal.BadNumber = hint.Said
-hint_of refusal.AccountDiffers = hint.Said
 hint_of refusal.CalendarDiffers = hint.Said
-hint_of refusal.QuarterDiffers = hint.Said
 hint_of refusal.UnknownRun = hint.Said
 hint_of refusal.UnknownPayment = hint.Said
 hint_of refusal.BeforeStart = hint.Said
@@ -218,7 +304,9 @@ hint_of refusal.TooManyPayments = hint.Said
 hint_of refusal.Memory = hint.Said
 hint_of refusal.Store = hint.Said
 hint_of refusal.WrongForm = hint.Said
-hint_of refusal.YearDiffers = hint.Said
+hint_of refusal.CorrectionDiffers = hint.Said
+hint_of refusal.NoHoliday = hint.Said
+hint_of refusal.AccountInUse = hint.Said
 
 -- the command, or what is said
 abbrev pub mended_text : List ℕ → Request → Refusal → Hint → List ℕ
@@ -241,6 +329,8 @@ mended_text db asked refusal (hint.ReportYear year) =
 mended_text db asked refusal (hint.OpenYear year) =
     command_of (codes "hint: ftd open-year --db ") db (account_in asked) (decimal year)
     (codes "\n")
+mended_text db asked refusal hint.Correct = correct_text db asked
+mended_text db asked refusal (hint.Next count) = next_text count
 
 unfoldable pub hint_text : List ℕ → Request → Refusal → List ℕ
 hint_text db asked refusal = mended_text db asked refusal (hint_of refusal)
@@ -259,27 +349,35 @@ days_in (request.Post account run payday fit ss medicare) = []
 days_in (request.Void account run) = []
 days_in (request.Pay account payment paid for_day cents) = []
 days_in (request.VoidPay account payment) = []
+days_in (request.CorrectReport account quarter number cents) = []
+days_in (request.CorrectReportYear account year number cents) = []
+days_in (request.ChangeHoliday day number is_holiday) = []
+days_in (request.CorrectAccount account number start carried) = []
 days_in (request.Question question) = []
 
 -- the first of the days that is not among those
 abbrev pub first_beside : List ℕ → List ℕ → Option ℕ
 first_beside days those = find (λ day. not (is_holiday those day)) days
 
--- a holiday that is new, and one that was given and is left out
+-- a holiday that is new, and one that was given and is left out, which can be taken back
 abbrev pub new_text : List ℕ → Option ℕ → List ℕ
 new_text db None = []
 new_text db (Some day) =
     command_on (codes "hint: one more holiday is ftd add-holiday --db ") db (day_text day)
     (codes "\n")
 
-abbrev pub left_out_text : Option ℕ → List ℕ
-left_out_text None = []
-left_out_text (Some day) = concat (codes "hint: " ∷ day_text day ∷ codes " was given too\n" ∷ [])
+abbrev pub left_out_text : List ℕ → Option ℕ → List ℕ
+left_out_text db None = []
+left_out_text db (Some day) =
+    concat
+    (codes "hint: " ∷ day_text day
+    ∷ codes " was given too\nhint: if it is no holiday, ftd change-holiday --db " ∷ file_text db
+    ∷ codes " " ∷ day_text day ∷ codes " no\n" ∷ [])
 
 -- what differs between the days of a calendar and those that were given before
 abbrev pub differing_text : List ℕ → List ℕ → List ℕ → List ℕ
 differing_text db days given =
-    new_text db (first_beside days given) ++ left_out_text (first_beside given days)
+    new_text db (first_beside days given) ++ left_out_text db (first_beside given days)
 
 -- the first of the account's years
 abbrev pub first_text : ℕ → List ℕ

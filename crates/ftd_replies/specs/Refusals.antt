@@ -5,18 +5,19 @@ use Rattle.std.specs.List.{concat}
 use Rattle.ftd_days.specs.Text.{quarter_text}
 use Rattle.ftd_machine.specs.Refusals.{is_failure, name_text, named_by, number_of}
 use Rattle.ftd_machine.specs.declared.replies.Named.{Named}
-use Rattle.ftd_machine.specs.declared.replies.Named.TheVariants.{Nothing, Year, Quarter}
+use Rattle.ftd_machine.specs.declared.replies.Named.TheVariants.{Nothing, Year, Quarter, Number}
 use Rattle.ftd_machine.specs.declared.replies.Refusal.{Refusal}
 
 -- where memory or the store failed it is a failure, else a refusal
 abbrev pub verb_text : Refusal → List ℕ
 verb_text refusal = if is_failure refusal then codes "failed " else codes "refused "
 
--- the year or the quarter that it names, after a space
+-- the year, the quarter or the number that it names, after a space
 abbrev pub named_text : Named → List (List ℕ)
 named_text Nothing = []
 named_text (Year year) = codes " " ∷ decimal year ∷ []
 named_text (Quarter quarter) = codes " " ∷ quarter_text quarter ∷ []
+named_text (Number count) = codes " " ∷ decimal count ∷ []
 
 -- a verb, a number, a name, and what is named
 abbrev pub line_of : List ℕ → ℕ → List ℕ → List (List ℕ) → List ℕ

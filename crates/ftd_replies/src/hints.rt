@@ -6,11 +6,11 @@ ghost use Rattle.std.specs.List.{flat_map, list_all};
 ghost use Rattle.std.specs.Io.KnownBytes.{Appends};
 ghost use Rattle.ftd_ports.specs.Writing.{WritesPrefix};
 ghost use Rattle.ftd_replies.specs.Hints.{account_in, calendar_text};
-ghost use Rattle.ftd_replies.specs.Hints.{command_of, command_on, days_in, days_text};
+ghost use Rattle.ftd_replies.specs.Hints.{command_of, command_on, correct_text, days_in, days_text};
 ghost use Rattle.ftd_replies.specs.Hints.{differing_text, enrolled_as};
 ghost use Rattle.ftd_replies.specs.Hints.{file_text, first_beside, first_text, form_text};
 ghost use Rattle.ftd_replies.specs.Hints.{hint_of, hint_text, hints_text};
-ghost use Rattle.ftd_replies.specs.Hints.{is_plain, left_out_text, new_text, number_in};
+ghost use Rattle.ftd_replies.specs.Hints.{is_plain, left_out_text, new_text, next_text, number_in};
 ghost use Rattle.ftd_replies.specs.Hints.{quarter_hint, said_text, told_text, years_text};
 
 use crate::questions::{days_asked, years_asked};
@@ -107,7 +107,7 @@ pub fn account_in(request: &Request) -> &str
     ensures { result.now ≡ account_in request.now }
 {
     match request {
-        Request::Calendar { .. } | Request::AddHoliday { .. } => "",
+        Request::Calendar { .. } | Request::AddHoliday { .. } | Request::ChangeHoliday { .. } => "",
         Request::Enrol { account, .. } => account.as_str(),
         Request::Report { account, .. } => account.as_str(),
         Request::ReportYear { account, .. } => account.as_str(),
@@ -116,6 +116,9 @@ pub fn account_in(request: &Request) -> &str
         Request::Void { account, .. } => account.as_str(),
         Request::Pay { account, .. } => account.as_str(),
         Request::VoidPay { account, .. } => account.as_str(),
+        Request::CorrectReport { account, .. } => account.as_str(),
+        Request::CorrectReportYear { account, .. } => account.as_str(),
+        Request::CorrectAccount { account, .. } => account.as_str(),
         Request::Question(question) => match question.account() {
             Some(account) => account.as_str(),
             None => "",
@@ -138,6 +141,10 @@ fn number_in(request: &Request) -> u32
         | Request::OpenYear { .. }
         | Request::Void { .. }
         | Request::VoidPay { .. }
+        | Request::CorrectReport { .. }
+        | Request::CorrectReportYear { .. }
+        | Request::ChangeHoliday { .. }
+        | Request::CorrectAccount { .. }
         | Request::Question(_) => 0,
     }
 }
@@ -157,6 +164,10 @@ fn days_in(request: &Request) -> &[Day]
         | Request::Void { .. }
         | Request::Pay { .. }
         | Request::VoidPay { .. }
+        | Request::CorrectReport { .. }
+        | Request::CorrectReportYear { .. }
+        | Request::ChangeHoliday { .. }
+        | Request::CorrectAccount { .. }
         | Request::Question(_) => &[],
     }
 }
@@ -167,15 +178,21 @@ fn years_said(request: &Request) -> &'static [u8]
 {
     match request {
         Request::Calendar { .. } => b"hint: the years of calendars are 2001 to 2099\n",
-        Request::Report { .. } => b"hint: the years of reported totals are 1999 to 2098\n",
-        Request::ReportYear { .. } => b"hint: the years of reported totals are 1999 to 2098\n",
+        Request::Report { .. }
+        | Request::ReportYear { .. }
+        | Request::CorrectReport { .. }
+        | Request::CorrectReportYear { .. } => {
+            b"hint: the years of reported totals are 1999 to 2098\n"
+        }
         Request::Enrol { .. }
         | Request::AddHoliday { .. }
         | Request::OpenYear { .. }
         | Request::Post { .. }
         | Request::Void { .. }
         | Request::Pay { .. }
-        | Request::VoidPay { .. } => b"hint: the years of paydays are 2001 to 2098\n",
+        | Request::VoidPay { .. }
+        | Request::ChangeHoliday { .. }
+        | Request::CorrectAccount { .. } => b"hint: the years of paydays are 2001 to 2098\n",
         Request::Question(question) => years_asked(question),
     }
 }
@@ -185,8 +202,12 @@ fn days_said(request: &Request) -> &'static [u8]
     ensures { result.now ≡ days_text request.now }
 {
     match request {
-        Request::Enrol { .. } => b"hint: an employer's first day is not after 2098-12-31\n",
-        Request::AddHoliday { .. } => b"hint: the days of holidays are those of 2001 to 2099\n",
+        Request::Enrol { .. } | Request::CorrectAccount { .. } => {
+            b"hint: an employer's first day is not after 2098-12-31\n"
+        }
+        Request::AddHoliday { .. } | Request::ChangeHoliday { .. } => {
+            b"hint: the days of holidays are those of 2001 to 2099\n"
+        }
         Request::Pay { .. } => {
             b"hint: a payment is made in 2001 to 2099, for a day of 2001 to 2098\n"
         }
@@ -197,7 +218,11 @@ fn days_said(request: &Request) -> &'static [u8]
         | Request::OpenYear { .. }
         | Request::Post { .. }
         | Request::Void { .. }
-        | Request::VoidPay { .. } => b"hint: the days of paydays are those of 2001 to 2098\n",
+        | Request::VoidPay { .. }
+        | Request::CorrectReport { .. }
+        | Request::CorrectReportYear { .. } => {
+            b"hint: the days of paydays are those of 2001 to 2098\n"
+        }
     }
 }
 
@@ -216,6 +241,10 @@ fn calendar_said(request: &Request) -> &'static [u8]
         | Request::Void { .. }
         | Request::Pay { .. }
         | Request::VoidPay { .. }
+        | Request::CorrectReport { .. }
+        | Request::CorrectReportYear { .. }
+        | Request::ChangeHoliday { .. }
+        | Request::CorrectAccount { .. }
         | Request::Question(_) => b"hint: the days rise, lie in the year and are at most 60\n",
     }
 }
@@ -231,6 +260,12 @@ fn form_said(request: &Request) -> &'static [u8]
         Request::ReportYear { .. } => {
             b"hint: the account is on Form 941: ftd report takes its totals\n"
         }
+        Request::CorrectReport { .. } => {
+            b"hint: the account is on Form 943: ftd correct-report-year corrects its totals\n"
+        }
+        Request::CorrectReportYear { .. } => {
+            b"hint: the account is on Form 941: ftd correct-report corrects its totals\n"
+        }
         Request::Enrol { .. }
         | Request::Calendar { .. }
         | Request::AddHoliday { .. }
@@ -239,6 +274,8 @@ fn form_said(request: &Request) -> &'static [u8]
         | Request::Void { .. }
         | Request::Pay { .. }
         | Request::VoidPay { .. }
+        | Request::ChangeHoliday { .. }
+        | Request::CorrectAccount { .. }
         | Request::Question(_) => b"hint: the account is on Form 943, which has no Schedule B\n",
     }
 }
@@ -393,19 +430,30 @@ fn write_new<W: Target>(db: &str, day: Option<Day>, target: &mut W) -> Result<()
     )
 }
 
-/// Writes that the day was given before, if there is one.
-fn write_left_out<W: Target>(day: Option<Day>, target: &mut W) -> Result<(), WriteFault>
+/// Writes that the day was given before, and the command that takes it back, if there is one.
+fn write_left_out<W: Target>(db: &str, day: Option<Day>, target: &mut W) -> Result<(), WriteFault>
     ensures ok { OnOk result (Appends (W.taken target.old) (W.taken target.new)
-        (left_out_text day)) }
+        (left_out_text db.now day)) }
     ensures err { OnErr result (WritesPrefix (W.taken target.old) (W.taken target.new)
-        (left_out_text day)) }
+        (left_out_text db.now day)) }
     ensures fault { OnErr result (W.failed target.new ≡ true) }
 {
     let Some(day) = day else {
         return Ok(());
     };
     let text = day_bytes(day);
-    write_pieces(target, &[b"hint: ", &text, b" was given too\n"])
+    write_pieces(
+        target,
+        &[
+            b"hint: ",
+            &text,
+            b" was given too\nhint: if it is no holiday, ftd change-holiday --db ",
+            file_bytes(db),
+            b" ",
+            &text,
+            b" no\n",
+        ],
+    )
 }
 
 /// Writes what differs between the days of a calendar and those that were given before.
@@ -422,7 +470,7 @@ fn write_differing<W: Target>(
     ensures fault { OnErr result (W.failed target.new ≡ true) }
 {
     write_new(db, first_beside(days, given), target)?;
-    write_left_out(first_beside(given, days), target)
+    write_left_out(db, first_beside(given, days), target)
 }
 
 /// Writes which of the account's years is the first.
@@ -450,7 +498,7 @@ fn enrolled_as(request: &Request) -> &'static [u8]
     ensures { result.now ≡ enrolled_as request.now }
 {
     match request {
-        Request::ReportYear { .. } => b" START --form 943\n",
+        Request::ReportYear { .. } | Request::CorrectReportYear { .. } => b" START --form 943\n",
         Request::Enrol { .. }
         | Request::Calendar { .. }
         | Request::AddHoliday { .. }
@@ -460,6 +508,9 @@ fn enrolled_as(request: &Request) -> &'static [u8]
         | Request::Void { .. }
         | Request::Pay { .. }
         | Request::VoidPay { .. }
+        | Request::CorrectReport { .. }
+        | Request::ChangeHoliday { .. }
+        | Request::CorrectAccount { .. }
         | Request::Question(_) => b" START\n",
     }
 }
@@ -476,6 +527,10 @@ enum Hint {
     Report(Quarter),
     ReportYear(u32),
     OpenYear(u32),
+    /// What is known otherwise is corrected.
+    Correct,
+    /// The next number is taken, where there are so many.
+    Next(u32),
 }
 
 /// Which command mends the refusal.
@@ -491,15 +546,15 @@ fn hint_of(refusal: &Refusal) -> Hint
         Refusal::QuarterMissing(quarter) => Hint::Report(*quarter),
         Refusal::YearNotOpen(year) => Hint::OpenYear(*year),
         Refusal::YearMissing(year) => Hint::ReportYear(*year),
+        Refusal::NumberSkipped(count) => Hint::Next(*count),
+        Refusal::AccountDiffers | Refusal::QuarterDiffers | Refusal::YearDiffers => Hint::Correct,
         Refusal::BadName
         | Refusal::BadYear
         | Refusal::BadDay
         | Refusal::BadCents
         | Refusal::BadCalendar
         | Refusal::BadNumber
-        | Refusal::AccountDiffers
         | Refusal::CalendarDiffers
-        | Refusal::QuarterDiffers
         | Refusal::UnknownRun
         | Refusal::UnknownPayment
         | Refusal::BeforeStart
@@ -508,8 +563,84 @@ fn hint_of(refusal: &Refusal) -> Hint
         | Refusal::Memory
         | Refusal::Store
         | Refusal::WrongForm
-        | Refusal::YearDiffers => Hint::Said,
+        | Refusal::CorrectionDiffers
+        | Refusal::NoHoliday
+        | Refusal::AccountInUse => Hint::Said,
     }
+}
+
+/// What is said of an account that is enrolled otherwise, up to the file.
+const ENROLLED_OTHERWISE: &[u8] =
+    b"hint: the account has another first day or form, or is carried otherwise\n\
+    hint: if its first day or carried is wrong, ftd correct-account --db ";
+
+/// What is said of a quarter that is reported otherwise, up to the file.
+const QUARTER_OTHERWISE: &[u8] = b"hint: the quarter is reported with another amount\n\
+    hint: if that is wrong, ftd correct-report --db ";
+
+/// What is said of a year that is reported otherwise, up to the file.
+const YEAR_OTHERWISE: &[u8] = b"hint: the year is reported with another amount\n\
+    hint: if that is wrong, ftd correct-report-year --db ";
+
+/// Writes the command that corrects what is known otherwise.
+fn write_correct<W: Target>(db: &str, request: &Request, target: &mut W) -> Result<(), WriteFault>
+    ensures ok { OnOk result (Appends (W.taken target.old) (W.taken target.new)
+        (correct_text db.now request.now)) }
+    ensures err { OnErr result (WritesPrefix (W.taken target.old) (W.taken target.new)
+        (correct_text db.now request.now)) }
+    ensures fault { OnErr result (W.failed target.new ≡ true) }
+{
+    match request {
+        Request::Enrol { account, .. } => {
+            let name = account.as_str().as_bytes();
+            write_on(ENROLLED_OTHERWISE, db, name, b" START\n", target)
+        }
+        Request::Report {
+            account,
+            quarter,
+            ..
+        } => {
+            let name = account.as_str();
+            let text = quarter_bytes(*quarter);
+            write_of(QUARTER_OTHERWISE, db, name, &text, b" AMOUNT\n", target)
+        }
+        Request::ReportYear { account, year, .. } => {
+            let name = account.as_str();
+            write_number(YEAR_OTHERWISE, db, name, *year, b" AMOUNT\n", target)
+        }
+        Request::Calendar { .. }
+        | Request::AddHoliday { .. }
+        | Request::OpenYear { .. }
+        | Request::Post { .. }
+        | Request::Void { .. }
+        | Request::Pay { .. }
+        | Request::VoidPay { .. }
+        | Request::CorrectReport { .. }
+        | Request::CorrectReportYear { .. }
+        | Request::ChangeHoliday { .. }
+        | Request::CorrectAccount { .. }
+        | Request::Question(_) => write_all(target, b""),
+    }
+}
+
+/// Writes the next number, where there are so many.
+fn write_next<W: Target>(count: u32, target: &mut W) -> Result<(), WriteFault>
+    ensures ok { OnOk result (Appends (W.taken target.old) (W.taken target.new)
+        (next_text count)) }
+    ensures err { OnErr result (WritesPrefix (W.taken target.old) (W.taken target.new)
+        (next_text count)) }
+    ensures fault { OnErr result (W.failed target.new ≡ true) }
+{
+    let mut digits = Buffer::new();
+    let text = digits.format(u64::from(count) + 1).as_bytes();
+    write_pieces(
+        target,
+        &[
+            b"hint: the next number is ",
+            text,
+            b", which is taken where none is given\n",
+        ],
+    )
 }
 
 /// Writes the hint of a refusal.
@@ -551,6 +682,8 @@ fn write_hint<W: Target>(
             let before = b"hint: ftd open-year --db ";
             write_number(before, db, account, year, b"\n", target)
         }
+        Hint::Correct => write_correct(db, request, target),
+        Hint::Next(count) => write_next(count, target),
     }
 }
 
@@ -570,12 +703,7 @@ fn said(request: &Request, refusal: Refusal) -> &'static [u8]
         }
         Refusal::BadCalendar => calendar_said(request),
         Refusal::BadNumber => b"hint: numbers are 1 to 999999999\n",
-        Refusal::AccountDiffers => {
-            b"hint: the account has another first day or form, or is carried otherwise\n"
-        }
         Refusal::CalendarDiffers => b"hint: ftd add-holiday adds a holiday\n",
-        Refusal::QuarterDiffers => b"hint: the quarter is reported with another amount\n",
-        Refusal::YearDiffers => b"hint: the year is reported with another amount\n",
         Refusal::UnknownRun => b"hint: the account has no run of this number\n",
         Refusal::UnknownPayment => b"hint: the account has no payment of this number\n",
         Refusal::BeforeStart => b"hint: the employer's first day is later\n",
@@ -584,7 +712,16 @@ fn said(request: &Request, refusal: Refusal) -> &'static [u8]
             b"hint: an account has at most 20000 payments, void ones too\n"
         }
         Refusal::WrongForm => form_said(request),
+        Refusal::CorrectionDiffers => b"hint: take the next number, or leave it out\n",
+        Refusal::NoHoliday => b"hint: the day was never a holiday; ftd add-holiday adds one\n",
+        Refusal::AccountInUse => {
+            b"hint: a total is reported, or a year is open; enrol a new account by another name\n"
+        }
         Refusal::UnknownAccount
+        | Refusal::AccountDiffers
+        | Refusal::QuarterDiffers
+        | Refusal::YearDiffers
+        | Refusal::NumberSkipped(_)
         | Refusal::RunDiffers
         | Refusal::PaymentDiffers
         | Refusal::CalendarMissing(_)

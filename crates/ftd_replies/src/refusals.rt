@@ -66,30 +66,31 @@ fn write_line<W: Target>(
 {
     match named {
         Named::Nothing => write_plain(verb, number, name, target),
-        Named::Year(year) => write_year(verb, number, name, year, target),
+        Named::Year(year) => write_number(verb, number, name, year, target),
+        Named::Number(count) => write_number(verb, number, name, count, target),
         Named::Quarter(quarter) => write_quarter(verb, number, name, quarter, target),
     }
 }
 
-/// Writes the line of a refusal that names a year.
-fn write_year<W: Target>(
+/// Writes the line of a refusal that names a year or how many there are.
+fn write_number<W: Target>(
     verb: &[u8],
     number: u8,
     name: &[u8],
-    year: u32,
+    what: u32,
     target: &mut W,
 ) -> Result<(), WriteFault>
     ensures ok { OnOk result (Appends (W.taken target.old) (W.taken target.new)
-        (line_of verb.now number name.now (codes " " ∷ decimal year ∷ []))) }
+        (line_of verb.now number name.now (codes " " ∷ decimal what ∷ []))) }
     ensures err { OnErr result (WritesPrefix (W.taken target.old) (W.taken target.new)
-        (line_of verb.now number name.now (codes " " ∷ decimal year ∷ []))) }
+        (line_of verb.now number name.now (codes " " ∷ decimal what ∷ []))) }
     ensures fault { OnErr result (W.failed target.new ≡ true) }
 {
     let mut digits = Buffer::new();
     let number = digits.format(number).as_bytes();
-    let mut year_digits = Buffer::new();
-    let year = year_digits.format(year).as_bytes();
-    write_pieces(target, &[verb, number, b" ", name, b" ", year, b"\n"])
+    let mut what_digits = Buffer::new();
+    let what = what_digits.format(what).as_bytes();
+    write_pieces(target, &[verb, number, b" ", name, b" ", what, b"\n"])
 }
 
 /// Writes the line of a refusal that names a quarter.

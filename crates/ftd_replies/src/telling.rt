@@ -60,7 +60,8 @@ fn asked_bytes(word: Word) -> &'static [u8]
               then lower-case letters, digits or hyphens"
         }
         Word::Year => b"a year of 2001 to 2098",
-        Word::Run | Word::Payment => b"a number of 1 to 999999999",
+        Word::Run | Word::Payment | Word::Number => b"a number of 1 to 999999999",
+        Word::IsHoliday => b"yes or no",
         Word::Port => b"a port of 0 to 65535",
         Word::Wait => b"a number of seconds of 0 to 3600",
         Word::Format => b"a format: text, csv, json or ics",

@@ -11,7 +11,7 @@ use Rattle.ftd_routes.specs.Requests.{request_of}
 use Rattle.ftd_routes.specs.declared.route.Ask.{Ask}
 use Rattle.ftd_routes.specs.declared.route.Ask.TheVariants as ask
 use Rattle.ftd_routes.specs.declared.ask.Method.{Method}
-use Rattle.ftd_routes.specs.declared.ask.Method.TheVariants.{Get, Post, Delete}
+use Rattle.ftd_routes.specs.declared.ask.Method.TheVariants.{Get, Post, Put, Delete}
 use Rattle.ftd_routes.specs.declared.ask.Asked.{Asked}
 use Rattle.ftd_routes.specs.declared.ask.Asked.TheVariants as asked
 
@@ -19,6 +19,7 @@ use Rattle.ftd_routes.specs.declared.ask.Asked.TheVariants as asked
 abbrev pub method_text : Method → List ℕ
 method_text Get = codes "GET"
 method_text Post = codes "POST"
+method_text Put = codes "PUT"
 method_text Delete = codes "DELETE"
 
 -- the method of a route
@@ -33,6 +34,10 @@ method_of ask.Post = Post
 method_of ask.Void = Delete
 method_of ask.Pay = Post
 method_of ask.VoidPay = Delete
+method_of ask.CorrectReport = Put
+method_of ask.CorrectReportYear = Put
+method_of ask.ChangeHoliday = Put
+method_of ask.CorrectAccount = Put
 method_of (ask.Query query) = Get
 
 -- the format in which a route tells a reply that has several
@@ -47,6 +52,10 @@ format_of ask.Post = format.List Text
 format_of ask.Void = format.List Text
 format_of ask.Pay = format.List Text
 format_of ask.VoidPay = format.List Text
+format_of ask.CorrectReport = format.List Text
+format_of ask.CorrectReportYear = format.List Text
+format_of ask.ChangeHoliday = format.List Text
+format_of ask.CorrectAccount = format.List Text
 format_of (ask.Query query) = query_format query
 
 -- what a message of the right method asks

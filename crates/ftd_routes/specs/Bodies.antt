@@ -29,6 +29,10 @@ abbrev pub flag_or_false : Option Data → Option Bool
 flag_or_false None = Some false
 flag_or_false (Some d) = as_bool d
 
+-- the truth value at a member, which has to be there
+abbrev pub flag_at : List ℕ → Data → Option Bool
+flag_at key d = option_and_then as_bool (get key d)
+
 -- the values of a member's text
 abbrev pub day_at : List ℕ → Data → Option ℕ
 day_at key d = option_and_then day_of (text_at key d)

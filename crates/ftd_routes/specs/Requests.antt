@@ -1,13 +1,14 @@
 -- The requests of the routes, by the parts of the target and the members of the body.
 use Rattle.std.specs.Prelude.{ℕ, List, Option, Some, codes}
 use Rattle.serde_json.specs.Find.{get}
+use Rattle.ftd_days.specs.Spelling.{day_of, spelled_quarter}
 use Rattle.ftd_machine.specs.declared.requests.Request.{Request}
 use Rattle.ftd_machine.specs.declared.requests.Request.TheVariants as request
 use Rattle.ftd_routes.specs.Paths.{◌>>=◌, part, account_in}
 use Rattle.ftd_routes.specs.Values.{path_number}
 use Rattle.ftd_routes.specs.Queries.{question_in}
 use Rattle.ftd_routes.specs.Bodies.{json_of, text_at, whole_at, flag_or_false, form_or_941, days_at}
-use Rattle.ftd_routes.specs.Bodies.{day_at, quarter_at, amount_at}
+use Rattle.ftd_routes.specs.Bodies.{day_at, quarter_at, amount_at, flag_at}
 use Rattle.ftd_routes.specs.declared.route.Ask.{Ask}
 use Rattle.ftd_routes.specs.declared.route.Ask.TheVariants as ask
 
@@ -84,6 +85,39 @@ void_payment_in target = do
   payment ← path_number (part 4 target)
   Some (request.VoidPay (account_in target) payment)
 
+-- the requests of a path, with what is right in the body
+unfoldable pub correct_report_in : List ℕ → List ℕ → Option Request
+correct_report_in target body = do
+  quarter ← spelled_quarter (part 4 target)
+  number ← path_number (part 6 target)
+  d ← json_of body
+  cents ← amount_at (codes "amount") d
+  Some (request.CorrectReport (account_in target) quarter number cents)
+
+unfoldable pub correct_report_year_in : List ℕ → List ℕ → Option Request
+correct_report_year_in target body = do
+  year ← path_number (part 4 target)
+  number ← path_number (part 6 target)
+  d ← json_of body
+  cents ← amount_at (codes "amount") d
+  Some (request.CorrectReportYear (account_in target) year number cents)
+
+unfoldable pub change_holiday_in : List ℕ → List ℕ → Option Request
+change_holiday_in target body = do
+  day ← day_of (part 2 target)
+  number ← path_number (part 4 target)
+  d ← json_of body
+  is_holiday ← flag_at (codes "holiday") d
+  Some (request.ChangeHoliday day number is_holiday)
+
+unfoldable pub correct_account_in : List ℕ → List ℕ → Option Request
+correct_account_in target body = do
+  number ← path_number (part 4 target)
+  d ← json_of body
+  start ← day_at (codes "start") d
+  carried ← flag_or_false (get (codes "carried") d)
+  Some (request.CorrectAccount (account_in target) number start carried)
+
 -- the request of a route
 abbrev pub request_of : Ask → List ℕ → List ℕ → Option Request
 request_of ask.Enrol target body = enrol_in body
@@ -96,4 +130,8 @@ request_of ask.Post target body = post_in target body
 request_of ask.Void target body = void_in target
 request_of ask.Pay target body = pay_in target body
 request_of ask.VoidPay target body = void_payment_in target
+request_of ask.CorrectReport target body = correct_report_in target body
+request_of ask.CorrectReportYear target body = correct_report_year_in target body
+request_of ask.ChangeHoliday target body = change_holiday_in target body
+request_of ask.CorrectAccount target body = correct_account_in target body
 request_of (ask.Query query) target body = question_in query target

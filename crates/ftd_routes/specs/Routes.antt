@@ -23,7 +23,7 @@ unfoldable pub with_routes : List (List ℕ × Ask) → RowsOf (RouteOf Ask) →
 with_routes [] rows = rows
 with_routes (route ∷ routes) rows = with_routes routes (with_route route.0 route.1 rows)
 
--- the routes that enter or void something
+-- the routes that enter, void or correct something
 abbrev pub change_table : List (List ℕ × Ask)
 change_table =
     (codes "/accounts", ask.Enrol)
@@ -36,6 +36,13 @@ change_table =
     ∷ (codes "/accounts/{account}/runs/{run}", ask.Void)
     ∷ (codes "/accounts/{account}/payments", ask.Pay)
     ∷ (codes "/accounts/{account}/payments/{payment}", ask.VoidPay)
+    ∷ (codes "/accounts/{account}/reported/{quarter}/corrections/{number}", ask.CorrectReport)
+    ∷ (
+      codes "/accounts/{account}/reported-years/{year}/corrections/{number}",
+      ask.CorrectReportYear,
+    )
+    ∷ (codes "/holidays/{day}/changes/{number}", ask.ChangeHoliday)
+    ∷ (codes "/accounts/{account}/corrections/{number}", ask.CorrectAccount)
     ∷ []
 
 unfoldable pub all_routes : RowsOf (RouteOf Ask)

@@ -20,6 +20,8 @@ pub enum Method {
     Get,
     /// It enters something.
     Post,
+    /// It corrects something, under a number of its own.
+    Put,
     /// It voids something.
     Delete,
 }
@@ -44,6 +46,7 @@ pub fn method_bytes(method: Method) -> &'static [u8]
     match method {
         Method::Get => b"GET",
         Method::Post => b"POST",
+        Method::Put => b"PUT",
         Method::Delete => b"DELETE",
     }
 }
@@ -54,6 +57,8 @@ fn method_of(route: Ask) -> Method
 {
     match route {
         Ask::Void | Ask::VoidPay => Method::Delete,
+        Ask::CorrectReport | Ask::CorrectReportYear | Ask::ChangeHoliday | Ask::CorrectAccount =>
+            Method::Put,
         Ask::Query(_) => Method::Get,
         Ask::Enrol
         | Ask::Calendar
@@ -81,7 +86,11 @@ fn format_of(route: Ask) -> Format
         | Ask::Post
         | Ask::Void
         | Ask::Pay
-        | Ask::VoidPay => Format::List(ListFormat::Text),
+        | Ask::VoidPay
+        | Ask::CorrectReport
+        | Ask::CorrectReportYear
+        | Ask::ChangeHoliday
+        | Ask::CorrectAccount => Format::List(ListFormat::Text),
     }
 }
 

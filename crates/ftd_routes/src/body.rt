@@ -5,6 +5,7 @@ ghost use Rattle.serde_json.specs.Find.{get};
 ghost use Rattle.serde_json.specs.View.{view, items_view};
 ghost use Rattle.ftd_routes.specs.Bodies.{json_of, text_at, whole_at, flag_or_false, form_or_941};
 ghost use Rattle.ftd_routes.specs.Bodies.{day_at, days_at, days_in, quarter_at, amount_at};
+ghost use Rattle.ftd_routes.specs.Bodies.{flag_at};
 ghost use Rattle.ftd_routes.specs.Values.{form_of};
 
 use ftd_days::{Cents, Day, Quarter};
@@ -48,6 +49,13 @@ pub fn flag_at(value: &Value, key: &str) -> Option<bool>
         None => Some(false),
         Some(member) => member.as_bool(),
     }
+}
+
+/// The truth value at a member, which has to be there.
+pub fn given_flag_at(value: &Value, key: &str) -> Option<bool>
+    ensures { result ≡ flag_at key.now (view value.now) }
+{
+    value.get(key).and_then(Value::as_bool)
 }
 
 /// The form that a member names, Form 941 where the member is missing.

@@ -3,15 +3,19 @@
 ghost use Rattle.std.specs.Prelude.{◌≡◌, IfOk};
 ghost use Rattle.ftd_routes.specs.Requests.{enrol_in, calendar_in, add_holiday_in, report_in};
 ghost use Rattle.ftd_routes.specs.Requests.{report_year_in, open_year_in, post_in, pay_in, void_in};
+ghost use Rattle.ftd_routes.specs.Requests.{correct_account_in, correct_report_in};
+ghost use Rattle.ftd_routes.specs.Requests.{correct_report_year_in, change_holiday_in};
 ghost use Rattle.ftd_routes.specs.Requests.{void_payment_in, request_of};
 
 use crate::Ask;
 use crate::body::{
-    amount_at, day_at, days_at, flag_at, form_at, json, quarter_at, text_at, whole_at,
+    amount_at, day_at, days_at, flag_at, form_at, given_flag_at, json, quarter_at, text_at,
+    whole_at,
 };
 use crate::path::part;
 use crate::queries::make_question;
 use crate::values::{name, path_number};
+use ftd_days::{Day, Quarter};
 use ftd_machine::{Days, Request};
 use std::alloc::{AllocError, Global};
 
@@ -36,6 +40,10 @@ pub fn make_request(
         Ask::OpenYear => open_year(alloc, target, body),
         Ask::Post => post(alloc, target, body),
         Ask::Pay => pay(alloc, target, body),
+        Ask::CorrectReport => correct_report(alloc, target, body),
+        Ask::CorrectReportYear => correct_report_year(alloc, target, body),
+        Ask::ChangeHoliday => change_holiday(alloc, target, body),
+        Ask::CorrectAccount => correct_account(alloc, target, body),
     }
 }
 
@@ -247,4 +255,110 @@ fn void_payment(alloc: Global, target: &str) -> Result<Option<Request>, AllocErr
     };
     let account = name(alloc, part(target, 2))?;
     Ok(Some(Request::VoidPay { account, payment }))
+}
+
+/// A reported quarter that is corrected.
+#[tactic(auto, unfolding(crate::specs::Requests::correct_report_in))]
+fn correct_report(alloc: Global, target: &str, body: &[u8]) -> Result<Option<Request>, AllocError>
+    ensures { IfOk result (λ request. request ≡ correct_report_in target.now body.now) }
+{
+    let Some(quarter) = Quarter::read(part(target, 4).as_bytes()) else {
+        return Ok(None);
+    };
+    let Some(number) = path_number(part(target, 6)) else {
+        return Ok(None);
+    };
+    let Some(value) = json(alloc, body)? else {
+        return Ok(None);
+    };
+    let Some(cents) = amount_at(&value, "amount") else {
+        return Ok(None);
+    };
+    let account = name(alloc, part(target, 2))?;
+    Ok(Some(Request::CorrectReport {
+        account,
+        quarter,
+        number,
+        cents,
+    }))
+}
+
+/// A reported year that is corrected.
+#[tactic(auto, unfolding(crate::specs::Requests::correct_report_year_in))]
+fn correct_report_year(
+    alloc: Global,
+    target: &str,
+    body: &[u8],
+) -> Result<Option<Request>, AllocError>
+    ensures { IfOk result (λ request. request ≡ correct_report_year_in target.now body.now) }
+{
+    let Some(year) = path_number(part(target, 4)) else {
+        return Ok(None);
+    };
+    let Some(number) = path_number(part(target, 6)) else {
+        return Ok(None);
+    };
+    let Some(value) = json(alloc, body)? else {
+        return Ok(None);
+    };
+    let Some(cents) = amount_at(&value, "amount") else {
+        return Ok(None);
+    };
+    let account = name(alloc, part(target, 2))?;
+    Ok(Some(Request::CorrectReportYear {
+        account,
+        year,
+        number,
+        cents,
+    }))
+}
+
+/// A day that is taken back as a holiday, or made one again.
+#[tactic(auto, unfolding(crate::specs::Requests::change_holiday_in))]
+fn change_holiday(alloc: Global, target: &str, body: &[u8]) -> Result<Option<Request>, AllocError>
+    ensures { IfOk result (λ request. request ≡ change_holiday_in target.now body.now) }
+{
+    let Some(day) = Day::read(part(target, 2).as_bytes()) else {
+        return Ok(None);
+    };
+    let Some(number) = path_number(part(target, 4)) else {
+        return Ok(None);
+    };
+    let Some(value) = json(alloc, body)? else {
+        return Ok(None);
+    };
+    let Some(is_holiday) = given_flag_at(&value, "holiday") else {
+        return Ok(None);
+    };
+    Ok(Some(Request::ChangeHoliday {
+        day,
+        number,
+        is_holiday,
+    }))
+}
+
+/// An account that is corrected.
+#[tactic(auto, unfolding(crate::specs::Requests::correct_account_in))]
+fn correct_account(alloc: Global, target: &str, body: &[u8]) -> Result<Option<Request>, AllocError>
+    ensures { IfOk result (λ request. request ≡ correct_account_in target.now body.now) }
+{
+    let Some(number) = path_number(part(target, 4)) else {
+        return Ok(None);
+    };
+    let Some(value) = json(alloc, body)? else {
+        return Ok(None);
+    };
+    let Some(start) = day_at(&value, "start") else {
+        return Ok(None);
+    };
+    let Some(carried) = flag_at(&value, "carried") else {
+        return Ok(None);
+    };
+    let account = name(alloc, part(target, 2))?;
+    Ok(Some(Request::CorrectAccount {
+        account,
+        number,
+        start,
+        carried,
+    }))
 }

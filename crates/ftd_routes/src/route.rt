@@ -31,6 +31,14 @@ pub enum Ask {
     Pay,
     /// A payment that is voided.
     VoidPay,
+    /// A reported quarter that is corrected.
+    CorrectReport,
+    /// A reported year that is corrected.
+    CorrectReportYear,
+    /// A day that is taken back as a holiday, or made one again.
+    ChangeHoliday,
+    /// An account that is corrected.
+    CorrectAccount,
     /// A question.
     Query(Query),
 }
@@ -43,8 +51,8 @@ fn put(router: &mut Router<Ask>, route: &str, ask: Ask) -> Result<(), InsertErro
     router.insert(route, ask)
 }
 
-/// The routes that enter or void something.
-const CHANGES: [(&str, Ask); 10] = [
+/// The routes that enter, void or correct something.
+const CHANGES: [(&str, Ask); 14] = [
     ("/accounts", Ask::Enrol),
     ("/calendars", Ask::Calendar),
     ("/holidays", Ask::AddHoliday),
@@ -55,6 +63,19 @@ const CHANGES: [(&str, Ask); 10] = [
     ("/accounts/{account}/runs/{run}", Ask::Void),
     ("/accounts/{account}/payments", Ask::Pay),
     ("/accounts/{account}/payments/{payment}", Ask::VoidPay),
+    (
+        "/accounts/{account}/reported/{quarter}/corrections/{number}",
+        Ask::CorrectReport,
+    ),
+    (
+        "/accounts/{account}/reported-years/{year}/corrections/{number}",
+        Ask::CorrectReportYear,
+    ),
+    ("/holidays/{day}/changes/{number}", Ask::ChangeHoliday),
+    (
+        "/accounts/{account}/corrections/{number}",
+        Ask::CorrectAccount,
+    ),
 ];
 
 /// Puts in these routes more.

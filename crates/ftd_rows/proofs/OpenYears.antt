@@ -6,11 +6,8 @@ use Rattle.std.proofs.lemmas.Bool.{false≢true}
 use Rattle.ftd_rules.specs.declared.YearLine.{YearLine}
 use Rattle.ftd_rules.specs.Lists.{Has}
 use Rattle.ftd_rules.specs.Years.{AreOpenYears, YearsFrom, OnlyFirstCarried}
-use Rattle.ftd_schema.specs.Rows.{AccountRow}
 use Rattle.ftd_rows.specs.declared.accounts.Account.{Account}
 use Rattle.ftd_rows.specs.declared.years.StoredYear.{StoredYear}
-use Rattle.ftd_rows.specs.Reading.{rows_of}
-use Rattle.ftd_rows.specs.Rows.{account_row}
 use Rattle.ftd_rows.specs.Years.{year_lines, is_carried, FirstCarriedAs}
 
 -- ---- the years of lines that go on one by one
@@ -61,10 +58,8 @@ only_first_carried carried [] = tt
 only_first_carried carried (y ∷ ys) = none_carried ys
 
 -- the first line is carried as the account that was found is
-pub carried_as : (name : List ℕ) (found : Option Account) (accounts : List AccountRow)
-    (ys : List StoredYear)
-    → accounts ≡ rows_of (account_row name) found → (found ≡ None → ys ≡ [])
-    → FirstCarriedAs name accounts (year_lines (is_carried found) ys)
-carried_as name found accounts [] is there = tt
-carried_as name None accounts (y ∷ ys) is there = absurd (let e = there refl in cc)
-carried_as name (Some a) accounts (y ∷ ys) is there = (a, is, refl)
+pub carried_as : (found : Option Account) (ys : List StoredYear) → (found ≡ None → ys ≡ [])
+    → FirstCarriedAs found (year_lines (is_carried found) ys)
+carried_as found [] there = tt
+carried_as None (y ∷ ys) there = absurd (let e = there refl in cc)
+carried_as (Some a) (y ∷ ys) there = (a, refl, refl)

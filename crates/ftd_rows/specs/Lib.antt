@@ -8,3 +8,4 @@ pub mod DaySums
 pub mod Years
 pub use Rattle.ftd_rules.specs.Liability
 pub mod Kept
+pub mod Corrections

@@ -7,9 +7,13 @@ use Rattle.ftd_rules.specs.declared.Obligation.{Obligation}
 use Rattle.ftd_rules.specs.declared.YearLine.{YearLine}
 use Rattle.ftd_schema.specs.Rows.{AccountRow, FormRow, ReportedQuarterRow, ReportedYearRow}
 use Rattle.ftd_schema.specs.Rows.{CalendarYearRow, HolidayRow, YearRow, RunRow, PaymentRow}
-use Rattle.ftd_schema.specs.Rows.{ObligationRow}
+use Rattle.ftd_schema.specs.Rows.{ObligationRow, CorrectedQuarterRow, CorrectedYearRow}
+use Rattle.ftd_schema.specs.Rows.{ChangedHolidayRow, CorrectedAccountRow}
 use Rattle.ftd_rows.specs.Cells.{day_number, flag_number, rule_number, schedule_number, form_number}
 use Rattle.ftd_rows.specs.declared.accounts.Account.{Account}
+use Rattle.ftd_rows.specs.declared.corrections.AccountCorrection.{AccountCorrection}
+use Rattle.ftd_rows.specs.declared.corrections.Correction.{Correction}
+use Rattle.ftd_rows.specs.declared.corrections.HolidayChange.{HolidayChange}
 use Rattle.ftd_rules.specs.declared.run.PayRun.{PayRun}
 use Rattle.ftd_rules.specs.declared.payment.Payment.{Payment}
 
@@ -33,6 +37,38 @@ reported_row account quarter cents =
 abbrev pub reported_year_row : List ℕ → ℕ → Cents → ReportedYearRow
 reported_year_row account year cents =
     record { account = account; year = pos year; cents = pos cents.0 }
+
+-- a correction of the total of a quarter, of that of a year, and of an account
+abbrev pub correction_row : List ℕ → ℕ → Correction → CorrectedQuarterRow
+correction_row account quarter c =
+    record {
+      account = account;
+      year = pos (quarter_year quarter);
+      quarter = pos (quarter_number quarter);
+      number = pos c.number;
+      cents = pos c.cents.0;
+    }
+
+abbrev pub year_correction_row : List ℕ → ℕ → Correction → CorrectedYearRow
+year_correction_row account year c =
+    record { account = account; year = pos year; number = pos c.number; cents = pos c.cents.0 }
+
+abbrev pub account_correction_row : List ℕ → AccountCorrection → CorrectedAccountRow
+account_correction_row account c = record {
+  account = account;
+  number = pos c.number;
+  start = day_number c.account.start;
+  carried = flag_number c.account.carried;
+}
+
+-- a change of a day of the year
+abbrev pub holiday_change_row : ℕ → HolidayChange → ChangedHolidayRow
+holiday_change_row year c = record {
+  day = day_number c.day;
+  number = pos c.number;
+  is_holiday = flag_number c.is_holiday;
+  year = pos year;
+}
 
 -- a year whose calendar is given, and a holiday of the year
 abbrev pub calendar_year_row : ℕ → CalendarYearRow

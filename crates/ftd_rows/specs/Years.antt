@@ -3,10 +3,8 @@ use Rattle.std.specs.Prelude.{◌≡◌, ℕ, Bool, false, List, [], ◌∷◌, 
 use Rattle.ftd_days.specs.Calendar.{year_of}
 use Rattle.ftd_rules.specs.declared.Kind.TheVariants.{Monthly}
 use Rattle.ftd_rules.specs.declared.YearLine.{YearLine}
-use Rattle.ftd_schema.specs.Rows.{AccountRow}
 use Rattle.ftd_rows.specs.declared.accounts.Account.{Account}
 use Rattle.ftd_rows.specs.declared.years.StoredYear.{StoredYear}
-use Rattle.ftd_rows.specs.Rows.{account_row}
 
 -- the year as a line, with whether the account is carried into it
 abbrev pub year_line : Bool → StoredYear → YearLine
@@ -28,11 +26,11 @@ abbrev pub is_carried : Option Account → Bool
 is_carried None = false
 is_carried (Some a) = a.carried
 
--- the first line is carried as the account of these rows is, which are one
-abbrev pub FirstCarriedAs : List ℕ → List AccountRow → List YearLine → Type 0
-FirstCarriedAs name accounts [] = Unit {0}
-FirstCarriedAs name accounts (line ∷ lines) =
-    (a : Account) × (accounts ≡ account_row name a ∷ []) × (line.carried ≡ a.carried)
+-- the first line is carried as the account is, which is there
+abbrev pub FirstCarriedAs : Option Account → List YearLine → Type 0
+FirstCarriedAs found [] = Unit {0}
+FirstCarriedAs found (line ∷ lines) =
+    (a : Account) × (found ≡ Some a) × (line.carried ≡ a.carried)
 
 -- a turn is a day of the line's year, which opens monthly
 abbrev pub HasFittingTurn : YearLine → Type 0

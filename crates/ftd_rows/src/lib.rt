@@ -7,6 +7,7 @@
 mod accounts;
 mod calendars;
 mod cells;
+mod corrections;
 mod day_sums;
 mod faults;
 mod kept;
@@ -19,6 +20,9 @@ mod years;
 pub use crate::accounts::Account;
 pub use crate::cells::{
     StoredCents, StoredDay, StoredFlag, StoredForm, StoredRule, StoredSchedule,
+};
+pub use crate::corrections::{
+    AccountCorrection, Correction, HolidayChange, QuarterCorrection, YearCorrection, as_corrected,
 };
 pub use crate::day_sums::{added, sum_of, sums_of};
 pub use crate::faults::StoreFault;

@@ -5,6 +5,8 @@ use Rattle.ftd_schema.specs.declared.TableName.TheVariants.{Metas, Accounts, For
 use Rattle.ftd_schema.specs.declared.TableName.TheVariants.{ReportedQuarters, ReportedYears}
 use Rattle.ftd_schema.specs.declared.TableName.TheVariants.{CalendarYears, Holidays, AddedHolidays}
 use Rattle.ftd_schema.specs.declared.TableName.TheVariants.{Years, Runs, Payments, Obligations}
+use Rattle.ftd_schema.specs.declared.TableName.TheVariants.{CorrectedQuarters, CorrectedYears}
+use Rattle.ftd_schema.specs.declared.TableName.TheVariants.{ChangedHolidays, CorrectedAccounts}
 use Rattle.ftd_schema.specs.declared.texts.TheConstants.{LIST_METAS, READ_ACCOUNT, LIST_ACCOUNTS}
 use Rattle.ftd_schema.specs.declared.texts.TheConstants.{READ_FORM, READ_REPORTED, READ_REPORTED_YEAR}
 use Rattle.ftd_schema.specs.declared.texts.TheConstants.{READ_CALENDAR_YEAR, LIST_HOLIDAYS}
@@ -14,7 +16,11 @@ use Rattle.ftd_schema.specs.declared.texts.TheConstants.{LIST_OBLIGATIONS, LIST_
 use Rattle.ftd_schema.specs.declared.texts.TheConstants.{LIST_DUE_BETWEEN, LIST_ENROLLED, LIST_FORMS}
 use Rattle.ftd_schema.specs.declared.texts.TheConstants.{LIST_REPORTED, LIST_REPORTED_YEARS}
 use Rattle.ftd_schema.specs.declared.texts.TheConstants.{LIST_KEPT_RUNS, LIST_KEPT_PAYMENTS}
-use Rattle.ftd_schema.specs.declared.texts.TheConstants.{COUNT_PAYMENTS}
+use Rattle.ftd_schema.specs.declared.texts.TheConstants.{COUNT_PAYMENTS, LIST_CORRECTIONS}
+use Rattle.ftd_schema.specs.declared.texts.TheConstants.{LIST_CORRECTED, LIST_YEAR_CORRECTIONS}
+use Rattle.ftd_schema.specs.declared.texts.TheConstants.{LIST_CORRECTED_YEARS}
+use Rattle.ftd_schema.specs.declared.texts.TheConstants.{LIST_ACCOUNT_CORRECTIONS}
+use Rattle.ftd_schema.specs.declared.texts.TheConstants.{LIST_CHANGED_HOLIDAYS}
 use Rattle.ftd_schema.proofs.Shapes.{place, test_on, Value, Zero, Is, IsBelow, IsAtMost, IsAtLeast}
 use Rattle.ftd_schema.proofs.Reading.{Asks, Counts}
 
@@ -652,6 +658,176 @@ pub lists_kept_payments : Asks Payments LIST_KEPT_PAYMENTS.now
     (place (codes "for_day") 4 ∷ place (codes "payment") 2 ∷ [])
 unfolding everything
 lists_kept_payments = record {
+  reads = record { read = _; is = refl; said = refl; untimed = refl; whole = refl };
+  opens = record { whole = refl; first = refl };
+  resolves = λ tree. record {
+    filters = _;
+    grouped = false;
+    keys = _;
+    after_columns = _;
+    after_test = _;
+    after_order = _;
+    known_columns = refl;
+    known_test = refl;
+    known_order = refl;
+    columns_are = refl;
+    filters_are = refl;
+    is_grouped = refl;
+    keys_are = refl;
+    draft_is = λ at. refl;
+  };
+  accepted = λ tree. (refl, refl);
+  is_query = λ tree. refl;
+}
+
+pub lists_corrections : Asks CorrectedQuarters LIST_CORRECTIONS.now
+    (place (codes "number") 4 ∷ place (codes "cents") 5 ∷ [])
+    (test_on (codes "account") 1 Is (Value 1) ∷ test_on (codes "cal_year") 2 Is (Value 2) ∷ test_on
+    (codes "quarter") 3 Is (Value 3) ∷ [])
+    (place (codes "number") 4 ∷ [])
+unfolding everything
+lists_corrections = record {
+  reads = record { read = _; is = refl; said = refl; untimed = refl; whole = refl };
+  opens = record { whole = refl; first = refl };
+  resolves = λ tree. record {
+    filters = _;
+    grouped = false;
+    keys = _;
+    after_columns = _;
+    after_test = _;
+    after_order = _;
+    known_columns = refl;
+    known_test = refl;
+    known_order = refl;
+    columns_are = refl;
+    filters_are = refl;
+    is_grouped = refl;
+    keys_are = refl;
+    draft_is = λ at. refl;
+  };
+  accepted = λ tree. (refl, refl);
+  is_query = λ tree. refl;
+}
+
+pub lists_corrected : Asks CorrectedQuarters LIST_CORRECTED.now
+    (place (codes "cal_year") 2 ∷ place (codes "quarter") 3 ∷ place (codes "number") 4 ∷ place
+    (codes "cents") 5 ∷ [])
+    (test_on (codes "account") 1 Is (Value 1) ∷ [])
+    (place (codes "cal_year") 2 ∷ place (codes "quarter") 3 ∷ place (codes "number") 4 ∷ [])
+unfolding everything
+lists_corrected = record {
+  reads = record { read = _; is = refl; said = refl; untimed = refl; whole = refl };
+  opens = record { whole = refl; first = refl };
+  resolves = λ tree. record {
+    filters = _;
+    grouped = false;
+    keys = _;
+    after_columns = _;
+    after_test = _;
+    after_order = _;
+    known_columns = refl;
+    known_test = refl;
+    known_order = refl;
+    columns_are = refl;
+    filters_are = refl;
+    is_grouped = refl;
+    keys_are = refl;
+    draft_is = λ at. refl;
+  };
+  accepted = λ tree. (refl, refl);
+  is_query = λ tree. refl;
+}
+
+pub lists_year_corrections : Asks CorrectedYears LIST_YEAR_CORRECTIONS.now
+    (place (codes "number") 3 ∷ place (codes "cents") 4 ∷ [])
+    (test_on (codes "account") 1 Is (Value 1) ∷ test_on (codes "cal_year") 2 Is (Value 2) ∷ [])
+    (place (codes "number") 3 ∷ [])
+unfolding everything
+lists_year_corrections = record {
+  reads = record { read = _; is = refl; said = refl; untimed = refl; whole = refl };
+  opens = record { whole = refl; first = refl };
+  resolves = λ tree. record {
+    filters = _;
+    grouped = false;
+    keys = _;
+    after_columns = _;
+    after_test = _;
+    after_order = _;
+    known_columns = refl;
+    known_test = refl;
+    known_order = refl;
+    columns_are = refl;
+    filters_are = refl;
+    is_grouped = refl;
+    keys_are = refl;
+    draft_is = λ at. refl;
+  };
+  accepted = λ tree. (refl, refl);
+  is_query = λ tree. refl;
+}
+
+pub lists_corrected_years : Asks CorrectedYears LIST_CORRECTED_YEARS.now
+    (place (codes "cal_year") 2 ∷ place (codes "number") 3 ∷ place (codes "cents") 4 ∷ [])
+    (test_on (codes "account") 1 Is (Value 1) ∷ [])
+    (place (codes "cal_year") 2 ∷ place (codes "number") 3 ∷ [])
+unfolding everything
+lists_corrected_years = record {
+  reads = record { read = _; is = refl; said = refl; untimed = refl; whole = refl };
+  opens = record { whole = refl; first = refl };
+  resolves = λ tree. record {
+    filters = _;
+    grouped = false;
+    keys = _;
+    after_columns = _;
+    after_test = _;
+    after_order = _;
+    known_columns = refl;
+    known_test = refl;
+    known_order = refl;
+    columns_are = refl;
+    filters_are = refl;
+    is_grouped = refl;
+    keys_are = refl;
+    draft_is = λ at. refl;
+  };
+  accepted = λ tree. (refl, refl);
+  is_query = λ tree. refl;
+}
+
+pub lists_account_corrections : Asks CorrectedAccounts LIST_ACCOUNT_CORRECTIONS.now
+    (place (codes "number") 2 ∷ place (codes "start") 3 ∷ place (codes "carried") 4 ∷ [])
+    (test_on (codes "account") 1 Is (Value 1) ∷ [])
+    (place (codes "number") 2 ∷ [])
+unfolding everything
+lists_account_corrections = record {
+  reads = record { read = _; is = refl; said = refl; untimed = refl; whole = refl };
+  opens = record { whole = refl; first = refl };
+  resolves = λ tree. record {
+    filters = _;
+    grouped = false;
+    keys = _;
+    after_columns = _;
+    after_test = _;
+    after_order = _;
+    known_columns = refl;
+    known_test = refl;
+    known_order = refl;
+    columns_are = refl;
+    filters_are = refl;
+    is_grouped = refl;
+    keys_are = refl;
+    draft_is = λ at. refl;
+  };
+  accepted = λ tree. (refl, refl);
+  is_query = λ tree. refl;
+}
+
+pub lists_changed_holidays : Asks ChangedHolidays LIST_CHANGED_HOLIDAYS.now
+    (place (codes "day") 1 ∷ place (codes "number") 2 ∷ place (codes "is_holiday") 3 ∷ [])
+    (test_on (codes "cal_year") 4 Is (Value 1) ∷ [])
+    (place (codes "day") 1 ∷ place (codes "number") 2 ∷ [])
+unfolding everything
+lists_changed_holidays = record {
   reads = record { read = _; is = refl; said = refl; untimed = refl; whole = refl };
   opens = record { whole = refl; first = refl };
   resolves = λ tree. record {

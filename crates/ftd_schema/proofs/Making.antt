@@ -1,11 +1,15 @@
 -- Making the desk's tables one by one, in a database that may have others.
 use Rattle.std.proofs.Common.{◌≡◌, ◌++◌, ◌<◌, ◌+◌, ℕ, zero, suc, List, [], ◌∷◌, take, get_or}
-use Rattle.std.proofs.Common.{length, IsTrue, Ok, None, refl, ap, subst, true, false, arith}
-use Rattle.std.specs.Prelude.{slice_index_or}
+use Rattle.std.proofs.Common.{length, IsTrue, Ok, None, refl, ap, subst, true, false, arith, Bool}
+use Rattle.std.proofs.Common.{◌≤◌, ◌∙◌, sym, inl, inr}
+use Rattle.std.specs.Prelude.{slice_index_or, nat_lt, filter}
 use Rattle.std.specs.List.{All, AllByRecursion}
-use Rattle.std.proofs.lemmas.List.Elements.{All-append}
+use Rattle.std.proofs.lemmas.Bool.{cases_Bool, false≢true}
+use Rattle.std.proofs.lemmas.Bool.Decides.{nat_tests}
+use Rattle.std.proofs.lemmas.List.Elements.{All-append, filter_passes}
 use Rattle.sqlite.specs.Does.{lacks_sequence}
 use Rattle.sqlite.specs.Effect.{Database}
+use Rattle.sqlite.specs.Schema.{Schema}
 use Rattle.sqlite.specs.State.{State, Executes}
 use Rattle.sqlite_ast.specs.declared.CreateTable.{CreateTable as Definition}
 use Rattle.sqlite_ast.specs.declared.Statement.TheVariants as written
@@ -21,11 +25,14 @@ use Rattle.ftd_schema.specs.declared.TableName.TheVariants.{Metas, Accounts, Rep
 use Rattle.ftd_schema.specs.declared.TableName.TheVariants.{CalendarYears, Holidays, Years, Runs}
 use Rattle.ftd_schema.specs.declared.TableName.TheVariants.{Payments, Obligations, Forms}
 use Rattle.ftd_schema.specs.declared.TableName.TheVariants.{ReportedYears, AddedHolidays}
-use Rattle.ftd_schema.specs.Names.{name_of, all_names, later_names}
+use Rattle.ftd_schema.specs.declared.TableName.TheVariants.{CorrectedQuarters, CorrectedYears}
+use Rattle.ftd_schema.specs.declared.TableName.TheVariants.{ChangedHolidays, CorrectedAccounts}
+use Rattle.ftd_schema.specs.Names.{name_of, all_names, later_names, since}
 use Rattle.ftd_schema.specs.Rows.{cells_of}
 use Rattle.ftd_schema.specs.Layout.{table_of, references_of, is_rewritten}
-use Rattle.ftd_schema.specs.Standing.{Tables, Stands, no_rows, IsFirst, StandsAsFirst, first_rows}
+use Rattle.ftd_schema.specs.Standing.{Tables, Stands, no_rows, StandsAs, rows_as}
 use Rattle.ftd_schema.specs.Making.{create_of, AreFree, AreEmpty}
+use Rattle.ftd_schema.proofs.OneOfAll.{stands_same}
 
 -- what the text says, with no look at a schema
 Says : TableName → Type 0
@@ -94,6 +101,26 @@ says AddedHolidays = (
   record { read = _; is = refl; said = refl; untimed = refl; whole = refl },
   record { fresh = refl; must = refl; is = refl; whole = refl },
 )
+says CorrectedQuarters = (
+  _,
+  record { read = _; is = refl; said = refl; untimed = refl; whole = refl },
+  record { fresh = refl; must = refl; is = refl; whole = refl },
+)
+says CorrectedYears = (
+  _,
+  record { read = _; is = refl; said = refl; untimed = refl; whole = refl },
+  record { fresh = refl; must = refl; is = refl; whole = refl },
+)
+says ChangedHolidays = (
+  _,
+  record { read = _; is = refl; said = refl; untimed = refl; whole = refl },
+  record { fresh = refl; must = refl; is = refl; whole = refl },
+)
+says CorrectedAccounts = (
+  _,
+  record { read = _; is = refl; said = refl; untimed = refl; whole = refl },
+  record { fresh = refl; must = refl; is = refl; whole = refl },
+)
 
 -- no foreign key of the tables has an action
 acts_not : (n : TableName) → AllByRecursion HasNoAction (references_of n)
@@ -116,6 +143,10 @@ self_named Obligations = refl
 self_named Forms = refl
 self_named ReportedYears = refl
 self_named AddedHolidays = refl
+self_named CorrectedQuarters = refl
+self_named CorrectedYears = refl
+self_named ChangedHolidays = refl
+self_named CorrectedAccounts = refl
 
 -- these tables were made, and hold no rows; every other is as it was
 pub record AreMade (names : List TableName) (old now : Database) : Type 0 where
@@ -175,44 +206,100 @@ next_made names i text old a b count low is free so h =
         let e : suc i + 1 ≡ suc (i + 1) = omega arith in
         rw e (ap (λ more. x ∷ more) (take_more xs i d (omega (arith, low))))
 
--- all of them
+-- ---- those that came after a version
+
+-- none of them is one whose rows are changed or taken out
+unwritten : (n : TableName) → nat_lt 1 (since n) ≡ true → is_rewritten n ≡ false
+unwritten Metas h = absurd cc
+unwritten Years h = absurd cc
+unwritten Runs h = absurd cc
+unwritten Payments h = absurd cc
+unwritten Obligations h = absurd cc
+unwritten n h = refl
+
+-- what came after a version from 1 on came after version 1
+came_late : (version : ℕ) (n : TableName) → 1 ≤ version → nat_lt version (since n) ≡ true
+    → nat_lt 1 (since n) ≡ true
+came_late version n some late = grind (arith, nat_tests)
+
+-- so they can be made beside any tables
+pub later_free : (version : ℕ) (s : Schema) → 1 ≤ version → lacks_sequence s ≡ false
+    → AreFree (later_names version) s
+later_free version s some counted = record { unnamed = each; counted = counted }
+  where
+    each : All (λ n. IsTrue (is_rewritten n) → IsUnnamed s (name_of n)) (later_names version)
+    each k d low acts =
+        let n = slice_index_or (later_names version) k d in
+        let late = filter_passes (λ m. nat_lt version (since m)) all_names k d low in
+        absurd (false≢true (sym (unwritten n (came_late version n some late)) ∙ acts))
+
+-- what holds of those of a list that pass a test holds of each that passes
+at_passing : {X : Type 0} (P : X → Type 0) (test : X → Bool) (xs : List X)
+    → All P (filter test xs)
+    → (k : ℕ) (d : X) → k < length xs → test (get_or xs k d) ≡ true → P (get_or xs k d)
+at_passing P test [] all k d low passes = absurd (omega (arith, low))
+at_passing P test (x ∷ xs) all zero d low passes = (rw passes at all) 0 d (omega arith)
+at_passing P test (x ∷ xs) all (suc k) d low passes = elim (cases_Bool (test x)) [
+  | inl first ↦ at_passing P test xs
+      (λ j e lower. (rw first at all) (suc j) e (omega (arith, lower))) k d (omega (arith, low))
+      passes
+  | inr not_first ↦ at_passing P test xs (rw not_first at all) k d (omega (arith, low)) passes
+]
+
+-- they were made beside the tables of the version
+pub later_made : (version : ℕ) (old now : Database) (t : Tables) → StandsAs version old t
+    → AreMade (later_names version) old now → Stands now (rows_as version t) × KeepsTables old now
+later_made version old now t stands h = (each, grown_keeps old now h.grown)
+  where
+    IsThere : TableName → Type 0
+    IsThere n = Holds (is_rewritten n) now (name_of n) (table_of n) (cells_of n)
+        (rows_as version t n)
+
+    one : (n : TableName) (k : ℕ) → k < length all_names → get_or all_names k Metas ≡ n
+        → IsThere n
+    one n k low is = elim (cases_Bool (nat_lt version (since n))) [
+      | inl late ↦ rw late (subst (λ m. Holds (is_rewritten m) now (name_of m) (table_of m)
+          (cells_of m) []) is
+          (at_passing (λ m. Holds (is_rewritten m) now (name_of m) (table_of m) (cells_of m) [])
+          (λ m. nat_lt version (since m)) all_names h.empty k Metas low (rw is late)))
+      | inr early ↦ rw early (holds_on old now _ _ _ _ (cells_of n) (t n) h.grown
+          (stands n (grind (arith, nat_tests))))
+    ]
+
+    each : Stands now (rows_as version t)
+    each Metas = one Metas 0 (omega arith) refl
+    each Accounts = one Accounts 1 (omega arith) refl
+    each ReportedQuarters = one ReportedQuarters 2 (omega arith) refl
+    each CalendarYears = one CalendarYears 3 (omega arith) refl
+    each Holidays = one Holidays 4 (omega arith) refl
+    each Years = one Years 5 (omega arith) refl
+    each Runs = one Runs 6 (omega arith) refl
+    each Payments = one Payments 7 (omega arith) refl
+    each Obligations = one Obligations 8 (omega arith) refl
+    each Forms = one Forms 9 (omega arith) refl
+    each ReportedYears = one ReportedYears 10 (omega arith) refl
+    each AddedHolidays = one AddedHolidays 11 (omega arith) refl
+    each CorrectedQuarters = one CorrectedQuarters 12 (omega arith) refl
+    each CorrectedYears = one CorrectedYears 13 (omega arith) refl
+    each ChangedHolidays = one ChangedHolidays 14 (omega arith) refl
+    each CorrectedAccounts = one CorrectedAccounts 15 (omega arith) refl
+
+-- all of them, as those after version 0
 pub all_made : (old now : Database) → AreMade all_names old now → Stands now no_rows
     × KeepsTables old now
-all_made old now h = (each, grown_keeps old now h.grown)
+all_made old now h =
+    let made = later_made 0 old now no_rows none h in
+    (stands_same now (rows_as 0 no_rows) no_rows empty made.0, made.1)
   where
-    each : Stands now no_rows
-    each Metas = h.empty 0 Metas (omega arith)
-    each Accounts = h.empty 1 Metas (omega arith)
-    each ReportedQuarters = h.empty 2 Metas (omega arith)
-    each CalendarYears = h.empty 3 Metas (omega arith)
-    each Holidays = h.empty 4 Metas (omega arith)
-    each Years = h.empty 5 Metas (omega arith)
-    each Runs = h.empty 6 Metas (omega arith)
-    each Payments = h.empty 7 Metas (omega arith)
-    each Obligations = h.empty 8 Metas (omega arith)
-    each Forms = h.empty 9 Metas (omega arith)
-    each ReportedYears = h.empty 10 Metas (omega arith)
-    each AddedHolidays = h.empty 11 Metas (omega arith)
+    no_earlier : (n : TableName) → since n ≤ 0 → ⊥
+    no_earlier Metas before = omega (arith, before)
+    no_earlier n before = omega (arith, before)
 
--- the three later ones, beside the nine of version 1
-pub later_made : (old now : Database) (t : Tables) → StandsAsFirst old t
-    → AreMade later_names old now → Stands now (first_rows t) × KeepsTables old now
-later_made old now t first h = (each, grown_keeps old now h.grown)
-  where
-    kept : (n : TableName) → IsFirst n → Holds (is_rewritten n) now (name_of n) (table_of n)
-        (cells_of n) (t n)
-    kept n here = holds_on old now _ _ _ _ (cells_of n) (t n) h.grown (first n here)
+    none : StandsAs 0 old no_rows
+    none n before = absurd (no_earlier n before)
 
-    each : Stands now (first_rows t)
-    each Metas = kept Metas tt
-    each Accounts = kept Accounts tt
-    each ReportedQuarters = kept ReportedQuarters tt
-    each CalendarYears = kept CalendarYears tt
-    each Holidays = kept Holidays tt
-    each Years = kept Years tt
-    each Runs = kept Runs tt
-    each Payments = kept Payments tt
-    each Obligations = kept Obligations tt
-    each Forms = h.empty 0 Metas (omega arith)
-    each ReportedYears = h.empty 1 Metas (omega arith)
-    each AddedHolidays = h.empty 2 Metas (omega arith)
+    empty : (n : TableName) → rows_as 0 no_rows n ≡ no_rows n
+    empty n = elim (cases_Bool (nat_lt 0 (since n))) [
+      | inl late ↦ rw late refl
+      | inr early ↦ rw early refl
+    ]

@@ -24,6 +24,8 @@ use Rattle.ftd_schema.specs.declared.TableName.TheVariants.{Metas, Accounts, Rep
 use Rattle.ftd_schema.specs.declared.TableName.TheVariants.{CalendarYears, Holidays, Years, Runs}
 use Rattle.ftd_schema.specs.declared.TableName.TheVariants.{Payments, Obligations, Forms}
 use Rattle.ftd_schema.specs.declared.TableName.TheVariants.{ReportedYears, AddedHolidays}
+use Rattle.ftd_schema.specs.declared.TableName.TheVariants.{CorrectedQuarters, CorrectedYears}
+use Rattle.ftd_schema.specs.declared.TableName.TheVariants.{ChangedHolidays, CorrectedAccounts}
 use Rattle.ftd_tables.specs.Places.{Holds}
 use Rattle.ftd_schema.specs.Names.{name_of}
 use Rattle.ftd_schema.specs.Layout.{table_of}
@@ -41,6 +43,11 @@ use Rattle.ftd_schema.specs.declared.texts.TheConstants.{LIST_KEPT_RUNS, LIST_KE
 use Rattle.ftd_schema.specs.declared.texts.TheConstants.{COUNT_PAYMENTS, SET_VERSION, SET_YEAR}
 use Rattle.ftd_schema.specs.declared.texts.TheConstants.{VOID_RUN, VOID_PAYMENT, SET_OBLIGATION}
 use Rattle.ftd_schema.specs.declared.texts.TheConstants.{SET_DUE, REMOVE_OBLIGATIONS}
+use Rattle.ftd_schema.specs.declared.texts.TheConstants.{LIST_CORRECTIONS, LIST_CORRECTED}
+use Rattle.ftd_schema.specs.declared.texts.TheConstants.{LIST_YEAR_CORRECTIONS}
+use Rattle.ftd_schema.specs.declared.texts.TheConstants.{LIST_CORRECTED_YEARS}
+use Rattle.ftd_schema.specs.declared.texts.TheConstants.{LIST_ACCOUNT_CORRECTIONS}
+use Rattle.ftd_schema.specs.declared.texts.TheConstants.{LIST_CHANGED_HOLIDAYS}
 use Rattle.ftd_schema.specs.Given.{name_given, number_given, key_given, pair_given}
 use Rattle.ftd_schema.specs.Given.{days_given}
 use Rattle.ftd_schema.specs.Answers.{meta_shown, account_shown, name_shown, form_shown, reported_shown}
@@ -56,7 +63,7 @@ use Rattle.ftd_schema.specs.Tests.{is_due_between, with_due, with_version}
 use Rattle.ftd_schema.specs.Orders.{HolidaysRise, YearsRise, RunsRise, PaymentsRise, ObligationsRise}
 use Rattle.ftd_schema.specs.Orders.{AccountsRise}
 use Rattle.ftd_tables.proofs.Passing.{whole_is, below_is, at_least_is, at_most_is, one_rises}
-use Rattle.ftd_tables.proofs.Passing.{two_rise, text_then_number}
+use Rattle.ftd_tables.proofs.Passing.{two_rise, three_rise, text_then_number}
 use Rattle.ftd_schema.proofs.Reading.{shows, lists, counts}
 use Rattle.ftd_schema.proofs.Writing.{changes, changes_nothing, removes}
 use Rattle.ftd_schema.proofs.Asking.{lists_metas, reads_account, lists_accounts, reads_form}
@@ -71,6 +78,18 @@ use Rattle.ftd_schema.specs.Answers.{year_total_shown, kept_run_shown, kept_paym
 use Rattle.ftd_schema.specs.Tests.{is_any_account, is_any_form, is_reported_of}
 use Rattle.ftd_schema.specs.Tests.{is_reported_year_of, is_run_between, is_payment_between}
 use Rattle.ftd_schema.specs.Orders.{NamesRise, FormsRise, QuartersRise, ReportedYearsRise}
+use Rattle.ftd_schema.proofs.Asking.{lists_corrections, lists_corrected, lists_year_corrections}
+use Rattle.ftd_schema.proofs.Asking.{lists_corrected_years, lists_account_corrections}
+use Rattle.ftd_schema.proofs.Asking.{lists_changed_holidays}
+use Rattle.ftd_schema.specs.Answers.{correction_shown, quarter_correction_shown}
+use Rattle.ftd_schema.specs.Answers.{correction_of_year_shown, year_correction_shown}
+use Rattle.ftd_schema.specs.Answers.{account_correction_shown, holiday_change_shown}
+use Rattle.ftd_schema.specs.Tests.{is_correction, is_year_correction, is_correction_of}
+use Rattle.ftd_schema.specs.Tests.{is_year_correction_of, is_account_correction_of}
+use Rattle.ftd_schema.specs.Tests.{is_holiday_change_of}
+use Rattle.ftd_schema.specs.Orders.{CorrectionsRise, QuarterCorrectionsRise, YearCorrectionsRise}
+use Rattle.ftd_schema.specs.Orders.{YearsCorrectionsRise, AccountCorrectionsRise}
+use Rattle.ftd_schema.specs.Orders.{HolidayChangesRise}
 use Rattle.ftd_schema.proofs.Changing.{sets_version, sets_year, voids_run, voids_payment}
 use Rattle.ftd_schema.proofs.Changing.{sets_obligation, sets_due, removes_obligations}
 
@@ -344,6 +363,74 @@ kept_payments_in_order account from to old new rows t stands h =
     (λ p. three_pass _ _ _ _ _ _ (text_is p.1.account account) (at_least_is p.1.for_day from)
     (at_most_is p.1.for_day to)) (λ p. refl) old new rows (t Payments) (stands Payments) h
     PaymentsRise (λ tree a b i j h. two_rise a.for_day b.for_day a.number b.number h)
+
+-- what was put right
+
+pub corrections_in_order : (account : List ℕ) (year quarter : ℤ)
+    → ListsTested CorrectedQuarters LIST_CORRECTIONS.now (pair_given account year quarter)
+    (is_correction account year quarter) correction_shown CorrectionsRise
+unfolding everything
+corrections_in_order account year quarter old new rows t stands h =
+    lists CorrectedQuarters LIST_CORRECTIONS.now _ _ _ lists_corrections
+    (pair_given account year quarter) (is_correction account year quarter) correction_shown
+    (λ p. three_pass _ _ _ _ _ _ (text_is p.1.account account) (whole_is p.1.year year)
+    (whole_is p.1.quarter quarter)) (λ p. refl) old new rows (t CorrectedQuarters)
+    (stands CorrectedQuarters) h
+    CorrectionsRise (λ tree a b i j h. one_rises a.number b.number h)
+
+pub corrected_in_order : (account : List ℕ) → ListsTested CorrectedQuarters LIST_CORRECTED.now
+    (name_given account) (is_correction_of account) quarter_correction_shown QuarterCorrectionsRise
+unfolding everything
+corrected_in_order account old new rows t stands h =
+    lists CorrectedQuarters LIST_CORRECTED.now _ _ _ lists_corrected (name_given account)
+    (is_correction_of account) quarter_correction_shown
+    (λ p. one_passes _ _ (text_is p.1.account account)) (λ p. refl) old new rows
+    (t CorrectedQuarters) (stands CorrectedQuarters) h
+    QuarterCorrectionsRise
+    (λ tree a b i j h. three_rise a.year b.year a.quarter b.quarter a.number b.number h)
+
+pub year_corrections_in_order : (account : List ℕ) (year : ℤ)
+    → ListsTested CorrectedYears LIST_YEAR_CORRECTIONS.now (key_given account year)
+    (is_year_correction account year) correction_of_year_shown YearCorrectionsRise
+unfolding everything
+year_corrections_in_order account year old new rows t stands h =
+    lists CorrectedYears LIST_YEAR_CORRECTIONS.now _ _ _ lists_year_corrections
+    (key_given account year) (is_year_correction account year) correction_of_year_shown
+    (λ p. two_pass _ _ _ _ (text_is p.1.account account) (whole_is p.1.year year)) (λ p. refl)
+    old new rows (t CorrectedYears) (stands CorrectedYears) h
+    YearCorrectionsRise (λ tree a b i j h. one_rises a.number b.number h)
+
+pub corrected_years_in_order : (account : List ℕ) → ListsTested CorrectedYears
+    LIST_CORRECTED_YEARS.now (name_given account) (is_year_correction_of account)
+    year_correction_shown YearsCorrectionsRise
+unfolding everything
+corrected_years_in_order account old new rows t stands h =
+    lists CorrectedYears LIST_CORRECTED_YEARS.now _ _ _ lists_corrected_years (name_given account)
+    (is_year_correction_of account) year_correction_shown
+    (λ p. one_passes _ _ (text_is p.1.account account)) (λ p. refl) old new rows
+    (t CorrectedYears) (stands CorrectedYears) h
+    YearsCorrectionsRise (λ tree a b i j h. two_rise a.year b.year a.number b.number h)
+
+pub account_corrections_in_order : (account : List ℕ) → ListsTested CorrectedAccounts
+    LIST_ACCOUNT_CORRECTIONS.now (name_given account) (is_account_correction_of account)
+    account_correction_shown AccountCorrectionsRise
+unfolding everything
+account_corrections_in_order account old new rows t stands h =
+    lists CorrectedAccounts LIST_ACCOUNT_CORRECTIONS.now _ _ _ lists_account_corrections
+    (name_given account) (is_account_correction_of account) account_correction_shown
+    (λ p. one_passes _ _ (text_is p.1.account account)) (λ p. refl) old new rows
+    (t CorrectedAccounts) (stands CorrectedAccounts) h
+    AccountCorrectionsRise (λ tree a b i j h. one_rises a.number b.number h)
+
+pub holiday_changes_in_order : (year : ℤ) → ListsTested ChangedHolidays LIST_CHANGED_HOLIDAYS.now
+    (number_given year) (is_holiday_change_of year) holiday_change_shown HolidayChangesRise
+unfolding everything
+holiday_changes_in_order year old new rows t stands h =
+    lists ChangedHolidays LIST_CHANGED_HOLIDAYS.now _ _ _ lists_changed_holidays
+    (number_given year) (is_holiday_change_of year) holiday_change_shown
+    (λ p. one_passes _ _ (whole_is p.1.year year)) (λ p. refl) old new rows
+    (t ChangedHolidays) (stands ChangedHolidays) h
+    HolidayChangesRise (λ tree a b i j h. two_rise a.day b.day a.number b.number h)
 
 -- ---- counted
 

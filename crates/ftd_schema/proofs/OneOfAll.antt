@@ -13,6 +13,8 @@ use Rattle.ftd_schema.specs.declared.TableName.TheVariants.{Metas, Accounts, Rep
 use Rattle.ftd_schema.specs.declared.TableName.TheVariants.{CalendarYears, Holidays, Years, Runs}
 use Rattle.ftd_schema.specs.declared.TableName.TheVariants.{Payments, Obligations, Forms}
 use Rattle.ftd_schema.specs.declared.TableName.TheVariants.{ReportedYears, AddedHolidays}
+use Rattle.ftd_schema.specs.declared.TableName.TheVariants.{CorrectedQuarters, CorrectedYears}
+use Rattle.ftd_schema.specs.declared.TableName.TheVariants.{ChangedHolidays, CorrectedAccounts}
 use Rattle.ftd_schema.specs.Names.{name_of}
 use Rattle.ftd_schema.specs.Rows.{RowOf, cells_of}
 use Rattle.ftd_schema.specs.Layout.{table_of, is_rewritten}
@@ -41,6 +43,10 @@ same_or_other Obligations Obligations = inl refl
 same_or_other Forms Forms = inl refl
 same_or_other ReportedYears ReportedYears = inl refl
 same_or_other AddedHolidays AddedHolidays = inl refl
+same_or_other CorrectedQuarters CorrectedQuarters = inl refl
+same_or_other CorrectedYears CorrectedYears = inl refl
+same_or_other ChangedHolidays ChangedHolidays = inl refl
+same_or_other CorrectedAccounts CorrectedAccounts = inl refl
 same_or_other n m = inr (refl, λ rows t. refl)
 
 -- the rows that are set are the rows then
@@ -57,6 +63,10 @@ with_its_rows Obligations rows t = refl
 with_its_rows Forms rows t = refl
 with_its_rows ReportedYears rows t = refl
 with_its_rows AddedHolidays rows t = refl
+with_its_rows CorrectedQuarters rows t = refl
+with_its_rows CorrectedYears rows t = refl
+with_its_rows ChangedHolidays rows t = refl
+with_its_rows CorrectedAccounts rows t = refl
 
 -- two tables of two marks are two
 differ : (n m : TableName) (i j : ℕ) → (mark (table_of m 0) == mark (table_of n 0)) ≡ false

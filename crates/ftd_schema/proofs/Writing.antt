@@ -25,6 +25,8 @@ use Rattle.ftd_schema.specs.declared.TableName.TheVariants.{Metas, Accounts, Rep
 use Rattle.ftd_schema.specs.declared.TableName.TheVariants.{CalendarYears, Holidays, Years, Runs}
 use Rattle.ftd_schema.specs.declared.TableName.TheVariants.{Payments, Obligations, Forms}
 use Rattle.ftd_schema.specs.declared.TableName.TheVariants.{ReportedYears, AddedHolidays}
+use Rattle.ftd_schema.specs.declared.TableName.TheVariants.{CorrectedQuarters, CorrectedYears}
+use Rattle.ftd_schema.specs.declared.TableName.TheVariants.{ChangedHolidays, CorrectedAccounts}
 use Rattle.ftd_schema.specs.Making.{add_of}
 use Rattle.ftd_tables.proofs.KeptLemmas.{cast_int_or_null}
 use Rattle.ftd_schema.proofs.Shapes.{Test, joined, filters_of}
@@ -212,6 +214,50 @@ adds_to AddedHolidays = record {
   };
   is = λ s tree base. refl;
   cells = λ x tree db. rw (cast_null, cast_int, cast_int) refl;
+}
+adds_to CorrectedQuarters = record {
+  reads = record {
+    read = _;
+    is = refl;
+    said = refl;
+    untimed = refl;
+    whole = refl;
+  };
+  is = λ s tree base. refl;
+  cells = λ x tree db. rw (cast_null, cast_int, cast_int, cast_int, cast_int) refl;
+}
+adds_to CorrectedYears = record {
+  reads = record {
+    read = _;
+    is = refl;
+    said = refl;
+    untimed = refl;
+    whole = refl;
+  };
+  is = λ s tree base. refl;
+  cells = λ x tree db. rw (cast_null, cast_int, cast_int, cast_int) refl;
+}
+adds_to ChangedHolidays = record {
+  reads = record {
+    read = _;
+    is = refl;
+    said = refl;
+    untimed = refl;
+    whole = refl;
+  };
+  is = λ s tree base. refl;
+  cells = λ x tree db. rw (cast_null, cast_int, cast_int, cast_int, cast_int) refl;
+}
+adds_to CorrectedAccounts = record {
+  reads = record {
+    read = _;
+    is = refl;
+    said = refl;
+    untimed = refl;
+    whole = refl;
+  };
+  is = λ s tree base. refl;
+  cells = λ x tree db. rw (cast_null, cast_int, cast_int, cast_int) refl;
 }
 
 pub add_is_row_text : (n : TableName) → IsRowText (add_of n)

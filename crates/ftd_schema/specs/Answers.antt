@@ -5,7 +5,8 @@ use Rattle.sqlite.specs.Order.{Row}
 use Rattle.sqlite.specs.Values.{or_null}
 use Rattle.ftd_schema.specs.Rows.{MetaRow, AccountRow, ReportedQuarterRow, CalendarYearRow}
 use Rattle.ftd_schema.specs.Rows.{HolidayRow, YearRow, RunRow, PaymentRow, ObligationRow, FormRow}
-use Rattle.ftd_schema.specs.Rows.{ReportedYearRow}
+use Rattle.ftd_schema.specs.Rows.{ReportedYearRow, CorrectedQuarterRow, CorrectedYearRow}
+use Rattle.ftd_schema.specs.Rows.{ChangedHolidayRow, CorrectedAccountRow}
 
 abbrev pub meta_shown : MetaRow → Row
 meta_shown m = Text m.tag ∷ Int m.version ∷ []
@@ -38,11 +39,30 @@ quarter_total_shown r = Int r.year ∷ Int r.quarter ∷ Int r.cents ∷ []
 abbrev pub year_total_shown : ReportedYearRow → Row
 year_total_shown r = Int r.year ∷ Int r.cents ∷ []
 
+-- a correction of one quarter or year, and one in a list of an account's
+abbrev pub correction_shown : CorrectedQuarterRow → Row
+correction_shown c = Int c.number ∷ Int c.cents ∷ []
+
+abbrev pub quarter_correction_shown : CorrectedQuarterRow → Row
+quarter_correction_shown c = Int c.year ∷ Int c.quarter ∷ correction_shown c
+
+abbrev pub correction_of_year_shown : CorrectedYearRow → Row
+correction_of_year_shown c = Int c.number ∷ Int c.cents ∷ []
+
+abbrev pub year_correction_shown : CorrectedYearRow → Row
+year_correction_shown c = Int c.year ∷ correction_of_year_shown c
+
+abbrev pub account_correction_shown : CorrectedAccountRow → Row
+account_correction_shown c = Int c.number ∷ Int c.start ∷ Int c.carried ∷ []
+
 abbrev pub calendar_year_shown : CalendarYearRow → Row
 calendar_year_shown c = Int c.year ∷ []
 
 abbrev pub holiday_shown : HolidayRow → Row
 holiday_shown h = Int h.day ∷ []
+
+abbrev pub holiday_change_shown : ChangedHolidayRow → Row
+holiday_change_shown h = Int h.day ∷ Int h.number ∷ Int h.is_holiday ∷ []
 
 abbrev pub year_shown : YearRow → Row
 year_shown y = Int y.year ∷ Int y.lookback ∷ Int y.opening ∷ or_null Int y.turn ∷ []

@@ -9,6 +9,8 @@ use Rattle.ftd_schema.specs.declared.TableName.TheVariants.{Metas, Accounts, Rep
 use Rattle.ftd_schema.specs.declared.TableName.TheVariants.{CalendarYears, Holidays, Years, Runs}
 use Rattle.ftd_schema.specs.declared.TableName.TheVariants.{Payments, Obligations, Forms}
 use Rattle.ftd_schema.specs.declared.TableName.TheVariants.{ReportedYears, AddedHolidays}
+use Rattle.ftd_schema.specs.declared.TableName.TheVariants.{CorrectedQuarters, CorrectedYears}
+use Rattle.ftd_schema.specs.declared.TableName.TheVariants.{ChangedHolidays, CorrectedAccounts}
 use Rattle.ftd_schema.specs.Names.{name_of}
 
 abbrev pub columns_of : TableName → List Column
@@ -37,6 +39,18 @@ columns_of Forms = a_text (codes "account") ∷ a_number (codes "form") ∷ []
 columns_of ReportedYears =
     a_text (codes "account") ∷ a_number (codes "cal_year") ∷ a_number (codes "cents") ∷ []
 columns_of AddedHolidays = a_number (codes "day") ∷ a_number (codes "cal_year") ∷ []
+columns_of CorrectedQuarters =
+    a_text (codes "account") ∷ a_number (codes "cal_year") ∷ a_number (codes "quarter")
+    ∷ a_number (codes "number") ∷ a_number (codes "cents") ∷ []
+columns_of CorrectedYears =
+    a_text (codes "account") ∷ a_number (codes "cal_year") ∷ a_number (codes "number")
+    ∷ a_number (codes "cents") ∷ []
+columns_of ChangedHolidays =
+    a_number (codes "day") ∷ a_number (codes "number") ∷ a_number (codes "is_holiday")
+    ∷ a_number (codes "cal_year") ∷ []
+columns_of CorrectedAccounts =
+    a_text (codes "account") ∷ a_number (codes "number") ∷ a_number (codes "start")
+    ∷ a_number (codes "carried") ∷ []
 
 -- how many of the first columns are the key
 abbrev pub key_of : TableName → List ℕ
@@ -46,6 +60,10 @@ key_of Runs = 1 ∷ 2 ∷ []
 key_of Payments = 1 ∷ 2 ∷ []
 key_of Obligations = 1 ∷ 2 ∷ []
 key_of ReportedYears = 1 ∷ 2 ∷ []
+key_of CorrectedQuarters = 1 ∷ 2 ∷ 3 ∷ 4 ∷ []
+key_of CorrectedYears = 1 ∷ 2 ∷ 3 ∷ []
+key_of ChangedHolidays = 1 ∷ 2 ∷ []
+key_of CorrectedAccounts = 1 ∷ 2 ∷ []
 key_of n = 1 ∷ []
 
 abbrev to_account : Reference
@@ -58,6 +76,7 @@ references_of Accounts = []
 references_of CalendarYears = []
 references_of Holidays = refers (2 ∷ []) (codes "calendar_year") (codes "cal_year") ∷ []
 references_of AddedHolidays = refers (2 ∷ []) (codes "calendar_year") (codes "cal_year") ∷ []
+references_of ChangedHolidays = refers (4 ∷ []) (codes "calendar_year") (codes "cal_year") ∷ []
 references_of n = to_account ∷ []
 
 -- the table at this tree

@@ -11,6 +11,8 @@ use Rattle.ftd_schema.specs.declared.TableName.TheVariants.{Metas, Accounts, Rep
 use Rattle.ftd_schema.specs.declared.TableName.TheVariants.{CalendarYears, Holidays, Years, Runs}
 use Rattle.ftd_schema.specs.declared.TableName.TheVariants.{Payments, Obligations, Forms}
 use Rattle.ftd_schema.specs.declared.TableName.TheVariants.{ReportedYears, AddedHolidays}
+use Rattle.ftd_schema.specs.declared.TableName.TheVariants.{CorrectedQuarters, CorrectedYears}
+use Rattle.ftd_schema.specs.declared.TableName.TheVariants.{ChangedHolidays, CorrectedAccounts}
 use Rattle.ftd_schema.specs.Names.{name_of, all_names}
 use Rattle.ftd_schema.specs.Rows.{cells_of}
 use Rattle.ftd_schema.specs.Layout.{table_of, is_rewritten}
@@ -29,6 +31,10 @@ create_of Obligations = text.CREATE_OBLIGATIONS.now
 create_of Forms = text.CREATE_FORMS.now
 create_of ReportedYears = text.CREATE_REPORTED_YEARS.now
 create_of AddedHolidays = text.CREATE_ADDED_HOLIDAYS.now
+create_of CorrectedQuarters = text.CREATE_CORRECTED_QUARTERS.now
+create_of CorrectedYears = text.CREATE_CORRECTED_YEARS.now
+create_of ChangedHolidays = text.CREATE_CHANGED_HOLIDAYS.now
+create_of CorrectedAccounts = text.CREATE_CORRECTED_ACCOUNTS.now
 
 abbrev pub add_of : TableName → List ℕ
 add_of Metas = text.ADD_META.now
@@ -43,6 +49,10 @@ add_of Obligations = text.ADD_OBLIGATION.now
 add_of Forms = text.ADD_FORM.now
 add_of ReportedYears = text.ADD_REPORTED_YEAR.now
 add_of AddedHolidays = text.ADD_ADDED_HOLIDAY.now
+add_of CorrectedQuarters = text.ADD_CORRECTED.now
+add_of CorrectedYears = text.ADD_CORRECTED_YEAR.now
+add_of ChangedHolidays = text.ADD_CHANGED_HOLIDAY.now
+add_of CorrectedAccounts = text.ADD_CORRECTED_ACCOUNT.now
 
 -- these tables can be made: where their rows are ever changed or taken out, no foreign key with an
 -- action names them, and no sqlite_sequence is missing

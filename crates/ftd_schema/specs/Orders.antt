@@ -5,6 +5,8 @@ use Rattle.std.specs.declared.cmp.Ordering.TheVariants.{Less}
 use Rattle.std.specs.Cmp.Lexicographic.{slice_cmp}
 use Rattle.ftd_schema.specs.Rows.{AccountRow, FormRow, ReportedQuarterRow, ReportedYearRow}
 use Rattle.ftd_schema.specs.Rows.{HolidayRow, YearRow, RunRow, PaymentRow, ObligationRow}
+use Rattle.ftd_schema.specs.Rows.{CorrectedQuarterRow, CorrectedYearRow, ChangedHolidayRow}
+use Rattle.ftd_schema.specs.Rows.{CorrectedAccountRow}
 
 -- by name
 abbrev pub NamesRise : AccountRow → AccountRow → Type 0
@@ -19,6 +21,31 @@ QuartersRise a b = (a.year <ℤ b.year) ⊎ ((a.year ≡ b.year) × (a.quarter �
 
 abbrev pub ReportedYearsRise : ReportedYearRow → ReportedYearRow → Type 0
 ReportedYearsRise a b = a.year ≤ℤ b.year
+
+-- the corrections of one quarter, of one year and of the account itself: by number
+abbrev pub CorrectionsRise : CorrectedQuarterRow → CorrectedQuarterRow → Type 0
+CorrectionsRise a b = a.number ≤ℤ b.number
+
+abbrev pub YearCorrectionsRise : CorrectedYearRow → CorrectedYearRow → Type 0
+YearCorrectionsRise a b = a.number ≤ℤ b.number
+
+abbrev pub AccountCorrectionsRise : CorrectedAccountRow → CorrectedAccountRow → Type 0
+AccountCorrectionsRise a b = a.number ≤ℤ b.number
+
+-- those of several quarters: by quarter, and by number in one quarter
+abbrev pub QuarterCorrectionsRise : CorrectedQuarterRow → CorrectedQuarterRow → Type 0
+QuarterCorrectionsRise a b =
+    (a.year <ℤ b.year)
+    ⊎ ((a.year ≡ b.year)
+    × ((a.quarter <ℤ b.quarter) ⊎ ((a.quarter ≡ b.quarter) × (a.number ≤ℤ b.number))))
+
+-- those of several years: by year, and by number in one year
+abbrev pub YearsCorrectionsRise : CorrectedYearRow → CorrectedYearRow → Type 0
+YearsCorrectionsRise a b = (a.year <ℤ b.year) ⊎ ((a.year ≡ b.year) × (a.number ≤ℤ b.number))
+
+-- by day, and by number on one day
+abbrev pub HolidayChangesRise : ChangedHolidayRow → ChangedHolidayRow → Type 0
+HolidayChangesRise a b = (a.day <ℤ b.day) ⊎ ((a.day ≡ b.day) × (a.number ≤ℤ b.number))
 
 -- by day
 abbrev pub HolidaysRise : HolidayRow → HolidayRow → Type 0

@@ -8,6 +8,8 @@ use Rattle.ftd_schema.specs.declared.TableName.TheVariants.{Metas, Accounts, Rep
 use Rattle.ftd_schema.specs.declared.TableName.TheVariants.{CalendarYears, Holidays, Years, Runs}
 use Rattle.ftd_schema.specs.declared.TableName.TheVariants.{Payments, Obligations, Forms}
 use Rattle.ftd_schema.specs.declared.TableName.TheVariants.{ReportedYears, AddedHolidays}
+use Rattle.ftd_schema.specs.declared.TableName.TheVariants.{CorrectedQuarters, CorrectedYears}
+use Rattle.ftd_schema.specs.declared.TableName.TheVariants.{ChangedHolidays, CorrectedAccounts}
 
 -- the mark of the desk's database: its tag, and the version of its tables
 pub record MetaRow : Type 0 where
@@ -84,6 +86,36 @@ pub record ReportedYearRow : Type 0 where
   pub year : ℤ
   pub cents : ℤ
 
+-- a correction of the total that was reported for a quarter, with its number
+pub record CorrectedQuarterRow : Type 0 where
+  pub account : List ℕ
+  pub year : ℤ
+  pub quarter : ℤ
+  pub number : ℤ
+  pub cents : ℤ
+
+-- a correction of the total that was reported for a year, with its number
+pub record CorrectedYearRow : Type 0 where
+  pub account : List ℕ
+  pub year : ℤ
+  pub number : ℤ
+  pub cents : ℤ
+
+-- a change of a day of a given year, with its number: it is no holiday (0), or it is one again (1)
+pub record ChangedHolidayRow : Type 0 where
+  pub day : ℤ
+  pub number : ℤ
+  pub is_holiday : ℤ
+  pub year : ℤ
+
+-- a correction of an account, with its number: its first day, and whether it was carried over (1)
+-- or not (0)
+pub record CorrectedAccountRow : Type 0 where
+  pub account : List ℕ
+  pub number : ℤ
+  pub start : ℤ
+  pub carried : ℤ
+
 -- the rows of each table
 abbrev pub RowOf : TableName → Type 0
 RowOf Metas = MetaRow
@@ -98,6 +130,10 @@ RowOf Obligations = ObligationRow
 RowOf Forms = FormRow
 RowOf ReportedYears = ReportedYearRow
 RowOf AddedHolidays = HolidayRow
+RowOf CorrectedQuarters = CorrectedQuarterRow
+RowOf CorrectedYears = CorrectedYearRow
+RowOf ChangedHolidays = ChangedHolidayRow
+RowOf CorrectedAccounts = CorrectedAccountRow
 
 -- and their cells, column by column
 abbrev pub cells_of : (n : TableName) → RowOf n → Row
@@ -118,3 +154,8 @@ cells_of Obligations b =
 cells_of Forms f = Text f.account ∷ Int f.form ∷ []
 cells_of ReportedYears r = Text r.account ∷ Int r.year ∷ Int r.cents ∷ []
 cells_of AddedHolidays h = Int h.day ∷ Int h.year ∷ []
+cells_of CorrectedQuarters c =
+    Text c.account ∷ Int c.year ∷ Int c.quarter ∷ Int c.number ∷ Int c.cents ∷ []
+cells_of CorrectedYears c = Text c.account ∷ Int c.year ∷ Int c.number ∷ Int c.cents ∷ []
+cells_of ChangedHolidays h = Int h.day ∷ Int h.number ∷ Int h.is_holiday ∷ Int h.year ∷ []
+cells_of CorrectedAccounts c = Text c.account ∷ Int c.number ∷ Int c.start ∷ Int c.carried ∷ []

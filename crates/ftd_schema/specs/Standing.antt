@@ -1,5 +1,5 @@
 -- A database that stands for typed rows, wherever in its schema the desk's tables stand.
-use Rattle.std.specs.Prelude.{◌≡◌, ◌≢◌, ℕ, List, [], ⊤}
+use Rattle.std.specs.Prelude.{◌≡◌, ◌≢◌, ◌≤◌, ℕ, List, [], nat_lt, if◌then◌else◌}
 use Rattle.sqlite.specs.Effect.{Database}
 use Rattle.sqlite.specs.Table.{Table}
 use Rattle.ftd_tables.specs.Places.{IsAt, Holds}
@@ -8,7 +8,9 @@ use Rattle.ftd_schema.specs.declared.TableName.TheVariants.{Metas, Accounts, Rep
 use Rattle.ftd_schema.specs.declared.TableName.TheVariants.{CalendarYears, Holidays, Years, Runs}
 use Rattle.ftd_schema.specs.declared.TableName.TheVariants.{Payments, Obligations, Forms}
 use Rattle.ftd_schema.specs.declared.TableName.TheVariants.{ReportedYears, AddedHolidays}
-use Rattle.ftd_schema.specs.Names.{name_of}
+use Rattle.ftd_schema.specs.declared.TableName.TheVariants.{CorrectedQuarters, CorrectedYears}
+use Rattle.ftd_schema.specs.declared.TableName.TheVariants.{ChangedHolidays, CorrectedAccounts}
+use Rattle.ftd_schema.specs.Names.{name_of, since}
 use Rattle.ftd_schema.specs.Rows.{RowOf, cells_of}
 use Rattle.ftd_schema.specs.Layout.{table_of, is_rewritten}
 
@@ -33,6 +35,10 @@ with_rows Obligations rows t Obligations = rows
 with_rows Forms rows t Forms = rows
 with_rows ReportedYears rows t ReportedYears = rows
 with_rows AddedHolidays rows t AddedHolidays = rows
+with_rows CorrectedQuarters rows t CorrectedQuarters = rows
+with_rows CorrectedYears rows t CorrectedYears = rows
+with_rows ChangedHolidays rows t ChangedHolidays = rows
+with_rows CorrectedAccounts rows t CorrectedAccounts = rows
 with_rows n rows t m = t m
 
 -- the database stands for these rows
@@ -54,24 +60,14 @@ KeepsForeign old new =
 abbrev pub Becomes : Database → Database → Tables → Type 0
 Becomes old new t = Stands new t × KeepsForeign old new
 
--- ---- version 1
+-- ---- earlier versions
 
--- the table is one of the nine of version 1
-abbrev pub IsFirst : TableName → Type 0
-IsFirst Forms = ⊥
-IsFirst ReportedYears = ⊥
-IsFirst AddedHolidays = ⊥
-IsFirst n = ⊤
-
--- the database stands for these rows of the nine tables of version 1
-abbrev pub StandsAsFirst : Database → Tables → Type 0
-StandsAsFirst db t =
-    (n : TableName) → IsFirst n
+-- the database stands for these rows of the tables of this version
+abbrev pub StandsAs : ℕ → Database → Tables → Type 0
+StandsAs version db t =
+    (n : TableName) → since n ≤ version
     → Holds (is_rewritten n) db (name_of n) (table_of n) (cells_of n) (t n)
 
--- the rows of the nine tables, and none in the others
-abbrev pub first_rows : Tables → (n : TableName) → List (RowOf n)
-first_rows t Forms = []
-first_rows t ReportedYears = []
-first_rows t AddedHolidays = []
-first_rows t n = t n
+-- the rows of the tables of this version, and none in those that came after it
+abbrev pub rows_as : ℕ → Tables → (n : TableName) → List (RowOf n)
+rows_as version t n = if nat_lt version (since n) then [] else t n

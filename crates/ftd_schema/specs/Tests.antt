@@ -4,7 +4,8 @@ use Rattle.std.specs.Prelude.{ℕ, ℤ, pos, Bool, true, ◌&&◌, bytes_eq, int
 use Rattle.std.specs.Ordering.{int_eq}
 use Rattle.ftd_schema.specs.Rows.{MetaRow, AccountRow, ReportedQuarterRow, CalendarYearRow}
 use Rattle.ftd_schema.specs.Rows.{HolidayRow, YearRow, RunRow, PaymentRow, ObligationRow, FormRow}
-use Rattle.ftd_schema.specs.Rows.{ReportedYearRow}
+use Rattle.ftd_schema.specs.Rows.{ReportedYearRow, CorrectedQuarterRow, CorrectedYearRow}
+use Rattle.ftd_schema.specs.Rows.{ChangedHolidayRow, CorrectedAccountRow}
 
 -- the row of the tag
 abbrev pub is_tag : List ℕ → MetaRow → Bool
@@ -40,6 +41,24 @@ is_reported_year_of account r = bytes_eq r.account account
 abbrev pub is_reported_year : List ℕ → ℤ → ReportedYearRow → Bool
 is_reported_year account year r = bytes_eq r.account account && int_eq r.year year
 
+-- a correction of the account's quarter, of its year, and of any of its quarters or years
+abbrev pub is_correction : List ℕ → ℤ → ℤ → CorrectedQuarterRow → Bool
+is_correction account year quarter c =
+    bytes_eq c.account account && (int_eq c.year year && int_eq c.quarter quarter)
+
+abbrev pub is_year_correction : List ℕ → ℤ → CorrectedYearRow → Bool
+is_year_correction account year c = bytes_eq c.account account && int_eq c.year year
+
+abbrev pub is_correction_of : List ℕ → CorrectedQuarterRow → Bool
+is_correction_of account c = bytes_eq c.account account
+
+abbrev pub is_year_correction_of : List ℕ → CorrectedYearRow → Bool
+is_year_correction_of account c = bytes_eq c.account account
+
+-- a correction of the account itself
+abbrev pub is_account_correction_of : List ℕ → CorrectedAccountRow → Bool
+is_account_correction_of account c = bytes_eq c.account account
+
 -- the year whose calendar is given
 abbrev pub is_calendar_year : ℤ → CalendarYearRow → Bool
 is_calendar_year year c = int_eq c.year year
@@ -47,6 +66,10 @@ is_calendar_year year c = int_eq c.year year
 -- a holiday of the year
 abbrev pub is_holiday_of : ℤ → HolidayRow → Bool
 is_holiday_of year h = int_eq h.year year
+
+-- a change of a day of the year
+abbrev pub is_holiday_change_of : ℤ → ChangedHolidayRow → Bool
+is_holiday_change_of year h = int_eq h.year year
 
 -- the account's open year, and each of its open years
 abbrev pub is_year : List ℕ → ℤ → YearRow → Bool

@@ -1,4 +1,4 @@
-//! The desk's twelve tables: their names, for code and for contracts; the typed rows of each, and
+//! The desk's sixteen tables: their names, for code and for contracts; the typed rows of each, and
 //! the rows for which a database stands; the SQL statements, each text once, and what each means in
 //! typed rows.
 #![tactic(auto)]
@@ -25,6 +25,10 @@ pub enum TableName {
     Forms,
     ReportedYears,
     AddedHolidays,
+    CorrectedQuarters,
+    CorrectedYears,
+    ChangedHolidays,
+    CorrectedAccounts,
 }
 
 impl TableName {
@@ -45,12 +49,16 @@ impl TableName {
             TableName::Forms => b"account_form",
             TableName::ReportedYears => b"reported_year",
             TableName::AddedHolidays => b"added_holiday",
+            TableName::CorrectedQuarters => b"corrected",
+            TableName::CorrectedYears => b"corrected_year",
+            TableName::ChangedHolidays => b"changed_holiday",
+            TableName::CorrectedAccounts => b"corrected_account",
         }
     }
 }
 
 /// All of them, in the order in which they are made.
-pub const ALL: [TableName; 12] = [
+pub const ALL: [TableName; 16] = [
     TableName::Metas,
     TableName::Accounts,
     TableName::ReportedQuarters,
@@ -63,13 +71,29 @@ pub const ALL: [TableName; 12] = [
     TableName::Forms,
     TableName::ReportedYears,
     TableName::AddedHolidays,
+    TableName::CorrectedQuarters,
+    TableName::CorrectedYears,
+    TableName::ChangedHolidays,
+    TableName::CorrectedAccounts,
 ];
 
-/// Those that version 2 has beside those of version 1.
-pub const LATER: [TableName; 3] = [
+/// Those that came after version 1, in the order in which they are made.
+pub const AFTER_FIRST: [TableName; 7] = [
     TableName::Forms,
     TableName::ReportedYears,
     TableName::AddedHolidays,
+    TableName::CorrectedQuarters,
+    TableName::CorrectedYears,
+    TableName::ChangedHolidays,
+    TableName::CorrectedAccounts,
+];
+
+/// Those that came after version 2, in the order in which they are made.
+pub const AFTER_SECOND: [TableName; 4] = [
+    TableName::CorrectedQuarters,
+    TableName::CorrectedYears,
+    TableName::ChangedHolidays,
+    TableName::CorrectedAccounts,
 ];
 
 /// Whether a table, a view or an index has the name. Small and capital letters are not told apart.

@@ -49,7 +49,34 @@ pub const LIST_REPORTED_YEARS: &str =
 pub const ADD_REPORTED_YEAR: &str =
     "INSERT INTO reported_year (account, cal_year, cents) VALUES (?1, ?2, ?3)";
 
-// ---- calendar_year, holiday and added_holiday
+// ---- corrected, corrected_year and corrected_account: what was put right, by number
+
+/// The corrections of the total that an account reported for a quarter, by number.
+pub const LIST_CORRECTIONS: &str =
+    "SELECT number, cents FROM corrected WHERE account = ?1 AND cal_year = ?2 AND quarter = ?3 ORDER BY number";
+/// The corrections of all the totals that an account reported for quarters, by quarter and number.
+pub const LIST_CORRECTED: &str =
+    "SELECT cal_year, quarter, number, cents FROM corrected WHERE account = ?1 ORDER BY cal_year, quarter, number";
+/// Adds a correction of the total of a quarter.
+pub const ADD_CORRECTED: &str =
+    "INSERT INTO corrected (account, cal_year, quarter, number, cents) VALUES (?1, ?2, ?3, ?4, ?5)";
+/// The corrections of the total that an account reported for a year, by number.
+pub const LIST_YEAR_CORRECTIONS: &str =
+    "SELECT number, cents FROM corrected_year WHERE account = ?1 AND cal_year = ?2 ORDER BY number";
+/// The corrections of all the totals that an account reported for years, by year and number.
+pub const LIST_CORRECTED_YEARS: &str =
+    "SELECT cal_year, number, cents FROM corrected_year WHERE account = ?1 ORDER BY cal_year, number";
+/// Adds a correction of the total of a year.
+pub const ADD_CORRECTED_YEAR: &str =
+    "INSERT INTO corrected_year (account, cal_year, number, cents) VALUES (?1, ?2, ?3, ?4)";
+/// The corrections of an account's first day, and of whether it was carried over, by number.
+pub const LIST_ACCOUNT_CORRECTIONS: &str =
+    "SELECT number, start, carried FROM corrected_account WHERE account = ?1 ORDER BY number";
+/// Adds a correction of an account.
+pub const ADD_CORRECTED_ACCOUNT: &str =
+    "INSERT INTO corrected_account (account, number, start, carried) VALUES (?1, ?2, ?3, ?4)";
+
+// ---- calendar_year, holiday, added_holiday and changed_holiday
 
 /// The year, where its calendar is given.
 pub const READ_CALENDAR_YEAR: &str = "SELECT cal_year FROM calendar_year WHERE cal_year = ?1";
@@ -64,6 +91,12 @@ pub const LIST_ADDED_HOLIDAYS: &str =
     "SELECT day FROM added_holiday WHERE cal_year = ?1 ORDER BY day";
 /// Adds a holiday to a given year.
 pub const ADD_ADDED_HOLIDAY: &str = "INSERT INTO added_holiday (day, cal_year) VALUES (?1, ?2)";
+/// The changes of the days of a given year, by day and number.
+pub const LIST_CHANGED_HOLIDAYS: &str =
+    "SELECT day, number, is_holiday FROM changed_holiday WHERE cal_year = ?1 ORDER BY day, number";
+/// Adds a change of a day: that it is taken back as a holiday, or made one again.
+pub const ADD_CHANGED_HOLIDAY: &str =
+    "INSERT INTO changed_holiday (day, number, is_holiday, cal_year) VALUES (?1, ?2, ?3, ?4)";
 
 // ---- year
 
@@ -177,6 +210,18 @@ pub const CREATE_REPORTED_YEARS: &str =
 /// Makes `added_holiday`.
 pub const CREATE_ADDED_HOLIDAYS: &str =
     "CREATE TABLE added_holiday (day INT NOT NULL PRIMARY KEY, cal_year INTEGER NOT NULL REFERENCES calendar_year(cal_year)) STRICT";
+/// Makes `corrected`.
+pub const CREATE_CORRECTED_QUARTERS: &str =
+    "CREATE TABLE corrected (account TEXT NOT NULL REFERENCES account(name), cal_year INTEGER NOT NULL, quarter INTEGER NOT NULL, number INTEGER NOT NULL, cents INTEGER NOT NULL, PRIMARY KEY (account, cal_year, quarter, number)) STRICT";
+/// Makes `corrected_year`.
+pub const CREATE_CORRECTED_YEARS: &str =
+    "CREATE TABLE corrected_year (account TEXT NOT NULL REFERENCES account(name), cal_year INTEGER NOT NULL, number INTEGER NOT NULL, cents INTEGER NOT NULL, PRIMARY KEY (account, cal_year, number)) STRICT";
+/// Makes `changed_holiday`.
+pub const CREATE_CHANGED_HOLIDAYS: &str =
+    "CREATE TABLE changed_holiday (day INTEGER NOT NULL, number INTEGER NOT NULL, is_holiday INTEGER NOT NULL, cal_year INTEGER NOT NULL REFERENCES calendar_year(cal_year), PRIMARY KEY (day, number)) STRICT";
+/// Makes `corrected_account`.
+pub const CREATE_CORRECTED_ACCOUNTS: &str =
+    "CREATE TABLE corrected_account (account TEXT NOT NULL REFERENCES account(name), number INTEGER NOT NULL, start INTEGER NOT NULL, carried INTEGER NOT NULL, PRIMARY KEY (account, number)) STRICT";
 
 // ---- the indexes by day
 

@@ -6,7 +6,7 @@ use Rattle.sqlite.specs.Order.{Row}
 use Rattle.sqlite.specs.State.{State}
 use Rattle.ftd_tables.specs.Places.{Holds}
 use Rattle.ftd_schema.specs.declared.TableName.TheVariants.{Metas}
-use Rattle.ftd_schema.specs.Names.{name_of, later_names, has_any}
+use Rattle.ftd_schema.specs.Names.{name_of}
 use Rattle.ftd_schema.specs.Rows.{MetaRow, cells_of}
 use Rattle.ftd_schema.specs.Layout.{table_of}
 use Rattle.ftd_schema.specs.Answers.{meta_shown}
@@ -15,23 +15,24 @@ use Rattle.ftd_schema.proofs.Meanings.{shows_metas}
 use Rattle.ftd_setup.specs.declared.opening.OpenFault.{OpenFault}
 use Rattle.ftd_setup.specs.declared.opening.OpenFault.TheVariants.{NotOurs, Newer, Store}
 use Rattle.ftd_schema.specs.Beginnings.{HasVersion}
-use Rattle.ftd_setup.specs.Versions.{ReadsVersion, IsStoreFault, Opens, OpensByReading}
+use Rattle.ftd_setup.specs.Versions.{has_later, ReadsVersion, IsStoreFault, Opens, OpensByReading}
 use Rattle.ftd_setup.proofs.Readings.{has_version, reads_version}
 
-opens_as : (old new : State) (metas : List MetaRow) (rows : List Row) (taken : Bool)
+opens_as : (old new : State) (metas : List MetaRow) (rows : List Row) (taken : ℕ → Bool)
     (r : Result (Unit {0}) OpenFault) → IsPermutation (map meta_shown metas) rows
     → Opens old new (ReadsVersion rows) taken r → Opens old new (HasVersion metas) taken r
 opens_as old new metas rows taken (Ok opened) moved (inl h) =
-    inl (has_version metas rows 2 moved h.0, h.1)
+    inl (has_version metas rows 3 moved h.0, h.1)
 opens_as old new metas rows taken (Ok opened) moved (inr h) =
-    inr (has_version metas rows 1 moved h.0, h.1, h.2, h.3)
+    inr (h.0, h.1, has_version metas rows h.0 moved h.2, h.3, h.4, h.5)
 opens_as old new metas rows taken (Err (Newer version)) moved h =
     (h.0, has_version metas rows version moved h.1)
 opens_as old new metas rows taken (Err NotOurs) moved h = λ version some has. h version some
     (reads_version metas rows version moved has)
 opens_as old new metas rows taken (Err (Store fault)) moved h = tt
 
-fault_opens : (old new : State) (Is : ℕ → Type 0) (taken : Bool) (r : Result (Unit {0}) OpenFault)
+fault_opens : (old new : State) (Is : ℕ → Type 0) (taken : ℕ → Bool)
+    (r : Result (Unit {0}) OpenFault)
     → IsErrAnd r IsStoreFault → Opens old new Is taken r
 fault_opens old new Is taken (Ok opened) h = absurd h
 fault_opens old new Is taken (Err (Newer version)) h = absurd h
@@ -42,7 +43,7 @@ fault_opens old new Is taken (Err (Store fault)) h = tt
 pub opens_rows : {acted : Bool} (old new : State) (metas : List MetaRow)
     (r : Result (Unit {0}) OpenFault) → Holds acted old.now (name_of Metas) (table_of Metas)
     (cells_of Metas) metas → OpensByReading old new r
-    → Opens old new (HasVersion metas) (has_any later_names old.now.schema) r
+    → Opens old new (HasVersion metas) (has_later old.now.schema) r
 opens_rows old new metas r l (inl h) = fault_opens old new (HasVersion metas) _ r h
 opens_rows old new metas r l (inr h) = opens_as old new metas h.0 _ r
     (shows_metas old old h.0 metas l h.1) h.2

@@ -15,6 +15,8 @@ use Rattle.ftd_schema.specs.declared.TableName.TheVariants.{Metas, Accounts, Rep
 use Rattle.ftd_schema.specs.declared.TableName.TheVariants.{CalendarYears, Holidays, Years, Runs}
 use Rattle.ftd_schema.specs.declared.TableName.TheVariants.{Payments, Obligations, Forms}
 use Rattle.ftd_schema.specs.declared.TableName.TheVariants.{ReportedYears, AddedHolidays}
+use Rattle.ftd_schema.specs.declared.TableName.TheVariants.{CorrectedQuarters, CorrectedYears}
+use Rattle.ftd_schema.specs.declared.TableName.TheVariants.{ChangedHolidays, CorrectedAccounts}
 use Rattle.ftd_schema.specs.Names.{name_of, all_names, is_taken}
 use Rattle.ftd_schema.specs.Standing.{IsForeign}
 use Rattle.ftd_schema.proofs.Making.{self_named}
@@ -89,3 +91,7 @@ all_foreign s new name t at place = each
     each Forms = at_name Forms 9 (omega arith) refl
     each ReportedYears = at_name ReportedYears 10 (omega arith) refl
     each AddedHolidays = at_name AddedHolidays 11 (omega arith) refl
+    each CorrectedQuarters = at_name CorrectedQuarters 12 (omega arith) refl
+    each CorrectedYears = at_name CorrectedYears 13 (omega arith) refl
+    each ChangedHolidays = at_name ChangedHolidays 14 (omega arith) refl
+    each CorrectedAccounts = at_name CorrectedAccounts 15 (omega arith) refl

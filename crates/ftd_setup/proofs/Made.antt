@@ -1,12 +1,10 @@
 -- What the steps of making and migrating come to.
-use Rattle.std.proofs.Common.{◌≡◌, ◌<◌, ◌++◌, ◌∙◌, ℕ, zero, suc, length, ◌+◌, drop, take}
-use Rattle.std.proofs.Common.{append-nil, append_assoc, IsTrue, arith, pos, List, [], ◌∷◌, codes}
+use Rattle.std.proofs.Common.{◌≡◌, ◌<◌, ◌≤◌, ◌++◌, ◌∙◌, ℕ, zero, suc, ◌+◌, drop, take}
+use Rattle.std.proofs.Common.{append-nil, append_assoc, arith, pos, List, [], ◌∷◌, codes}
 use Rattle.std.proofs.Common.{map, Ok, refl, sym, ap, subst, false}
-use Rattle.std.specs.Prelude.{slice_index_or}
 use Rattle.std.specs.List.Sorted.{IsPermutation}
 use Rattle.std.proofs.lemmas.List.Sorted.{IsPermutation-map}
 use Rattle.sqlite.specs.Effect.{Database}
-use Rattle.sqlite.specs.Schema.{Schema}
 use Rattle.sqlite.specs.Does.{lacks_sequence}
 use Rattle.sqlite.specs.Order.{Row}
 use Rattle.sqlite.specs.declared.types.Value.{Value}
@@ -19,22 +17,24 @@ use Rattle.ftd_schema.proofs.Meanings.{lists_names}
 use Rattle.sqlite.specs.State.{State, Executes, Shown, IsUnchanged}
 use Rattle.sqlite_tied.specs.Compute.{everything}
 use Rattle.ftd_tables.specs.Kept.{changed}
-use Rattle.ftd_tables.specs.Places.{KeepsTables, IsUnnamed}
+use Rattle.ftd_tables.specs.Places.{KeepsTables}
 use Rattle.ftd_schema.specs.declared.TableName.{TableName}
 use Rattle.ftd_schema.specs.declared.TableName.TheVariants.{Metas, Accounts, Forms, ReportedYears}
-use Rattle.ftd_schema.specs.declared.TableName.TheVariants.{AddedHolidays}
-use Rattle.ftd_schema.specs.Names.{name_of, all_names, later_names}
-use Rattle.ftd_schema.specs.Layout.{is_rewritten}
-use Rattle.ftd_schema.specs.Rows.{cells_of, AccountRow}
+use Rattle.ftd_schema.specs.declared.TableName.TheVariants.{AddedHolidays, CorrectedQuarters}
+use Rattle.ftd_schema.specs.declared.TableName.TheVariants.{CorrectedYears, ChangedHolidays}
+use Rattle.ftd_schema.specs.declared.TableName.TheVariants.{CorrectedAccounts}
+use Rattle.ftd_schema.specs.Names.{all_names, later_names, since}
+use Rattle.ftd_schema.specs.Rows.{RowOf, cells_of, MetaRow, AccountRow}
 use Rattle.ftd_schema.specs.Standing.{Tables, no_rows, with_rows, Stands, KeepsForeign, Becomes}
-use Rattle.ftd_schema.specs.Standing.{IsFirst, StandsAsFirst, first_rows}
+use Rattle.ftd_schema.specs.Standing.{StandsAs, rows_as}
 use Rattle.ftd_schema.proofs.OneOfAll.{foreign_then, stands_same, set_own, set_twice}
 use Rattle.ftd_schema.specs.Making.{AreFree, IsFree, add_of}
 use Rattle.ftd_schema.specs.Tests.{is_tag, with_version}
 use Rattle.ftd_schema.proofs.Controls.{keeps_tables_then}
-use Rattle.ftd_schema.proofs.Making.{AreMade, all_made, later_made}
+use Rattle.ftd_schema.proofs.Making.{AreMade, all_made, later_free, later_made}
 use Rattle.ftd_schema.proofs.Writing.{adds}
-use Rattle.ftd_schema.specs.Beginnings.{IsMade, tag_row, on_form_941, IsMigrated}
+use Rattle.ftd_schema.specs.Beginnings.{IsMade, tag_row, HasVersion, on_form_941, IsMigration}
+use Rattle.ftd_schema.specs.Beginnings.{IsMigratedFrom}
 use Rattle.ftd_setup.specs.Versions.{IsNew, KeepsRows}
 use Rattle.ftd_setup.proofs.Foreign.{all_foreign}
 
@@ -52,11 +52,11 @@ untagged old mid new made kept free =
     (two.0, keeps_tables_then old mid new one.1 two.1)
 
 pub made : (old : Database) (mid new : State) (count : ℕ) → IsUntagged old mid.now
-    → Executes (add_of Metas) (cells_of Metas (tag_row 2)) mid new (Ok count) → IsNew old.schema
+    → Executes (add_of Metas) (cells_of Metas (tag_row 3)) mid new (Ok count) → IsNew old.schema
     → IsFree old.schema → IsMade old new.now
 made old mid new count before ran none free =
     let one = before free in
-    let two = adds Metas (tag_row 2) mid new count no_rows one.0 ran in (
+    let two = adds Metas (tag_row 3) mid new count no_rows one.0 ran in (
       two.0,
       λ name t at place.
           let there = one.1 name t at place in
@@ -64,38 +64,27 @@ made old mid new count before ran none free =
           (last.0, last.1 ∙ there.1),
     )
 
--- ---- from version 1
+-- ---- from an earlier version
 
--- the three later tables are there, and empty
-abbrev pub IsExtended : Database → Database → Type 0
-IsExtended old new = (t : Tables) → StandsAsFirst old t → lacks_sequence old.schema ≡ false
-    → Stands new (first_rows t) × KeepsTables old new
+-- the tables that came after the version are there, and empty
+abbrev pub IsExtended : ℕ → Database → Database → Type 0
+IsExtended version old new = (t : Tables) → StandsAs version old t
+    → lacks_sequence old.schema ≡ false → Stands new (rows_as version t) × KeepsTables old new
 
--- none of the later tables is one whose rows are changed or taken out
-later_free : (s : Schema) → lacks_sequence s ≡ false → AreFree later_names s
-later_free s counted = record { unnamed = each; counted = counted }
-  where
-    each : (k : ℕ) (d : TableName) → k < length later_names
-        → IsTrue (is_rewritten (slice_index_or later_names k d))
-        → IsUnnamed s (name_of (slice_index_or later_names k d))
-    each zero d low acts = absurd cc
-    each (suc zero) d low acts = absurd cc
-    each (suc (suc zero)) d low acts = absurd cc
-    each (suc (suc (suc k))) d low acts = absurd (omega (arith, low))
-
-pub extended : (old mid new : Database)
-    → (AreFree later_names old.schema → AreMade later_names old mid) → KeepsRows mid new
-    → IsExtended old new
-extended old mid new made kept t first counted =
-    let one = later_made old mid t first (made (later_free old.schema counted)) in
-    let two = kept (first_rows t) one.0 in
+pub extended : (version : ℕ) (old mid new : Database) → 1 ≤ version
+    → (AreFree (later_names version) old.schema → AreMade (later_names version) old mid)
+    → KeepsRows mid new → IsExtended version old new
+extended version old mid new some made kept t stands counted =
+    let one = later_made version old mid t stands
+    (made (later_free version old.schema some counted)) in
+    let two = kept (rows_as version t) one.0 in
     (two.0, keeps_tables_then old mid new one.1 two.1)
 
--- each account is on Form 941
+-- the tables that came after version 1 are there, and each account is on Form 941
 abbrev pub HasForms : Database → Database → Type 0
-HasForms old new = (t : Tables) → StandsAsFirst old t → lacks_sequence old.schema ≡ false
+HasForms old new = (t : Tables) → StandsAs 1 old t → lacks_sequence old.schema ≡ false
     → (accounts : List AccountRow) × IsPermutation (t Accounts) accounts
-    × Stands new (with_rows Forms (map on_form_941 accounts) (first_rows t)) × KeepsForeign old new
+    × Stands new (with_rows Forms (map on_form_941 accounts) (rows_as 1 t)) × KeepsForeign old new
 
 -- adding the forms to tables
 abbrev pub GivesForms : Database → Database → Type 0
@@ -103,52 +92,119 @@ GivesForms old new = (t : Tables) → Stands old t → (accounts : List AccountR
     (t Accounts) accounts × Becomes old new
     (with_rows Forms (t Forms ++ map on_form_941 accounts) t)
 
-pub formed : (old mid new : Database) → IsExtended old mid → GivesForms mid new → HasForms old new
+pub formed : (old mid new : Database) → IsExtended 1 old mid → GivesForms mid new
+    → HasForms old new
 formed old mid new before gives t first counted =
     let one = before t first counted in
-    let two = gives (first_rows t) one.0 in (
+    let two = gives (rows_as 1 t) one.0 in (
       two.0,
       two.1,
       two.2.0,
       foreign_then old mid new (λ name u at place other. one.1 name u at place) two.2.1,
     )
 
--- the tag has version 2 now
+-- rows of the mark with version 3
+abbrev marked : List MetaRow → List MetaRow
+marked metas = map (changed (is_tag (codes "ftd")) (with_version (pos 3))) metas
+
+-- the tag has version 3 now
 abbrev pub SetsVersion : Database → Database → Type 0
 SetsVersion old new = (t : Tables) → Stands old t
-    → Becomes old new
-    (with_rows Metas (map (changed (is_tag (codes "ftd")) (with_version (pos 2))) (t Metas)) t)
+    → Becomes old new (with_rows Metas (marked (t Metas)) t)
 
-pub migrated : (old mid new : Database) → HasForms old mid → SetsVersion mid new
-    → IsMigrated old new
+-- the rows of version 1 become those of version 3
+migration_first : (t : Tables) (accounts : List AccountRow) → HasVersion (t Metas) 1
+    → IsPermutation (t Accounts) accounts
+    → IsMigration 1 t (with_rows Metas (marked (t Metas))
+    (with_rows Forms (map on_form_941 accounts) (rows_as 1 t)))
 unfolding everything
-migrated old mid new before sets t first one counted =
+migration_first t accounts mark same = record {
+  mark = ap marked mark;
+  forms = λ one. IsPermutation-map on_form_941 (t Accounts) accounts same;
+  later = later;
+  others = others;
+}
+  where
+    after : (n : TableName) → List (RowOf n)
+    after = with_rows Metas (marked (t Metas))
+        (with_rows Forms (map on_form_941 accounts) (rows_as 1 t))
+
+    later : (n : TableName) → 1 < since n → (n ≡ Forms → ⊥) → after n ≡ []
+    later Forms late other = absurd (other refl)
+    later ReportedYears late other = refl
+    later AddedHolidays late other = refl
+    later CorrectedQuarters late other = refl
+    later CorrectedYears late other = refl
+    later ChangedHolidays late other = refl
+    later CorrectedAccounts late other = refl
+    later n late other = absurd (omega (arith, late))
+
+    others : (n : TableName) → since n ≤ 1 → (n ≡ Metas → ⊥) → after n ≡ t n
+    others Metas early other = absurd (other refl)
+    others Forms early other = absurd (omega (arith, early))
+    others ReportedYears early other = absurd (omega (arith, early))
+    others AddedHolidays early other = absurd (omega (arith, early))
+    others CorrectedQuarters early other = absurd (omega (arith, early))
+    others CorrectedYears early other = absurd (omega (arith, early))
+    others ChangedHolidays early other = absurd (omega (arith, early))
+    others CorrectedAccounts early other = absurd (omega (arith, early))
+    others n early other = refl
+
+pub migrated_first : (old mid new : Database) → HasForms old mid → SetsVersion mid new
+    → IsMigratedFrom 1 old new
+migrated_first old mid new before sets t first mark counted =
     let forms = before t first counted in
-    let rows : Tables = with_rows Forms (map on_form_941 forms.0) (first_rows t) in
+    let rows : Tables = with_rows Forms (map on_form_941 forms.0) (rows_as 1 t) in
     let last = sets rows forms.2 in (
       (
-        with_rows Metas (map (changed (is_tag (codes "ftd")) (with_version (pos 2))) (t Metas))
-            rows,
+        with_rows Metas (marked (t Metas)) rows,
         last.0,
-        record {
-          version = ap (map (changed (is_tag (codes "ftd")) (with_version (pos 2)))) one;
-          forms = IsPermutation-map on_form_941 (t Accounts) forms.0 forms.1;
-          years = refl;
-          holidays = refl;
-          others = others;
-        },
+        migration_first t forms.0 mark forms.1,
       ),
       foreign_then old mid new forms.3 last.1,
     )
+
+-- and so do those of version 2
+migration_second : (t : Tables) → HasVersion (t Metas) 2
+    → IsMigration 2 t (with_rows Metas (marked (t Metas)) (rows_as 2 t))
+unfolding everything
+migration_second t mark = record {
+  mark = ap marked mark;
+  forms = λ one. absurd (omega (arith, one));
+  later = later;
+  others = others;
+}
   where
-    others : (n : TableName) → IsFirst n → (n ≡ Metas → ⊥)
-        → with_rows Metas (map (changed (is_tag (codes "ftd")) (with_version (pos 2))) (t Metas))
-        (with_rows Forms (map on_form_941 (before t first counted).0) (first_rows t)) n ≡ t n
-    others Metas here other = absurd (other refl)
-    others Forms here other = absurd here
-    others ReportedYears here other = absurd here
-    others AddedHolidays here other = absurd here
-    others n here other = refl
+    after : (n : TableName) → List (RowOf n)
+    after = with_rows Metas (marked (t Metas)) (rows_as 2 t)
+
+    later : (n : TableName) → 2 < since n → (n ≡ Forms → ⊥) → after n ≡ []
+    later CorrectedQuarters late other = refl
+    later CorrectedYears late other = refl
+    later ChangedHolidays late other = refl
+    later CorrectedAccounts late other = refl
+    later n late other = absurd (omega (arith, late))
+
+    others : (n : TableName) → since n ≤ 2 → (n ≡ Metas → ⊥) → after n ≡ t n
+    others Metas early other = absurd (other refl)
+    others CorrectedQuarters early other = absurd (omega (arith, early))
+    others CorrectedYears early other = absurd (omega (arith, early))
+    others ChangedHolidays early other = absurd (omega (arith, early))
+    others CorrectedAccounts early other = absurd (omega (arith, early))
+    others n early other = refl
+
+pub migrated_second : (old mid new : Database) → IsExtended 2 old mid → SetsVersion mid new
+    → IsMigratedFrom 2 old new
+migrated_second old mid new before sets t stands mark counted =
+    let made = before t stands counted in
+    let last = sets (rows_as 2 t) made.0 in (
+      (
+        with_rows Metas (marked (t Metas)) (rows_as 2 t),
+        last.0,
+        migration_second t mark,
+      ),
+      foreign_then old mid new (λ name u at place other. made.1 name u at place) last.1,
+    )
 
 -- ---- the forms, one by one
 

@@ -1,5 +1,6 @@
 -- What is read of ftd_meta tells what its rows are.
-use Rattle.std.proofs.Common.{◌≡◌, ℕ, ℤ, pos, negsuc, nat_abs, arith, length, Bool, false, true}
+use Rattle.std.proofs.Common.{◌≡◌, ◌≤◌, inl, inr, ℕ, ℤ, pos, negsuc, nat_abs, arith, length}
+use Rattle.std.proofs.Common.{Bool, false, true}
 use Rattle.std.proofs.Common.{List, [], ◌∷◌, codes, map, refl, sym, ap, subst}
 use Rattle.std.specs.Int.{FitsUnsignedBits}
 use Rattle.std.proofs.lemmas.Int.{ints}
@@ -21,7 +22,9 @@ use Rattle.ftd_schema.specs.Names.{name_of}
 use Rattle.ftd_schema.specs.Rows.{MetaRow, cells_of}
 use Rattle.ftd_schema.specs.Layout.{table_of}
 use Rattle.ftd_schema.specs.Answers.{meta_shown}
-use Rattle.ftd_schema.specs.Beginnings.{HasVersion}
+use Rattle.ftd_schema.specs.Beginnings.{tag_row, HasVersion, IsMigratedFrom, IsMigrated}
+use Rattle.ftd_schema.specs.declared.texts.TheConstants.{LIST_METAS}
+use Rattle.ftd_schema.proofs.Meanings.{shows_metas}
 use Rattle.ftd_setup.specs.Versions.{is_tagged, ReadsVersion}
 
 -- ---- the cells of the tag
@@ -66,6 +69,26 @@ pub reads_version : (metas : List MetaRow) (rows : List Row) (version : ℕ)
     → ReadsVersion rows version
 reads_version metas rows version moved is =
     one_permutation _ _ (subst (λ ms. IsPermutation (map meta_shown ms) rows) is moved)
+
+-- rows have one version
+pub one_version : (metas : List MetaRow) (a b : ℕ) → HasVersion metas a → HasVersion metas b → a ≡ b
+one_version metas a b one other =
+    let marks : tag_row a ≡ tag_row b = cc in
+    let versions : pos a ≡ pos b = ap (λ (mark : MetaRow). mark.version) marks in
+    cc
+
+-- where a reading tells which version is migrated, the tables were of no other
+pub any_version : (version : ℕ) (old : State) (new : Database) (rows : List Row)
+    → Shown LIST_METAS.now [] old old rows → ReadsVersion rows version
+    → IsMigratedFrom version old.now new → IsMigrated old.now new
+any_version version old new rows shown is moved other earlier before stands mark counted =
+    let first : 1 ≤ other =
+    elim earlier [ inl one ↦ omega (arith, one) | inr two ↦ omega (arith, two) ] in
+    let read : HasVersion (before Metas) version =
+    has_version (before Metas) rows version
+    (shows_metas old old rows (before Metas) (stands Metas first) shown) is in
+    let same : version ≡ other = one_version (before Metas) version other read mark in
+    (subst (λ v. IsMigratedFrom v old.now new) same moved) before stands mark counted
 
 -- where ftd_meta stands, it is there to be read
 pub tagged : {acted : Bool} (db : Database) (metas : List MetaRow) → Holds acted db (name_of Metas)

@@ -1,16 +1,22 @@
 -- What a crash may leave where a database is made the desk's in one transaction.
-use Rattle.std.proofs.Common.{◌≡◌, inl, inr, IsTrue, true, arith, sym, subst, ◌∙◌}
+use Rattle.std.proofs.Common.{◌≡◌, ℕ, List, [], Ok, false, inl, inr, IsTrue, true, arith, sym}
+use Rattle.std.proofs.Common.{subst, ◌∙◌}
 use Rattle.std.proofs.lemmas.Bool.{false≢true}
 use Rattle.sqlite.specs.Store as store
 use Rattle.sqlite.specs.Held.{Held, state}
 use Rattle.sqlite.specs.Steps.{FailsToCommit}
 use Rattle.sqlite.specs.declared.error.Error.{Error}
 use Rattle.sqlite.specs.Effect.{Database}
-use Rattle.sqlite.specs.State.{State, HasCleanDisk, Survives, KeepsCommit}
+use Rattle.sqlite.specs.Order.{Row}
+use Rattle.sqlite.specs.State.{State, HasCleanDisk, Survives, KeepsCommit, Shown}
 use Rattle.sqlite.proofs.StateLemmas.{survives_then}
+use Rattle.ftd_schema.specs.Beginnings.{IsEarlier, IsMigratedFrom}
 use Rattle.ftd_schema.specs.States.{CrashKeeps, ShowsAgain}
+use Rattle.ftd_schema.specs.declared.texts.TheConstants.{LIST_METAS}
 use Rattle.ftd_setup.specs.declared.opening.Change.{Change}
-use Rattle.ftd_setup.specs.Versions.{Becomes, MayBecome}
+use Rattle.ftd_setup.specs.Versions.{has_later, ReadsVersion, Becomes, MayBecome, MayBeMigrated}
+use Rattle.ftd_setup.specs.Versions.{OpensByReading}
+use Rattle.ftd_setup.proofs.Readings.{any_version}
 
 pub becoming_survives : (how : Change) (old last end : State) → CrashKeeps old last
     → (HasCleanDisk last → Becomes how old.now last.now)
@@ -21,15 +27,48 @@ becoming_survives how old last end inside made committed =
     let clean_last : HasCleanDisk last = omega (arith, committed.clean) in
     (last.now, is, made clean_last)) inside committed
 
--- after a reading
-pub reading_survives : (how : Change) (old mid end : State) → CrashKeeps old mid
-    → (HasCleanDisk mid → mid.now ≡ old.now) → Survives mid end (MayBecome how mid.now)
-    → Survives old end (MayBecome how old.now)
-reading_survives how old mid end read same then =
-    survives_then old mid end _ _ (MayBecome how old.now) (λ _ db none. absurd none)
+-- what a reading before told: the version, and that nothing was changed
+pub record Told (version : ℕ) (old mid : State) : Type 0 where
+  pub rows : List Row
+  pub shown : Shown LIST_METAS.now [] old old rows
+  pub is : ReadsVersion rows version
+  pub same : mid.now ≡ old.now
+
+-- after a reading that told which version is migrated
+pub migrating_survives : (how : Change) (version : ℕ) (old mid end : State)
+    → ((db : Database) → Becomes how old.now db → IsMigratedFrom version old.now db)
+    → CrashKeeps old mid → (HasCleanDisk mid → Told version old mid)
+    → Survives mid end (MayBecome how mid.now) → Survives old end (MayBeMigrated old.now)
+migrating_survives how version old mid end from read tells then =
+    survives_then old mid end _ _ (MayBeMigrated old.now) (λ _ db none. absurd none)
     (λ clean db is.
     let clean_mid : HasCleanDisk mid = omega (arith, then.clean) in
-    subst (λ (d : Database). MayBecome how d db) (same clean_mid) is) read then
+    let told = tells clean_mid in
+    let did : MayBecome how old.now db =
+    subst (λ (d : Database). MayBecome how d db) told.same is in
+    (did.0, did.1, any_version version old did.0 told.rows told.shown told.is (from did.0 did.2)))
+    read then
+
+-- and what is answered then
+pub migrated_opens : (how : Change) (version : ℕ) (old mid new : State)
+    → ((db : Database) → Becomes how old.now db → IsMigratedFrom version old.now db)
+    → IsEarlier version → Told version old mid → has_later mid.now.schema version ≡ false
+    → Becomes how mid.now new.now × (new.committed ≡ new.now) → OpensByReading old new (Ok tt)
+migrated_opens how version old mid new from earlier told free done =
+    let did : Becomes how old.now new.now =
+    subst (λ (d : Database). Becomes how d new.now) told.same done.0 in
+    inr (
+      told.rows,
+      told.shown,
+      inr (
+        version,
+        earlier,
+        told.is,
+        subst (λ (d : Database). has_later d.schema version ≡ false) told.same free,
+        any_version version old new.now told.rows told.shown told.is (from new.now did),
+        done.1,
+      ),
+    )
 
 -- `transaction` commits nothing
 pub kept_begin : {S : Type 0} (g : store.Ghosts S) (old : Held S) (new : State)

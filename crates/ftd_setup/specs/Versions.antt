@@ -16,20 +16,24 @@ use Rattle.ftd_schema.specs.Names.{name_of, all_names, later_names, has_any}
 use Rattle.ftd_schema.specs.Layout.{table_of}
 use Rattle.ftd_schema.specs.Rows.{cells_of, MetaRow}
 use Rattle.ftd_schema.specs.Standing.{Tables, Stands}
-use Rattle.ftd_schema.specs.Beginnings.{HasVersion, IsMade, IsMigrated}
+use Rattle.ftd_schema.specs.Beginnings.{HasVersion, IsMade, IsEarlier, IsMigratedFrom, IsMigrated}
 use Rattle.ftd_schema.specs.Making.{IsFree}
 use Rattle.ftd_schema.specs.States.{ShowsAgain}
 use Rattle.ftd_schema.specs.declared.texts.TheConstants.{LIST_METAS}
 use Rattle.ftd_setup.specs.declared.opening.Change.{Change}
-use Rattle.ftd_setup.specs.declared.opening.Change.TheVariants.{Make, Migrate}
+use Rattle.ftd_setup.specs.declared.opening.Change.TheVariants.{Make, MigrateFirst, MigrateSecond}
 use Rattle.ftd_setup.specs.declared.opening.OpenFault.{OpenFault}
 use Rattle.ftd_setup.specs.declared.opening.OpenFault.TheVariants.{NotOurs, Newer, Store}
 
 -- ---- what is there
 
--- none of the twelve names is taken
+-- none of the sixteen names is taken
 abbrev pub IsNew : Schema → Type 0
 IsNew s = has_any all_names s ≡ false
+
+-- the name of a table that came after this version is taken
+abbrev pub has_later : Schema → ℕ → Bool
+has_later s version = has_any (later_names version) s
 
 abbrev has_columns : Option Table → Bool
 has_columns (Some t) =
@@ -53,29 +57,36 @@ KeepsRows old new = (t : Tables) → Stands old t → Stands new t × KeepsTable
 -- what is done in one transaction
 abbrev pub Becomes : Change → Database → Database → Type 0
 Becomes Make old new = IsNew old.schema → IsFree old.schema → IsMade old new
-Becomes Migrate old new = IsMigrated old new
+Becomes MigrateFirst old new = IsMigratedFrom 1 old new
+Becomes MigrateSecond old new = IsMigratedFrom 2 old new
 
 -- what a crash may leave of it, beside what there was: all of it
 abbrev pub MayBecome : Change → Database → Trees → Type 0
 MayBecome how old left = (db : Database) × (left ≡ db.trees) × Becomes how old db
 
--- what a crash may leave of a database that is being opened, beside what there was: version 2 in
+-- what a crash may leave of an earlier version, beside what there was: version 3 in whole
+abbrev pub MayBeMigrated : Database → Trees → Type 0
+MayBeMigrated old left = (db : Database) × (left ≡ db.trees) × IsMigrated old db
+
+-- what a crash may leave of a database that is being opened, beside what there was: version 3 in
 -- whole
 abbrev pub MayBeOpened : Database → Trees → Type 0
 MayBeOpened old left =
     ((is_tagged old.schema ≡ false) × MayBecome Make old left)
-    ⊎ ((is_tagged old.schema ≡ true) × MayBecome Migrate old left)
+    ⊎ ((is_tagged old.schema ≡ true) × MayBeMigrated old left)
 
 -- ---- what is answered
 
--- how a database with this version was opened: version 2 as it is, version 1 by migration
-abbrev pub Opens : State → State → (ℕ → Type 0) → Bool → Result (Unit {0}) OpenFault → Type 0
+-- how a database with this version was opened: version 3 as it is, version 1 or 2 by migration,
+-- where the name of no table that came later is taken
+abbrev pub Opens : State → State → (ℕ → Type 0) → (ℕ → Bool) → Result (Unit {0}) OpenFault → Type 0
 Opens old new Is taken (Ok opened) =
-    (Is 2 × IsUnchanged old new)
-    ⊎ (Is 1 × (taken ≡ false) × IsMigrated old.now new.now × (new.committed ≡ new.now))
-Opens old new Is taken (Err (Newer version)) = (2 < version) × Is version
+    (Is 3 × IsUnchanged old new)
+    ⊎ ((version : ℕ) × IsEarlier version × Is version × (taken version ≡ false)
+    × IsMigrated old.now new.now × (new.committed ≡ new.now))
+Opens old new Is taken (Err (Newer version)) = (3 < version) × Is version
 Opens old new Is taken (Err NotOurs) =
-    (version : ℕ) → 1 ≤ version → Is version → (version ≡ 1) × (taken ≡ true)
+    (version : ℕ) → 1 ≤ version → Is version → IsEarlier version × (taken version ≡ true)
 Opens old new Is taken (Err (Store fault)) = ⊤
 
 -- a fault of the store says nothing of what the database is
@@ -88,7 +99,7 @@ abbrev pub OpensByReading : State → State → Result (Unit {0}) OpenFault → 
 OpensByReading old new r =
     IsErrAnd r IsStoreFault
     ⊎ ((rows : List Row) × Shown LIST_METAS.now [] old old rows
-    × Opens old new (ReadsVersion rows) (has_any later_names old.now.schema) r)
+    × Opens old new (ReadsVersion rows) (has_later old.now.schema) r)
 
 -- how an opening ended: what the database was, what is seen of it then, and the answer
 pub record Opening (old new : State) (r : Result (Unit {0}) OpenFault) : Type 0 where
@@ -103,8 +114,8 @@ pub record Opening (old new : State) (r : Result (Unit {0}) OpenFault) : Type 0 
   pub read : is_tagged old.now.schema ≡ true → HasCleanDisk new → OpensByReading old new r
   pub version : (metas : List MetaRow)
       → Holds false old.now (name_of Metas) (table_of Metas) (cells_of Metas) metas
-      → HasCleanDisk new → Opens old new (HasVersion metas) (has_any later_names old.now.schema) r
+      → HasCleanDisk new → Opens old new (HasVersion metas) (has_later old.now.schema) r
   -- whatever the fault, the rows are as they were
   pub kept : HasCleanDisk new → IsTrue new.is_open → OnErr r (ShowsAgain old new)
-  -- a crash finds what it would have found, or version 2 in whole
+  -- a crash finds what it would have found, or version 3 in whole
   pub crash : Survives old new (MayBeOpened old.now)

@@ -1,5 +1,5 @@
-//! Whether a database is the desk's, and making it so: the twelve tables of version 2 in a new
-//! database, or beside the nine of version 1.
+//! Whether a database is the desk's, and making it so: the sixteen tables of version 3 in a new
+//! database, or those that came later beside the nine of version 1 or the twelve of version 2.
 #![tactic(auto)]
 
 mod making;

@@ -14,7 +14,7 @@ use sqlite::{Alter, Transaction, params};
 use sqlite_schema::schema::Schema;
 
 /// The version of the tables that this desk makes and opens.
-pub(crate) const VERSION: i64 = 2;
+pub(crate) const VERSION: i64 = 3;
 
 // the text that makes a table
 fn create(name: TableName) -> &'static str
@@ -33,6 +33,10 @@ fn create(name: TableName) -> &'static str
         TableName::Forms => texts::CREATE_FORMS,
         TableName::ReportedYears => texts::CREATE_REPORTED_YEARS,
         TableName::AddedHolidays => texts::CREATE_ADDED_HOLIDAYS,
+        TableName::CorrectedQuarters => texts::CREATE_CORRECTED_QUARTERS,
+        TableName::CorrectedYears => texts::CREATE_CORRECTED_YEARS,
+        TableName::ChangedHolidays => texts::CREATE_CHANGED_HOLIDAYS,
+        TableName::CorrectedAccounts => texts::CREATE_CORRECTED_ACCOUNTS,
     }
 }
 
@@ -98,7 +102,7 @@ pub(crate) fn make_indexes<S: Alter>(
     index_payments(tx, indexes.payments)
 }
 
-/// Makes the twelve tables, the indexes and the tag of version 2.
+/// Makes the sixteen tables, the indexes and the tag of version 3.
 pub(crate) fn make<S: Alter>(
     tx: &mut Transaction<'_, S>,
     indexes: Indexes,

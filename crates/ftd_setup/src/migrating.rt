@@ -1,4 +1,4 @@
-//! From version 1 to version 2.
+//! From version 1 or 2 to version 3.
 
 ghost use Rattle.std.specs.Prelude.{◌≡◌, ◌++◌, ◌∷◌, [], pos, codes, map, List};
 ghost use Rattle.std.specs.List.Sorted.{IsPermutation};
@@ -9,12 +9,12 @@ ghost use Rattle.ftd_schema.specs.Standing.{Tables, with_rows, Stands, Becomes};
 ghost use Rattle.ftd_schema.specs.Answers.{name_shown};
 ghost use Rattle.ftd_schema.specs.Tests.{is_tag, with_version};
 ghost use Rattle.ftd_setup.specs.Steps.{Steps};
-ghost use Rattle.ftd_schema.specs.Beginnings.{on_form_941, IsMigrated};
+ghost use Rattle.ftd_schema.specs.Beginnings.{on_form_941, IsMigratedFrom};
 
 use crate::making::{Indexes, VERSION, make_indexes, make_tables};
 use crate::steps::{read, run};
 use ftd_rows::StoreFault;
-use ftd_schema::{LATER, texts};
+use ftd_schema::{AFTER_FIRST, AFTER_SECOND, texts};
 use sqlite::types::ValueRef;
 use sqlite::{Alter, Row, Transaction, params};
 
@@ -56,11 +56,11 @@ fn give_forms<S: Alter>(tx: &mut Transaction<'_, S>) -> Result<(), StoreFault>
     add_forms(tx, &names)
 }
 
-// gives the tag version 2
+// gives the tag version 3
 fn set_version<S: Alter>(tx: &mut Transaction<'_, S>) -> Result<(), StoreFault>
     ensures step { Steps S.Store tx.old tx.new result (λ _ old new. (t : Tables) → Stands old.now t
         → Becomes old.now new.now (with_rows Metas
-        (map (changed (is_tag (codes "ftd")) (with_version (pos 2))) (t Metas)) t)) }
+        (map (changed (is_tag (codes "ftd")) (with_version (pos 3))) (t Metas)) t)) }
 {
     if run(tx, texts::SET_VERSION, params!["ftd", VERSION])? != 1 {
         return Err(StoreFault::Failed);
@@ -68,16 +68,32 @@ fn set_version<S: Alter>(tx: &mut Transaction<'_, S>) -> Result<(), StoreFault>
     Ok(())
 }
 
-/// Makes the three later tables, puts every account on Form 941, and gives the tag version 2.
-pub(crate) fn migrate<S: Alter>(
+/// Makes the seven tables that came after version 1, puts every account on Form 941, and gives the
+/// tag version 3.
+pub(crate) fn migrate_first<S: Alter>(
     tx: &mut Transaction<'_, S>,
     indexes: Indexes,
 ) -> Result<(), StoreFault>
-    ensures step { Steps S.Store tx.old tx.new result (λ _ old new. IsMigrated old.now new.now) }
+    ensures step { Steps S.Store tx.old tx.new result
+        (λ _ old new. IsMigratedFrom 1 old.now new.now) }
 {
-    let names = LATER;
+    let names = AFTER_FIRST;
     make_tables(tx, names.as_slice())?;
     make_indexes(tx, indexes)?;
     give_forms(tx)?;
+    set_version(tx)
+}
+
+/// Makes the four tables that came after version 2, and gives the tag version 3.
+pub(crate) fn migrate_second<S: Alter>(
+    tx: &mut Transaction<'_, S>,
+    indexes: Indexes,
+) -> Result<(), StoreFault>
+    ensures step { Steps S.Store tx.old tx.new result
+        (λ _ old new. IsMigratedFrom 2 old.now new.now) }
+{
+    let names = AFTER_SECOND;
+    make_tables(tx, names.as_slice())?;
+    make_indexes(tx, indexes)?;
     set_version(tx)
 }

@@ -10,14 +10,14 @@ ghost use Rattle.ftd_schema.specs.declared.texts.TheConstants.{LIST_METAS};
 ghost use Rattle.ftd_setup.specs.Ended.{seen_of, Ended};
 ghost use Rattle.ftd_setup.specs.Steps.{Steps};
 ghost use Rattle.ftd_schema.specs.Beginnings.{IsMade};
-ghost use Rattle.ftd_setup.specs.Versions.{IsNew, is_tagged, Becomes, MayBecome};
+ghost use Rattle.ftd_setup.specs.Versions.{IsNew, is_tagged, Becomes, MayBecome, MayBeMigrated};
 ghost use Rattle.ftd_setup.specs.Versions.{MayBeOpened, IsStoreFault, OpensByReading, Opening};
 
 use crate::making::{Indexes, make};
-use crate::migrating::migrate;
+use crate::migrating::{migrate_first, migrate_second};
 use crate::versions::{is_tagged, told};
 use ftd_rows::StoreFault;
-use ftd_schema::{ALL, LATER, has_any, texts};
+use ftd_schema::{AFTER_FIRST, AFTER_SECOND, ALL, has_any, texts};
 use sqlite::{Alter, Connection, Row, Transaction};
 use thiserror::Error;
 
@@ -60,8 +60,10 @@ pub struct NotOpened<S: Alter> {
 pub(crate) enum Change {
     /// A new database is given the tables.
     Make,
-    /// Version 1 becomes version 2.
-    Migrate,
+    /// Version 1 becomes version 3.
+    MigrateFirst,
+    /// Version 2 becomes version 3.
+    MigrateSecond,
 }
 
 // does so inside a transaction
@@ -74,7 +76,8 @@ fn apply<S: Alter>(
 {
     match how {
         Change::Make => make(tx, indexes),
-        Change::Migrate => migrate(tx, indexes),
+        Change::MigrateFirst => migrate_first(tx, indexes),
+        Change::MigrateSecond => migrate_second(tx, indexes),
     }
 }
 
@@ -128,7 +131,7 @@ impl<S: Alter> Found<S> {
         }
     }
 
-    // opens a database that has a tag: version 2 as it is, version 1 by migration
+    // opens a database that has a tag: version 3 as it is, version 1 or 2 by migration
     fn open_tagged(&mut self) -> Result<(), OpenFault>
         ensures read { HasCleanDisk (seen_of S.Store self.new)
             → OpensByReading (seen_of S.Store self.old) (seen_of S.Store self.new) result }
@@ -136,16 +139,23 @@ impl<S: Alter> Found<S> {
             → IsTrue (seen_of S.Store self.new).is_open
             → OnErr result (ShowsAgain (seen_of S.Store self.old) (seen_of S.Store self.new)) }
         ensures crash { Survives (seen_of S.Store self.old) (seen_of S.Store self.new)
-            (MayBecome Change.Migrate (seen_of S.Store self.old).now) }
+            (MayBeMigrated (seen_of S.Store self.old).now) }
     {
         let rows = self.read_tag()?;
+        // whether the name of a table that came after version 1, or after version 2, is taken
+        let taken_first = has_any(self.conn.schema(), AFTER_FIRST.as_slice());
+        let taken_second = has_any(self.conn.schema(), AFTER_SECOND.as_slice());
         match told(&rows) {
-            Some(2) => Ok(()),
-            Some(1) if !has_any(self.conn.schema(), LATER.as_slice()) => {
-                self.carry_out(Change::Migrate)?;
+            Some(3) => Ok(()),
+            Some(1) if !taken_first => {
+                self.carry_out(Change::MigrateFirst)?;
                 Ok(())
             }
-            Some(version) if version > 2 => Err(OpenFault::Newer(version)),
+            Some(2) if !taken_second => {
+                self.carry_out(Change::MigrateSecond)?;
+                Ok(())
+            }
+            Some(version) if version > 3 => Err(OpenFault::Newer(version)),
             _ => Err(OpenFault::NotOurs),
         }
     }
@@ -183,14 +193,14 @@ impl<S: Alter> Found<S> {
 
 /// Makes a database the desk's, or finds that it is.
 ///
-/// Where none of the twelve names is taken by a table, a view or an index, the twelve tables are
-/// made in one transaction, with the tag (`ftd`, 2) and, where nothing has their names, two indexes
-/// by day. Where ftd_meta has exactly one row, with the tag `ftd`: version 2 is opened as it is;
-/// version 1 becomes version 2 in one transaction, with every account on Form 941, or is `NotOurs`
-/// where one of the three later names is taken; a greater version is `Newer`. All else is
-/// `NotOurs`. `Store` where memory is refused, where the database fails, and where it is in a
-/// transaction. A fault gives the connection back with the same rows. Tables of other names are
-/// left alone.
+/// Where none of the sixteen names is taken by a table, a view or an index, the sixteen tables are
+/// made in one transaction, with the tag (`ftd`, 3) and, where nothing has their names, two indexes
+/// by day. Where ftd_meta has exactly one row, with the tag `ftd`: version 3 is opened as it is;
+/// version 1 and version 2 become version 3 in one transaction, version 1 with every account on
+/// Form 941, or are `NotOurs` where the name of a table that came later is taken; a greater version
+/// is `Newer`. All else is `NotOurs`. `Store` where memory is refused, where the database fails,
+/// and where it is in a transaction. A fault gives the connection back with the same rows. Tables
+/// of other names are left alone.
 pub fn open<S: Alter>(conn: Connection<S>) -> Result<Connection<S>, NotOpened<S>>
     ensures ended { Ended S.Store result (Opening (state S.Store conn)) }
     ensures untouched { has_any all_names (state S.Store conn).now.schema ≡ true

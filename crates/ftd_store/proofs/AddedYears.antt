@@ -2,7 +2,7 @@
 use Rattle.std.proofs.Common.{◌≡◌, ◌≢◌, ◌⊎◌, ℕ, ◌+◌, ◌<◌, ◌≤◌, ◌==◌, ◌||◌, Bool, true, false, inl}
 use Rattle.std.proofs.Common.{inr, List, [], ◌∷◌, ◌++◌, take, length, get_or, refl, sym, ap, ◌∙◌}
 use Rattle.std.proofs.Common.{subst, arith}
-use Rattle.std.specs.Prelude.{All}
+use Rattle.std.specs.Prelude.{All, filter, ◌&&◌}
 use Rattle.std.specs.List.{list_any}
 use Rattle.std.proofs.lemmas.Bool.{cases_Bool, eqb-true}
 use Rattle.std.proofs.lemmas.Bool.Decides.{nat_tests}
@@ -12,8 +12,10 @@ use Rattle.std.proofs.lemmas.List.Folds.{list_any-append}
 use Rattle.ftd_days.specs.Business.{is_holiday}
 use Rattle.ftd_days.specs.Calendar.{year_of}
 use Rattle.ftd_days.specs.Holidays.{YearDays, holidays_of}
+use Rattle.ftd_days.proofs.Among.{is_among}
 use Rattle.ftd_schema.specs.Standing.{Tables}
-use Rattle.ftd_store.specs.Holidays.{HasHolidays, HasYears, AddsYear}
+use Rattle.ftd_rows.specs.declared.corrections.HolidayChange.{HolidayChange}
+use Rattle.ftd_store.specs.Holidays.{HasHolidays, HasYears, AddsYear, is_holiday_in, is_kept}
 use Rattle.ftd_store.proofs.Items.{taken}
 
 -- ---- days that are added to a list
@@ -73,6 +75,26 @@ pub both_elsewhere : (year : ℕ) (given added : List ℕ) → All (λ d. year_o
 both_elsewhere year given added all_given all_added day other = ap (λ b. b || is_holiday added day)
     (none_elsewhere year day given all_given other) ∙ none_elsewhere year day added all_added other
 
+-- ---- those that changes keep
+
+either_kept : (a b c : Bool) → ((a && c) || (b && c)) ≡ ((a || b) && c)
+either_kept true true true = refl
+either_kept true true false = refl
+either_kept true false true = refl
+either_kept true false false = refl
+either_kept false b c = refl
+
+pub both_kept : (given added : List ℕ) (changes : List HolidayChange) (day : ℕ)
+    → (is_holiday (filter (is_kept changes) given) day
+    || is_holiday (filter (is_kept changes) added) day)
+    ≡ is_holiday_in given added changes day
+both_kept given added changes day =
+    ap (λ b. b || is_holiday (filter (is_kept changes) added) day)
+    (is_among (is_kept changes) given day)
+    ∙ ap (λ b. (is_holiday given day && is_kept changes day) || b)
+    (is_among (is_kept changes) added day)
+    ∙ either_kept (is_holiday given day) (is_holiday added day) (is_kept changes day)
+
 -- ---- year by year
 
 -- the holidays of the years from the first on that are before `year` were read, and no others
@@ -97,7 +119,7 @@ one_more_read first year old new t so_far adds = record {
       (let before = so_far.none_yet day (omega arith) in
       let here = adds.elsewhere day (λ same. absurd (omega arith)) in
       adds.same day
-      ∙ (ap (λ b. b || (is_holiday adds.given.items day || is_holiday adds.added.items day)) before
+      ∙ (ap (λ b. b || is_holiday_in adds.given.items adds.added.items adds.changes.items day) before
       ∙ here));
   had = λ earlier low high. elim (cases_last earlier year (omega arith)) [
     | inl before ↦
@@ -107,6 +129,8 @@ one_more_read first year old new t so_far adds = record {
           is_given = k.is_given;
           added = k.added;
           are_added = k.are_added;
+          changes = k.changes;
+          are_changes = k.are_changes;
           same = λ day in_year.
               (let here = adds.elsewhere day (λ same. absurd (omega arith)) in
               adds.same day ∙ (ap (λ b. is_holiday old day || b) here
@@ -117,10 +141,12 @@ one_more_read first year old new t so_far adds = record {
       is_given = adds.is_given;
       added = adds.added;
       are_added = adds.are_added;
+      changes = adds.changes;
+      are_changes = adds.are_changes;
       same = λ day in_year.
           (let before = so_far.none_yet day (omega arith) in
           adds.same day
-          ∙ ap (λ b. b || (is_holiday adds.given.items day || is_holiday adds.added.items day))
+          ∙ ap (λ b. b || is_holiday_in adds.given.items adds.added.items adds.changes.items day)
           before);
     })
   ];

@@ -4,6 +4,7 @@ pub mod Replaced
 pub mod Telling
 pub mod Same
 mod SameKept
+mod SameCorrections
 pub mod Sums
 pub mod YearRows
 pub mod Putting

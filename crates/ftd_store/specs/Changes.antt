@@ -6,6 +6,8 @@ use Rattle.ftd_schema.specs.declared.TableName.TheVariants.{Accounts, ReportedQu
 use Rattle.ftd_schema.specs.declared.TableName.TheVariants.{CalendarYears, Holidays, Years, Runs}
 use Rattle.ftd_schema.specs.declared.TableName.TheVariants.{Payments, Obligations, Forms}
 use Rattle.ftd_schema.specs.declared.TableName.TheVariants.{ReportedYears, AddedHolidays}
+use Rattle.ftd_schema.specs.declared.TableName.TheVariants.{CorrectedQuarters, CorrectedYears}
+use Rattle.ftd_schema.specs.declared.TableName.TheVariants.{ChangedHolidays, CorrectedAccounts}
 use Rattle.ftd_schema.specs.Rows.{RowOf, YearRow}
 use Rattle.ftd_schema.specs.Standing.{Tables, with_rows}
 use Rattle.ftd_schema.specs.Tests.{is_run, voided_run, is_payment, voided_payment}
@@ -21,7 +23,11 @@ use Rattle.ftd_rules.specs.declared.payment.Payment.{Payment}
 use Rattle.ftd_rows.specs.Cells.{day_number}
 use Rattle.ftd_rows.specs.Rows.{account_row, form_row, reported_row, reported_year_row}
 use Rattle.ftd_rows.specs.Rows.{calendar_year_row, holiday_row, year_row, run_row, payment_row}
-use Rattle.ftd_rows.specs.Rows.{obligation_row}
+use Rattle.ftd_rows.specs.Rows.{obligation_row, correction_row, year_correction_row}
+use Rattle.ftd_rows.specs.Rows.{account_correction_row, holiday_change_row}
+use Rattle.ftd_rows.specs.declared.corrections.AccountCorrection.{AccountCorrection}
+use Rattle.ftd_rows.specs.declared.corrections.Correction.{Correction}
+use Rattle.ftd_rows.specs.declared.corrections.HolidayChange.{HolidayChange}
 
 -- one more row in a table
 abbrev pub adding : (n : TableName) → RowOf n → Tables → Tables
@@ -52,6 +58,27 @@ with_calendar year days t =
 -- a holiday is added to its year, whose calendar was given
 abbrev pub with_added_holiday : ℕ → Tables → Tables
 with_added_holiday day = adding AddedHolidays (holiday_row (year_of day) day)
+
+-- ---- what was put right
+
+-- one more correction of the total of the account's quarter, of that of its year, and of the
+-- account itself
+abbrev pub with_correction : List ℕ → ℕ → Correction → Tables → Tables
+with_correction account quarter correction =
+    adding CorrectedQuarters (correction_row account quarter correction)
+
+abbrev pub with_year_correction : List ℕ → ℕ → Correction → Tables → Tables
+with_year_correction account year correction =
+    adding CorrectedYears (year_correction_row account year correction)
+
+abbrev pub with_account_correction : List ℕ → AccountCorrection → Tables → Tables
+with_account_correction account correction =
+    adding CorrectedAccounts (account_correction_row account correction)
+
+-- one more change of a day, in the day's year
+abbrev pub with_holiday_change : HolidayChange → Tables → Tables
+with_holiday_change change =
+    adding ChangedHolidays (holiday_change_row (year_of change.day) change)
 
 -- ---- open years
 

@@ -4,6 +4,7 @@ use Rattle.std.specs.Prelude.{Option, None, Some, Vec, Bool, if◌then◌else◌
 use Rattle.std.specs.List.{All}
 use Rattle.ftd_schema.specs.declared.TableName.TheVariants.{Accounts, ReportedQuarters}
 use Rattle.ftd_schema.specs.declared.TableName.TheVariants.{CalendarYears, Holidays, Years, Runs}
+use Rattle.ftd_schema.specs.declared.TableName.TheVariants.{CorrectedAccounts}
 use Rattle.ftd_schema.specs.declared.TableName.TheVariants.{Payments, Obligations, Forms}
 use Rattle.ftd_schema.specs.declared.TableName.TheVariants.{ReportedYears, AddedHolidays}
 use Rattle.ftd_schema.specs.Rows.{HolidayRow, YearRow, PaymentRow, ObligationRow}
@@ -12,9 +13,9 @@ use Rattle.ftd_schema.specs.Tests.{is_account, is_form_of, is_reported, is_repor
 use Rattle.ftd_schema.specs.Tests.{is_calendar_year, is_holiday_of, is_year_of, is_run, is_run_of}
 use Rattle.ftd_schema.specs.Tests.{is_live_run_between, is_payment, is_payment_of}
 use Rattle.ftd_schema.specs.Tests.{is_live_payment_between, is_obligation_between, is_due_over}
-use Rattle.ftd_schema.specs.Tests.{is_due_between}
+use Rattle.ftd_schema.specs.Tests.{is_due_between, is_account_correction_of}
 use Rattle.ftd_schema.specs.Orders.{HolidaysRise, YearsRise, RunsRise, PaymentsRise, ObligationsRise}
-use Rattle.ftd_schema.specs.Orders.{AccountsRise}
+use Rattle.ftd_schema.specs.Orders.{AccountsRise, AccountCorrectionsRise}
 use Rattle.ftd_days.specs.Calendar.{quarter_year, quarter_number}
 use Rattle.ftd_days.specs.declared.cents.Cents.{Cents}
 use Rattle.ftd_rules.specs.declared.DaySum.{DaySum}
@@ -22,7 +23,9 @@ use Rattle.ftd_rules.specs.declared.Form.{Form}
 use Rattle.ftd_rules.specs.declared.Obligation.{Obligation}
 use Rattle.ftd_rules.specs.declared.YearLine.{YearLine}
 use Rattle.ftd_rules.specs.Years.{AreOpenYears, OnlyFirstCarried}
+use Rattle.ftd_rows.specs.Corrections.{as_corrected}
 use Rattle.ftd_rows.specs.declared.accounts.Account.{Account}
+use Rattle.ftd_rows.specs.declared.corrections.AccountCorrection.{AccountCorrection}
 use Rattle.ftd_rules.specs.declared.run.PayRun.{PayRun}
 use Rattle.ftd_rules.specs.declared.run.Voidable.{Voidable}
 use Rattle.ftd_rules.specs.declared.payment.Payment.{Payment}
@@ -35,11 +38,22 @@ use Rattle.ftd_rows.specs.Reading.{rows_of}
 use Rattle.ftd_rows.specs.Lists.{Lists}
 use Rattle.ftd_rows.specs.DaySums.{ListsDaySums}
 use Rattle.ftd_rows.specs.Years.{FirstCarriedAs, HasFittingTurn}
+use Rattle.ftd_store.specs.Corrections.{IsAccountCorrection}
 
 -- ---- accounts, their forms, and what they reported
 
 abbrev pub FindsAccount : List ℕ → Option Account → Tables → Type 0
 FindsAccount name found t = filter (is_account name) (t Accounts) ≡ rows_of (account_row name) found
+
+-- the account as its last correction has it, or as it was enrolled where there is none; None where it
+-- was not enrolled
+pub record FindsInForce (name : List ℕ) (found : Option Account) (t : Tables) : Type 0 where
+  pub enrolled : Option Account
+  pub is_enrolled : FindsAccount name enrolled t
+  pub corrections : List AccountCorrection
+  pub are_all : Lists AccountCorrectionsRise (IsAccountCorrection name)
+      (filter (is_account_correction_of name) (t CorrectedAccounts)) corrections
+  pub is_last : found ≡ as_corrected enrolled corrections
 
 abbrev pub FindsForm : List ℕ → Option Form → Tables → Type 0
 FindsForm account found t = filter (is_form_of account) (t Forms) ≡ rows_of (form_row account) found
@@ -87,13 +101,14 @@ abbrev pub IsYear : List ℕ → YearRow → YearLine → Type 0
 IsYear account row line = row ≡ year_row account line
 
 -- the account's open years, by year: they go on one by one within 2001 to 2098, each turn fits, the
--- first is carried as the account is, and no other is carried
+-- first is carried as the account in force is, and no other is carried
 pub record ListsYears {A : Type 0} (account : List ℕ) (lines : Vec YearLine A)
     (t : Tables) : Type 0 where
   pub listed : Lists YearsRise (IsYear account) (filter (is_year_of account) (t Years)) lines.items
   pub whole : AreOpenYears lines.items
   pub turns : All HasFittingTurn lines.items
-  pub first : FirstCarriedAs account (filter (is_account account) (t Accounts)) lines.items
+  pub first : (found : Option Account) × FindsInForce account found t
+      × FirstCarriedAs found lines.items
   pub others : OnlyFirstCarried lines.items
 
 -- ---- runs

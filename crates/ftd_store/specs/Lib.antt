@@ -20,3 +20,4 @@ pub use Rattle.ftd_schema.specs.States
 pub use Rattle.ftd_schema.specs.Tests
 pub use Rattle.ftd_tables.specs.TextKinds
 pub mod Kept
+pub mod Corrections

@@ -1,14 +1,15 @@
 //! The accounts, and their forms.
 
 ghost use Rattle.ftd_store.specs.Changes.{with_account, with_form};
-ghost use Rattle.ftd_store.specs.Finds.{FindsAccount, FindsForm};
+ghost use Rattle.ftd_store.specs.Finds.{FindsAccount, FindsForm, FindsInForce};
 ghost use Rattle.ftd_store.specs.Frame.{Reads, Writes};
 
 use crate::tx::Tx;
-use ftd_rows::{Account, StoreFault, StoredDay, StoredFlag, StoredForm};
+use ftd_rows::{Account, StoreFault, StoredDay, StoredFlag, StoredForm, as_corrected};
 use ftd_rules::Form;
 use ftd_schema::texts;
 use sqlite::{Alter, params};
+use std::alloc::Global;
 
 impl<'store, S: Alter> Tx<'store, S> {
     /// The account of the name, or None.
@@ -16,6 +17,20 @@ impl<'store, S: Alter> Tx<'store, S> {
         ensures call { Reads S.Store self.old self.new result (FindsAccount name.now) }
     {
         self.read_only(texts::READ_ACCOUNT, params![name])
+    }
+
+    /// The account of the name as its last correction has it, or as it was enrolled where it has
+    /// none. None where it was not enrolled.
+    pub fn account_in_force(
+        &mut self,
+        alloc: Global,
+        name: &str,
+    ) -> Result<Option<Account>, StoreFault>
+        ensures call { Reads S.Store self.old self.new result (FindsInForce name.now) }
+    {
+        let enrolled = self.account(name)?;
+        let corrections = self.account_corrections(alloc, name)?;
+        Ok(as_corrected(enrolled, &corrections))
     }
 
     /// Adds an account. `Failed` where there is one of the name.

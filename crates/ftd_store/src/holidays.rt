@@ -1,16 +1,17 @@
-//! The legal holidays of years: those that their calendars were given with, and those that were
-//! added later.
+//! The legal holidays of years: those of the days that their calendars were given with, and of the
+//! days that were added later, that no change took back.
 
-ghost use Rattle.std.specs.Prelude.{◌≡◌, ◌≤◌, ◌||◌, ℕ, OnOk, All};
+ghost use Rattle.std.specs.Prelude.{◌≡◌, ◌≢◌, ◌≤◌, ◌||◌, ℕ, false, OnOk, IfOk, All, filter};
 ghost use Rattle.ftd_days.specs.Business.{is_holiday};
 ghost use Rattle.ftd_days.specs.Calendar.{year_of};
 ghost use Rattle.ftd_days.specs.Holidays.{holidays_of};
 ghost use Rattle.ftd_store.specs.Frame.{Reads};
 ghost use Rattle.ftd_store.specs.Holidays.{AddsIfGiven, AddsYear, HasYears};
+ghost use Rattle.ftd_store.specs.Holidays.{is_holiday_in, is_kept};
 
 use crate::tx::Tx;
 use ftd_days::{CalendarFault, Day, Holidays};
-use ftd_rows::StoreFault;
+use ftd_rows::{HolidayChange, StoreFault};
 use sqlite::Alter;
 use std::alloc::Global;
 
@@ -40,9 +41,58 @@ fn add_both(
     Ok(())
 }
 
+/// Whether a day that was given or added as a holiday is one, by these changes: the last of it says
+/// so, or there is none.
+fn is_kept(changes: &[HolidayChange], day: Day) -> bool
+    ensures { result ≡ is_kept changes.now day }
+{
+    let mut is_kept = true;
+    for change in changes {
+        if change.day == day {
+            is_kept = change.is_holiday;
+        }
+    }
+    is_kept
+}
+
+/// Those of the days that are holidays by these changes. `Memory` where it was refused.
+fn kept(alloc: Global, days: &[Day], changes: &[HolidayChange]) -> Result<Vec<Day>, CalendarFault>
+    ensures { IfOk result (λ kept. kept.items ≡ filter (is_kept changes.now) days.now) }
+{
+    let mut kept = Vec::new(alloc);
+    for day in days {
+        if is_kept(changes, *day) && kept.push(*day).is_err() {
+            return Err(CalendarFault::Memory);
+        }
+    }
+    Ok(kept)
+}
+
+/// Adds the holidays of a year: those of the days that it was given with, and of those that were
+/// added to it, that these changes keep. The errors are those of `add_both`.
+fn add_in_force(
+    alloc: Global,
+    holidays: &mut Holidays,
+    year: u32,
+    given: &[Day],
+    added: &[Day],
+    changes: &[HolidayChange],
+) -> Result<(), CalendarFault>
+    ensures same { OnOk result ((day : ℕ) → is_holiday (holidays_of holidays.new) day
+        ≡ (is_holiday (holidays_of holidays.old) day
+        || is_holiday_in given.now added.now changes.now day)) }
+    ensures elsewhere { OnOk result ((day : ℕ) → year_of day ≢ year
+        → is_holiday_in given.now added.now changes.now day ≡ false) }
+    ensures year { OnOk result (year ≤ 2099) }
+{
+    let given = kept(alloc, given, changes)?;
+    let added = kept(alloc, added, changes)?;
+    add_both(holidays, year, &given, &added)
+}
+
 impl<'store, S: Alter> Tx<'store, S> {
-    /// Adds the holidays of a year to those of others: the ones that its calendar was given with,
-    /// and the ones that were added later. `false` where its calendar was not given, and nothing is
+    /// Adds the holidays of a year to those of others: of the days that its calendar was given
+    /// with, and of those that were added later, the ones that no change took back. `false` where its calendar was not given, and nothing is
     /// added. `Failed` also where the rows are no calendar of the year, or the year is among the
     /// others; after an error some days may have been added.
     pub fn add_holidays(
@@ -58,7 +108,8 @@ impl<'store, S: Alter> Tx<'store, S> {
             return Ok(false);
         };
         let added = self.added(alloc, year)?;
-        match add_both(holidays, year, &given, &added) {
+        let changes = self.holiday_changes(alloc, year)?;
+        match add_in_force(alloc, holidays, year, &given, &added, &changes) {
             Ok(()) => Ok(true),
             Err(CalendarFault::BadCalendar) => self.give_up(StoreFault::Failed),
             Err(CalendarFault::Memory) => self.give_up(StoreFault::Memory),

@@ -1,4 +1,4 @@
-//! The store of the desk: typed rows in the twelve tables of a database.
+//! The store of the desk: typed rows in the sixteen tables of a database.
 //!
 //! Contracts see a store as what its connection shows, and that as a list of typed rows for each
 //! table. They say what is so where the disk below told no lie.
@@ -6,6 +6,7 @@
 
 mod accounts;
 mod calendars;
+mod corrections;
 mod holidays;
 mod kept;
 mod obligation_rows;

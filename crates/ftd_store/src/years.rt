@@ -20,7 +20,7 @@ impl<'store, S: Alter> Tx<'store, S> {
     pub fn years(&mut self, alloc: Global, account: &str) -> Result<Vec<YearLine>, StoreFault>
         ensures call { Reads S.Store self.old self.new result (ListsYears account.now) }
     {
-        let found = self.account(account)?;
+        let found = self.account_in_force(alloc, account)?;
         let stored: Vec<StoredYear> = self.read_all(alloc, texts::LIST_YEARS, params![account])?;
         match open_years(alloc, found, &stored) {
             Ok(lines) => Ok(lines),

@@ -111,6 +111,27 @@ two_rise a b m n h = elim (then_by (value_cmp (Int b) (Int a)) m n h) [
   | inr same ↦ inr (sym (int_ranked b a Equal (sym same.0 ∙ value_cmp-Int b a)), same.1)
 ]
 
+-- where what comes first does not come after, what comes then decides where it is the same
+then_of : (o p : Ordering) → is_lt (ordering_then o p) ≡ false
+    → (o ≡ Greater) ⊎ ((o ≡ Equal) × (is_lt p ≡ false))
+then_of Less p h = absurd cc
+then_of Equal p h = inr (refl, h)
+then_of Greater p h = inl refl
+
+-- by three numbers
+pub three_rise : (a b m n i j : ℤ)
+    → is_lt (ordering_then (value_cmp (Int b) (Int a))
+    (ordering_then (value_cmp (Int n) (Int m))
+    (ordering_then (value_cmp (Int j) (Int i)) Equal))) ≡ false
+    → (a <ℤ b) ⊎ ((a ≡ b) × ((m <ℤ n) ⊎ ((m ≡ n) × (i ≤ℤ j))))
+three_rise a b m n i j h = elim (then_of (value_cmp (Int b) (Int a)) _ h) [
+  | inl after ↦ inl (int_ranked b a Greater (sym after ∙ value_cmp-Int b a))
+  | inr same ↦ inr (
+    sym (int_ranked b a Equal (sym same.0 ∙ value_cmp-Int b a)),
+    two_rise m n i j same.1,
+  )
+]
+
 -- by a text and a number
 pub text_then_number : (a b : List ℕ) (m n : ℤ)
     → is_lt (ordering_then (value_cmp (Text b) (Text a))

@@ -21,6 +21,8 @@ taking takes.Text rule = record rule { required = true }
 taking takes.Optional rule = rule
 taking (takes.Number low high) rule =
     record rule { required = true; parser = Some (parser.Signed low high) }
+taking (takes.OptionalNumber low high) rule =
+    record rule { parser = Some (parser.Signed low high) }
 taking takes.Texts rule = record rule { action = Some Append }
 taking takes.Nothing rule = record rule { action = Some SetTrue }
 taking takes.Form rule = record rule { defaults = codes "941" ∷ [] }

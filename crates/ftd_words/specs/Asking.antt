@@ -21,6 +21,7 @@ use Rattle.ftd_commands.specs.declared.table.Name.TheVariants as name
 use Rattle.ftd_commands.specs.declared.table.Word.TheVariants as word
 use Rattle.ftd_words.specs.Values.{cents_in, day_in, day_or, days_in, form_in, is_given, port_in}
 use Rattle.ftd_words.specs.Values.{explanation_format_in, format_in, list_format_in}
+use Rattle.ftd_words.specs.Values.{holiday_in, is_numbered, number_in}
 use Rattle.ftd_words.specs.Values.{quarter_in, text_in, whole_in}
 
 -- what follows from a value, or its fault
@@ -110,6 +111,37 @@ void_pay_of rows =
     then_with (whole_in word.Payment rows) (λ payment.
     Ok (request.VoidPay account payment)))
 
+-- a correction, under the number that is given, or else under the greatest one
+unfoldable pub correct_report_of : List Row → Result Request WordFault
+correct_report_of rows =
+    then_with (text_in word.Account rows) (λ account.
+    then_with (quarter_in word.Quarter rows) (λ quarter.
+    then_with (number_in rows) (λ number.
+    then_with (cents_in word.Amount rows) (λ cents.
+    Ok (request.CorrectReport account quarter number cents)))))
+
+unfoldable pub correct_report_year_of : List Row → Result Request WordFault
+correct_report_year_of rows =
+    then_with (text_in word.Account rows) (λ account.
+    then_with (whole_in word.Year rows) (λ year.
+    then_with (number_in rows) (λ number.
+    then_with (cents_in word.Amount rows) (λ cents.
+    Ok (request.CorrectReportYear account year number cents)))))
+
+unfoldable pub change_holiday_of : List Row → Result Request WordFault
+change_holiday_of rows =
+    then_with (day_in word.Day rows) (λ day.
+    then_with (number_in rows) (λ number.
+    then_with (holiday_in rows) (λ is_holiday.
+    Ok (request.ChangeHoliday day number is_holiday))))
+
+unfoldable pub correct_account_of : List Row → Result Request WordFault
+correct_account_of rows =
+    then_with (text_in word.Account rows) (λ account.
+    then_with (number_in rows) (λ number.
+    then_with (day_in word.Start rows) (λ start.
+    Ok (request.CorrectAccount account number start (is_given word.Carried rows)))))
+
 unfoldable pub status_of : List Row → Result Request WordFault
 status_of rows =
     then_with (text_in word.Account rows) (λ account.
@@ -186,12 +218,15 @@ payments_of rows =
 
 -- ---- what a subcommand asks: the deposits of pay runs from standard input; or a server, an import
 -- of a sheet, in earnest or on trial, or a request to the desk in a database, for which so many
--- seconds are waited
+-- seconds are waited. A correction with no number is to be asked under the next one: it is asked
+-- under the greatest, to which the desk answers how many there are (NumberSkipped), unless it
+-- answers otherwise, and then under one more than these (`with_number` of `ftd_machine`).
 pub data Wanted : Type 0 where
   plain : (account : Text) (year : ℕ) (holidays : List ℕ) → Wanted
   serve : (db : Text) (wait port connections idle silence duration : ℕ) → Wanted
   import : (db : Text) (wait : ℕ) (sheet : Sheet) (is_trial : Bool) (file : Text) → Wanted
   ask : (db : Text) (wait : ℕ) (format : Format) (request : Request) → Wanted
+  ask_next : (db : Text) (wait : ℕ) (request : Request) → Wanted
 
 -- `plain` wants an account name, and a year of 2001 to 2098
 abbrev pub account_in : List Row → Result Text WordFault
@@ -237,10 +272,21 @@ asked_as rows format request =
     then_with (whole_in word.Wait rows) (λ wait.
     Ok (ask db wait format request)))
 
--- told as text, or in the format that is asked for
+-- told as text
 abbrev pub asked : List Row → Request → Result Wanted WordFault
 asked rows request = asked_as rows (formats.List list_formats.Text) request
 
+-- under the number that is given, or under the next one
+abbrev pub asked_next : List Row → Request → Result Wanted WordFault
+asked_next rows request =
+    then_with (text_in word.Db rows) (λ db.
+    then_with (whole_in word.Wait rows) (λ wait.
+    Ok (ask_next db wait request)))
+
+abbrev pub numbered : List Row → Request → Result Wanted WordFault
+numbered rows request = if is_numbered rows then asked rows request else asked_next rows request
+
+-- told in the format that is asked for
 abbrev pub formatted : List Row → Request → Result Wanted WordFault
 formatted rows request =
     then_with (format_in rows) (λ format. asked_as rows format request)
@@ -273,6 +319,10 @@ wanted_of name.Post rows = then_with (post_of rows) (asked rows)
 wanted_of name.Void rows = then_with (void_of rows) (asked rows)
 wanted_of name.Pay rows = then_with (pay_of rows) (asked rows)
 wanted_of name.VoidPay rows = then_with (void_pay_of rows) (asked rows)
+wanted_of name.CorrectReport rows = then_with (correct_report_of rows) (numbered rows)
+wanted_of name.CorrectReportYear rows = then_with (correct_report_year_of rows) (numbered rows)
+wanted_of name.ChangeHoliday rows = then_with (change_holiday_of rows) (numbered rows)
+wanted_of name.CorrectAccount rows = then_with (correct_account_of rows) (numbered rows)
 wanted_of name.Status rows = then_with (status_of rows) (asked rows)
 wanted_of name.Explain rows = then_with (explain_of rows) (explained rows)
 wanted_of name.Due rows = then_with (due_of rows) (listed rows)

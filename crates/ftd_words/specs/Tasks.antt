@@ -8,7 +8,7 @@ use Rattle.clap.specs.Words.{IsAmong, Kinds, Row, Text, fault_of, subcommand_of}
 use Rattle.clap.specs.declared.error.ErrorKind.{ErrorKind}
 use Rattle.clap.specs.declared.error.ErrorKind.TheVariants as kind
 use Rattle.ftd_words.specs.Apps.{ftd_app}
-use Rattle.ftd_words.specs.Asking.{Wanted, ask, import, plain, serve, wanted_of}
+use Rattle.ftd_words.specs.Asking.{Wanted, ask, ask_next, import, plain, serve, wanted_of}
 use Rattle.ftd_words.specs.Escapes.{escaped, escaped_word}
 use Rattle.ftd_commands.specs.Table.{all_names, name_text}
 use Rattle.ftd_words.specs.Values.{bad_value}
@@ -58,6 +58,7 @@ abbrev pub job_view : Text → ℕ → Job → Wanted
 job_view db wait (job.Import sheet file is_trial) =
     import db wait sheet is_trial (string_bytes file)
 job_view db wait (job.Ask format request) = ask db wait format request
+job_view db wait (job.AskNext request) = ask_next db wait request
 
 abbrev pub task_view : Task → Wanted
 task_view (task.Plain asked) = plain asked.account asked.year asked.holidays

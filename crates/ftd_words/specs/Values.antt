@@ -1,9 +1,9 @@
 -- The values that the words of a subcommand were given.
 use Rattle.std.specs.Prelude.{ℕ, ◌^◌, nat_lt, List, [], Option, Some, None, option_and_then}
-use Rattle.std.specs.Prelude.{option_map, Bool, false, codes, if◌then◌else◌, Result, Ok, Err}
+use Rattle.std.specs.Prelude.{option_map, Bool, true, false, codes, if◌then◌else◌, Result, Ok, Err}
 use Rattle.std.specs.Str.{bytes_eq}
 use Rattle.std.specs.List.{find}
-use Rattle.std.specs.Option.{is_none, option_map_or, unwrap_or}
+use Rattle.std.specs.Option.{is_none, is_some, option_map_or, unwrap_or}
 use Rattle.clap.specs.Words.{Row, Text, all_of, first_of}
 use Rattle.ftd_days.specs.Spelling.{cents_of, day_of, days_of, spelled_quarter, whole_number}
 use Rattle.ftd_days.specs.declared.cents.Cents.{Cents}
@@ -56,6 +56,29 @@ cents_in word rows = spelled_in (λ text. option_map in_cents (cents_of text)) w
 
 abbrev pub whole_in : Word → List Row → Result ℕ WordFault
 whole_in word rows = spelled_in whole_number word rows
+
+-- whether a number is given, and which: the one that is spelled, or the greatest where it is left
+-- out
+abbrev pub is_numbered : List Row → Bool
+is_numbered rows = is_some (first_of (word_text word.Number) rows)
+
+abbrev pub greatest_number : ℕ
+greatest_number = 999999999
+
+abbrev pub number_in : List Row → Result ℕ WordFault
+number_in rows =
+    option_map_or (λ text. needed word.Number (whole_number text))
+    (first_of (word_text word.Number) rows) (Ok greatest_number)
+
+-- yes or no
+abbrev pub answer_of : Text → Option Bool
+answer_of text =
+    if bytes_eq text (codes "yes") then Some true
+    else if bytes_eq text (codes "no") then Some false
+    else None
+
+abbrev pub holiday_in : List Row → Result Bool WordFault
+holiday_in rows = spelled_in answer_of word.IsHoliday rows
 
 -- a port: a number below 65,536
 abbrev pub port_of : Text → Option ℕ

@@ -4,19 +4,23 @@
 ghost use Rattle.std.specs.Prelude.{◌≡◌};
 ghost use Rattle.clap.specs.Words.{found_of, rows_of};
 ghost use Rattle.ftd_words.specs.Asking.{Tells, TellsAs, account_in, add_holiday_of, agenda_of};
-ghost use Rattle.ftd_words.specs.Asking.{asked, asked_as, calendar_of, due_of, enrol_of};
+ghost use Rattle.ftd_words.specs.Asking.{asked, asked_as, asked_next, calendar_of};
+ghost use Rattle.ftd_words.specs.Asking.{change_holiday_of, correct_account_of, correct_report_of};
+ghost use Rattle.ftd_words.specs.Asking.{correct_report_year_of, due_of, enrol_of, kept_asked};
 ghost use Rattle.ftd_words.specs.Asking.{explain_of, explained, formatted, holidays_of, import_of};
-ghost use Rattle.ftd_words.specs.Asking.{listed, open_year_of, owed_of, pay_of, payments_of};
+ghost use Rattle.ftd_words.specs.Asking.{listed, numbered, open_year_of, owed_of, pay_of};
+ghost use Rattle.ftd_words.specs.Asking.{payments_of};
 ghost use Rattle.ftd_words.specs.Asking.{plain_of, post_of, report_of, report_year_of, reported_of};
 ghost use Rattle.ftd_words.specs.Asking.{runs_of, schedule_b_of, serve_of, status_of, void_of};
 ghost use Rattle.ftd_words.specs.Asking.{void_pay_of, wanted_of, week_after, year_in, years_of};
 ghost use Rattle.ftd_words.specs.Tasks.{task_view};
+ghost use Rattle.ftd_machine.specs.declared.requests.Kept.TheVariants.{Accounts};
 ghost use Rattle.ftd_words.specs.Values.{text_in};
 
 use crate::fault::WordFault;
 use crate::reading::{
-    cents_at, day_at, day_or, days_at, explanation_format_at, form_at, format_at, is_given,
-    list_format_at, owned_text, port_at, quarter_at, whole_at,
+    cents_at, day_at, day_or, days_at, explanation_format_at, form_at, format_at, holiday_at,
+    is_given, is_numbered, list_format_at, number_at, owned_text, port_at, quarter_at, whole_at,
 };
 use crate::tasks::{Job, LocalTask, PlainTask, ServeTask, Task};
 use clap::ArgMatches;
@@ -174,6 +178,71 @@ fn void_pay(alloc: Global, inner: &ArgMatches<'_>) -> Result<Request, WordFault>
     Ok(Request::VoidPay { account, payment })
 }
 
+/// What `correct-report` asks.
+#[tactic(auto, unfolding(crate::specs::Asking::correct_report_of))]
+fn correct_report(alloc: Global, inner: &ArgMatches<'_>) -> Result<Request, WordFault>
+    ensures { Tells result (correct_report_of (rows_of (found_of inner.now))) }
+{
+    let account = account_at(alloc, inner)?;
+    let quarter = quarter_at(inner, Word::Quarter)?;
+    let number = number_at(inner)?;
+    let cents = cents_at(inner, Word::Amount)?;
+    Ok(Request::CorrectReport {
+        account,
+        quarter,
+        number,
+        cents,
+    })
+}
+
+/// What `correct-report-year` asks.
+#[tactic(auto, unfolding(crate::specs::Asking::correct_report_year_of))]
+fn correct_report_year(alloc: Global, inner: &ArgMatches<'_>) -> Result<Request, WordFault>
+    ensures { Tells result (correct_report_year_of (rows_of (found_of inner.now))) }
+{
+    let account = account_at(alloc, inner)?;
+    let year = whole_at(inner, Word::Year)?;
+    let number = number_at(inner)?;
+    let cents = cents_at(inner, Word::Amount)?;
+    Ok(Request::CorrectReportYear {
+        account,
+        year,
+        number,
+        cents,
+    })
+}
+
+/// What `change-holiday` asks.
+#[tactic(auto, unfolding(crate::specs::Asking::change_holiday_of))]
+fn change_holiday(inner: &ArgMatches<'_>) -> Result<Request, WordFault>
+    ensures { Tells result (change_holiday_of (rows_of (found_of inner.now))) }
+{
+    let day = day_at(inner, Word::Day)?;
+    let number = number_at(inner)?;
+    let is_holiday = holiday_at(inner)?;
+    Ok(Request::ChangeHoliday {
+        day,
+        number,
+        is_holiday,
+    })
+}
+
+/// What `correct-account` asks.
+#[tactic(auto, unfolding(crate::specs::Asking::correct_account_of))]
+fn correct_account(alloc: Global, inner: &ArgMatches<'_>) -> Result<Request, WordFault>
+    ensures { Tells result (correct_account_of (rows_of (found_of inner.now))) }
+{
+    let account = account_at(alloc, inner)?;
+    let number = number_at(inner)?;
+    let start = day_at(inner, Word::Start)?;
+    Ok(Request::CorrectAccount {
+        account,
+        number,
+        start,
+        carried: is_given(inner, Word::Carried),
+    })
+}
+
 /// What `status` asks.
 #[tactic(auto, unfolding(crate::specs::Asking::status_of))]
 fn status(alloc: Global, inner: &ArgMatches<'_>) -> Result<Request, WordFault>
@@ -246,6 +315,13 @@ fn schedule_b(alloc: Global, inner: &ArgMatches<'_>) -> Result<Request, WordFaul
     let account = account_at(alloc, inner)?;
     let quarter = quarter_at(inner, Word::Quarter)?;
     Ok(Request::Question(Question::ScheduleB { account, quarter }))
+}
+
+/// What `accounts` asks.
+fn accounts() -> Request
+    ensures { result ≡ kept_asked Accounts }
+{
+    Request::Question(Question::Kept(Kept::Accounts))
 }
 
 /// What `years` asks.
@@ -399,6 +475,31 @@ fn local(alloc: Global, inner: &ArgMatches<'_>, request: Request) -> Result<Task
     local_as(alloc, inner, Format::List(ListFormat::Text), request)
 }
 
+/// The correction, to the desk in the database, under the next number.
+fn local_next(alloc: Global, inner: &ArgMatches<'_>, request: Request) -> Result<Task, WordFault>
+    ensures { TellsAs task_view result (asked_next (rows_of (found_of inner.now)) request) }
+{
+    let db = owned_text(alloc, inner, Word::Db)?;
+    let wait = whole_at(inner, Word::Wait)?;
+    Ok(Task::Local(LocalTask {
+        db,
+        wait,
+        job: Job::AskNext { request },
+    }))
+}
+
+/// The correction, to the desk in the database, under the number that is given, or else under the
+/// next one.
+fn numbered(alloc: Global, inner: &ArgMatches<'_>, request: Request) -> Result<Task, WordFault>
+    ensures { TellsAs task_view result (numbered (rows_of (found_of inner.now)) request) }
+{
+    if is_numbered(inner) {
+        local(alloc, inner, request)
+    } else {
+        local_next(alloc, inner, request)
+    }
+}
+
 /// The request, to the desk in the database, whose reply is told in the format that is asked for.
 fn formatted(alloc: Global, inner: &ArgMatches<'_>, request: Request) -> Result<Task, WordFault>
     ensures { TellsAs task_view result (formatted (rows_of (found_of inner.now)) request) }
@@ -447,17 +548,17 @@ pub fn task_for(alloc: Global, name: Name, inner: &ArgMatches<'_>) -> Result<Tas
         Name::Void => local(alloc, inner, void(alloc, inner)?),
         Name::Pay => local(alloc, inner, pay(alloc, inner)?),
         Name::VoidPay => local(alloc, inner, void_pay(alloc, inner)?),
+        Name::CorrectReport => numbered(alloc, inner, correct_report(alloc, inner)?),
+        Name::CorrectReportYear => numbered(alloc, inner, correct_report_year(alloc, inner)?),
+        Name::ChangeHoliday => numbered(alloc, inner, change_holiday(inner)?),
+        Name::CorrectAccount => numbered(alloc, inner, correct_account(alloc, inner)?),
         Name::Status => local(alloc, inner, status(alloc, inner)?),
         Name::Explain => explained(alloc, inner, explain(alloc, inner)?),
         Name::Due => listed(alloc, inner, due(alloc, inner)?),
         Name::Agenda => formatted(alloc, inner, agenda(inner)?),
         Name::Owed => formatted(alloc, inner, owed(inner)?),
         Name::ScheduleB => listed(alloc, inner, schedule_b(alloc, inner)?),
-        Name::Accounts => listed(
-            alloc,
-            inner,
-            Request::Question(Question::Kept(Kept::Accounts)),
-        ),
+        Name::Accounts => listed(alloc, inner, accounts()),
         Name::Years => listed(alloc, inner, years(alloc, inner)?),
         Name::Reported => listed(alloc, inner, reported(alloc, inner)?),
         Name::Holidays => listed(alloc, inner, holidays(inner)?),

@@ -10,7 +10,7 @@ use clap::{Arg, ArgAction, Command};
 use ftd_commands::{NAMES, Name, Takes, Word};
 use std::alloc::{AllocError, Global};
 
-/// What the desk is for, and how its commands are told. The whole help fits on a screen of 40 lines.
+/// What the desk is for, and how its commands are told. The whole help has 44 lines.
 const ABOUT: &str = "\
 The federal tax deposit desk: what withheld federal tax must be deposited, for
 which period and by which day (IRS Publication 15, section 11). Commands stand
@@ -45,6 +45,7 @@ fn arg_of<'a>(alloc: Global, word: Word) -> Arg<'a>
         Takes::Number(low, high) => arg
             .required(true)
             .value_parser(ValueParser::Signed(low, high)),
+        Takes::OptionalNumber(low, high) => arg.value_parser(ValueParser::Signed(low, high)),
         Takes::Texts => arg.action(ArgAction::Append),
         Takes::Nothing => arg.action(ArgAction::SetTrue),
         Takes::Form => arg.default_value("941"),

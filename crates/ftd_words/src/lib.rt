@@ -12,4 +12,5 @@ mod tasks;
 
 pub use crate::deciding::decide;
 pub use crate::escape::{escaped, escaped_word};
+pub use crate::reading::GREATEST_NUMBER;
 pub use crate::tasks::{CliFault, Job, LocalTask, PlainTask, ServeTask, Task};

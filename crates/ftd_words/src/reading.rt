@@ -5,8 +5,8 @@ ghost use Rattle.std.specs.String.{string_bytes};
 ghost use Rattle.clap.specs.Words.{all_of, first_of, found_of, rows_of};
 ghost use Rattle.ftd_days.specs.Spelling.{days_of};
 ghost use Rattle.ftd_commands.specs.Table.{word_text};
-ghost use Rattle.ftd_words.specs.Values.{bad_value, cents_in, day_in, day_or, days_in};
-ghost use Rattle.ftd_words.specs.Values.{first_no_day};
+ghost use Rattle.ftd_words.specs.Values.{answer_of, bad_value, cents_in, day_in, day_or, days_in};
+ghost use Rattle.ftd_words.specs.Values.{first_no_day, holiday_in, is_numbered, number_in};
 ghost use Rattle.ftd_words.specs.Values.{form_in, format_in, format_of, is_given, needed};
 ghost use Rattle.ftd_words.specs.Values.{explanation_format_in, explanation_format_of};
 ghost use Rattle.ftd_words.specs.Values.{list_format_in, list_format_of};
@@ -23,6 +23,9 @@ use ftd_formats::{Format, ListFormat};
 use ftd_machine::Days;
 use ftd_rules::Form;
 use std::alloc::Global;
+
+/// The greatest number of a correction.
+pub const GREATEST_NUMBER: u32 = 999_999_999;
 
 /// The value of a word.
 pub fn text_at<'a>(inner: &ArgMatches<'a>, word: Word) -> Option<&'a str>
@@ -98,6 +101,46 @@ pub fn whole_at(inner: &ArgMatches<'_>, word: Word) -> Result<u32, WordFault>
         return Err(WordFault::BadWord(word));
     };
     whole_number(text).ok_or(WordFault::BadWord(word))
+}
+
+/// Whether a number is given.
+pub fn is_numbered(inner: &ArgMatches<'_>) -> bool
+    ensures { result ≡ is_numbered (rows_of (found_of inner.now)) }
+{
+    text_at(inner, Word::Number).is_some()
+}
+
+/// The number that is given, or the greatest where it is left out.
+pub fn number_at(inner: &ArgMatches<'_>) -> Result<u32, WordFault>
+    ensures { result ≡ number_in (rows_of (found_of inner.now)) }
+{
+    match text_at(inner, Word::Number) {
+        Some(text) => whole_number(text).ok_or(WordFault::BadWord(Word::Number)),
+        None => Ok(GREATEST_NUMBER),
+    }
+}
+
+/// Yes or no.
+fn answer_named(text: &str) -> Option<bool>
+    ensures { result ≡ answer_of text.now }
+{
+    if text == "yes" {
+        Some(true)
+    } else if text == "no" {
+        Some(false)
+    } else {
+        None
+    }
+}
+
+/// Whether the day is to be a holiday.
+pub fn holiday_at(inner: &ArgMatches<'_>) -> Result<bool, WordFault>
+    ensures { result ≡ holiday_in (rows_of (found_of inner.now)) }
+{
+    let Some(text) = text_at(inner, Word::IsHoliday) else {
+        return Err(WordFault::BadWord(Word::IsHoliday));
+    };
+    answer_named(text).ok_or(WordFault::BadWord(Word::IsHoliday))
 }
 
 /// The port that the value of a word spells.

@@ -35,6 +35,12 @@ pub enum Job {
         format: Format,
         request: Request,
     },
+    /// A correction under the next number: a request under the greatest one, to which the desk
+    /// answers how many corrections there are, unless it refuses it otherwise. It is to be asked
+    /// again under one more than these.
+    AskNext {
+        request: Request,
+    },
 }
 
 /// A job, and the file of the desk's database.

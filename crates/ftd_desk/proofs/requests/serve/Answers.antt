@@ -1,13 +1,11 @@
-use Rattle.std.proofs.Common.{◌∙◌, refl, sym, ap, subst}
-use Rattle.ftd_store.specs.Frame.{Calls}
-use Rattle.ftd_machine.specs.declared.requests.Request.TheVariants.{Post, Void}
+use Rattle.std.proofs.Common.{◌∙◌, refl, sym, ap}
+use Rattle.ftd_machine.specs.declared.requests.Request.TheVariants.{Post}
 use Rattle.ftd_rules.specs.declared.run.PayRun.{PayRun}
-use Rattle.ftd_desk.specs.Counted.{ServesCounted}
-use Rattle.ftd_posting.specs.Repaired.{Becoming, VoidsRun}
-use Rattle.ftd_desk.proofs.Counting.{entry_counted, void_counted}
+use Rattle.ftd_posting.specs.Repaired.{Repairs}
+use Rattle.ftd_desk.proofs.Counting.{entry_counted}
 use Rattle.ftd_desk.proofs.Repairing.{entry_repairs, call_repairs, pays_no_run, post_repairs}
-use Rattle.ftd_desk.proofs.Repairing.{void_repairs, answer_repairs, others_add_none}
-use Rattle.ftd_desk.proofs.Repairing.{others_on_none}
+use Rattle.ftd_desk.proofs.Repairing.{answer_repairs, others_add_none, others_on_none}
+use Rattle.ftd_desk.proofs.Repairing.{repair_adds_none, repair_on_run}
 use Rattle.ftd_desk.proofs.requests.serve.Goals as goal
 
 pub serve_entry-requires-clause-adds_none : goal.serve_entry-requires-clause-adds_none
@@ -48,20 +46,20 @@ returns-in-Pay-clause-repairs g c =
     call_repairs g.S.Store c.args.tx.now c.serve_pay.new.tx c.serve_pay.result c.args.request.now
     (pays_no_run _ _ _ _ _ _ c.in-Pay.is) c.serve_pay.ensures.call
 
+pub serve_repair-requires-clause-adds_none : goal.serve_repair-requires-clause-adds_none
+serve_repair-requires-clause-adds_none g c = repair_adds_none c.args.request.now c.in-Void.is
+
+pub serve_repair-requires-clause-on_run : goal.serve_repair-requires-clause-on_run
+serve_repair-requires-clause-on_run g c = repair_on_run c.args.request.now c.in-Void.is
+
 pub returns-in_ok-answer-in-Void-clause-call : goal.returns-in_ok-answer-in-Void-clause-call
 returns-in_ok-answer-in-Void-clause-call g c =
     let answer = c.in_ok-answer-in-Void in
-    void_counted g.S.Store c.args.tx.now c.void.new.tx answer.answer c.args.counts
-    c.args.request.now c.as_str-in-Void.result.now c.in-Void.run'
-    (c.in-Void.is ∙ ap (λ name. Void name c.in-Void.run') (sym c.as_str-in-Void.ensures))
-    answer.ensures.call
+    entry_counted g.S.Store c.args.tx.now c.serve_repair.new.tx answer.answer c.args.counts
+    c.args.request.now (repair_adds_none c.args.request.now c.in-Void.is) answer.ensures.call
 
 pub returns-in_ok-answer-in-Void-clause-repairs : goal.returns-in_ok-answer-in-Void-clause-repairs
 returns-in_ok-answer-in-Void-clause-repairs g c =
     let answer = c.in_ok-answer-in-Void in
-    let name = c.as_str-in-Void.result.now in
-    let number = c.in-Void.run' in
-    void_repairs g.S.Store c.args.tx.now c.void.new.tx _ c.args.request.now name number
-    (c.in-Void.is ∙ ap (λ n. Void n number) (sym c.as_str-in-Void.ensures))
-    (answer_repairs g.S.Store c.args.tx.now c.void.new.tx answer.answer _
-    (Becoming (VoidsRun name number)) refl answer.ensures.repairs)
+    answer_repairs g.S.Store c.args.tx.now c.serve_repair.new.tx answer.answer _
+    (Repairs c.args.request.now) refl answer.ensures.repairs

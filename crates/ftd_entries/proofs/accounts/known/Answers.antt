@@ -1,21 +1,22 @@
-use Rattle.ftd_store.specs.Finds.{FindsAccount, FindsForm}
+use Rattle.ftd_store.specs.Finds.{FindsForm, FindsInForce}
 use Rattle.ftd_store.proofs.Telling.{then_reads}
 use Rattle.ftd_entries.specs.Known.{KnowsAccount, HasForm}
-use Rattle.ftd_entries.proofs.Found.{knows_account, has_form}
+use Rattle.ftd_entries.proofs.Corrected.{in_force_known}
+use Rattle.ftd_entries.proofs.Found.{has_form}
 use Rattle.ftd_entries.proofs.accounts.known.Goals as goal
 
 pub returns : goal.returns
-returns g c = record {
-  call = then_reads g.S.Store c.args.tx.now c.account.new.self c.form.new.self c.in_ok-found.found
-      c.in_ok-form.form c.joined.result
-      (FindsAccount c.args.name.now) (FindsForm c.args.name.now) (KnowsAccount c.args.name.now)
-      (λ t account form. rw c.joined.ensures
-      (knows_account c.args.name.now c.in_ok-found.found c.in_ok-form.form t account form))
-      c.in_ok-found.ensures.call c.in_ok-form.ensures.call;
-  form = then_reads g.S.Store c.args.tx.now c.account.new.self c.form.new.self c.in_ok-found.found
-      c.in_ok-form.form c.joined.result
-      (FindsAccount c.args.name.now) (FindsForm c.args.name.now) (HasForm c.args.name.now)
-      (λ t account form. rw c.joined.ensures
-      (has_form c.args.name.now c.in_ok-found.found c.in_ok-form.form t form))
-      c.in_ok-found.ensures.call c.in_ok-form.ensures.call;
-}
+returns g c =
+    let name = c.args.name.now in
+    let found = c.in_ok-found.found in
+    let form = c.in_ok-form.form in
+    record {
+      call = then_reads g.S.Store c.args.tx.now c.account_in_force.new.self c.form.new.self found
+          form c.joined.result (FindsInForce name) (FindsForm name) (KnowsAccount name)
+          (λ t account its. rw c.joined.ensures (in_force_known name found form t account its))
+          c.in_ok-found.ensures.call c.in_ok-form.ensures.call;
+      form = then_reads g.S.Store c.args.tx.now c.account_in_force.new.self c.form.new.self found
+          form c.joined.result (FindsInForce name) (FindsForm name) (HasForm name)
+          (λ t account its. rw c.joined.ensures (has_form name found form t its))
+          c.in_ok-found.ensures.call c.in_ok-form.ensures.call;
+    }

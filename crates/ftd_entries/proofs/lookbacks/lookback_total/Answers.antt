@@ -12,8 +12,8 @@ returns-in-F941 g c =
     record {
       call = reads_as g.S.Store c.args.tx.now c.total_941.new.tx c.total_941.result
           (KnowsTotalOn941 name account.start year) (KnowsTotal name account year)
-          (λ total t knows s stands sound is. on_941 (entries_of s name) account year is total
-          c.in-F941.is (knows s stands sound)) c.total_941.ensures.call;
+          (λ total t knows s keeps once is. on_941 (entries_of s name) account year is total
+          c.in-F941.is (knows s keeps once)) c.total_941.ensures.call;
     }
 
 pub returns-in-F943 : goal.returns-in-F943
@@ -24,6 +24,6 @@ returns-in-F943 g c =
     record {
       call = reads_as g.S.Store c.args.tx.now c.total_943.new.tx c.total_943.result
           (KnowsTotalOn943 name account.start year) (KnowsTotal name account year)
-          (λ total t knows s stands sound is. on_943 (entries_of s name) account year is total
-          c.in-F943.is (knows s stands sound)) c.total_943.ensures.call;
+          (λ total t knows s keeps once is. on_943 (entries_of s name) account year is total
+          c.in-F943.is (knows s keeps once)) c.total_943.ensures.call;
     }

@@ -1,10 +1,8 @@
 use Rattle.std.proofs.Common.{◌-◌}
-use Rattle.ftd_store.specs.Finds.{FindsReportedYear}
 use Rattle.ftd_store.proofs.Telling.{reads_on}
 use Rattle.ftd_machine.specs.State.{entries_of}
-use Rattle.ftd_machine.proofs.Soundness.{sound_once}
 use Rattle.ftd_entries.specs.Totals.{KnowsTotalOn943}
-use Rattle.ftd_entries.proofs.Kept.{kept_reported_year}
+use Rattle.ftd_entries.specs.Known.{KnowsYearFigure}
 use Rattle.ftd_entries.proofs.Totals.{total_known}
 use Rattle.ftd_entries.proofs.lookbacks.total_943.Goals as goal
 
@@ -15,10 +13,10 @@ returns g c =
     let found = c.in_ok-found.found in
     let total = c.total_of_year.result in
     record {
-      call = reads_on g.S.Store c.args.tx.now c.reported_year.new.self found total
-          (FindsReportedYear name (year - 2)) (KnowsTotalOn943 name c.args.start year)
-          (λ t finds s stands sound. total_known (entries_of s name).reported_years c.args.start
-          year found total (sound_once s sound name).years
-          (kept_reported_year name t s stands (year - 2) found finds) c.total_of_year.ensures)
+      call = reads_on g.S.Store c.args.tx.now c.year_figure.new.tx found total
+          (KnowsYearFigure name (year - 2)) (KnowsTotalOn943 name c.args.start year)
+          (λ t finds s keeps once. total_known (entries_of s name).reported_years
+          (entries_of s name).corrected_years c.args.start year found total
+          once.1 (finds s keeps) c.total_of_year.ensures)
           c.in_ok-found.ensures.call;
     }

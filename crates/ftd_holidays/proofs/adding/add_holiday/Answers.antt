@@ -4,7 +4,8 @@ use Rattle.ftd_machine.specs.declared.replies.Reply.TheVariants.{Done}
 use Rattle.ftd_machine.specs.declared.requests.Request.TheVariants.{AddHoliday}
 use Rattle.ftd_entries.proofs.Reading.{Both, both_read}
 use Rattle.ftd_entries.proofs.Serving.{served_looked}
-use Rattle.ftd_holidays.specs.Moved.{AddsHoliday}
+use Rattle.ftd_holidays.specs.Moved.{EntersDay}
+use Rattle.ftd_holidays.specs.declared.moving.DayEntry.TheVariants.{Added}
 use Rattle.ftd_holidays.proofs.AddedDay.{checks, added_decided, added_done}
 use Rattle.ftd_entries.proofs.Serving.{served_turned}
 use Rattle.ftd_holidays.proofs.adding.add_holiday.Goals as goal
@@ -39,8 +40,8 @@ returns g c =
     let passed : checks day year c.year-year.ensures found added ≡ None = search rules in
     record {
       call = served_turned g.S.Store (AddHoliday day) c.args.tx.now c.added.new.self
-          c.add_and_move.new.tx (found, added) _ (Ok Done)
-          (Both (FindsCalendar year) (ListsAdded year)) (λ done. AddsHoliday day)
-          read c.in_ok-add_and_move.ensures.call (λ t u s stands sound knows adds.
+          c.enter_and_move.new.tx (found, added) _ (Ok Done)
+          (Both (FindsCalendar year) (ListsAdded year)) (λ done. EntersDay (Added day))
+          read c.in_ok-enter_and_move.ensures.call (λ t u s stands sound knows adds.
           added_done day year c.year-year.ensures found added passed t u s stands sound knows adds);
     }

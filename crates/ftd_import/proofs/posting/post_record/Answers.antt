@@ -3,9 +3,13 @@ use Rattle.ftd_csv.specs.Records.{SaidEntry}
 use Rattle.ftd_desk.specs.Desks.{IsStopped, held}
 use Rattle.ftd_import.specs.Imports.{Posts, StopsAt}
 use Rattle.ftd_import.specs.declared.summary.Summary.{Summary}
-use Rattle.ftd_import.proofs.Outcomes.{counts_then, posts_same, skips_one, with_room}
+use Rattle.ftd_import.proofs.Outcomes.{counts_then, no_room, posts_same, skips_one, with_room}
 use Rattle.ftd_import.proofs.Places.{first_post, is_malformed, is_entry}
 use Rattle.ftd_import.proofs.posting.post_record.Goals as goal
+
+pub returns-in_default-clause-stops : goal.returns-in_default-clause-stops
+returns-in_default-clause-stops g c = λ at later kept posts.
+    no_room (IsStopped c.args.desk.now) (held g.S.Store c.args.desk.now) at
 
 pub returns-in-Some-clause-posts : goal.returns-in-Some-clause-posts
 returns-in-Some-clause-posts g c =

@@ -1,22 +1,17 @@
-use Rattle.std.proofs.Common.{subst}
-use Rattle.ftd_store.specs.Kept.{ListsEnrolled, ListsForms}
-use Rattle.ftd_store.proofs.Telling.{then_reads}
-use Rattle.ftd_kept.specs.Kept.{AreJoined, KnowsAccounts}
+use Rattle.std.proofs.Common.{rules, ◌≡◌, true}
+use Rattle.ftd_store.proofs.Telling.{reads_on}
+use Rattle.ftd_kept.specs.Kept.{AreToldAccounts, KnowsAccounts, are_in_order, is_account_before}
 use Rattle.ftd_kept.proofs.KeptEnrolled.{knows_accounts}
+use Rattle.ftd_kept.proofs.KeptOrder.{accounts_in_order}
 use Rattle.ftd_kept.proofs.lists.all_accounts.Goals as goal
 
-pub returns-in-Ok : goal.returns-in-Ok
-returns-in-Ok g c =
-    let named = c.in_ok-named.named in
-    let forms = c.in_ok-forms.forms in
-    let rows = c.in-Ok.rows in
-    let joined = subst (λ xs. AreJoined xs forms.items rows.items) c.deref.ensures.value
-    (subst (λ xs. AreJoined c.deref.result.now xs rows.items) c.deref-2.ensures.value
-    c.in-Ok.ensures.told) in
+pub returns : goal.returns
+returns g c =
+    let rows = c.in_ok-rows.rows in
+    let order : are_in_order is_account_before rows.items ≡ true = search rules in
     record {
-      call = then_reads g.S.Store c.args.tx.now c.enrolled.new.self c.forms.new.self named forms rows
-          ListsEnrolled ListsForms (λ told. KnowsAccounts told.items)
-          (λ t listed formed. knows_accounts named.items forms.items rows.items t
-          c.in-Ok.ensures.in_order joined listed formed)
-          c.in_ok-named.ensures.call c.in_ok-forms.ensures.call;
+      call = reads_on g.S.Store c.args.tx.now c.accounts_in_force.new.tx rows rows
+          (λ xs. AreToldAccounts xs.items) (λ xs. KnowsAccounts xs.items)
+          (λ t told. knows_accounts rows.items t (accounts_in_order rows.items order) told)
+          c.in_ok-rows.ensures.call;
     }

@@ -81,3 +81,23 @@ pub returns-in-OpenYear-clause-err : goal.returns-in-OpenYear-clause-err
 unfolding hint_text
 returns-in-OpenYear-clause-err g c = rw (sym c.hint_of.ensures ∙ c.in-OpenYear.is)
     (rw (c.account_in-account.ensures) at c.write_number-in-OpenYear.ensures.err)
+
+pub returns-in-Correct-clause-ok : goal.returns-in-Correct-clause-ok
+unfolding hint_text
+returns-in-Correct-clause-ok g c = rw (sym c.hint_of.ensures ∙ c.in-Correct.is)
+    (c.write_correct.ensures.ok)
+
+pub returns-in-Correct-clause-err : goal.returns-in-Correct-clause-err
+unfolding hint_text
+returns-in-Correct-clause-err g c = rw (sym c.hint_of.ensures ∙ c.in-Correct.is)
+    (c.write_correct.ensures.err)
+
+pub returns-in-Next-clause-ok : goal.returns-in-Next-clause-ok
+unfolding hint_text
+returns-in-Next-clause-ok g c = rw (sym c.hint_of.ensures ∙ c.in-Next.is)
+    (c.write_next.ensures.ok)
+
+pub returns-in-Next-clause-err : goal.returns-in-Next-clause-err
+unfolding hint_text
+returns-in-Next-clause-err g c = rw (sym c.hint_of.ensures ∙ c.in-Next.is)
+    (c.write_next.ensures.err)

@@ -12,7 +12,7 @@ returns g c =
     record {
       step = steps_so g.S.Store c.args.tx.now c.run.new.tx _ _ _
           (λ _ old new. SetsVersion old.now new.now)
-          (λ ran t stands. ((version_set (codes "ftd") (pos 2) old new t stands).0
+          (λ ran t stands. ((version_set (codes "ftd") (pos 3) old new t stands).0
           (rw (c.params-to_sql.ensures, c.params-to_sql-2.ensures, c.if-branch-ne1.false) at
           ran)).0) c.in_ok-run.ensures.step;
     }

@@ -1,11 +1,9 @@
 use Rattle.std.proofs.Common.{rules, ◌≡◌, ℕ, List, Option, None, Vec, Global, true, false, refl}
 use Rattle.std.proofs.Common.{subst}
-use Rattle.std.specs.Prelude.{All}
-use Rattle.ftd_days.specs.Calendar.{year_of}
 use Rattle.ftd_days.specs.Holidays.{holidays_of}
+use Rattle.ftd_store.specs.Corrections.{ListsHolidayChanges}
 use Rattle.ftd_store.specs.Finds.{FindsCalendar, ListsAdded}
 use Rattle.ftd_store.specs.Holidays.{AddsIfGiven}
-use Rattle.ftd_store.proofs.AddedYears.{both_elsewhere}
 use Rattle.ftd_store.proofs.Telling.{reads_on, then_reads}
 use Rattle.ftd_store.proofs.tx.Tx.add_holidays.Goals as goal
 
@@ -28,25 +26,36 @@ pub returns-in-Ok : goal.returns-in-Ok
 returns-in-Ok g c =
     let year = c.args.year in
     let old : List ℕ = holidays_of c.args.holidays.now in
-    let new : List ℕ = holidays_of c.add_both.new.holidays in
-    let given : List ℕ = c.in-Some.given.items in
-    let added : List ℕ = c.in_ok-added.added.items in
+    let new : List ℕ = holidays_of c.add_in_force.new.holidays in
     let made = c.in-Ok.ensures in
-    let of_given : All (λ d. year_of d ≡ year) given =
-    subst (All (λ d. year_of d ≡ year)) c.deref.ensures.value made.given in
-    let of_added : All (λ d. year_of d ≡ year) added =
-    subst (All (λ d. year_of d ≡ year)) c.deref-2.ensures.value made.added in
+    let found : Option (Vec ℕ Global) × Vec ℕ Global =
+    (c.in_ok-given.field-0, c.in_ok-added.added) in
     record {
-      call = then_reads g.S.Store c.args.self.now c.calendar.new.self c.added.new.self
-          c.in_ok-given.field-0 c.in_ok-added.added true (FindsCalendar year) (ListsAdded year)
-          (AddsIfGiven year old new)
-          (λ t finds lists. record {
+      call = then_reads g.S.Store c.args.self.now c.added.new.self c.holiday_changes.new.self
+          found c.in_ok-changes.changes true
+          (λ found t. FindsCalendar year found.0 t × ListsAdded year found.1 t)
+          (ListsHolidayChanges year) (AddsIfGiven year old new)
+          (λ t had lists. record {
             to = made.year;
             given = c.in-Some.given;
-            is_given = subst (λ found. FindsCalendar year found t) c.in-Some.is finds;
+            is_given = subst (λ found. FindsCalendar year found t) c.in-Some.is had.0;
             added = c.in_ok-added.added;
-            are_added = lists;
-            same = rw (c.deref.ensures.value, c.deref-2.ensures.value) at made.same;
-            elsewhere = both_elsewhere year given added of_given of_added;
-          }) c.in_ok-given.ensures.call c.in_ok-added.ensures.call;
+            are_added = had.1;
+            changes = c.in_ok-changes.changes;
+            are_changes = lists;
+            same = rw (c.deref.ensures.value, c.deref-2.ensures.value, c.deref-3.ensures.value)
+                at made.same;
+            elsewhere = rw (
+              c.deref.ensures.value,
+              c.deref-2.ensures.value,
+              c.deref-3.ensures.value,
+            ) at made.elsewhere;
+          })
+          (then_reads g.S.Store c.args.self.now c.calendar.new.self c.added.new.self
+          c.in_ok-given.field-0 c.in_ok-added.added found
+          (FindsCalendar year) (ListsAdded year)
+          (λ found t. FindsCalendar year found.0 t × ListsAdded year found.1 t)
+          (λ t finds lists. (finds, lists))
+          c.in_ok-given.ensures.call c.in_ok-added.ensures.call)
+          c.in_ok-changes.ensures.call;
     }

@@ -27,22 +27,26 @@ returns-in-Ok g c =
     let found = c.in_ok-found.found in
     let stored : Vec StoredYear Global = c.in_ok-stored.stored in
     let lines : Vec YearLine Global = c.in-Ok.lines in
-    let listed = lists g.S.Store c.account.new.self c.read_all.new.self (Ok stored)
+    let listed = lists g.S.Store c.account_in_force.new.self c.read_all.new.self (Ok stored)
     (λ xs. xs.items) Years LIST_YEARS.now _ _ year_shown year_cells YearsRise (IsStoredYear who)
     (years_in_order who) (stored_year_is who)
     (rw c.params-to_sql.ensures at c.in_ok-stored.ensures.call) in
     let is = rw c.deref.ensures.value at c.in-Ok.ensures.lines in
     let there = rw c.deref.ensures.value at c.in-Ok.ensures.there in
     record {
-      call = then_reads g.S.Store c.args.self.now c.account.new.self c.read_all.new.self found
+      call = then_reads g.S.Store c.args.self.now c.account_in_force.new.self c.read_all.new.self found
           stored lines _ _ _
           (λ t account years. record {
             listed = subst (Lists YearsRise (IsYear who) _) (sym is)
                 (lines_listed who (is_carried found) _ stored.items years);
             whole = c.in-Ok.ensures.whole;
             turns = c.in-Ok.ensures.turns;
-            first = subst (FirstCarriedAs who _) (sym is)
-                (carried_as who found _ stored.items account there);
+            first = (
+              found,
+              account,
+              subst (FirstCarriedAs found) (sym is)
+                  (carried_as found stored.items there),
+            );
             others = subst OnlyFirstCarried (sym is)
                 (only_first_carried (is_carried found) stored.items);
           }) c.in_ok-found.ensures.call listed;

@@ -1,0 +1,287 @@
+-- How an account begins is put right: what is answered, and the tables stand for the machine's next
+-- state.
+use Rattle.std.proofs.Common.{◌≡◌, ◌∙◌, refl, sym, ap, subst, ℕ, ◌+◌, ◌==◌, ◌&&◌, Bool, true}
+use Rattle.std.proofs.Common.{append-nil, append_assoc, false, List, [], ◌∷◌, ◌++◌, map, length, Option, None, Some, Ok, Vec, arith}
+use Rattle.std.specs.Prelude.{filter, bytes_eq}
+use Rattle.std.proofs.lemmas.Bool.{true≢false, eqb-true}
+use Rattle.std.proofs.lemmas.List.{map-append, length-map}
+use Rattle.std.proofs.lemmas.List.Sorted.{length_permutation}
+use Rattle.ftd_rules.specs.declared.YearLine.{YearLine}
+use Rattle.ftd_schema.specs.Standing.{Tables}
+use Rattle.ftd_rows.specs.declared.kept.QuarterTotal.{QuarterTotal}
+use Rattle.ftd_rows.specs.declared.kept.YearTotal.{YearTotal}
+use Rattle.ftd_store.specs.Changes.{with_account_correction}
+use Rattle.ftd_machine.specs.declared.entries.Account.{Account}
+use Rattle.ftd_machine.specs.declared.entries.Beginning.{Beginning}
+use Rattle.ftd_machine.specs.declared.requests.Request.{Request}
+use Rattle.ftd_machine.specs.declared.requests.Request.TheVariants.{CorrectAccount}
+use Rattle.ftd_machine.specs.declared.replies.Reply.TheVariants.{Done}
+use Rattle.ftd_machine.specs.State.{State, Move, entries_of, is_of, moves_in, moves_of, numbered}
+use Rattle.ftd_machine.specs.Checks.{Answer, first_of}
+use Rattle.ftd_machine.specs.Requests.{correct_account_checks, is_unused}
+use Rattle.ftd_machine.specs.Step.{Step, with_move}
+use Rattle.ftd_machine.specs.Sound.{IsSound}
+use Rattle.ftd_machine.proofs.Adding.{same_name, own_name}
+use Rattle.ftd_machine.proofs.Deciding.{decided, passed}
+use Rattle.ftd_machine.proofs.Others.{others}
+use Rattle.ftd_entries.specs.Correcting.{KnowsForCorrection}
+use Rattle.ftd_entries.specs.Standing.{StandsFor, IsSettled, with_earlier, account_correction_entry}
+use Rattle.std.proofs.Common.{suc}
+use Rattle.std.specs.Prelude.{if◌then◌else◌, IsPermutation}
+use Rattle.ftd_rules.specs.Years.{AreLines}
+use Rattle.ftd_rules.specs.Obligations.{AreObligations}
+use Rattle.ftd_schema.specs.Orders.{QuartersRise, ReportedYearsRise}
+use Rattle.ftd_schema.specs.Tests.{is_reported_of, is_reported_year_of, is_year_of}
+use Rattle.ftd_schema.specs.declared.TableName.TheVariants.{Years}
+use Rattle.ftd_rows.specs.Lists.{Lists, Pairs}
+use Rattle.ftd_rows.specs.Rows.{account_correction_row, year_row}
+use Rattle.ftd_rows.proofs.Found.{both}
+use Rattle.ftd_store.specs.Finds.{ListsYears}
+use Rattle.ftd_store.specs.Kept.{IsQuarterTotal, IsYearTotal, ListsReported, ListsReportedYears}
+use Rattle.ftd_machine.specs.State.{holidays}
+use Rattle.ftd_machine.specs.History.{form_of, live_sums, year_of_line, year_of_entry, AreLinesOf}
+use Rattle.ftd_machine.proofs.Heads.{Gives, gives_needs, skip_needs, skip_finds, skip_new}
+use Rattle.ftd_entries.specs.Correcting.{KnowsUnused, correction_of}
+use Rattle.ftd_entries.specs.Standing.{quarter_entry, year_entry}
+use Rattle.ftd_entries.proofs.Enrolling.{owed_none, lines_none}
+use Rattle.ftd_entries.proofs.Lines.{lines_known}
+use Rattle.ftd_entries.specs.declared.beginnings.KnownForCorrection.{KnownForCorrection}
+
+-- one more, with all that came before it
+pub with_earlier_more : {X : Type 0} (before xs : List X) (x : X)
+    → with_earlier before (xs ++ x ∷ []) ≡ with_earlier before xs ++ (before ++ xs, x) ∷ []
+with_earlier_more before [] x = rw (append-nil before) refl
+with_earlier_more before (y ∷ xs) x =
+    ap (λ ps. (before, y) ∷ ps)
+    (with_earlier_more (before ++ y ∷ []) xs x
+    ∙ ap (λ b. with_earlier (before ++ y ∷ []) xs ++ (b, x) ∷ []) (append_assoc before (y ∷ []) xs))
+
+-- ---- whether nothing rests on the account
+
+filtered_rows : {X R : Type 0} (test : R → Bool) (mine : X → Bool) (row : X → R)
+    → ((x : X) → test (row x) ≡ mine x) → (xs : List X)
+    → filter test (map row xs) ≡ map row (filter mine xs)
+filtered_rows test mine row same [] = refl
+filtered_rows {X = X} test mine row same (x ∷ xs) =
+    ap (λ b. if b then row x ∷ filter test (map row xs) else filter test (map row xs)) (same x)
+    ∙ step (mine x) (filtered_rows test mine row same xs)
+  where
+    step : (b : Bool) → filter test (map row xs) ≡ map row (filter mine xs)
+        → (if b then row x ∷ filter test (map row xs) else filter test (map row xs))
+        ≡ map row (if b then x ∷ filter mine xs else filter mine xs)
+    step true more = ap (λ rows. row x ∷ rows) more
+    step false more = more
+
+as_many_pairs : {X Y : Type 0} (R : X → Y → Type 0) (xs : List X) (ys : List Y) → Pairs R xs ys
+    → length xs ≡ length ys
+as_many_pairs R [] [] pairs = refl
+as_many_pairs R [] (y ∷ ys) pairs = absurd pairs
+as_many_pairs R (x ∷ xs) [] pairs = absurd pairs
+as_many_pairs R (x ∷ xs) (y ∷ ys) pairs = ap suc (as_many_pairs R xs ys pairs.1)
+
+-- as many are listed as there are
+as_many : {X Y : Type 0} (Rise : X → X → Type 0) (R : X → Y → Type 0) (rows : List X)
+    (listed : List Y) → Lists Rise R rows listed → length rows ≡ length listed
+as_many Rise R rows listed l =
+    sym (length_permutation rows l.ordered l.same) ∙ as_many_pairs R l.ordered listed l.pairs
+
+module _ (name : List ℕ) (t : Tables) (s : State) (stands : StandsFor t s) where
+  quarters_counted : {A : Type 0} (listed : Vec QuarterTotal A) → ListsReported name listed t
+      → length (entries_of s name).reported ≡ length listed.items
+  quarters_counted listed lists =
+      sym (length-map (filter (is_of name) s.reported) quarter_entry)
+      ∙ ap length (sym (filtered_rows (is_reported_of name) (is_of name) quarter_entry
+      (λ e. refl) s.reported))
+      ∙ ap (λ rows. length (filter (is_reported_of name) rows)) (sym stands.reported)
+      ∙ as_many QuartersRise (IsQuarterTotal name) _ listed.items lists
+
+  years_counted : {A : Type 0} (listed : Vec YearTotal A) → ListsReportedYears name listed t
+      → length (entries_of s name).reported_years ≡ length listed.items
+  years_counted listed lists =
+      sym (length-map (filter (is_of name) s.reported_years) year_entry)
+      ∙ ap length (sym (filtered_rows (is_reported_year_of name) (is_of name) year_entry
+      (λ e. refl) s.reported_years))
+      ∙ ap (λ rows. length (filter (is_reported_year_of name) rows)) (sym stands.reported_years)
+      ∙ as_many ReportedYearsRise (IsYearTotal name) _ listed.items lists
+
+  lines_counted : {A : Type 0} (listed : Vec YearLine A) → ListsYears name listed t
+      → length (entries_of s name).open_years ≡ length listed.items
+  lines_counted listed lists =
+      let settled = stands.settled name in
+      sym (length-map (entries_of s name).open_years year_of_entry)
+      ∙ ap length (sym settled.are_lines.years)
+      ∙ length-map settled.lines year_of_line
+      ∙ ap length (sym (lines_known name listed t s stands lists settled))
+
+pub unused_known : {A B C : Type 0} (name : List ℕ) (quarters : Vec QuarterTotal A)
+    (years : Vec YearTotal B) (lines : Vec YearLine C) (t : Tables)
+    → ListsReported name quarters t → ListsReportedYears name years t → ListsYears name lines t
+    → KnowsUnused name ((length quarters.items == 0)
+    && ((length years.items == 0) && (length lines.items == 0))) t
+unused_known name quarters years lines t of_quarters of_years of_lines s stands =
+    ap (λ n. (n == 0) && ((length (entries_of s name).reported_years == 0)
+    && (length (entries_of s name).open_years == 0)))
+    (quarters_counted name t s stands quarters of_quarters)
+    ∙ ap (λ n. (length quarters.items == 0) && ((n == 0)
+    && (length (entries_of s name).open_years == 0)))
+    (years_counted name t s stands years of_years)
+    ∙ ap (λ n. (length quarters.items == 0) && ((length years.items == 0) && (n == 0)))
+    (lines_counted name t s stands lines of_lines)
+
+no_items : {X : Type 0} (xs : List X) → (length xs == 0) ≡ true → xs ≡ []
+no_items [] e = refl
+no_items (x ∷ xs) e = absurd (let none = eqb-true (length (x ∷ xs)) 0 e in omega (arith, none))
+
+-- ---- put right
+
+-- where all checks pass nothing rests on the account, and the number is the next one
+put_right_facts : (name : List ℕ) (number : ℕ) (beginning : Beginning) (account : Option Account)
+    (known : Option Beginning) (unused : Bool) (count : ℕ)
+    → first_of (correct_account_checks name number beginning account known unused count) ≡ None
+    → (unused ≡ true) × (number ≡ count + 1)
+put_right_facts name number beginning account known unused count is =
+    let P = correct_account_checks name number beginning account known unused count in
+    let rests : Gives P (unused ≡ true) =
+    skip_needs _ _ _ _
+    (skip_needs _ _ _ _
+    (skip_needs _ _ _ _ (skip_finds _ _ _ _ (skip_new _ _ _ _ _ (gives_needs _ _ _))))) in
+    let next : Gives P ((number == count + 1) ≡ true) =
+    skip_needs _ _ _ _
+    (skip_needs _ _ _ _
+    (skip_needs _ _ _ _ (skip_finds _ _ _ _ (skip_new _ _ _ _ _ (skip_needs _ _ _ _
+    (gives_needs _ _ _)))))) in
+    (rests.fact is, eqb-true number (count + 1) (next.fact is))
+
+module _ (name : List ℕ) (number : ℕ) (beginning : Beginning) where
+  abbrev Asked : Request
+  Asked = CorrectAccount name number beginning.start beginning.carried
+
+  abbrev Next : State → State
+  Next s = record s { moved = with_move s.moved name beginning }
+
+  checks_are : (known : KnownForCorrection) (t : Tables) (s : State) → StandsFor t s
+      → KnowsForCorrection name number known t
+      → first_of (correct_account_checks name number beginning (entries_of s name).account
+      (numbered number (moves_in s name)) (is_unused (entries_of s name))
+      (length (moves_in s name)))
+      ≡ first_of (correct_account_checks name number beginning known.account known.known
+      known.is_unused known.count)
+  checks_are known t s stands knows =
+      rw (
+        knows.account s stands,
+        knows.known s stands,
+        knows.is_unused s stands,
+        knows.count s stands,
+      ) refl
+
+  pub put_right_decided : (known : KnownForCorrection) (answer : Answer)
+      → first_of (correct_account_checks name number beginning known.account known.known
+      known.is_unused known.count) ≡ Some answer
+      → (t : Tables) (s : State) → StandsFor t s → IsSound s → KnowsForCorrection name number known t
+      → Step s Asked answer s
+  put_right_decided known answer is t s stands sound knows =
+      decided _ s answer _ (checks_are known t s stands knows ∙ is)
+
+  abbrev After : Tables → Tables
+  After = with_account_correction name (correction_of number beginning)
+
+  settled_other : (t : Tables) (s : State) (other : List ℕ)
+      → entries_of (Next s) other ≡ entries_of s other → IsSettled t s other
+      → IsSettled (After t) (Next s) other
+  settled_other t s other same was = record {
+    lines = was.lines;
+    are_lines = subst (λ own. AreLinesOf own was.lines) (sym same) was.are_lines;
+    owed = was.owed;
+    are_owed = subst (λ own. AreObligations (form_of own.account) was.lines (live_sums own)
+        (holidays s) was.owed) (sym same) was.are_owed;
+    line_rows = was.line_rows;
+    owed_rows = was.owed_rows;
+  }
+
+  settled_own : (t : Tables) (s : State) → is_unused (entries_of s name) ≡ true
+      → IsSettled t s name → IsSettled (After t) (Next s) name
+  settled_own t s unused was =
+      let own = entries_of s name in
+      let parts = both (length own.reported == 0)
+      ((length own.reported_years == 0) && (length own.open_years == 0)) unused in
+      let opened : own.open_years ≡ [] =
+      no_items own.open_years (both (length own.reported_years == 0)
+      (length own.open_years == 0) parts.1).1 in
+      let lines : was.lines ≡ [] = lines_none was.lines (was.are_lines.years
+      ∙ ap (map year_of_entry) opened) in
+      record {
+        lines = [];
+        are_lines = record {
+          years = sym (ap (map year_of_entry) opened);
+          lookbacks = λ line has. absurd has;
+          carried = tt;
+          schedules = subst (AreLines (live_sums own)) lines was.are_lines.schedules;
+        };
+        owed = was.owed;
+        are_owed = owed_none _ _ _ _ _ _
+            (subst (λ ls. AreObligations (form_of own.account) ls (live_sums own) (holidays s)
+            was.owed) lines was.are_owed);
+        line_rows = subst (λ ls. IsPermutation (filter (is_year_of name) (t Years))
+            (map (year_row name) ls)) lines was.line_rows;
+        owed_rows = was.owed_rows;
+      }
+
+  -- all checks pass
+  pub put_right_done : (known : KnownForCorrection)
+      → first_of (correct_account_checks name number beginning known.account known.known
+      known.is_unused known.count) ≡ None
+      → (t : Tables) (s : State) → StandsFor t s → IsSound s
+      → KnowsForCorrection name number known t
+      → (next : State) × Step s Asked (Ok Done) next
+      × StandsFor (After t) next
+  put_right_done known is t s stands sound knows =
+      let new_one : Move = record { name = name; beginning = beginning } in
+      let step : Step s Asked (Ok Done) (Next s) =
+      passed _ s (Ok Done) (Next s) _ (checks_are known t s stands knows ∙ is) (refl, refl) in
+      let facts = put_right_facts name number beginning known.account known.known known.is_unused
+      known.count is in
+      let count : number ≡ length (moves_of name s.moved) + 1 =
+      (let n = facts.1 in let m = knows.count s stands in omega (arith, n, m)) in
+      let unused : is_unused (entries_of s name) ≡ true =
+      knows.is_unused s stands ∙ facts.0 in
+      let row : account_correction_entry (s.moved, new_one)
+      ≡ account_correction_row name (correction_of number beginning) =
+      ap (λ n. account_correction_row name (correction_of n beginning)) (sym count) in (
+        Next s,
+        step,
+        record {
+          meta = stands.meta;
+          accounts = stands.accounts;
+          forms = stands.forms;
+          reported = stands.reported;
+          reported_years = stands.reported_years;
+          calendars = stands.calendars;
+          calendar_days = stands.calendar_days;
+          added_days = stands.added_days;
+          runs = stands.runs;
+          payments = stands.payments;
+          corrected = stands.corrected;
+          corrected_years = stands.corrected_years;
+          changed_days = stands.changed_days;
+          moved = ap (λ rows. rows
+              ++ account_correction_row name (correction_of number beginning) ∷ []) stands.moved
+              ∙ ap (λ r. map account_correction_entry (with_earlier [] s.moved) ++ r ∷ [])
+              (sym row)
+              ∙ sym (ap (map account_correction_entry) (with_earlier_more [] s.moved new_one)
+              ∙ map-append account_correction_entry (with_earlier [] s.moved)
+              ((s.moved, new_one) ∷ []));
+          settled = λ other. by_name t s unused stands step other (bytes_eq name other) refl;
+        },
+      )
+    where
+      by_name : (t : Tables) (s : State) → is_unused (entries_of s name) ≡ true → StandsFor t s
+          → Step s Asked (Ok Done) (Next s) → (other : List ℕ) (b : Bool)
+          → bytes_eq name other ≡ b
+          → IsSettled (After t) (Next s) other
+      by_name t s unused stands step other true is =
+          subst (IsSettled (After t) (Next s)) (same_name name other is)
+          (settled_own t s unused (stands.settled name))
+      by_name t s unused stands step other false is =
+          settled_other t s other (others s Asked (Ok Done) (Next s) other step
+          (λ same. true≢false (sym (subst (λ n. bytes_eq name n ≡ true) same (own_name name))
+          ∙ is))) (stands.settled other)

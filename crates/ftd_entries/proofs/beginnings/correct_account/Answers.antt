@@ -1,0 +1,37 @@
+use Rattle.std.proofs.Common.{rules, Ok}
+use Rattle.ftd_store.specs.Changes.{with_account_correction}
+use Rattle.ftd_machine.specs.declared.replies.Reply.TheVariants.{Done}
+use Rattle.ftd_machine.specs.declared.requests.Request.TheVariants.{CorrectAccount}
+use Rattle.ftd_entries.specs.Correcting.{KnowsForCorrection, correction_of}
+use Rattle.ftd_entries.proofs.Serving.{served_looked, served_changed}
+use Rattle.ftd_entries.proofs.PutRight.{put_right_decided, put_right_done}
+use Rattle.ftd_entries.proofs.beginnings.correct_account.Goals as goal
+
+pub returns-in-Some : goal.returns-in-Some
+returns-in-Some g c =
+    let name = c.args.name.now in
+    let number = c.args.number in
+    let beginning = c.args.beginning in
+    let before = c.in_ok-before.before in
+    record {
+      call = served_looked g.S.Store (CorrectAccount name number beginning.start beginning.carried)
+          c.args.tx.now c.known_for_correction.new.tx before c.in-Some.answer
+          (KnowsForCorrection name number) c.in_ok-before.ensures.call
+          (put_right_decided name number beginning before c.in-Some.answer (search rules));
+    }
+
+pub returns : goal.returns
+returns g c =
+    let name = c.args.name.now in
+    let number = c.args.number in
+    let beginning = c.args.beginning in
+    let before = c.in_ok-before.before in
+    record {
+      call = served_changed g.S.Store (CorrectAccount name number beginning.start beginning.carried)
+          c.args.tx.now c.known_for_correction.new.tx c.add_account_correction.new.self before _
+          (Ok Done) (KnowsForCorrection name number)
+          (with_account_correction name (correction_of number beginning))
+          c.in_ok-before.ensures.call
+          (rw c.correction_of.ensures at c.in_ok-add_account_correction.ensures.call)
+          (put_right_done name number beginning before (search rules));
+    }

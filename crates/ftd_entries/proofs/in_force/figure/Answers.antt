@@ -1,0 +1,21 @@
+use Rattle.ftd_store.specs.Corrections.{ListsCorrections}
+use Rattle.ftd_store.specs.Finds.{FindsReported}
+use Rattle.ftd_store.proofs.Telling.{then_reads}
+use Rattle.ftd_entries.specs.Known.{KnowsFigure}
+use Rattle.ftd_entries.proofs.Corrected.{figure_known}
+use Rattle.ftd_entries.proofs.in_force.figure.Goals as goal
+
+pub returns : goal.returns
+returns g c =
+    let name = c.args.name.now in
+    let quarter = c.args.quarter in
+    let reported = c.in_ok-reported.reported in
+    let corrections = c.in_ok-corrections.corrections in
+    record {
+      call = then_reads g.S.Store c.args.tx.now c.reported.new.self c.corrections.new.self
+          reported corrections c.in_force.result
+          (FindsReported name quarter) (ListsCorrections name quarter) (KnowsFigure name quarter)
+          (λ t finds lists. rw (c.in_force.ensures, c.deref.ensures.value)
+          (figure_known name quarter reported corrections t finds lists))
+          c.in_ok-reported.ensures.call c.in_ok-corrections.ensures.call;
+    }

@@ -1,0 +1,71 @@
+use Rattle.std.proofs.Common.{◌≡◌, ◌∙◌, sym, inl, inr, Ok, subst, rules, arith}
+use Rattle.std.proofs.lemmas.Bool.{true≢false}
+use Rattle.ftd_days.specs.declared.cents.Cents.{Cents}
+use Rattle.ftd_schema.specs.Standing.{Tables}
+use Rattle.ftd_store.specs.Frame.{Rewrites}
+use Rattle.ftd_store.proofs.Turning.{writes_turn, reads_turn, turns_on, turns_then}
+use Rattle.ftd_entries.proofs.Reading.{turn_then_turn}
+use Rattle.ftd_entries.specs.Totals.{KnowsTotal}
+use Rattle.ftd_repairs.specs.Reopened.{IsRetotaled}
+use Rattle.ftd_posting.specs.Correcting.{EntersFigure, IsFollowed, with_corrected}
+use Rattle.ftd_posting.proofs.figures.enter_and_follow.Goals as goal
+
+pub returns-then-not-is_open : goal.returns-then-not-is_open
+returns-then-not-is_open g c =
+    let name = c.args.name.now in
+    let entry = c.args.entry.now in
+    let With : Tables → Tables = with_corrected name entry in
+    let not : IsFollowed c.args.is_open c.args.year → ⊥ = λ followed.
+    elim c.then-not-is_open.either [
+      | inl off ↦ true≢false (sym followed.0 ∙ off)
+      | inr (inl k) ↦ (let low = followed.1 in let less = k.1 in omega (arith, low, less))
+      | inr (inr k) ↦ (let high = followed.2 in let more = k.2 in omega (arith, high, more))
+    ] in
+    record {
+      call = turns_on g.S.Store c.args.tx.now c.enter.new.tx _ c.unchanged.result
+          (λ done t u. u ≡ With t)
+          (EntersFigure name c.args.account c.args.is_open c.args.first c.args.year entry)
+          (λ t u is. inl (not, is, c.unchanged.ensures))
+          (writes_turn g.S.Store c.args.tx.now c.enter.new.tx _ With c.in_ok-enter.ensures.call);
+    }
+
+pub returns : goal.returns
+returns g c =
+    let name = c.args.name.now in
+    let account = c.args.account in
+    let year = c.args.year in
+    let entry = c.args.entry.now in
+    let total : Cents = c.in-Ok.total in
+    let With : Tables → Tables = with_corrected name entry in
+    let followed : IsFollowed c.args.is_open year =
+    (search rules, search rules, search rules) in
+    let Known : Tables → Tables → Type 0 = λ t u. KnowsTotal name account year (Ok total) (With t)
+    × (u ≡ With t) in
+    let read : Rewrites g.S.Store c.args.tx.now c.lookback_total.new.tx (Ok (tt {0}))
+    (λ done. Known) =
+    turns_then g.S.Store c.args.tx.now c.enter.new.tx c.lookback_total.new.tx _ _ tt
+    (λ done t u. u ≡ With t) (λ x t u. KnowsTotal name account year x t × (u ≡ t)) (λ done. Known)
+    (λ t u v is knows. (
+      subst (KnowsTotal name account year (Ok total)) is
+          (subst (λ x. KnowsTotal name account year x u) c.in-Ok.is knows.0),
+      knows.1 ∙ is,
+    ))
+    (writes_turn g.S.Store c.args.tx.now c.enter.new.tx _ With c.in_ok-enter.ensures.call)
+    (reads_turn g.S.Store c.enter.new.tx c.lookback_total.new.tx _ (KnowsTotal name account year)
+    c.in_ok-total.ensures.call) in
+    record {
+      call = turn_then_turn g.S.Store c.args.tx.now c.lookback_total.new.tx
+          c.correct_lookback.new.tx tt c.correct_lookback.result (λ done. Known)
+          (λ d t u. IsRetotaled name account.form c.args.first year total t u d)
+          (EntersFigure name account c.args.is_open c.args.first year entry)
+          (λ d t u v known retotals. inr (
+            followed,
+            (
+              total,
+              known.0,
+              subst (λ (z : Tables). IsRetotaled name account.form c.args.first year total z v d)
+                  known.1 retotals,
+            ),
+          ))
+          read c.correct_lookback.ensures.call;
+    }

@@ -1,0 +1,84 @@
+-- What a list of what was put right tells of the tables.
+use Rattle.std.specs.Prelude.{◌≡◌, ℕ, pos, List, Vec, filter}
+use Rattle.ftd_schema.specs.Orders.{CorrectionsRise, QuarterCorrectionsRise, YearCorrectionsRise}
+use Rattle.ftd_schema.specs.Orders.{YearsCorrectionsRise, AccountCorrectionsRise}
+use Rattle.ftd_schema.specs.Orders.{HolidayChangesRise}
+use Rattle.ftd_schema.specs.Rows.{CorrectedQuarterRow, CorrectedYearRow, CorrectedAccountRow}
+use Rattle.ftd_schema.specs.Rows.{ChangedHolidayRow}
+use Rattle.ftd_schema.specs.Standing.{Tables}
+use Rattle.ftd_schema.specs.Tests.{is_correction, is_correction_of, is_year_correction}
+use Rattle.ftd_schema.specs.Tests.{is_year_correction_of, is_account_correction_of}
+use Rattle.ftd_schema.specs.Tests.{is_holiday_change_of}
+use Rattle.ftd_schema.specs.declared.TableName.TheVariants.{CorrectedQuarters, CorrectedYears}
+use Rattle.ftd_schema.specs.declared.TableName.TheVariants.{ChangedHolidays, CorrectedAccounts}
+use Rattle.ftd_days.specs.Calendar.{quarter_year, quarter_number}
+use Rattle.ftd_rows.specs.Lists.{Lists}
+use Rattle.ftd_rows.specs.Rows.{correction_row, year_correction_row, account_correction_row}
+use Rattle.ftd_rows.specs.Rows.{holiday_change_row}
+use Rattle.ftd_rows.specs.declared.corrections.AccountCorrection.{AccountCorrection}
+use Rattle.ftd_rows.specs.declared.corrections.Correction.{Correction}
+use Rattle.ftd_rows.specs.declared.corrections.HolidayChange.{HolidayChange}
+use Rattle.ftd_rows.specs.declared.corrections.QuarterCorrection.{QuarterCorrection}
+use Rattle.ftd_rows.specs.declared.corrections.YearCorrection.{YearCorrection}
+
+-- ---- totals of quarters
+
+-- the corrections of the total of the account's quarter, by number
+abbrev pub IsCorrection : List ℕ → ℕ → CorrectedQuarterRow → Correction → Type 0
+IsCorrection account quarter row c = row ≡ correction_row account quarter c
+
+abbrev pub ListsCorrections : {A : Type 0} → List ℕ → ℕ → Vec Correction A → Tables → Type 0
+ListsCorrections account quarter listed t =
+    Lists CorrectionsRise (IsCorrection account quarter)
+    (filter (is_correction account (pos (quarter_year quarter)) (pos (quarter_number quarter)))
+    (t CorrectedQuarters)) listed.items
+
+-- those of all its quarters, by quarter and number
+abbrev pub IsQuarterCorrection : List ℕ → CorrectedQuarterRow → QuarterCorrection → Type 0
+IsQuarterCorrection account row c = row ≡ correction_row account c.quarter c.correction
+
+abbrev pub ListsCorrected : {A : Type 0} → List ℕ → Vec QuarterCorrection A → Tables → Type 0
+ListsCorrected account listed t =
+    Lists QuarterCorrectionsRise (IsQuarterCorrection account)
+    (filter (is_correction_of account) (t CorrectedQuarters)) listed.items
+
+-- ---- totals of years
+
+-- the corrections of the total of the account's year, by number
+abbrev pub IsCorrectionOfYear : List ℕ → ℕ → CorrectedYearRow → Correction → Type 0
+IsCorrectionOfYear account year row c = row ≡ year_correction_row account year c
+
+abbrev pub ListsYearCorrections : {A : Type 0} → List ℕ → ℕ → Vec Correction A → Tables → Type 0
+ListsYearCorrections account year listed t =
+    Lists YearCorrectionsRise (IsCorrectionOfYear account year)
+    (filter (is_year_correction account (pos year)) (t CorrectedYears)) listed.items
+
+-- those of all its years, by year and number
+abbrev pub IsYearCorrection : List ℕ → CorrectedYearRow → YearCorrection → Type 0
+IsYearCorrection account row c = row ≡ year_correction_row account c.year c.correction
+
+abbrev pub ListsCorrectedYears : {A : Type 0} → List ℕ → Vec YearCorrection A → Tables → Type 0
+ListsCorrectedYears account listed t =
+    Lists YearsCorrectionsRise (IsYearCorrection account)
+    (filter (is_year_correction_of account) (t CorrectedYears)) listed.items
+
+-- ---- accounts and holidays
+
+-- the corrections of the account, by number
+abbrev pub IsAccountCorrection : List ℕ → CorrectedAccountRow → AccountCorrection → Type 0
+IsAccountCorrection account row c = row ≡ account_correction_row account c
+
+abbrev pub ListsAccountCorrections : {A : Type 0} → List ℕ → Vec AccountCorrection A → Tables
+    → Type 0
+ListsAccountCorrections account listed t =
+    Lists AccountCorrectionsRise (IsAccountCorrection account)
+    (filter (is_account_correction_of account) (t CorrectedAccounts)) listed.items
+
+-- the changes of the days of the year, by day and number
+abbrev pub IsHolidayChange : ℕ → ChangedHolidayRow → HolidayChange → Type 0
+IsHolidayChange year row c = row ≡ holiday_change_row year c
+
+abbrev pub ListsHolidayChanges : {A : Type 0} → ℕ → Vec HolidayChange A → Tables → Type 0
+ListsHolidayChanges year listed t =
+    Lists HolidayChangesRise (IsHolidayChange year)
+    (filter (is_holiday_change_of (pos year)) (t ChangedHolidays)) listed.items

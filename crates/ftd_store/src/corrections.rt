@@ -1,0 +1,175 @@
+//! What was put right: corrections of totals and of accounts, and changes of holidays.
+
+ghost use Rattle.ftd_rows.specs.Amounts.{IsStorable};
+ghost use Rattle.ftd_store.specs.Changes.{with_correction, with_year_correction};
+ghost use Rattle.ftd_store.specs.Changes.{with_account_correction, with_holiday_change};
+ghost use Rattle.ftd_store.specs.Corrections.{ListsCorrections, ListsCorrected};
+ghost use Rattle.ftd_store.specs.Corrections.{ListsYearCorrections, ListsCorrectedYears};
+ghost use Rattle.ftd_store.specs.Corrections.{ListsAccountCorrections, ListsHolidayChanges};
+ghost use Rattle.ftd_store.specs.Frame.{Reads, Writes};
+
+use crate::tx::Tx;
+use ftd_days::Quarter;
+use ftd_rows::{
+    AccountCorrection, Correction, HolidayChange, QuarterCorrection, StoreFault, StoredCents,
+    StoredDay, StoredFlag, YearCorrection,
+};
+use ftd_schema::texts;
+use sqlite::{Alter, params};
+use std::alloc::Global;
+
+impl<'store, S: Alter> Tx<'store, S> {
+    /// The corrections of the total that the account reported for the quarter, by number.
+    pub fn corrections(
+        &mut self,
+        alloc: Global,
+        account: &str,
+        quarter: Quarter,
+    ) -> Result<Vec<Correction>, StoreFault>
+        ensures call { Reads S.Store self.old self.new result
+            (ListsCorrections account.now quarter) }
+    {
+        let year = quarter.year();
+        let part = u32::from(quarter.number());
+        self.read_all(alloc, texts::LIST_CORRECTIONS, params![account, year, part])
+    }
+
+    /// The corrections of all the totals that the account reported for quarters, by quarter and
+    /// number.
+    pub fn corrected(
+        &mut self,
+        alloc: Global,
+        account: &str,
+    ) -> Result<Vec<QuarterCorrection>, StoreFault>
+        ensures call { Reads S.Store self.old self.new result (ListsCorrected account.now) }
+    {
+        self.read_all(alloc, texts::LIST_CORRECTED, params![account])
+    }
+
+    /// Adds a correction of the total of the quarter. `Failed` where there is one of its number,
+    /// and where the account is not there.
+    pub fn add_correction(
+        &mut self,
+        account: &str,
+        quarter: Quarter,
+        correction: Correction,
+    ) -> Result<(), StoreFault>
+        requires { IsStorable correction.cents }
+        ensures call { Writes S.Store self.old self.new result
+            (with_correction account.now quarter correction) }
+    {
+        let year = quarter.year();
+        let part = u32::from(quarter.number());
+        let cents = StoredCents {
+            cents: correction.cents,
+        };
+        self.add(
+            texts::ADD_CORRECTED,
+            params![account, year, part, correction.number, cents],
+        )
+    }
+
+    /// The corrections of the total that the account reported for the year, by number.
+    pub fn year_corrections(
+        &mut self,
+        alloc: Global,
+        account: &str,
+        year: u32,
+    ) -> Result<Vec<Correction>, StoreFault>
+        ensures call { Reads S.Store self.old self.new result
+            (ListsYearCorrections account.now year) }
+    {
+        self.read_all(alloc, texts::LIST_YEAR_CORRECTIONS, params![account, year])
+    }
+
+    /// The corrections of all the totals that the account reported for years, by year and number.
+    pub fn corrected_years(
+        &mut self,
+        alloc: Global,
+        account: &str,
+    ) -> Result<Vec<YearCorrection>, StoreFault>
+        ensures call { Reads S.Store self.old self.new result (ListsCorrectedYears account.now) }
+    {
+        self.read_all(alloc, texts::LIST_CORRECTED_YEARS, params![account])
+    }
+
+    /// Adds a correction of the total of the year. `Failed` where there is one of its number, and
+    /// where the account is not there.
+    pub fn add_year_correction(
+        &mut self,
+        account: &str,
+        year: u32,
+        correction: Correction,
+    ) -> Result<(), StoreFault>
+        requires { IsStorable correction.cents }
+        ensures call { Writes S.Store self.old self.new result
+            (with_year_correction account.now year correction) }
+    {
+        let cents = StoredCents {
+            cents: correction.cents,
+        };
+        self.add(
+            texts::ADD_CORRECTED_YEAR,
+            params![account, year, correction.number, cents],
+        )
+    }
+
+    /// The corrections of the account's first day, and of whether it was carried over, by number.
+    pub fn account_corrections(
+        &mut self,
+        alloc: Global,
+        account: &str,
+    ) -> Result<Vec<AccountCorrection>, StoreFault>
+        ensures call { Reads S.Store self.old self.new result
+            (ListsAccountCorrections account.now) }
+    {
+        self.read_all(alloc, texts::LIST_ACCOUNT_CORRECTIONS, params![account])
+    }
+
+    /// Adds a correction of the account. `Failed` where there is one of its number, and where the
+    /// account is not there.
+    pub fn add_account_correction(
+        &mut self,
+        account: &str,
+        correction: AccountCorrection,
+    ) -> Result<(), StoreFault>
+        ensures call { Writes S.Store self.old self.new result
+            (with_account_correction account.now correction) }
+    {
+        let AccountCorrection {
+            number,
+            account: corrected,
+        } = correction;
+        let start = StoredDay(corrected.start);
+        let carried = StoredFlag(corrected.carried);
+        self.add(
+            texts::ADD_CORRECTED_ACCOUNT,
+            params![account, number, start, carried],
+        )
+    }
+
+    /// The changes of the days of the year, by day and number.
+    pub fn holiday_changes(
+        &mut self,
+        alloc: Global,
+        year: u32,
+    ) -> Result<Vec<HolidayChange>, StoreFault>
+        ensures call { Reads S.Store self.old self.new result (ListsHolidayChanges year) }
+    {
+        self.read_all(alloc, texts::LIST_CHANGED_HOLIDAYS, params![year])
+    }
+
+    /// Adds a change of a day to the day's year. `Failed` where there is one of its number, and
+    /// where the year's calendar was not given.
+    pub fn add_holiday_change(&mut self, change: HolidayChange) -> Result<(), StoreFault>
+        ensures call { Writes S.Store self.old self.new result (with_holiday_change change) }
+    {
+        let year = change.day.year();
+        let day = StoredDay(change.day);
+        let is_holiday = StoredFlag(change.is_holiday);
+        self.add(
+            texts::ADD_CHANGED_HOLIDAY,
+            params![day, change.number, is_holiday, year],
+        )
+    }
+}
