@@ -89,6 +89,11 @@ def refuse(number, name, what=""):
     raise Refused(f"refused {number} {name}{' ' if what != '' else ''}{what}")
 
 
+def first_end(cents, first):
+    """What stands behind an amount in force: the one that was first reported, where that is another."""
+    return "" if cents == first else f" first {money(first)}"
+
+
 def is_kept(kept, key, content, *differs):
     """Whether the same is kept; refuses what differs from it."""
     if key in kept and kept[key] != content:
@@ -144,20 +149,22 @@ class Desk:
                 sums[run["payday"]] = sums.get(run["payday"], 0) + sum(run["amounts"])
         return {day: cents for day, cents in sums.items() if cents}
 
-    def lookback(self, name, year):
+    def lookback(self, name, year, figures=None):
+        """The lookback total of a year, by the figures in force, or as these are given."""
+        figures = figures or self.figures
         start, _, form = self.account(name)
         if form == "943":
             if datetime.date(year - 2, 12, 31) < start:
                 return 0
             if (name, year - 2) not in self.years_reported:
                 refuse(25, "YearMissing", year - 2)
-            return self.figures(self.years_reported)[name, year - 2]
+            return figures(self.years_reported)[name, year - 2]
         total, quarter = 0, (year - 2, 3)
         for _ in range(4):
             if last_of(quarter) >= start:
                 if (name, quarter) not in self.reported:
                     refuse(17, "QuarterMissing", name_of(quarter))
-                total += self.figures(self.reported)[name, quarter]
+                total += figures(self.reported)[name, quarter]
             quarter = next_quarter(quarter)
         return total
 
@@ -621,23 +628,27 @@ class Desk:
         self.known(name)
         return lines_of(f"YEARS {name}", [
             f"{year} {money(look):>17} {'semiweekly' if semiweekly else 'monthly'}{' carried' * carried}{f' turned {turn}' if turn else ''}"
+            + first_end(look, self.lookback(name, year, lambda as_first_reported: as_first_reported))
             for year, (look, carried, semiweekly, turn) in sorted(self.lines(name, self.liability(name)).items())
         ])
 
     def ask_reported(self, name):
         self.named(name)
         yearly = self.known(name)[2] == "943"
-        figures = self.figures(self.years_reported if yearly else self.reported)
-        kept = sorted((key, cents) for (owner, key), cents in figures.items() if owner == name)
-        return lines_of(f"REPORTED {name}", [f"{key if yearly else name_of(key)} {money(cents):>17}" for key, cents in kept])
+        first = self.years_reported if yearly else self.reported
+        kept = sorted((key, cents) for (owner, key), cents in self.figures(first).items() if owner == name)
+        return lines_of(f"REPORTED {name}", [
+            f"{key if yearly else name_of(key)} {money(cents):>17}{first_end(cents, first[name, key])}" for key, cents in kept
+        ])
 
     def ask_holidays(self, year):
         if not 2001 <= int(year) <= 2099:
             refuse(2, "BadYear")
         if int(year) not in self.calendars:
             refuse(16, "CalendarMissing", year)
-        added = sorted(day for day in self.added if day.year == int(year))
-        return lines_of(f"HOLIDAYS {year}", [*map(str, sorted(self.calendars[int(year)])), *(f"{day} added" for day in added)])
+        given = [(day, "") for day in sorted(self.calendars[int(year)])]
+        added = [(day, " added") for day in sorted(self.added) if day.year == int(year)]
+        return lines_of(f"HOLIDAYS {year}", [f"{day}{mark}{'' if self.is_holiday(day) else ' taken-back'}" for day, mark in given + added])
 
     def kept_of(self, kept, day, name, quarter):
         """The runs or payments of a quarter, by day and number."""

@@ -3,10 +3,10 @@
 
     python3 bench/formats.py [PROGRAM]
 
-PROGRAM is the path of `ftd`, or that of the build of this repository. It makes a desk with 40 accounts and random pay runs and payments, asks
-`agenda` and `owed` for each week of a quarter in each format, and `due`, `schedule-b` and the lists of what is kept of each account; it
-reads the calendar with `icalendar` (Debian's python3-icalendar) and the other two with Python's own `csv` and `json`, and compares each row
-with that of the text. It ends with status 1 at the first that differs.
+PROGRAM is the path of `ftd`, or that of the build of this repository. It makes a desk with 40 accounts and random pay runs and payments, and two
+whose reported totals were put right, takes holidays back, asks `agenda` and `owed` for each week of a quarter in each format, and `due`,
+`schedule-b` and the lists of what is kept of each account; it reads the calendar with `icalendar` (Debian's python3-icalendar) and the other
+two with Python's own `csv` and `json`, and compares each row with that of the text. It ends with status 1 at the first that differs.
 """
 
 import csv
@@ -62,11 +62,21 @@ def fill(program, db, chance):
             if chance.random() < 0.1:
                 ask(program, db, "void", name, str(run))
         ask(program, db, "pay", name, "7", "2024-06-30", "2024-06-30", "5.00")
-        if form == "943":
-            ask(program, db, "report-year", name, "2024", "12.50")
-        else:
-            ask(program, db, "report", name, "2024Q1", "12.50")
+        verb, period = ("report-year", "2024") if form == "943" else ("report", "2024Q1")
+        ask(program, db, verb, name, period, "12.50")
+        if number % 3 == 0:
+            ask(program, db, f"correct-{verb}", name, period, "13.75")
+    for name in ("changed", "changed-back"):
+        ask(program, db, "enrol", name, "2022-01-01")
+        for period in ("2022Q3", "2022Q4", "2023Q1", "2023Q2"):
+            ask(program, db, "report", name, period, "12500.00")
+        ask(program, db, "open-year", name, "2024")
+        ask(program, db, "correct-report", name, "2022Q4", "12500.01")
+    ask(program, db, "correct-report", "changed-back", "2022Q4", "12500.00")
     ask(program, db, "add-holiday", "2024-12-24")
+    ask(program, db, "add-holiday", "2024-12-31")
+    for day in ("2024-04-16", "2024-12-24"):
+        ask(program, db, "change-holiday", day, "no")
 
 
 def text_rows(text):
@@ -156,6 +166,11 @@ def compare_due(program, db, name, form):
     return len(rows) + len(days)
 
 
+def after(row, mark, otherwise):
+    """The word of a line behind this mark, or what stands for it where the line has none."""
+    return row[row.index(mark) + 1] if mark in row else otherwise
+
+
 def compare_kept(program, db, words, columns):
     """Compares the formats of a list: `columns` makes a record of CSV of the words of a line of the text. What is void is not in the CSV. The first
     values of a row of JSON are those of its record, and what it has more is in the text too."""
@@ -169,6 +184,8 @@ def compare_kept(program, db, words, columns):
     for row, line in zip(found["rows"], rows):
         if "obligation" in row:
             same(words, row["obligation"] or "none", line[3])
+        if "first" in row:
+            same(words, row["first"], after(line, "first", line[1]))
     return len(rows)
 
 
@@ -177,12 +194,12 @@ def compare_account(program, db, name):
     def marked(row, mark):
         return "yes" if mark in row else "no"
 
-    def turned(row):
-        return row[row.index("turned") + 1] if "turned" in row else ""
+    def year(row):
+        return [name, *row[:3], marked(row, "carried"), after(row, "turned", ""), after(row, "first", row[1])]
 
     return (
-        compare_kept(program, db, ["years", name], lambda row: [name, *row[:3], marked(row, "carried"), turned(row)])
-        + compare_kept(program, db, ["reported", name], lambda row: [name, *row])
+        compare_kept(program, db, ["years", name], year)
+        + compare_kept(program, db, ["reported", name], lambda row: [name, *row[:2]])
         + compare_kept(program, db, ["runs", name, "2024Q2"], lambda row: [name, row[4], *row[:4]])
         + compare_kept(program, db, ["payments", name, "2024Q2"], lambda row: [name, row[4], row[2], row[0], row[1]])
     )
@@ -204,7 +221,8 @@ def main():
         print(f"{count} answers, {rows} rows: the same in four formats")
         accounts = [line.split()[:2] for line in ask(program, db, "accounts").decode().splitlines()[1:]]
         rows = compare_kept(program, db, ["accounts"], lambda row: [row[0], row[2], "yes" if "carried" in row else "no", row[1]])
-        rows += compare_kept(program, db, ["holidays", "2024"], lambda row: [row[0], "yes" if "added" in row else "no"])
+        holiday = lambda row: [row[0], "yes" if "added" in row else "no", "no" if "taken-back" in row else "yes"]
+        rows += compare_kept(program, db, ["holidays", "2024"], holiday)
         rows += sum(compare_due(program, db, *it) + compare_account(program, db, it[0]) for it in accounts)
     print(f"the lists of {len(accounts)} accounts, {rows} rows: the same in three formats")
 

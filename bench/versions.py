@@ -1,12 +1,13 @@
 #!/usr/bin/env python3
 """Turns a desk's file into one of version 2 and one of version 1, and compares what the program answers of them with what it answered before.
 
-The tables that a later version added are taken out by Python's sqlite3, and the version is set back: nothing was put right in the file, and for
-version 1 all accounts are on Form 941 and no holiday was added. The first command makes it version 3 again. Every due list, Schedule B, status
-and list of what is kept has to be the same, byte for byte, and so have all tables. `bench/versions.py [PROGRAM]` takes the program.
+All of it is written into a new file by Python's sqlite3, without the tables that a later version added, and the version is set back: nothing was put
+right in the file, and for version 1 all accounts are on Form 941 and no holiday was added. The first command makes it version 3 again. Every due
+list, Schedule B, status and list of what is kept has to be the same, byte for byte but for the file's name, and so have all tables.
+`bench/versions.py [PROGRAM]` takes the program.
 """
+import contextlib
 import os
-import shutil
 import sqlite3
 import subprocess
 import sys
@@ -70,19 +71,21 @@ def asked(names):
 
 
 def run(program, path, command):
-    """The status and the bytes that the command prints."""
+    """The status and the bytes that the command prints, without the file's name."""
     words = [program, command[0], "--db", path, *command[1:]]
     done = subprocess.run(words, stdout=subprocess.PIPE, stderr=subprocess.STDOUT, check=False)
-    return done.returncode, done.stdout
+    return done.returncode, done.stdout.replace(path.encode(), b"FILE")
 
 
-def set_back(path, version):
-    """Makes the file one of that version."""
-    with sqlite3.connect(path) as conn:
+def set_back(path, older, version):
+    """Writes all that the file has into a new one of that version."""
+    with contextlib.closing(sqlite3.connect(path)) as source, contextlib.closing(sqlite3.connect(older)) as conn:
+        conn.executescript("\n".join(source.iterdump()))
         for name in THIRD + (SECOND if version == 1 else []):
             conn.execute(f"DROP TABLE {name}")
         conn.execute("UPDATE ftd_meta SET version = ?", (version,))
-    conn.close()
+        conn.commit()
+        conn.execute("VACUUM")
 
 
 def main():
@@ -93,8 +96,7 @@ def main():
             for command in setting_up(version):
                 status, text = run(program, path, command)
                 assert status == 0, (command, text)
-            shutil.copy(path, older)
-            set_back(older, version)
+            set_back(path, older, version)
             names = ["ash", "elm", "oak", *(["rye"] if version == 2 else [])]
             commands = list(asked(names))
             for command in commands:

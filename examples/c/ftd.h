@@ -1,4 +1,4 @@
-/* The rules of federal tax deposits, for C: the static library of crates/ftd_c, in which each function is proved.
+/* The rules of federal tax deposits, and a desk in memory, for C: the static library of crates/ftd_c, in which each function is proved.
  *
  * A day is the number of days after 1 January 1900. The holidays are those of the year of the deposit's last day, and those of the
  * next year: at most 60 each, all in their year, each later than the one before. A pointer is never null, also where its count is 0.
@@ -55,6 +55,17 @@ uint32_t ftd_makeup(uint16_t form, uint8_t rule, uint32_t last, const uint32_t *
 
 /* How a deposit stands. */
 uint8_t ftd_verdict(const ftd_case *deposit);
+
+/* What is answered in place of a count of bytes: memory was refused. */
+#define FTD_NO_ANSWERS SIZE_MAX
+
+/* Answers messages of HTTP (docs/HTTP.md), one after the other, by a desk in memory that begins with nothing entered and ends with the call.
+ * The bytes are those of one connection. It ends with them; and before them after a message that asks for it, after the hundredth, and after
+ * one that is refused by its head, whose answer says so by `Connection: close`. A message that is cut has no answer.
+ *
+ * Answers how many bytes the answers have. They stand at the front of `answers` where it has room for all of them; where it has not, or memory
+ * was refused, nothing is written. So a call with `answers_count` 0 tells how much room to make. `answers` and `messages` are apart. */
+size_t ftd_answer(const uint8_t *messages, size_t messages_count, uint8_t *answers, size_t answers_count);
 
 #ifdef __cplusplus
 }

@@ -14,10 +14,12 @@ are_days given year days may k d within =
     let early = early_year (get_or days k d) (omega arith) in
     omega arith
 
-pub this_are_days : (year : ℕ) (this_year next_year : List ℕ) → AreCalendars year this_year next_year
+pub this_are_days : (year : ℕ) (this_year next_year : List ℕ)
+    → AreCalendars year this_year next_year
     → All (λ n. n ≤ last_day) this_year
 this_are_days year this_year next_year calendars = are_days _ year this_year calendars.first
 
-pub next_are_days : (year : ℕ) (this_year next_year : List ℕ) → AreCalendars year this_year next_year
+pub next_are_days : (year : ℕ) (this_year next_year : List ℕ)
+    → AreCalendars year this_year next_year
     → All (λ n. n ≤ last_day) next_year
 next_are_days year this_year next_year calendars = are_days _ (year + 1) next_year calendars.second

@@ -1,1 +1,2 @@
 mod Calendars
+mod NewDesks

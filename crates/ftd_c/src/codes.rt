@@ -59,7 +59,8 @@ pub fn day_of(number: u32) -> Result<Day, CallFault>
 
 /// The number of a day, or that of the fault.
 pub fn number_of(day: Result<Day, CallFault>) -> u32
-    ensures { MatchResult day (λ it. (result ≡ it) × (it ≤ last_day)) (λ fault. result ≡ code_of fault) }
+    ensures { MatchResult day (λ it. (result ≡ it) × (it ≤ last_day))
+        (λ fault. result ≡ code_of fault) }
 {
     match day {
         Ok(day) => (day.number() + 25_567) as u32,

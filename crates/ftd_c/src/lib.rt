@@ -1,6 +1,7 @@
-//! The rules of deposits as functions for C, over plain numbers. A day is the number of days after
-//! 1 January 1900. Holidays are those of the year of a deposit's last day and those of the next
-//! year, each rising. No function keeps anything.
+//! The rules of deposits as functions for C, over plain numbers, and a desk in memory that answers
+//! messages of HTTP. A day is the number of days after 1 January 1900. Holidays are those of the
+//! year of a deposit's last day and those of the next year, each rising. No function keeps
+//! anything.
 #![tactic(auto)]
 
 ghost use Rattle.std.specs.Prelude.{◌≡◌, ◌⊎◌, ◌++◌, ℕ, IfOk, IsErrOf, IsSome};
@@ -10,6 +11,7 @@ ghost use Rattle.ftd_c.specs.Calls.{form_of, no_memory, out_of_range, rule_of};
 
 mod asked;
 mod codes;
+mod office;
 mod verdicts;
 
 use crate::asked::asked;

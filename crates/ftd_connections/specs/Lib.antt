@@ -1,5 +1,6 @@
 pub mod Responses
 pub mod Refusals
+pub mod Facts
 pub mod Replying
 pub mod Serving
 pub mod Wires

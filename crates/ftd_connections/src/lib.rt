@@ -5,6 +5,7 @@
 mod announcing;
 mod closing;
 mod connection;
+mod facts;
 pub mod laws;
 mod lines;
 mod machine;

@@ -1,5 +1,6 @@
 -- A database that was opened rests in what its tables stood for.
-use Rattle.std.proofs.Common.{◌≡◌, ◌≤◌, ◌∙◌, inl, inr, sym, ap, subst, ℕ, true, false, List, Ok, Err}
+use Rattle.std.proofs.Common.{◌≡◌, ◌≤◌, ◌∙◌, inl, inr, sym, ap, subst, ℕ, true, false, List, Ok}
+use Rattle.std.proofs.Common.{Err}
 use Rattle.std.proofs.Common.{arith}
 use Rattle.std.specs.Prelude.{pos, Result, IfOk}
 use Rattle.std.proofs.lemmas.Bool.{false≢true}

@@ -1,5 +1,6 @@
 -- What a request on a run makes of the rows, from its first call to its last.
-use Rattle.std.proofs.Common.{◌≡◌, ◌⊎◌, Bool, true, false, sym, ap, subst, arith, ℕ, List, Option, Result}
+use Rattle.std.proofs.Common.{◌≡◌, ◌⊎◌, Bool, true, false, sym, ap, subst, arith, ℕ, List, Option}
+use Rattle.std.proofs.Common.{Result}
 use Rattle.std.proofs.Common.{Ok, Err, inl, inr}
 use Rattle.std.proofs.lemmas.Bool.{true≢false}
 use Rattle.sqlite.specs.Effect.{Database}
@@ -23,7 +24,8 @@ use Rattle.ftd_machine.specs.declared.requests.Request.{Request}
 use Rattle.ftd_machine.specs.declared.requests.Request.TheVariants.{Enrol, Calendar, AddHoliday}
 use Rattle.ftd_machine.specs.declared.requests.Request.TheVariants.{Report, ReportYear, OpenYear}
 use Rattle.ftd_machine.specs.declared.requests.Request.TheVariants.{Post, Void, Pay, VoidPay}
-use Rattle.ftd_machine.specs.declared.requests.Request.TheVariants.{CorrectReport, CorrectReportYear}
+use Rattle.ftd_machine.specs.declared.requests.Request.TheVariants.{CorrectReport}
+use Rattle.ftd_machine.specs.declared.requests.Request.TheVariants.{CorrectReportYear}
 use Rattle.ftd_machine.specs.declared.requests.Request.TheVariants.{ChangeHoliday, CorrectAccount}
 use Rattle.ftd_machine.specs.declared.requests.Request.TheVariants.{Question}
 use Rattle.ftd_posting.specs.Repaired.{PostsRun, VoidsRun, Becoming, Repairs}
@@ -36,15 +38,18 @@ use Rattle.ftd_desk.specs.declared.requests.Served.{Served}
 -- the request is on no run, and adds no payment
 abbrev pub Others : Request → Type 0
 Others request =
-    ((name : List ℕ) × (start : ℕ) × (carried : Bool) × (form : Form) × (request ≡ Enrol name start carried form))
+    ((name : List ℕ) × (start : ℕ) × (carried : Bool) × (form : Form)
+    × (request ≡ Enrol name start carried form))
     ⊎ (((year : ℕ) × (days : List ℕ) × (request ≡ Calendar year days))
     ⊎ (((day : ℕ) × (request ≡ AddHoliday day))
     ⊎ (((name : List ℕ) × (quarter : ℕ) × (cents : Cents) × (request ≡ Report name quarter cents))
     ⊎ (((name : List ℕ) × (year : ℕ) × (cents : Cents) × (request ≡ ReportYear name year cents))
     ⊎ (((name : List ℕ) × (year : ℕ) × (request ≡ OpenYear name year))
     ⊎ (((name : List ℕ) × (number : ℕ) × (request ≡ VoidPay name number))
-    ⊎ (((day : ℕ) × (number : ℕ) × (is_holiday : Bool) × (request ≡ ChangeHoliday day number is_holiday))
-    ⊎ (((name : List ℕ) × (number : ℕ) × (start : ℕ) × (carried : Bool) × (request ≡ CorrectAccount name number start carried))
+    ⊎ (((day : ℕ) × (number : ℕ) × (is_holiday : Bool)
+    × (request ≡ ChangeHoliday day number is_holiday))
+    ⊎ (((name : List ℕ) × (number : ℕ) × (start : ℕ) × (carried : Bool)
+    × (request ≡ CorrectAccount name number start carried))
     ⊎ ((question : Questions) × (request ≡ Question question))))))))))
 
 pub others_add_none : (request : Request) → Others request → adds_entry request ≡ false
@@ -57,8 +62,10 @@ others_add_none request (inr (inr (inr (inr (inl is))))) = ap adds_entry is.3
 others_add_none request (inr (inr (inr (inr (inr (inl is)))))) = ap adds_entry is.2
 others_add_none request (inr (inr (inr (inr (inr (inr (inl is))))))) = ap adds_entry is.2
 others_add_none request (inr (inr (inr (inr (inr (inr (inr (inl is)))))))) = ap adds_entry is.3
-others_add_none request (inr (inr (inr (inr (inr (inr (inr (inr (inl is))))))))) = ap adds_entry is.4
-others_add_none request (inr (inr (inr (inr (inr (inr (inr (inr (inr is))))))))) = ap adds_entry is.1
+others_add_none request (inr (inr (inr (inr (inr (inr (inr (inr (inl is))))))))) =
+    ap adds_entry is.4
+others_add_none request (inr (inr (inr (inr (inr (inr (inr (inr (inr is))))))))) =
+    ap adds_entry is.1
 
 pub others_on_none : (request : Request) → Others request → is_on_run request ≡ false
 unfolding is_on_run
@@ -77,8 +84,10 @@ others_on_none request (inr (inr (inr (inr (inr (inr (inr (inr (inr is))))))))) 
 abbrev pub RepairsOnly : Request → Type 0
 RepairsOnly request =
     ((name : List ℕ) × (number : ℕ) × (request ≡ Void name number))
-    ⊎ (((name : List ℕ) × (quarter : ℕ) × (number : ℕ) × (cents : Cents) × (request ≡ CorrectReport name quarter number cents))
-    ⊎ ((name : List ℕ) × (year : ℕ) × (number : ℕ) × (cents : Cents) × (request ≡ CorrectReportYear name year number cents)))
+    ⊎ (((name : List ℕ) × (quarter : ℕ) × (number : ℕ) × (cents : Cents)
+    × (request ≡ CorrectReport name quarter number cents))
+    ⊎ ((name : List ℕ) × (year : ℕ) × (number : ℕ) × (cents : Cents)
+    × (request ≡ CorrectReportYear name year number cents)))
 
 pub repair_adds_none : (request : Request) → RepairsOnly request → adds_entry request ≡ false
 unfolding adds_entry

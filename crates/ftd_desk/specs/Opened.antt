@@ -32,8 +32,8 @@ pub record Opens (old : database.State) (new : Held) : Type 0 where
       → Keeps new nothing
   -- one of version 3, in which a state rests: that state
   pub kept : HasCleanDisk new.db → (s : State) → Rests old s → Keeps new s
-  -- one of version 1 or 2, whose tables stand for a sound state: that state. The last premise leaves
-  -- out databases that count rows (AUTOINCREMENT) and have lost the table of counts.
+  -- one of version 1 or 2, whose tables stand for a sound state: that state. The last premise
+  -- leaves out databases that count rows (AUTOINCREMENT) and have lost the table of counts.
   pub migrated : HasCleanDisk new.db → (version : ℕ) (t : Tables) (s : State) → IsEarlier version
       → StandsAs version old.now t → StandsForEarlier version t s → IsSound s
       → lacks_sequence old.now.schema ≡ false → Keeps new s

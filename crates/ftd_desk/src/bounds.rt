@@ -2,7 +2,7 @@
 
 ghost use Rattle.std.specs.Prelude.{◌≡◌, ◌⊎◌, false, Err, IfOk};
 ghost use Rattle.ftd_machine.specs.Laws.{is_change};
-ghost use Rattle.ftd_machine.specs.Limits.{IsBounded};
+ghost use Rattle.ftd_machine.specs.Laws.{IsBounded};
 
 use ftd_machine::{Answer, Refusal, is_bounded};
 

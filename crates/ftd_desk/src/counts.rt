@@ -22,16 +22,7 @@ pub(crate) fn is_change(answer: &Answer) -> bool
 {
     match answer {
         Ok(Reply::Done | Reply::Posted { .. }) => true,
-        Ok(
-            Reply::Already
-            | Reply::Status { .. }
-            | Reply::Due(_)
-            | Reply::Days(_)
-            | Reply::Agenda(_)
-            | Reply::Explained(_)
-            | Reply::Kept(_),
-        )
-        | Err(_) => false,
+        Ok(Reply::Already | Reply::Told(_)) | Err(_) => false,
     }
 }
 

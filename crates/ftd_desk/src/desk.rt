@@ -2,7 +2,7 @@
 
 ghost use Rattle.std.specs.Prelude.{◌≡◌, ◌⊎◌, All, Err, IfOk, OnErr};
 ghost use Rattle.ftd_store.specs.Seen.{seen};
-ghost use Rattle.ftd_machine.specs.Limits.{IsBounded};
+ghost use Rattle.ftd_machine.specs.Laws.{IsBounded};
 ghost use Rattle.ftd_machine.specs.State.{State};
 ghost use Rattle.ftd_desk.specs.Desks.{store_of, IsStopped, held, Rests, Keeps};
 ghost use Rattle.ftd_schema.specs.States.{CrashKeeps};

@@ -7,7 +7,7 @@ use crate::requests::{account, calendar, day, enrol, open_year};
 use anyhow::Result;
 use ftd_days::Cents;
 use ftd_desk::Desk;
-use ftd_machine::{Question, Reply, Request};
+use ftd_machine::{Facts, Question, Reply, Request};
 use sqlite::Connection;
 
 fn main(rt: HostRuntime) -> Result<()> {
@@ -28,7 +28,7 @@ fn main(rt: HostRuntime) -> Result<()> {
     })?;
     let (until, as_of) = (day("2024-02-29")?, day("2024-02-01")?);
     let question = Request::Question(Question::Owed { until, as_of });
-    if let Reply::Agenda(rows) = desk.handle(&question)? {
+    if let Reply::Told(Facts::Agenda(rows)) = desk.handle(&question)? {
         for owed in rows.as_slice() {
             println!(rt; "pay {} by {}", owed.row.obligation.cents, owed.pay_by)?;
         }

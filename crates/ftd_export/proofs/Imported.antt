@@ -22,6 +22,7 @@ use Rattle.ftd_machine.specs.declared.kept.KeptRows.TheVariants as rows
 use Rattle.ftd_machine.specs.declared.kept.KeptRun.{KeptRun}
 use Rattle.ftd_machine.specs.declared.replies.Refusal.TheVariants.{BadName, BadYear, UnknownAccount}
 use Rattle.ftd_machine.specs.declared.replies.Reply.{Reply}
+use Rattle.ftd_machine.specs.declared.facts.Facts.TheVariants as facts
 use Rattle.ftd_machine.specs.declared.replies.Reply.TheVariants as reply
 use Rattle.ftd_machine.specs.declared.requests.Kept.TheVariants as kept
 use Rattle.ftd_machine.specs.declared.requests.Question.TheVariants as question
@@ -72,7 +73,7 @@ module _ (s : State) (account : List ℕ) (quarter : ℕ) (listed : List KeptRun
       elim found [
         | inl refused ↦ absurd (no_reply (is_account_name account)
             (is_between 2001 2098 (quarter_year quarter)) (entries_of s account).account
-            (reply.Kept (rows.Runs listed)) refused.0)
+            (reply.Told (facts.Kept (rows.Runs listed))) refused.0)
         | inr passed ↦ (
           named (is_account_name account) (is_between 2001 2098 (quarter_year quarter))
               (entries_of s account).account passed.0,
@@ -108,7 +109,8 @@ module _ (s : State) (account : List ℕ) (quarter : ℕ) (listed : List KeptRun
       let own_year = subst (λ n. is_open (entries_of s n) (year_of e.content.value.payday) ≡ true)
       found.2 (sound.paydays e found.1) in
       let year = early (year_of x.run.payday)
-      (subst (λ (v : Voidable PayRun). is_open (entries_of s account) (year_of v.value.payday) ≡ true)
+      (subst
+      (λ (v : Voidable PayRun). is_open (entries_of s account) (year_of v.value.payday) ≡ true)
       found.4 own_year) in
       record {
         number = subst (λ n. is_number n ≡ true) found.3 (sound.run_numbers e found.1);

@@ -29,9 +29,9 @@ impl<S: Alter> Machine<ByTables> for Desk<S> {
 }
 
 /// Serves one connection: reads messages from the source, has the desk answer each, and writes the
-/// answers to the target, each in one call where the target takes it whole. A connection has at most
-/// a hundred messages; what it takes in memory is one message, and one answer twice. `ServeFault`
-/// where a read or a write fails, or there is no memory.
+/// answers to the target, each in one call where the target takes it whole. A connection has at
+/// most a hundred messages; what it takes in memory is one message, and one answer twice.
+/// `ServeFault` where a read or a write fails, or there is no memory.
 pub fn serve<S: Alter, R: Peer, W: Target>(
     alloc: Global,
     desk: &mut Desk<S>,

@@ -130,8 +130,8 @@ fn take_turn<S: Alter, R: Clock + AllocGlobal>(
 
 /// Takes connections, one after the other, which the desk serves, after so many others were taken,
 /// until all are taken, or the desk does not answer any more, since its store failed. Answers how
-/// many were taken in all. One that fails, or that the listener does not give, is told on `err`, and
-/// the next one is taken. Where `err` fails, nothing more is told on it, and serving goes on.
+/// many were taken in all. One that fails, or that the listener does not give, is told on `err`,
+/// and the next one is taken. Where `err` fails, nothing more is told on it, and serving goes on.
 pub fn serve_on<S: Alter, R: Clock + AllocGlobal, Err: Target>(
     rt: &R,
     listener: &TcpListener,

@@ -126,7 +126,8 @@ shorter rs passed at others split = let whole = ap length split
     ∙ length-append passed (at ∷ others) in omega arith
 
 -- none was posted, and then some, one after the other
-pub stops_again : (failed later : Type 0) (a b c : Held) (rs : List (ℕ × SaidEntry)) (p q r : Summary)
+pub stops_again : (failed later : Type 0) (a b c : Held) (rs : List (ℕ × SaidEntry))
+    (p q r : Summary)
     (why : StopCause) → length rs ≤ most_together → (failed → later)
     → PostsNone failed a b (posts_of rs) → IsSame p q → StopsIn later b c rs q r why
     → StopsWithin later a c rs (λ outcomes. Counts p outcomes r) why
@@ -184,7 +185,8 @@ list_again failed later a b c rs p q r (Err why) short stays none same stops =
     stops_again failed later a b c rs p q r why short stays none same stops
 
 -- ---- lists of records
-regroup : (pre passed : List (ℕ × SaidEntry)) (at : ℕ × SaidEntry) (others more : List (ℕ × SaidEntry))
+regroup : (pre passed : List (ℕ × SaidEntry)) (at : ℕ × SaidEntry)
+    (others more : List (ℕ × SaidEntry))
     → pre ++ ((passed ++ at ∷ others) ++ more) ≡ (pre ++ passed) ++ at ∷ (others ++ more)
 regroup pre passed at others more = simp append_assoc
 
@@ -193,7 +195,8 @@ regroup_list : (pre before list others more : List (ℕ × SaidEntry))
 regroup_list pre before list others more = simp append_assoc
 
 -- the outcomes of the first records, before those of a list whose commit failed
-either_then : (failed : Type 0) (a b c : Held) (rs list : List (ℕ × SaidEntry)) (xs ys : List Outcome)
+either_then : (failed : Type 0) (a b c : Held) (rs list : List (ℕ × SaidEntry))
+    (xs ys : List Outcome)
     → AreOutcomes rs xs → Asks ⊥ a b xs
     → HandlesOrLeaves failed b c (filter_map request_in ys) (filter_map answer_in ys)
     (posts_of list)
@@ -269,7 +272,8 @@ stops_later failed a b c pre list more all p q r why split posts stops = record 
     together = append_assoc posts.outcomes stops.outcomes stops.last
 
 -- some lists were posted, and there was no memory to read the next
-pub stops_unread : (failed : Type 0) (a b : Held) (pre left all : List (ℕ × SaidEntry)) (p q : Summary)
+pub stops_unread : (failed : Type 0) (a b : Held) (pre left all : List (ℕ × SaidEntry))
+    (p q : Summary)
     → all ≡ pre ++ left → 0 < length left → Posts a b pre p q
     → StopsWithin failed a b all (λ outcomes. Counts p outcomes q) cause.Memory
 stops_unread failed a b pre [] all p q split some posts = absurd (omega arith)

@@ -1,5 +1,6 @@
 -- Records that are counted with the answers to their posts.
-use Rattle.std.proofs.Common.{◌≡◌, refl, sym, ap, subst, ◌∙◌, ◌+◌, ◌<◌, ◌≤◌, suc, add-one, ℕ, List, []}
+use Rattle.std.proofs.Common.{◌≡◌, refl, sym, ap, subst, ◌∙◌, ◌+◌, ◌<◌, ◌≤◌, suc, add-one, ℕ, List}
+use Rattle.std.proofs.Common.{[]}
 use Rattle.std.proofs.Common.{◌∷◌, ◌++◌, length, map, take, drop, get_or, drop-cons, Some, None}
 use Rattle.std.proofs.Common.{arith}
 use Rattle.std.specs.List.{filter, filter_map}
@@ -17,7 +18,8 @@ use Rattle.ftd_import.proofs.Places.{IsNext, is_malformed, is_entry}
 use Rattle.ftd_import.proofs.Outcomes.{counts_then, same}
 
 -- some records were counted, and these answers are left
-pub record CountsSome (before : Summary) (passed : List (ℕ × SaidEntry)) (answers left : List Answer)
+pub record CountsSome (before : Summary) (passed : List (ℕ × SaidEntry))
+    (answers left : List Answer)
     (after : Summary) : Type 0 where
   pub outcomes : List Outcome
   pub all : map record_in outcomes ≡ passed
@@ -67,7 +69,8 @@ all_counted p q rs answers some = record {
   counts = some.counts;
 }
 
-module _ (records : List (ℕ × SaidEntry)) (i : ℕ) (place : Place) (next : IsNext records i place) where
+module _ (records : List (ℕ × SaidEntry)) (i : ℕ) (place : Place)
+    (next : IsNext records i place) where
   pub skipped_more : (field : ℕ) → place.malformed ≡ Some field
       → (p q r : Summary) (answers left : List Answer)
       → CountsSome p (take i records) answers left q

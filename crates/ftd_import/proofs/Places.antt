@@ -1,6 +1,7 @@
 -- Lists of records, as the code keeps them.
 use Rattle.std.proofs.Common.{◌≡◌, ◌<◌, ◌+◌, ℕ, suc, List, [], ◌∷◌, ◌++◌, length, map}
-use Rattle.std.proofs.Common.{take, drop, get_or, drop-cons, add-one, Some, None, refl, sym, ap, arith}
+use Rattle.std.proofs.Common.{take, drop, get_or, drop-cons, add-one, Some, None, refl, sym, ap}
+use Rattle.std.proofs.Common.{arith}
 use Rattle.std.proofs.Common.{◌∙◌, length-append}
 use Rattle.std.specs.List.{filter}
 use Rattle.std.proofs.lemmas.List.{get_or-map, length-map, map-append, take-append-drop, take_more}
@@ -25,7 +26,8 @@ length_left records = length_numbered (number_of records + 1) (said_left records
     ∙ length-map (rows_after records) (entry_in (sheet_of records))
 
 -- ---- a list with one more record
-pub list_more : (before : List (ℕ × SaidEntry)) (old new : RecordList) (at : ℕ × SaidEntry) (place : Place)
+pub list_more : (before : List (ℕ × SaidEntry)) (old new : RecordList)
+    (at : ℕ × SaidEntry) (place : Place)
     (posts : List Request) → place ≡ kept_of at → posts ≡ posts_of (at ∷ [])
     → new.places.items ≡ old.places.items ++ place ∷ []
     → new.posts.items ≡ old.posts.items ++ posts → IsListOf before old
@@ -60,7 +62,8 @@ next_of records places i default are within =
           ∙ get_or-map kept_of records i none default here;
     }
 
-pub next_split : (records : List (ℕ × SaidEntry)) (i : ℕ) (place : Place) (next : IsNext records i place)
+pub next_split : (records : List (ℕ × SaidEntry)) (i : ℕ) (place : Place)
+    (next : IsNext records i place)
     → records ≡ take i records ++ next.at ∷ drop (i + 1) records
 next_split records i place next = sym (take-append-drop i records)
     ∙ ap (λ (rs : List (ℕ × SaidEntry)). take i records ++ rs) next.rest

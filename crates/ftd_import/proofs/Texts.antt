@@ -32,7 +32,8 @@ text_fails failed a kind text done text_fault.TooLong why is none fails =
     rw is (fails, (none, all_none ⊥ a))
 text_fails failed a kind text done text_fault.BadHeader why is none fails =
     rw is (fails.0, fails.1, (none, all_none ⊥ a))
-text_fails failed a kind text done text_fault.Memory why is none fails = rw is (inl (none, all_none ⊥ a))
+text_fails failed a kind text done text_fault.Memory why is none fails =
+    rw is (inl (none, all_none ⊥ a))
 
 -- an import stops at a record for want of memory, or since the store failed
 fault_cause : (answer : Answer) (why : StopCause) → fault_of answer ≡ Some why

@@ -130,7 +130,8 @@ abbrev pub numbered_in : Sheet → List ℕ → List (ℕ × SaidEntry)
 numbered_in kind text = numbered_from 2 (records_of kind text)
 
 -- the entries of the text were posted, each in its place, and this is the summary of its records
-pub record Imports (old new : Held) (kind : Sheet) (text : List ℕ) (summary : Summary) : Type 0 where
+pub record Imports (old new : Held) (kind : Sheet) (text : List ℕ) (summary : Summary)
+    : Type 0 where
   pub short : length text ≤ most_bytes
   pub header : HasHeader kind text
   pub outcomes : List Outcome
@@ -159,12 +160,14 @@ StopsFor failed old new kind text done cause.BadHeader =
     (length text ≤ most_bytes) × ¬ HasHeader kind text × StopsFirst old new done
 StopsFor failed old new kind text done cause.Memory =
     StopsFirst old new done ⊎ StopsAmong failed old new kind text done cause.Memory
-StopsFor failed old new kind text done cause.Store = StopsAmong failed old new kind text done cause.Store
+StopsFor failed old new kind text done cause.Store =
+    StopsAmong failed old new kind text done cause.Store
 
 -- the import stopped so: the posts went one after the other, or, only where the first premise
 -- holds, in lists of which a commit failed
 abbrev pub Stops : Type 0 → Held → Held → Sheet → List ℕ → Stopped → Type 0
-Stops failed old new kind text stopped = StopsFor failed old new kind text stopped.done stopped.cause
+Stops failed old new kind text stopped =
+    StopsFor failed old new kind text stopped.done stopped.cause
 
 -- the text itself is at fault
 abbrev pub is_of_text : StopCause → Bool

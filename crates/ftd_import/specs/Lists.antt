@@ -1,5 +1,6 @@
 -- Records in a list, as the code keeps them. Private contracts speak of it.
-use Rattle.std.specs.Prelude.{◌≡◌, ◌++◌, ℕ, Bool, true, false, List, Option, None, Some, length, map}
+use Rattle.std.specs.Prelude.{◌≡◌, ◌++◌, ℕ, Bool, true, false, List, Option, None, Some, length}
+use Rattle.std.specs.Prelude.{map}
 use Rattle.ftd_csv.specs.Places.{CanAdvance, records_left}
 use Rattle.ftd_csv.specs.Records.{SaidEntry, malformed, enters}
 use Rattle.ftd_csv.specs.declared.reading.Records.{Records}

@@ -72,24 +72,14 @@ abbrev pub is_posted : Answer → Bool
 is_posted (Ok reply.Done) = true
 is_posted (Ok reply.Already) = false
 is_posted (Ok (reply.Posted from to removed added)) = true
-is_posted (Ok (reply.Status kind reason)) = false
-is_posted (Ok (reply.Due rows)) = false
-is_posted (Ok (reply.Days sums)) = false
-is_posted (Ok (reply.Agenda rows)) = false
-is_posted (Ok (reply.Explained explained)) = false
-is_posted (Ok (reply.Kept rows)) = false
+is_posted (Ok (reply.Told facts)) = false
 is_posted (Err refused) = false
 
 abbrev pub is_already : Answer → Bool
 is_already (Ok reply.Done) = false
 is_already (Ok reply.Already) = true
 is_already (Ok (reply.Posted from to removed added)) = false
-is_already (Ok (reply.Status kind reason)) = false
-is_already (Ok (reply.Due rows)) = false
-is_already (Ok (reply.Days sums)) = false
-is_already (Ok (reply.Agenda rows)) = false
-is_already (Ok (reply.Explained explained)) = false
-is_already (Ok (reply.Kept rows)) = false
+is_already (Ok (reply.Told facts)) = false
 is_already (Err refused) = false
 
 abbrev pub is_refused : Answer → Bool

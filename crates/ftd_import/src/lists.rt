@@ -80,7 +80,8 @@ fn post_list<S: Alter>(
     requires list { IsList list.now }
     requires short { length list.now.places.items ≤ most_together }
     requires fits { tally done.old + length list.now.places.items ≤ most_counted }
-    ensures posts { (records : List (ℕ × SaidEntry)) → IsListOf records list.now → MatchResult result
+    ensures posts { (records : List (ℕ × SaidEntry)) → IsListOf records list.now
+        → MatchResult result
         (λ _. Posts (held S.Store desk.old) (held S.Store desk.new) records done.old done.new)
         (λ cause. StopsWithin (IsStopped desk.new) (held S.Store desk.old)
         (held S.Store desk.new) records (λ outcomes. Counts done.old outcomes done.new) cause) }

@@ -92,7 +92,8 @@ pub(crate) fn post_all<S: Alter>(
 ) -> Result<(), StopCause>
     requires list { IsList list.now }
     requires fits { tally done.old + length list.now.places.items ≤ most_counted }
-    ensures posts { (records : List (ℕ × SaidEntry)) → IsListOf records list.now → MatchResult result
+    ensures posts { (records : List (ℕ × SaidEntry)) → IsListOf records list.now
+        → MatchResult result
         (λ _. Posts (held S.Store desk.old) (held S.Store desk.new) records done.old done.new)
         (λ cause. StopsIn (IsStopped desk.new) (held S.Store desk.old) (held S.Store desk.new)
         records done.old done.new cause) }

@@ -27,8 +27,8 @@ pub struct Note {
     pub finding: Finding,
 }
 
-/// How many records were posted (of which the desk took the entry), were there already, were refused and were malformed, with a note
-/// for each of the last two, in the order of the records.
+/// How many records were posted (of which the desk took the entry), were there already, were
+/// refused and were malformed, with a note for each of the last two, in the order of the records.
 #[derive(Drop)]
 pub struct Summary {
     pub posted: usize,
@@ -158,7 +158,7 @@ impl Summary {
         match answer {
             Ok(Reply::Posted { .. } | Reply::Done) => self.posted += 1,
             Ok(Reply::Already) => self.already += 1,
-            Ok(_) => {}
+            Ok(Reply::Told(_)) => {}
             Err(refusal) => {
                 self.refused += 1;
                 self.notes.push_reserved(Note {

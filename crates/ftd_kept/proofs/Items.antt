@@ -1,8 +1,6 @@
 -- The items of a list as far as a loop has come.
 use Rattle.std.proofs.Common.{◌≡◌, ℕ, ◌+◌, ◌<◌, Bool, true, false, List, [], ◌∷◌, ◌++◌, take}
 use Rattle.std.proofs.Common.{length, get_or, refl, sym, ap, ◌∙◌, subst}
-use Rattle.std.proofs.Common.{inl, inr}
-use Rattle.ftd_rules.specs.Lists.{Has}
 use Rattle.std.specs.Prelude.{filter}
 use Rattle.std.proofs.lemmas.List.{append-nil}
 use Rattle.std.proofs.lemmas.List.Elements.{filter-append}
@@ -29,25 +27,3 @@ module _ {X Y : Type 0} (R : X → Y → Type 0) (p : X → Bool) (xs : List X) 
       subst (λ (l : List X). Pairs R l ys)
       (sym (more ∙ (ap (λ (l : List X). filter p (take i xs) ++ l) none
       ∙ append-nil (filter p (take i xs))))) so_far
-
--- each of the one list has its pair in the other
-pub pair_before : {X Y : Type 0} (R : X → Y → Type 0) (xs : List X) (ys : List Y) → Pairs R xs ys
-    → (y : Y) → Has ys y → (x : X) × Has xs x × R x y
-pair_before R [] [] pairs y has = absurd has
-pair_before R [] (z ∷ ys) pairs y has = absurd pairs
-pair_before R (x ∷ xs) [] pairs y has = absurd has
-pair_before R (x ∷ xs) (z ∷ ys) pairs y (inl is) = (x, inl refl, subst (R x) (sym is) pairs.0)
-pair_before R (x ∷ xs) (z ∷ ys) pairs y (inr has) =
-    let from = pair_before R xs ys pairs.1 y has in
-    (from.0, inr from.1, from.2)
-
-pub pair_after : {X Y : Type 0} (R : X → Y → Type 0) (xs : List X) (ys : List Y) → Pairs R xs ys
-    → (x : X) → Has xs x → (y : Y) × Has ys y × R x y
-pair_after R [] [] pairs x has = absurd has
-pair_after R [] (y ∷ ys) pairs x has = absurd has
-pair_after R (z ∷ xs) [] pairs x has = absurd pairs
-pair_after R (z ∷ xs) (y ∷ ys) pairs x (inl is) =
-    (y, inl refl, subst (λ w. R w y) (sym is) pairs.0)
-pair_after R (z ∷ xs) (y ∷ ys) pairs x (inr has) =
-    let from = pair_after R xs ys pairs.1 x has in
-    (from.0, inr from.1, from.2)

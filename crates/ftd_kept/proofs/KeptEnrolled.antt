@@ -2,7 +2,7 @@
 use Rattle.std.proofs.Common.{◌≡◌, ◌∙◌, refl, sym, ap, subst, ℕ, List, [], ◌∷◌, Some, None}
 use Rattle.std.proofs.Common.{Option, ◌++◌, ◌+◌, ◌<◌, ◌≤◌, take, length, get_or}
 use Rattle.ftd_rows.specs.Lists.{Lists, Pairs}
-use Rattle.ftd_store.proofs.Items.{taken, pairs_more}
+use Rattle.ftd_store.proofs.Items.{taken, pairs_more, paired_from, paired_to}
 use Rattle.ftd_store.proofs.Replaced.{all_taken}
 use Rattle.ftd_entries.specs.Known.{KnowsAccount}
 use Rattle.std.specs.Prelude.{filter, string_bytes, unwrap_or}
@@ -27,7 +27,6 @@ use Rattle.ftd_machine.proofs.Members.{found_some, mapped_has}
 use Rattle.ftd_entries.specs.Standing.{StandsFor, enrolled_row}
 use Rattle.ftd_entries.proofs.ListedRows.{passing_value}
 use Rattle.ftd_kept.specs.Kept.{AreToldAccounts, IsToldAccount, KnowsAccounts, kept_account}
-use Rattle.ftd_kept.proofs.Items.{pair_before, pair_after}
 
 abbrev row_of : NamedAccount → AccountRow
 row_of a = account_row (string_bytes a.name) a.account
@@ -48,7 +47,7 @@ module _ (rows : List KeptAccount) (t : Tables) (told : AreToldAccounts rows t) 
     (stands : StandsFor t s) where
   told_is : (x : KeptAccount) → Has rows x → IsEnrolled s x
   told_is x has =
-      let from = pair_before (IsToldAccount t) told.named rows told.are_told x has in
+      let from = paired_from (IsToldAccount t) told.named rows x told.are_told has in
       ap (λ n. (entries_of s n).account) from.2.0 ∙ from.2.1 s stands
 
   is_told : (x : KeptAccount) → IsEnrolled s x → Has rows x
@@ -59,11 +58,11 @@ module _ (rows : List KeptAccount) (t : Tables) (told : AreToldAccounts rows t) 
       let row : Has (t Accounts) (enrolled_row e) =
       subst (λ rs. Has rs (enrolled_row e)) (sym stands.accounts)
       (mapped_has enrolled_row s.accounts e found.1) in
-      let item = passing_value row_of NamesRise is_any_account (t Accounts) told.named told.are_named
-      (enrolled_row e) row refl in
+      let item = passing_value row_of NamesRise is_any_account (t Accounts) told.named
+      told.are_named (enrolled_row e) row refl in
       let own : string_bytes item.0.name ≡ x.name =
       ap (λ (r : AccountRow). r.name) (sym item.2) ∙ same_name e.name x.name found.2 in
-      let as_told = pair_after (IsToldAccount t) told.named rows told.are_told item.0 item.1 in
+      let as_told = paired_to (IsToldAccount t) told.named rows item.0 told.are_told item.1 in
       let name : as_told.0.name ≡ x.name = as_told.2.0 ∙ own in
       let account : as_told.0.account ≡ x.account =
       same_some as_told.0.account x.account (sym (as_told.2.1 s stands)
@@ -91,7 +90,8 @@ pub told_more : (items : List NamedAccount) (i : ℕ) (row : NamedAccount) (name
     → again ≡ string_bytes row.name → found ≡ Some account
     → new ≡ rows ++ kept_account again account ∷ []
     → SoFarTold items i rows t → KnowsAccount name found t → SoFarTold items (i + 1) new t
-told_more items i row name again found account rows new t some is named same there added so_far knows =
+told_more items i row name again found account rows new t some is named same there added so_far
+    knows =
     let known : KnowsAccount (string_bytes row.name) (Some account) t =
     subst (λ n. KnowsAccount n (Some account) t) named
     (subst (λ f. KnowsAccount name f t) there knows) in (

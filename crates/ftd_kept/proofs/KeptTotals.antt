@@ -44,7 +44,7 @@ module _ (name : List ℕ) (t : Tables) (s : State) (stands : StandsFor t s) (so
 
   module _ (found : List QuarterTotal) (lists : Lists QuartersRise (IsQuarterTotal name)
       (filter (is_reported_of name) (t ReportedQuarters)) found) where
-    quarter_in : (x : QuarterTotal) → Has found x
+    pub quarter_in : (x : QuarterTotal) → Has found x
         → kept_at x.quarter (entries_of s name).reported ≡ Some x.cents
     quarter_in x has =
         let there = value_passes (quarter_row name) QuartersRise (is_reported_of name)
@@ -66,9 +66,9 @@ module _ (name : List ℕ) (t : Tables) (s : State) (stands : StandsFor t s) (so
         subst (λ k. kept_at k (entries_of s name).reported ≡ Some x.cents) key
         (is_kept name s.reported sound.reported e from.1 named ∙ ap Some cents)
 
-    quarter_there : (quarter : ℕ) (cents : Cents)
+    pub quarter_there : (quarter : ℕ) (cents : Cents)
         → kept_at quarter (entries_of s name).reported ≡ Some cents
-        → Has (map kept_quarter found) (OfQuarter quarter cents)
+        → Has found (record { quarter = quarter; cents = cents })
     quarter_there quarter cents is =
         let kept = of_kept name s.reported sound.reported quarter cents is in
         let x : QuarterTotal = record { quarter = quarter; cents = cents } in
@@ -89,34 +89,35 @@ module _ (name : List ℕ) (t : Tables) (s : State) (stands : StandsFor t s) (so
         let key : quarter ≡ item.0.quarter = quarter_is quarter item.0.quarter year number in
         let amount : cents ≡ item.0.cents = cents_is cents item.0.cents
         (ap (λ (r : ReportedQuarterRow). r.cents) item.2) in
-        let same : OfQuarter quarter cents ≡ kept_quarter item.0 =
-        ap (λ q. OfQuarter q cents) key ∙ ap (λ c. OfQuarter item.0.quarter c) amount in
-        subst (Has (map kept_quarter found)) (sym same)
-        (mapped_has kept_quarter found item.0 item.1)
+        let same : x ≡ item.0 = λ i. record { quarter = key i; cents = amount i } in
+        subst (Has found) (sym same) item.1
 
     pub quarters_are : (x : KeptTotal) → Has (map kept_quarter found) x
         ↔ IsFirstTotal F941 (entries_of s name) x
-    quarters_are (OfQuarter quarter cents) = (
+    quarters_are (OfQuarter quarter cents first) = (
       (λ has.
-          (let from = has_mapped kept_quarter found (OfQuarter quarter cents) has in
-          subst (IsFirstTotal F941 (entries_of s name)) (sym from.2) (quarter_in from.0 from.1))),
-      (λ is. quarter_there quarter cents is),
+          (let from = has_mapped kept_quarter found (OfQuarter quarter cents first) has in
+          subst (IsFirstTotal F941 (entries_of s name)) (sym from.2)
+          (refl, quarter_in from.0 from.1))),
+      (λ is. subst (λ c. Has (map kept_quarter found) (OfQuarter quarter c first)) (sym is.0)
+          (mapped_has kept_quarter found _ (quarter_there quarter first is.1))),
     )
-    quarters_are (OfYear year cents) = (
+    quarters_are (OfYear year cents first) = (
       (λ has.
-          (let from = has_mapped kept_quarter found (OfYear year cents) has in
+          (let from = has_mapped kept_quarter found (OfYear year cents first) has in
           absurd (never from.0 from.2))),
       (λ is. absurd is),
     )
       where
-        never : (x : QuarterTotal) → OfYear year cents ≡ OfQuarter x.quarter x.cents → ⊥
+        never : (x : QuarterTotal)
+            → OfYear year cents first ≡ OfQuarter x.quarter x.cents x.cents → ⊥
         never x e = absurd cc
 
   -- ---- years
 
   module _ (found : List YearTotal) (lists : Lists ReportedYearsRise (IsYearTotal name)
       (filter (is_reported_year_of name) (t ReportedYears)) found) where
-    year_in : (x : YearTotal) → Has found x
+    pub year_in : (x : YearTotal) → Has found x
         → kept_at x.year (entries_of s name).reported_years ≡ Some x.cents
     year_in x has =
         let there = value_passes (year_row name) ReportedYearsRise (is_reported_year_of name)
@@ -126,15 +127,16 @@ module _ (name : List ℕ) (t : Tables) (s : State) (stands : StandsFor t s) (so
         let e : Entry Cents = from.0 in
         let is : year_entry e ≡ year_row name x = sym from.2 in
         let named : e.name ≡ name = ap (λ (r : ReportedYearRow). r.account) is in
-        let key : e.key ≡ x.year = same_nat e.key x.year (ap (λ (r : ReportedYearRow). r.year) is) in
+        let key : e.key ≡ x.year =
+        same_nat e.key x.year (ap (λ (r : ReportedYearRow). r.year) is) in
         let cents : e.content ≡ x.cents = cents_is e.content x.cents
         (ap (λ (r : ReportedYearRow). r.cents) is) in
         subst (λ k. kept_at k (entries_of s name).reported_years ≡ Some x.cents) key
         (is_kept name s.reported_years sound.reported_years e from.1 named ∙ ap Some cents)
 
-    year_there : (year : ℕ) (cents : Cents)
+    pub year_there : (year : ℕ) (cents : Cents)
         → kept_at year (entries_of s name).reported_years ≡ Some cents
-        → Has (map kept_year found) (OfYear year cents)
+        → Has found (record { year = year; cents = cents })
     year_there year cents is =
         let kept = of_kept name s.reported_years sound.reported_years year cents is in
         let x : YearTotal = record { year = year; cents = cents } in
@@ -150,24 +152,25 @@ module _ (name : List ℕ) (t : Tables) (s : State) (stands : StandsFor t s) (so
         (ap (λ (r : ReportedYearRow). r.year) item.2) in
         let amount : cents ≡ item.0.cents = cents_is cents item.0.cents
         (ap (λ (r : ReportedYearRow). r.cents) item.2) in
-        let same : OfYear year cents ≡ kept_year item.0 =
-        ap (λ y. OfYear y cents) key ∙ ap (λ c. OfYear item.0.year c) amount in
-        subst (Has (map kept_year found)) (sym same) (mapped_has kept_year found item.0 item.1)
+        let same : x ≡ item.0 = λ i. record { year = key i; cents = amount i } in
+        subst (Has found) (sym same) item.1
 
     pub years_are : (x : KeptTotal) → Has (map kept_year found) x
         ↔ IsFirstTotal F943 (entries_of s name) x
-    years_are (OfYear year cents) = (
+    years_are (OfYear year cents first) = (
       (λ has.
-          (let from = has_mapped kept_year found (OfYear year cents) has in
-          subst (IsFirstTotal F943 (entries_of s name)) (sym from.2) (year_in from.0 from.1))),
-      (λ is. year_there year cents is),
+          (let from = has_mapped kept_year found (OfYear year cents first) has in
+          subst (IsFirstTotal F943 (entries_of s name)) (sym from.2)
+          (refl, year_in from.0 from.1))),
+      (λ is. subst (λ c. Has (map kept_year found) (OfYear year c first)) (sym is.0)
+          (mapped_has kept_year found _ (year_there year first is.1))),
     )
-    years_are (OfQuarter quarter cents) = (
+    years_are (OfQuarter quarter cents first) = (
       (λ has.
-          (let from = has_mapped kept_year found (OfQuarter quarter cents) has in
+          (let from = has_mapped kept_year found (OfQuarter quarter cents first) has in
           absurd (never from.0 from.2))),
       (λ is. absurd is),
     )
       where
-        never : (x : YearTotal) → OfQuarter quarter cents ≡ OfYear x.year x.cents → ⊥
+        never : (x : YearTotal) → OfQuarter quarter cents first ≡ OfYear x.year x.cents x.cents → ⊥
         never x e = absurd cc

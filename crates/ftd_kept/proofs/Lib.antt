@@ -7,5 +7,7 @@ mod KeptMore
 mod KeptHeld
 mod KeptYears
 mod TotalsKnown
+mod YearsKnown
+mod HolidaysKnown
 mod KeptEnrolled
 mod KeptAdded

@@ -3,7 +3,9 @@
 //! accounts are listed for other questions too.
 #![tactic(auto)]
 
+mod holiday_rows;
 mod lists;
 mod rows;
+mod year_rows;
 
 pub use crate::lists::{all_accounts, kept, obligation_payments};

@@ -8,15 +8,17 @@ ghost use Rattle.ftd_entries.specs.Words.{Serves};
 ghost use Rattle.ftd_kept.specs.Kept.{AreToldAccounts, IsInForce, KnowsAccounts, KnowsFirstTotals};
 ghost use Rattle.ftd_kept.specs.Kept.{KnowsPaymentsOf, KnowsTotals};
 
+use crate::holiday_rows::all_holidays;
 use crate::rows::{
     add_account, add_total, are_accounts_in_order, told_for, told_payments, told_quarters,
     told_runs, told_years,
 };
+use crate::year_rows::open_years;
 use ftd_days::{Day, Quarter};
 use ftd_entries::{figure, known, year_figure};
 use ftd_machine::{
-    Answer, Days, Kept, KeptAccount, KeptAccounts, KeptPayment, KeptPayments, KeptRows, KeptRuns,
-    KeptTotal, KeptTotals, KeptYears, Refusal, Reply, are_rising, holidays_check,
+    Answer, Facts, Kept, KeptAccount, KeptAccounts, KeptHolidays, KeptPayment, KeptPayments,
+    KeptRows, KeptRuns, KeptTotal, KeptTotals, KeptYears, Refusal, Reply, holidays_check,
     kept_in_quarter_check, kept_of_check,
 };
 use ftd_rules::{Form, Obligation};
@@ -81,7 +83,7 @@ fn accounts<S: Alter>(tx: &mut Tx<'_, S>, alloc: Global) -> Result<Answer, Store
         (Serves (Question (questions.Kept kept.Accounts))) }
 {
     let rows = all_accounts(tx, alloc)?;
-    Ok(Ok(Reply::Kept(KeptRows::Accounts(KeptAccounts::from_vec(rows)))))
+    Ok(Ok(Reply::Told(Facts::Kept(KeptRows::Accounts(KeptAccounts::from_vec(rows))))))
 }
 
 /// Tells the open years of an account, by year.
@@ -89,12 +91,15 @@ fn years<S: Alter>(tx: &mut Tx<'_, S>, alloc: Global, name: &str) -> Result<Answ
     ensures call { Calls S.Store tx.old tx.new result
         (Serves (Question (questions.Kept (kept.Years name.now)))) }
 {
-    let account = known(tx, alloc, name)?;
-    let lines = tx.years(alloc, name)?;
-    if let Some(answer) = kept_of_check(name, account) {
+    let found = known(tx, alloc, name)?;
+    if let Some(answer) = kept_of_check(name, found) {
         return Ok(answer);
     }
-    Ok(Ok(Reply::Kept(KeptRows::Years(KeptYears::from_vec(lines)))))
+    let Some(account) = &found else {
+        return Ok(Err(Refusal::UnknownAccount));
+    };
+    let rows = open_years(tx, alloc, name, account)?;
+    Ok(Ok(Reply::Told(Facts::Kept(KeptRows::Years(KeptYears::from_vec(rows))))))
 }
 
 /// The totals that an account on this form reported, as they were first given. `Failed` also where
@@ -120,7 +125,7 @@ fn first_totals<S: Alter>(
     }
 }
 
-/// A total as it is in force. `Failed` also where none was reported.
+/// A total as it is in force, and as it was first reported. `Failed` also where none was reported.
 fn total_in_force<S: Alter>(
     tx: &mut Tx<'_, S>,
     alloc: Global,
@@ -130,24 +135,28 @@ fn total_in_force<S: Alter>(
     ensures call { Reads S.Store tx.old tx.new result
         (λ told t. IsInForce name.now t total.now told) }
 {
-    match total {
-        KeptTotal::OfQuarter(quarter, _) => {
-            let Some(cents) = figure(tx, alloc, name, *quarter)? else {
+    match *total {
+        KeptTotal::OfQuarter { quarter, first, .. } => {
+            let Some(cents) = figure(tx, alloc, name, quarter)? else {
                 return tx.give_up(StoreFault::Failed);
             };
-            Ok(KeptTotal::OfQuarter(*quarter, cents))
+            Ok(KeptTotal::OfQuarter {
+                quarter,
+                cents,
+                first,
+            })
         }
-        KeptTotal::OfYear(year, _) => {
-            let Some(cents) = year_figure(tx, alloc, name, *year)? else {
+        KeptTotal::OfYear { year, first, .. } => {
+            let Some(cents) = year_figure(tx, alloc, name, year)? else {
                 return tx.give_up(StoreFault::Failed);
             };
-            Ok(KeptTotal::OfYear(*year, cents))
+            Ok(KeptTotal::OfYear { year, cents, first })
         }
     }
 }
 
-/// The totals that an account on this form reported, as they are in force. `Failed` also where they
-/// do not go on by quarter or year.
+/// The totals that an account on this form reported, as they are in force and as they were first
+/// reported. `Failed` also where they do not go on by quarter or year.
 fn totals<S: Alter>(
     tx: &mut Tx<'_, S>,
     alloc: Global,
@@ -181,30 +190,24 @@ fn reported<S: Alter>(tx: &mut Tx<'_, S>, alloc: Global, name: &str) -> Result<A
         return Ok(Err(Refusal::UnknownAccount));
     };
     let rows = totals(tx, alloc, name, account.form)?;
-    Ok(Ok(Reply::Kept(KeptRows::Reported(KeptTotals::from_vec(rows)))))
+    Ok(Ok(Reply::Told(Facts::Kept(KeptRows::Reported(KeptTotals::from_vec(rows))))))
 }
 
-/// Tells the holidays of a year: those that its calendar was given with, and those that were added
-/// to it. `Failed` also where the latter do not rise.
+/// Tells the days of a year that were given or added as holidays: those that its calendar was given
+/// with, and then those that were added to it. `Failed` also where the latter do not rise.
 fn holidays<S: Alter>(tx: &mut Tx<'_, S>, alloc: Global, year: u32) -> Result<Answer, StoreFault>
     ensures call { Calls S.Store tx.old tx.new result
         (Serves (Question (questions.Kept (kept.Holidays year)))) }
 {
     let given = tx.calendar(alloc, year)?;
-    let added = tx.added(alloc, year)?;
     if let Some(answer) = holidays_check(year, given.is_some()) {
         return Ok(answer);
     }
-    let Some(given) = given else {
+    let Some(days) = given else {
         return Ok(Err(Refusal::CalendarMissing(year)));
     };
-    if !are_rising(&added) {
-        return tx.give_up(StoreFault::Failed);
-    }
-    Ok(Ok(Reply::Kept(KeptRows::Holidays {
-        given: Days::from_vec(given),
-        added: Days::from_vec(added),
-    })))
+    let rows = all_holidays(tx, alloc, year, &days)?;
+    Ok(Ok(Reply::Told(Facts::Kept(KeptRows::Holidays(KeptHolidays::from_vec(rows))))))
 }
 
 /// Tells the runs of an account with a payday in the quarter. `Failed` also where they do not go on
@@ -224,7 +227,7 @@ fn runs<S: Alter>(
         return Ok(answer);
     }
     match told_runs(alloc, &found) {
-        Ok(rows) => Ok(Ok(Reply::Kept(KeptRows::Runs(KeptRuns::from_vec(rows))))),
+        Ok(rows) => Ok(Ok(Reply::Told(Facts::Kept(KeptRows::Runs(KeptRuns::from_vec(rows)))))),
         Err(fault) => tx.give_up(fault),
     }
 }
@@ -247,7 +250,9 @@ fn payments<S: Alter>(
         return Ok(answer);
     }
     match told_payments(alloc, &found, &owed) {
-        Ok(rows) => Ok(Ok(Reply::Kept(KeptRows::Payments(KeptPayments::from_vec(rows))))),
+        Ok(rows) => Ok(Ok(Reply::Told(Facts::Kept(KeptRows::Payments(KeptPayments::from_vec(
+            rows,
+        )))))),
         Err(fault) => tx.give_up(fault),
     }
 }

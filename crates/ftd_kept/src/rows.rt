@@ -130,8 +130,8 @@ fn period_of(total: &KeptTotal) -> u32
     ensures { result ≡ period_of total.now }
 {
     match total {
-        KeptTotal::OfQuarter(quarter, _) => quarter.quarters(),
-        KeptTotal::OfYear(year, _) => *year,
+        KeptTotal::OfQuarter { quarter, .. } => quarter.quarters(),
+        KeptTotal::OfYear { year, .. } => *year,
     }
 }
 
@@ -158,8 +158,8 @@ fn in_turn(totals: Vec<KeptTotal>) -> Result<Vec<KeptTotal>, StoreFault>
     Ok(totals)
 }
 
-/// The totals of quarters, as they are told. `Failed` where they do not go on by quarter, and
-/// `Memory` where there was no memory.
+/// The totals of quarters, as they were first reported. `Failed` where they do not go on by
+/// quarter, and `Memory` where there was no memory.
 pub(crate) fn told_quarters(
     alloc: Global,
     rows: &[QuarterTotal],
@@ -169,20 +169,28 @@ pub(crate) fn told_quarters(
 {
     let mut totals = Vec::new(alloc);
     for row in rows {
-        totals.push(KeptTotal::OfQuarter(row.quarter, row.cents))?;
+        totals.push(KeptTotal::OfQuarter {
+            quarter: row.quarter,
+            cents: row.cents,
+            first: row.cents,
+        })?;
     }
     in_turn(totals)
 }
 
-/// The totals of years, as they are told. `Failed` where they do not go on by year, and `Memory`
-/// where there was no memory.
+/// The totals of years, as they were first reported. `Failed` where they do not go on by year, and
+/// `Memory` where there was no memory.
 pub(crate) fn told_years(alloc: Global, rows: &[YearTotal]) -> Result<Vec<KeptTotal>, StoreFault>
     ensures told { IfOk result (λ totals. totals.items ≡ map kept_year rows.now) }
     ensures in_order { IfOk result (λ totals. EachToLater IsTotalBefore totals.items) }
 {
     let mut totals = Vec::new(alloc);
     for row in rows {
-        totals.push(KeptTotal::OfYear(row.year, row.cents))?;
+        totals.push(KeptTotal::OfYear {
+            year: row.year,
+            cents: row.cents,
+            first: row.cents,
+        })?;
     }
     in_turn(totals)
 }

@@ -23,7 +23,8 @@ use Rattle.ftd_machine.specs.Agenda.{due_date_of, left_of, IsDayFor, IsAgendaRow
 use Rattle.ftd_machine.specs.Agenda.{IsDueBetween, IsLeftBy, IsAgenda}
 use Rattle.ftd_machine.specs.declared.entries.Account.{Account}
 use Rattle.ftd_machine.specs.declared.lists.AgendaRow.{AgendaRow}
-use Rattle.ftd_machine.specs.declared.replies.Reply.TheVariants.{Agenda}
+use Rattle.ftd_machine.specs.declared.facts.Facts.TheVariants.{Agenda}
+use Rattle.ftd_machine.specs.declared.replies.Reply.TheVariants.{Told}
 use Rattle.ftd_machine.proofs.Adding.{same_name}
 use Rattle.ftd_machine.proofs.Members.{enrolled_of, found_some}
 use Rattle.ftd_machine.proofs.Single.{IsOnce, owed_one}
@@ -159,7 +160,7 @@ module _ (s : State) (as_of : ℕ) (once : (name : List ℕ) → IsOnce (entries
       λ x has. ((all.1 x).0 ((some.1 x).0 has).0).1 in
       let listed = ordered_some ComesBefore (IsAgendaRow s as_of) comes_then
       (rows_total s as_of once) some.0 each in (
-        Ok (Agenda listed.0),
+        Ok (Told (Agenda listed.0)),
         record {
           listed = listed.0;
           in_order = listed.1;

@@ -17,6 +17,7 @@ use Rattle.ftd_machine.specs.declared.entries.Account.{Account}
 use Rattle.ftd_machine.specs.declared.lists.AgendaRow.{AgendaRow}
 use Rattle.ftd_machine.specs.declared.replies.Refusal.{Refusal}
 use Rattle.ftd_machine.specs.declared.replies.Reply.{Reply}
+use Rattle.ftd_machine.specs.declared.facts.Facts.TheVariants as facts
 use Rattle.ftd_machine.specs.declared.replies.Reply.TheVariants as reply
 use Rattle.ftd_machine.specs.declared.requests.Question.{Question as Questions}
 use Rattle.ftd_machine.specs.declared.requests.Question.TheVariants.{DueList, Agenda, Owed}
@@ -62,10 +63,10 @@ two_days a b one other = refuses_needs a one _ (refuses_needs b other [] refuses
 -- ---- the laws
 
 abbrev agenda_of : List AgendaRow → Answer
-agenda_of rows = Ok (reply.Agenda rows)
+agenda_of rows = Ok (reply.Told (facts.Agenda rows))
 
 abbrev list_of : List DueRow → Answer
-list_of rows = Ok (reply.Due rows)
+list_of rows = Ok (reply.Told (facts.Due rows))
 
 agenda_is : (rows listed : List AgendaRow) → agenda_of rows ≡ agenda_of listed → rows ≡ listed
 agenda_is rows listed e = cc
@@ -75,18 +76,19 @@ list_is due listed e = cc
 
 pub agenda_cuts : (s after then : State) (from to as_of : ℕ) (rows : List AgendaRow)
     (x : AgendaRow) (account : Account) (due : List DueRow) → IsSound s
-    → Step s (Question (Agenda from to as_of)) (Ok (reply.Agenda rows)) after
+    → Step s (Question (Agenda from to as_of)) (Ok (reply.Told (facts.Agenda rows))) after
     → (entries_of s x.account).account ≡ Some account
     → Step s (Question (DueList x.account (quarter_of (first_day_of x)) as_of))
-    (Ok (reply.Due due)) then
+    (Ok (reply.Told (facts.Due due))) then
     → Has rows x ↔ IsCutOf (holidays s) from to account due x
 agenda_cuts s after then from to as_of rows x account due sound asked enrolled listing =
     let own = entries_of s x.account in
     let quarter = quarter_of (first_day_of x) in
-    let g : IsAgenda s (IsDueBetween from to) as_of (Ok (reply.Agenda rows)) =
-    told_by s (Agenda from to as_of) (reply.Agenda rows) after (two_days _ _ _ _) asked in
-    let d : IsDueList (holidays s) own quarter as_of (Ok (reply.Due due)) =
-    told_by s (DueList x.account quarter as_of) (reply.Due due) then
+    let g : IsAgenda s (IsDueBetween from to) as_of (Ok (reply.Told (facts.Agenda rows))) =
+    told_by s (Agenda from to as_of) (reply.Told (facts.Agenda rows)) after (two_days _ _ _ _)
+    asked in
+    let d : IsDueList (holidays s) own quarter as_of (Ok (reply.Told (facts.Due due))) =
+    told_by s (DueList x.account quarter as_of) (reply.Told (facts.Due due)) then
     (refuses_needs _ _ _
     (refuses_needs _ _ _
     (refuses_needs _ _ _ (refuses_finds _ _ _ (refuses_needs _ _ [] refuses_none))))) listing in
@@ -121,14 +123,15 @@ agenda_cuts s after then from to as_of rows x account due sound asked enrolled l
 
 pub owed_is_left : (s after then : State) (from until as_of : ℕ) (rows owed : List AgendaRow)
     (x : AgendaRow)
-    → Step s (Question (Agenda from until as_of)) (Ok (reply.Agenda rows)) after
-    → Step s (Question (Owed until as_of)) (Ok (reply.Agenda owed)) then
+    → Step s (Question (Agenda from until as_of)) (Ok (reply.Told (facts.Agenda rows))) after
+    → Step s (Question (Owed until as_of)) (Ok (reply.Told (facts.Agenda owed))) then
     → (Has owed x × (from ≤ due_date_of x)) ↔ (Has rows x × (0 < left_of x.row))
 owed_is_left s after then from until as_of rows owed x asked also =
-    let g : IsAgenda s (IsDueBetween from until) as_of (Ok (reply.Agenda rows)) =
-    told_by s (Agenda from until as_of) (reply.Agenda rows) after (two_days _ _ _ _) asked in
-    let d : IsAgenda s (IsLeftBy until) as_of (Ok (reply.Agenda owed)) =
-    told_by s (Owed until as_of) (reply.Agenda owed) then (two_days _ _ _ _) also in
+    let g : IsAgenda s (IsDueBetween from until) as_of (Ok (reply.Told (facts.Agenda rows))) =
+    told_by s (Agenda from until as_of) (reply.Told (facts.Agenda rows)) after (two_days _ _ _ _)
+    asked in
+    let d : IsAgenda s (IsLeftBy until) as_of (Ok (reply.Told (facts.Agenda owed))) =
+    told_by s (Owed until as_of) (reply.Told (facts.Agenda owed)) then (two_days _ _ _ _) also in
     let rows_are : rows ≡ g.listed = agenda_is rows g.listed g.told in
     let owed_are : owed ≡ d.listed = agenda_is owed d.listed d.told in (
       (λ h.

@@ -47,6 +47,7 @@ use Rattle.ftd_machine.specs.Asking.{IsDueRow, IsLiableDay}
 use Rattle.ftd_machine.specs.Runs.{IsRun}
 use Rattle.ftd_machine.specs.Step.{Step}
 use Rattle.ftd_machine.specs.declared.replies.Reason.TheVariants as reason
+use Rattle.ftd_machine.specs.declared.facts.Facts.TheVariants as facts
 use Rattle.ftd_machine.specs.declared.replies.Reply.TheVariants as reply
 use Rattle.ftd_machine.specs.declared.requests.Question.TheVariants as question
 use Rattle.ftd_machine.specs.declared.requests.Request.TheVariants as request
@@ -360,7 +361,7 @@ run_posted = (
 
 -- on 5 January the account is monthly, by its lookback total
 schedule_told : Step posted (request.Question (question.Status ash 45_294))
-    (Ok (reply.Status kind.Monthly reason.Lookback)) posted
+    (Ok (reply.Told (facts.Status kind.Monthly reason.Lookback))) posted
 unfolding is_account_name month_of month_from month_start
 schedule_told = (
   refl,
@@ -440,7 +441,7 @@ is_january_row = record {
 }
 
 due_list_told : Step posted (request.Question (question.DueList ash 496 45_340))
-    (Ok (reply.Due (january_row ∷ []))) posted
+    (Ok (reply.Told (facts.Due (january_row ∷ [])))) posted
 unfolding january january_row is_account_name month_of month_from month_start
 due_list_told = (
   refl,
@@ -491,7 +492,7 @@ only_liable x h =
     ]
 
 liability_told : Step posted (request.Question (question.ScheduleB ash 496))
-    (Ok (reply.Days (on_5_january ∷ []))) posted
+    (Ok (reply.Told (facts.Days (on_5_january ∷ [])))) posted
 unfolding is_account_name month_of month_from month_start
 liability_told = (
   refl,
@@ -546,8 +547,10 @@ january_deposited : IsRun enrolled
     ∷ request.Question (question.DueList ash 496 45_340)
     ∷ request.Question (question.ScheduleB ash 496) ∷ request.Void ash 1 ∷ [])
     (Ok reply.Done ∷ Ok (reply.Posted 45_290 45_320 0 1)
-    ∷ Ok (reply.Status kind.Monthly reason.Lookback) ∷ Ok (reply.Due (january_row ∷ []))
-    ∷ Ok (reply.Days (on_5_january ∷ [])) ∷ Ok (reply.Posted 45_290 45_320 1 0) ∷ []) voided
+    ∷ Ok (reply.Told (facts.Status kind.Monthly reason.Lookback))
+    ∷ Ok (reply.Told (facts.Due (january_row ∷ [])))
+    ∷ Ok (reply.Told (facts.Days (on_5_january ∷ [])))
+    ∷ Ok (reply.Posted 45_290 45_320 1 0) ∷ []) voided
 january_deposited = (
   opened,
   inl year_opened,

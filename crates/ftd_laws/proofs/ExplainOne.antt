@@ -1,5 +1,6 @@
 -- An obligation is explained in one way.
-use Rattle.std.proofs.Common.{◌≡◌, ◌∙◌, refl, sym, ap, subst, inl, inr, ℕ, ◌+◌, ◌<◌, List, Option, None}
+use Rattle.std.proofs.Common.{◌≡◌, ◌∙◌, refl, sym, ap, subst, inl, inr, ℕ, ◌+◌, ◌<◌, List, Option}
+use Rattle.std.proofs.Common.{None}
 use Rattle.std.proofs.Common.{Some, Ok, arith}
 use Rattle.std.specs.Prelude.{◌↔◌, ◌≤◌, true}
 use Rattle.ftd_days.specs.Business.{is_business}
@@ -26,7 +27,8 @@ use Rattle.ftd_machine.specs.declared.explained.Explanation.{Explanation}
 use Rattle.ftd_machine.specs.declared.explained.RunningSum.{RunningSum}
 use Rattle.ftd_machine.specs.declared.kept.KeptPayment.{KeptPayment}
 use Rattle.ftd_machine.specs.declared.replies.Reason.{Reason}
-use Rattle.ftd_machine.specs.declared.replies.Reply.TheVariants.{Status, Explained}
+use Rattle.ftd_machine.specs.declared.facts.Facts.TheVariants.{Status, Explained}
+use Rattle.ftd_machine.specs.declared.replies.Reply.TheVariants.{Told}
 use Rattle.ftd_machine.proofs.KeptOne.{listed_one, two_once, day_paid_for, payment_number}
 use Rattle.ftd_machine.proofs.Single.{IsOnce, members_one, owed_one, status_one}
 
@@ -42,7 +44,7 @@ covers_one holidays own owed are day o p has_o has_p c d =
     ((rows.all p).0 has_p) c d
 
 abbrev told_status : Kind → Reason → Answer
-told_status kind reason = Ok (Status kind reason)
+told_status kind reason = Ok (Told (Status kind reason))
 
 same_status : (k l : Kind) (r q : Reason) → told_status k r ≡ told_status l q
     → (k ≡ l) × (r ≡ q)
@@ -54,11 +56,12 @@ module _ (holidays : List ℕ) (own : Entries) (owed : List Obligation) where
       → Explains holidays own owed e → Explains holidays own owed f → e ≡ f
   explains_one e f once same g h =
       let form = form_of own.account in
-      let schedule : IsStatus own e.obligation.first (Ok (Status f.kind f.reason)) =
-      subst (λ (o : Obligation). IsStatus own o.first (Ok (Status f.kind f.reason))) same
+      let schedule : IsStatus own e.obligation.first (Ok (Told (Status f.kind f.reason))) =
+      subst (λ (o : Obligation). IsStatus own o.first (Ok (Told (Status f.kind f.reason)))) same
       h.schedule in
       let statuses = same_status e.kind f.kind e.reason f.reason (status_one own e.obligation.first
-      (Ok (Status e.kind e.reason)) (Ok (Status f.kind f.reason)) once g.schedule schedule) in
+      (Ok (Told (Status e.kind e.reason))) (Ok (Told (Status f.kind f.reason))) once g.schedule
+      schedule) in
       let kind : e.kind ≡ f.kind = statuses.0 in
       let reason : e.reason ≡ f.reason = statuses.1 in
       let also_paydays : (x : RunningSum) → Has f.paydays x ↔ IsPaydayOf own e.obligation x =
@@ -102,4 +105,4 @@ explanation_one holidays own day a b once g h =
     subst (λ os. IsExplained holidays own os day h.explained) owed h.is_explained in
     let same : g.explained ≡ h.explained = explained_one holidays own g.owed day g.explained
     h.explained once g.are_owed g.is_explained also in
-    g.told ∙ ap (λ e. Ok (Explained e)) same ∙ sym h.told
+    g.told ∙ ap (λ e. Ok (Told (Explained e))) same ∙ sym h.told

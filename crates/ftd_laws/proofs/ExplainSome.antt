@@ -36,7 +36,8 @@ use Rattle.ftd_machine.specs.declared.explained.DayKind.TheVariants.{Holiday}
 use Rattle.ftd_machine.specs.declared.explained.Explanation.{Explanation}
 use Rattle.ftd_machine.specs.declared.explained.RunningSum.{RunningSum}
 use Rattle.ftd_machine.specs.declared.kept.KeptPayment.{KeptPayment}
-use Rattle.ftd_machine.specs.declared.replies.Reply.TheVariants.{Status, Explained}
+use Rattle.ftd_machine.specs.declared.facts.Facts.TheVariants.{Status, Explained}
+use Rattle.ftd_machine.specs.declared.replies.Reply.TheVariants.{Told}
 use Rattle.ftd_machine.proofs.AgendaOrder.{inside}
 use Rattle.ftd_machine.proofs.Counting.{no_business, kind_one, from_one}
 use Rattle.ftd_machine.proofs.Dated.{dated}
@@ -59,8 +60,14 @@ module _ {X : Type 0} (day_of : X → ℕ) (P : X → Type 0)
 
   pub by_day : (from n : ℕ)
       → (xs : List X) × KeysRise day_of xs × ((x : X) → Has xs x ↔ LiesIn from n x)
-  by_day from zero =
-      ([], tt, λ x. ((λ has. absurd has), (λ h. absurd (let a = h.0 in let b = h.1 in omega arith))))
+  by_day from zero = (
+    [],
+    tt,
+    λ x. (
+      (λ has. absurd has),
+      (λ h. absurd (let a = h.0 in let b = h.1 in omega arith)),
+    ),
+  )
   by_day from (suc n) =
       let rest = by_day (from + 1) n in
       elim (at from) [
@@ -302,7 +309,7 @@ module _ (holidays : List ℕ) (own : Entries) (lines : List YearLine)
   explain owed are o has =
       let its = dated holidays own owed are o has in
       let status = status_on_line own are.0 its.line o.first are.1 its.open_year its.begins in
-      let schedule : IsStatus own o.first (Ok (Status status.1.status status.1.why)) =
+      let schedule : IsStatus own o.first (Ok (Told (Status status.1.status status.1.why))) =
       subst (IsStatus own o.first) status.1.told status.1 in
       let paydays = paydays_some own o its.some in
       let counted = days_some holidays o ((are.2.all o).0 has).due in
@@ -344,7 +351,7 @@ module _ (holidays : List ℕ) (own : Entries) (lines : List YearLine)
               (e.2, subst (λ (q : Obligation). Covers q day) (sym e.1) o.2),
             ))
       ] in (
-        Ok (Explained found.0),
+        Ok (Told (Explained found.0)),
         record {
           owed = owed.0;
           are_owed = owed.1;

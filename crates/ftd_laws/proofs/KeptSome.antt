@@ -3,7 +3,7 @@ use Rattle.std.proofs.Common.{◌≡◌, ◌∙◌, ◌⊎◌, inl, inr, refl, s
 use Rattle.std.proofs.Common.{List, [], ◌∷◌, Option, None, Some, arith}
 use Rattle.std.specs.Prelude.{◌↔◌}
 use Rattle.std.proofs.lemmas.Bool.Decides.{eqb_tells}
-use Rattle.std.specs.Prelude.{option_map}
+use Rattle.std.specs.Prelude.{option_map, map}
 use Rattle.ftd_days.specs.Calendar.{year_of, quarter_of}
 use Rattle.ftd_days.specs.declared.cents.Cents.{Cents}
 use Rattle.ftd_rules.specs.declared.Form.{Form}
@@ -16,10 +16,10 @@ use Rattle.ftd_rules.specs.declared.run.Voidable.{Voidable}
 use Rattle.ftd_rules.specs.Lists.{Has}
 use Rattle.ftd_rules.proofs.Cuts.{lt_or_le}
 use Rattle.ftd_rules.specs.Laws.{Covers}
-use Rattle.ftd_machine.specs.State.{State, Enrolled, Entries, entries_of, holidays, calendar_at}
-use Rattle.ftd_machine.specs.State.{is_given, kept_at, account_of, is_named, figure_at, latest}
-use Rattle.ftd_machine.specs.State.{all_at}
-use Rattle.ftd_machine.specs.History.{form_of, AreLinesOf}
+use Rattle.ftd_machine.specs.State.{State, Enrolled, Entries, Entry, entries_of, holidays}
+use Rattle.ftd_machine.specs.State.{calendar_at, is_given, kept_at, account_of, is_named}
+use Rattle.ftd_machine.specs.State.{figure_at, latest, all_at}
+use Rattle.ftd_machine.specs.History.{form_of, AreLinesOf, HasLookback}
 use Rattle.ftd_machine.specs.Checks.{Answer, first_of}
 use Rattle.ftd_machine.specs.Agenda.{EachToLater}
 use Rattle.ftd_machine.specs.Limits.{is_between}
@@ -27,11 +27,13 @@ use Rattle.ftd_machine.specs.Kept.{told_rows, IsEnrolled, IsAccountBefore, AreAc
 use Rattle.ftd_machine.specs.Kept.{IsTotal, period_of, IsTotalBefore, AreTotals, IsAdded}
 use Rattle.ftd_machine.specs.Kept.{IsDayBefore, AreHolidays, IsRunIn, IsRunBefore, AreRuns}
 use Rattle.ftd_machine.specs.Kept.{IsHeldBy, IsPaymentIn, IsPaymentBefore, ArePayments}
-use Rattle.ftd_machine.specs.Kept.{kept_checks, TellsKept}
+use Rattle.ftd_machine.specs.Kept.{kept_checks, TellsKept, as_first_reported, line_of, AreYears}
+use Rattle.ftd_machine.specs.Kept.{kept_days}
 use Rattle.ftd_machine.specs.declared.kept.KeptAccount.{KeptAccount}
 use Rattle.ftd_machine.specs.declared.kept.KeptPayment.{KeptPayment}
 use Rattle.ftd_machine.specs.declared.kept.KeptRun.{KeptRun}
 use Rattle.ftd_machine.specs.declared.kept.KeptTotal.{KeptTotal}
+use Rattle.ftd_machine.specs.declared.kept.KeptYear.{KeptYear}
 use Rattle.ftd_machine.specs.declared.kept.KeptTotal.TheVariants.{OfQuarter, OfYear}
 use Rattle.ftd_machine.specs.declared.kept.KeptRows.TheVariants as rows
 use Rattle.ftd_machine.specs.declared.replies.Refusal.TheVariants.{BadYear, CalendarMissing}
@@ -40,9 +42,9 @@ use Rattle.ftd_machine.specs.declared.requests.Kept.TheVariants.{Accounts, Years
 use Rattle.ftd_machine.specs.declared.requests.Kept.TheVariants.{Holidays, Runs, Payments}
 use Rattle.ftd_machine.proofs.Adding.{same_name}
 use Rattle.ftd_machine.proofs.Heads.{gives_needs, skip_needs}
-use Rattle.ftd_machine.proofs.Numbers.{first_of_force}
 use Rattle.ftd_machine.proofs.Members.{enrolled_of, found_some, some_of}
 use Rattle.ftd_machine.proofs.Lined.{owed_some}
+use Rattle.ftd_machine.proofs.Totals.{lookback_again}
 use Rattle.ftd_machine.proofs.DueSome.{Or, both_or, le_or}
 use Rattle.ftd_laws.proofs.Choosing.{chosen, made_some, kept_some}
 use Rattle.ftd_machine.proofs.Ordered.{ordered_some}
@@ -111,28 +113,86 @@ accounts_some s =
       record { listed = listed.0; by_name = listed.1; all = listed.2; told = refl },
     )
 
+-- ---- open years
+
+abbrev IsFirstLookback : Entries → KeptYear → Type 0
+IsFirstLookback own x = HasLookback (as_first_reported own) x.line.year x.first_lookback
+
+-- a line that has its lookback total has one by what was first reported
+with_first : (own : Entries) (lines : List YearLine)
+    → ((line : YearLine) → Has lines line → HasLookback own line.year line.lookback)
+    → (xs : List KeptYear) × (map line_of xs ≡ lines)
+    × ((x : KeptYear) → Has xs x → IsFirstLookback own x)
+with_first own [] totals = ([], refl, λ x has. absurd has)
+with_first own (line ∷ lines) totals =
+    let first = lookback_again own (as_first_reported own) (record {
+      account = refl;
+      reported = refl;
+      reported_years = refl;
+      open_years = refl;
+      runs = refl;
+    }) line.year line.lookback (totals line (inl refl)) in
+    let rest = with_first own lines (λ other has. totals other (inr has)) in
+    let year : KeptYear = record { line = line; first_lookback = first.0 } in (
+      year ∷ rest.0,
+      ap (λ ls. line ∷ ls) rest.1,
+      λ x has. elim has [
+        | inl is ↦ subst (IsFirstLookback own) (sym is) first.1
+        | inr later ↦ rest.2 x later
+      ],
+    )
+
+years_some : (own : Entries) (lines : List YearLine) → AreLinesOf own lines
+    → (answer : Answer) × AreYears own answer
+years_some own lines are =
+    let made = with_first own lines are.lookbacks in (
+      told_rows (rows.Years made.0),
+      record {
+        listed = made.0;
+        are_lines = subst (AreLinesOf own) (sym made.1) are;
+        first_lookbacks = made.2;
+        told = refl;
+      },
+    )
+
 -- ---- reported totals
 
 total_one : (form : Form) (own : Entries) (x y : KeptTotal) → period_of x ≡ period_of y
     → IsTotal form own x → IsTotal form own y → x ≡ y
-total_one F941 own (OfQuarter a c) (OfQuarter b d) same g h =
+total_one F941 own (OfQuarter a c e) (OfQuarter b d f) same g h =
     let cents : c ≡ d = inside c d
-    (sym g ∙ subst (λ k. figure_at k own.reported own.corrected ≡ Some d) (sym same) h) in
-    rw (same, cents) refl
-total_one F941 own (OfQuarter a c) (OfYear b d) same g h = absurd h
-total_one F941 own (OfYear a c) y same g h = absurd g
-total_one F943 own (OfYear a c) (OfYear b d) same g h =
-    let cents : c ≡ d = inside c d
-    (sym g ∙ subst (λ k. figure_at k own.reported_years own.corrected_years ≡ Some d) (sym same) h) in
-    rw (same, cents) refl
-total_one F943 own (OfYear a c) (OfQuarter b d) same g h = absurd h
-total_one F943 own (OfQuarter a c) y same g h = absurd g
+    (sym g.0 ∙ subst (λ k. figure_at k own.reported own.corrected ≡ Some d) (sym same) h.0) in
+    let first : e ≡ f = inside e f
+    (sym g.1 ∙ subst (λ k. kept_at k own.reported ≡ Some f) (sym same) h.1) in
+    rw (same, cents, first) refl
+total_one F941 own (OfQuarter a c e) (OfYear b d f) same g h = absurd h
+total_one F941 own (OfYear a c e) y same g h = absurd g
+total_one F943 own (OfYear a c e) (OfYear b d f) same g h =
+    let cents : c ≡ d = inside c d (sym g.0
+    ∙ subst (λ k. figure_at k own.reported_years own.corrected_years ≡ Some d) (sym same) h.0) in
+    let first : e ≡ f = inside e f
+    (sym g.1 ∙ subst (λ k. kept_at k own.reported_years ≡ Some f) (sym same) h.1) in
+    rw (same, cents, first) refl
+total_one F943 own (OfYear a c e) (OfQuarter b d f) same g h = absurd h
+total_one F943 own (OfQuarter a c e) y same g h = absurd g
+
+-- what is in force of a total that was reported so
+abbrev in_force_of : ℕ → List (Entry Cents) → Cents → Cents
+in_force_of key corrected first = latest first (all_at key corrected)
 
 abbrev quarter_of_figure : Entries → ℕ → Cents → KeptTotal
-quarter_of_figure own key first = OfQuarter key (latest first (all_at key own.corrected))
+quarter_of_figure own key first = OfQuarter key (in_force_of key own.corrected first) first
 
 abbrev year_of_figure : Entries → ℕ → Cents → KeptTotal
-year_of_figure own key first = OfYear key (latest first (all_at key own.corrected_years))
+year_of_figure own key first = OfYear key (in_force_of key own.corrected_years first) first
+
+-- the figure in force of what was reported so first
+force_is : (key : ℕ) (reported corrected : List (Entry Cents)) (cents first : Cents)
+    → figure_at key reported corrected ≡ Some cents → kept_at key reported ≡ Some first
+    → cents ≡ in_force_of key corrected first
+force_is key reported corrected cents first force was =
+    inside cents (in_force_of key corrected first)
+    (sym force ∙ ap (option_map (in_force_of key corrected)) was)
 
 totals_are : (form : Form) (own : Entries)
     → (xs : List KeptTotal) × ((x : KeptTotal) → Has xs x ↔ IsTotal form own x)
@@ -142,35 +202,42 @@ totals_are F941 own =
       λ x. (
         (λ has. (let h = (made.1 x).0 has in
             subst (IsTotal F941 own) (sym h.3)
-            (ap (option_map (λ first. latest first (all_at h.0 own.corrected))) h.2))),
+            (ap (option_map (in_force_of h.0 own.corrected)) h.2, h.2))),
         (λ is. (made.1 x).1 (back x is)),
       ),
     )
   where
     back : (x : KeptTotal) → IsTotal F941 own x → (k : ℕ) × (c : Cents)
         × (kept_at k own.reported ≡ Some c) × (x ≡ quarter_of_figure own k c)
-    back (OfQuarter quarter cents) is =
-        let f = first_of_force (kept_at quarter own.reported) (all_at quarter own.corrected) cents is in
-        (quarter, f.0, f.1, ap (OfQuarter quarter) f.2)
-    back (OfYear year cents) is = absurd is
+    back (OfQuarter quarter cents first) is = (
+      quarter,
+      first,
+      is.1,
+      ap (λ c. OfQuarter quarter c first)
+          (force_is quarter own.reported own.corrected cents first is.0 is.1),
+    )
+    back (OfYear year cents first) is = absurd is
 totals_are F943 own =
     let made = kept_some (year_of_figure own) own.reported_years in (
       made.0,
       λ x. (
         (λ has. (let h = (made.1 x).0 has in
             subst (IsTotal F943 own) (sym h.3)
-            (ap (option_map (λ first. latest first (all_at h.0 own.corrected_years))) h.2))),
+            (ap (option_map (in_force_of h.0 own.corrected_years)) h.2, h.2))),
         (λ is. (made.1 x).1 (back x is)),
       ),
     )
   where
     back : (x : KeptTotal) → IsTotal F943 own x → (k : ℕ) × (c : Cents)
         × (kept_at k own.reported_years ≡ Some c) × (x ≡ year_of_figure own k c)
-    back (OfYear year cents) is =
-        let f = first_of_force (kept_at year own.reported_years) (all_at year own.corrected_years) cents
-        is in
-        (year, f.0, f.1, ap (OfYear year) f.2)
-    back (OfQuarter quarter cents) is = absurd is
+    back (OfYear year cents first) is = (
+      year,
+      first,
+      is.1,
+      ap (λ c. OfYear year c first)
+          (force_is year own.reported_years own.corrected_years cents first is.0 is.1),
+    )
+    back (OfQuarter quarter cents first) is = absurd is
 
 totals_some : (own : Entries) → (answer : Answer) × AreTotals own answer
 totals_some own =
@@ -201,7 +268,7 @@ holidays_some s year there =
       | inl less ↦ inl less
       | inr not ↦ inr not
     ]) added.0 added.1 in (
-      told_rows (rows.Holidays given.0 listed.0),
+      told_rows (rows.Holidays (kept_days s given.0 listed.0)),
       record {
         given = given.0;
         is_given = given.1;
@@ -387,10 +454,7 @@ pub kept_told : (s : State) (kept : Kept)
     → ((name : List ℕ) → (lines : List YearLine) × AreLinesOf (entries_of s name) lines)
     → first_of (kept_checks s kept) ≡ None → (answer : Answer) × TellsKept s kept answer
 kept_told s Accounts lines e = accounts_some s
-kept_told s (Years name) lines e = (
-  told_rows (rows.Years (lines name).0),
-  record { lines = (lines name).0; are_lines = (lines name).1; told = refl },
-)
+kept_told s (Years name) lines e = years_some (entries_of s name) (lines name).0 (lines name).1
 kept_told s (Reported name) lines e = totals_some (entries_of s name)
 kept_told s (Holidays year) lines e = holidays_some s year (given_of_holidays s year e)
 kept_told s (Runs name quarter) lines e = runs_some (entries_of s name) quarter

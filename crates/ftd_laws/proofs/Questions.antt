@@ -21,6 +21,7 @@ use Rattle.ftd_machine.specs.Kept.{AreRuns, ArePayments}
 use Rattle.ftd_machine.specs.Questions.{question_checks, Tells, AsksOf}
 use Rattle.ftd_machine.specs.Laws.{AgreeOn}
 use Rattle.ftd_machine.specs.declared.lists.AgendaRow.{AgendaRow}
+use Rattle.ftd_machine.specs.declared.facts.Facts.TheVariants as facts
 use Rattle.ftd_machine.specs.declared.replies.Reply.TheVariants as reply
 use Rattle.ftd_machine.specs.declared.replies.Refusal.TheVariants.{BadName, BadDay}
 use Rattle.ftd_machine.specs.declared.replies.Refusal.TheVariants.{UnknownAccount, YearNotOpen}
@@ -85,7 +86,8 @@ same_kept s t (Runs own quarter) name named agree answer told =
     subst (λ e. AreRuns e quarter answer) (sym agrees.own) told
 same_kept s t (Payments own quarter) name named agree answer told =
     let agrees : AgreeOn own s t = agree_on own name s t named agree in
-    subst (λ h. ArePayments h (entries_of t own) quarter answer) (sym (same_holidays own s t agrees))
+    subst (λ h. ArePayments h (entries_of t own) quarter answer)
+    (sym (same_holidays own s t agrees))
     (subst (λ e. ArePayments (holidays s) e quarter answer) (sym agrees.own) told)
 
 -- the checks of a question that names an account answer the same
@@ -143,7 +145,7 @@ agenda_one s IsAsked as_of a b g h =
     let listed : g.listed ≡ h.listed = ordered_one ComesBefore not_both g.listed h.listed g.in_order
     h.in_order
     (λ x has. (h.all x).1 ((g.all x).0 has)) (λ x has. (g.all x).1 ((h.all x).0 has)) in
-    g.told ∙ ap (λ xs. Ok (reply.Agenda xs)) listed ∙ sym h.told
+    g.told ∙ ap (λ xs. Ok (reply.Told (facts.Agenda xs))) listed ∙ sym h.told
 
 pub tells_one : (s : State) (question : Question) (a b : Answer)
     → ((name : List ℕ) → IsOnce (entries_of s name))

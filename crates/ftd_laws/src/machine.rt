@@ -9,17 +9,18 @@ ghost use Rattle.ftd_rules.specs.declared.verdict.DueRow.{DueRow};
 ghost use Rattle.ftd_rules.specs.Lists.{Has};
 ghost use Rattle.ftd_rules.specs.Liability.{liability};
 ghost use Rattle.ftd_rules.specs.Payments.{paid_by};
-ghost use Rattle.ftd_machine.specs.Limits.{amounts_end, IsBounded};
+ghost use Rattle.ftd_machine.specs.Limits.{amounts_end};
 ghost use Rattle.ftd_machine.specs.History.{live_sums, live_payments, HasLookback};
 ghost use Rattle.ftd_machine.specs.Checks.{Answer};
 ghost use Rattle.ftd_machine.specs.Step.{Step};
 ghost use Rattle.ftd_machine.specs.Runs.{IsRun, IsReached};
 ghost use Rattle.ftd_machine.specs.Sound.{IsSound};
-ghost use Rattle.ftd_machine.specs.Laws.{is_change, Names, AgreeOn, IsRepeat};
+ghost use Rattle.ftd_machine.specs.Laws.{is_change, IsBounded, Names, AgreeOn, IsRepeat};
 ghost use Rattle.ftd_machine.specs.Agenda.{due_date_of, first_day_of, left_of, IsCutOf};
 ghost use Rattle.ftd_machine.specs.declared.entries.Account.{Account};
 ghost use Rattle.ftd_machine.specs.declared.lists.AgendaRow.{AgendaRow};
 ghost use Rattle.ftd_machine.specs.declared.replies.Reply.{Reply};
+ghost use Rattle.ftd_machine.specs.declared.facts.Facts.TheVariants as facts;
 ghost use Rattle.ftd_machine.specs.declared.replies.Reply.TheVariants as reply;
 ghost use Rattle.ftd_machine.specs.declared.requests.Request.{Request};
 ghost use Rattle.ftd_machine.specs.declared.requests.Request.TheVariants.{Question};
@@ -121,10 +122,10 @@ pub fn a_repeat_changes_nothing()
 pub fn an_agenda_is_all_due_lists()
     ensures { (s after then : State) (from to as_of : ℕ) (rows : List AgendaRow) (x : AgendaRow)
         (account : Account) (due : List DueRow) → IsSound s
-        → Step s (Question (Agenda from to as_of)) (Ok (reply.Agenda rows)) after
+        → Step s (Question (Agenda from to as_of)) (Ok (reply.Told (facts.Agenda rows))) after
         → (entries_of s x.account).account ≡ Some account
         → Step s (Question (DueList x.account (quarter_of (first_day_of x)) as_of))
-        (Ok (reply.Due due)) then
+        (Ok (reply.Told (facts.Due due))) then
         → Has rows x ↔ IsCutOf (holidays s) from to account due x }
 {}
 
@@ -134,7 +135,7 @@ pub fn an_agenda_is_all_due_lists()
 pub fn what_is_owed_is_left_of_the_agenda()
     ensures { (s after then : State) (from until as_of : ℕ) (rows owed : List AgendaRow)
         (x : AgendaRow)
-        → Step s (Question (Agenda from until as_of)) (Ok (reply.Agenda rows)) after
-        → Step s (Question (Owed until as_of)) (Ok (reply.Agenda owed)) then
+        → Step s (Question (Agenda from until as_of)) (Ok (reply.Told (facts.Agenda rows))) after
+        → Step s (Question (Owed until as_of)) (Ok (reply.Told (facts.Agenda owed))) then
         → (Has owed x × (from ≤ due_date_of x)) ↔ (Has rows x × (0 < left_of x.row)) }
 {}

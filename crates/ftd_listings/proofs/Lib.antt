@@ -1,3 +1,2 @@
 mod LineParts
-mod JoinFacts
 mod ExplanationParts

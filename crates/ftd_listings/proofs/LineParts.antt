@@ -19,10 +19,12 @@ pub year_parts : (y s d c o k : List ℕ) → join_with_byte 32 (y ∷ (s ++ d +
     ≡ concat (y ∷ (32 ∷ []) ∷ s ∷ d ∷ c ∷ (32 ∷ []) ∷ o ∷ k ∷ [])
 year_parts y s d c o k = column y _ _ _ (three s d c _ _ _ (last o k))
 
-pub total_parts : (y s d c : List ℕ) → join_with_byte 32 (y ∷ (s ++ d ++ c) ∷ []) ++ (10 ∷ [])
-    ≡ concat (y ∷ (32 ∷ []) ∷ s ∷ d ∷ c ∷ (10 ∷ []) ∷ [])
-total_parts y s d c =
-    column y _ _ _ (append_assoc (s ++ d) c (10 ∷ []) ∙ append_assoc s d (c ++ (10 ∷ [])))
+pub amount_parts : (s d c : List ℕ) → s ++ d ++ c ≡ concat (s ∷ d ∷ c ∷ [])
+amount_parts s d c = simp (append_assoc, append-nil)
+
+pub total_parts : (y a end : List ℕ) → join_with_byte 32 (y ∷ a ∷ []) ++ end
+    ≡ concat (y ∷ (32 ∷ []) ∷ []) ++ (a ++ end)
+total_parts y a end = simp append_assoc
 
 pub run_parts : (p s d c t e f l m n k end : List ℕ) →
     join_with_byte 32 (p ∷ (s ++ d ++ c) ∷ (t ++ e ++ f) ∷ (l ++ m ++ n) ∷ k ∷ []) ++ end

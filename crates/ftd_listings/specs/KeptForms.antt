@@ -1,14 +1,16 @@
 -- What is kept, as CSV and as JSON.
-use Rattle.std.specs.Prelude.{ℕ, Bool, true, false, List, [], ◌∷◌, ◌++◌, codes, map, Option, Some}
-use Rattle.std.specs.Prelude.{None, if◌then◌else◌}
+use Rattle.std.specs.Prelude.{ℕ, List, [], ◌∷◌, ◌++◌, codes, map, Option, Some, None}
+use Rattle.std.specs.Prelude.{if◌then◌else◌}
 use Rattle.std.specs.List.{flat_map}
 use Rattle.ftd_days.specs.Text.{day_text, quarter_text, cents_text}
-use Rattle.ftd_rules.specs.declared.YearLine.{YearLine}
+use Rattle.ftd_days.specs.declared.cents.Cents.{Cents}
 use Rattle.ftd_machine.specs.declared.kept.KeptAccount.{KeptAccount}
+use Rattle.ftd_machine.specs.declared.kept.KeptHoliday.{KeptHoliday}
 use Rattle.ftd_machine.specs.declared.kept.KeptPayment.{KeptPayment}
 use Rattle.ftd_machine.specs.declared.kept.KeptRun.{KeptRun}
 use Rattle.ftd_machine.specs.declared.kept.KeptTotal.{KeptTotal}
 use Rattle.ftd_machine.specs.declared.kept.KeptTotal.TheVariants.{OfQuarter, OfYear}
+use Rattle.ftd_machine.specs.declared.kept.KeptYear.{KeptYear}
 use Rattle.ftd_machine.specs.declared.kept.KeptRows.{KeptRows}
 use Rattle.ftd_machine.specs.declared.kept.KeptRows.TheVariants as rows
 use Rattle.ftd_machine.specs.declared.requests.Kept.{Kept}
@@ -42,27 +44,31 @@ abbrev pub day_field : List ℕ → Option ℕ → Told
 day_field name day = record { name = name; plain = day_plain day; json = day_json day }
 
 -- an open year of an account: its lookback total, the schedule that it opens with, whether the
--- account is carried into it, and the day on which it turned
-abbrev pub year_fields : List ℕ → YearLine → List Told
+-- account is carried into it, the day on which it turned, and its lookback total by what was first
+-- reported
+abbrev pub year_fields : List ℕ → KeptYear → List Told
 year_fields account x =
-    text_field (codes "account") account ∷ number_field (codes "year") x.year
-    ∷ text_field (codes "lookback") (cents_text x.lookback.0)
-    ∷ text_field (codes "opening") (kind_name x.opening)
-    ∷ flag_field (codes "carried") x.carried ∷ day_field (codes "turned") x.turn ∷ []
+    text_field (codes "account") account ∷ number_field (codes "year") x.line.year
+    ∷ text_field (codes "lookback") (cents_text x.line.lookback.0)
+    ∷ text_field (codes "opening") (kind_name x.line.opening)
+    ∷ flag_field (codes "carried") x.line.carried ∷ day_field (codes "turned") x.line.turn
+    ∷ text_field (codes "first_lookback") (cents_text x.first_lookback.0) ∷ []
 
--- a reported total of an account: its quarter or year, and the amount
+-- a reported total of an account: its quarter or year, and the amount that is in force
 abbrev pub total_fields : List ℕ → KeptTotal → List Told
-total_fields account (OfQuarter quarter cents) =
+total_fields account (OfQuarter quarter cents first) =
     text_field (codes "account") account ∷ text_field (codes "quarter") (quarter_text quarter)
     ∷ text_field (codes "amount") (cents_text cents.0) ∷ []
-total_fields account (OfYear year cents) =
+total_fields account (OfYear year cents first) =
     text_field (codes "account") account ∷ number_field (codes "year") year
     ∷ text_field (codes "amount") (cents_text cents.0) ∷ []
 
--- a holiday, and whether it was added to its year
-abbrev pub holiday_fields : Bool → ℕ → List Told
-holiday_fields added day =
-    text_field (codes "day") (day_text day) ∷ flag_field (codes "added") added ∷ []
+-- a day that was given or added as a holiday: whether it was added to its year, and whether it is a
+-- holiday
+abbrev pub holiday_fields : KeptHoliday → List Told
+holiday_fields x =
+    text_field (codes "day") (day_text x.day) ∷ flag_field (codes "added") x.added
+    ∷ flag_field (codes "holiday") x.is_holiday ∷ []
 
 -- a pay run of an account: its number, its payday, and its three amounts
 abbrev pub run_fields : List ℕ → KeptRun → List Told
@@ -88,13 +94,14 @@ abbrev pub accounts_head : List ℕ
 accounts_head = codes "employer,first_day,carried,form\n"
 
 abbrev pub years_head : List ℕ
-years_head = codes "employer,year,lookback,opening,carried,turned\n"
+years_head = codes "employer,year,lookback,opening,carried,turned,first_lookback\n"
 
+-- totals as they are imported, each by the amount that is in force
 abbrev pub totals_head : List ℕ
 totals_head = codes "employer,period,amount\n"
 
 abbrev pub holidays_head : List ℕ
-holidays_head = codes "day,added\n"
+holidays_head = codes "day,added,holiday\n"
 
 abbrev pub records_head : List ℕ
 records_head = codes "employer,run,payday,fit,ss,medicare\n"
@@ -124,14 +131,23 @@ rows_csv account (rows.Years listed) =
     years_head ++ flat_map (λ x. record_told (year_fields account x)) listed
 rows_csv account (rows.Reported listed) =
     totals_head ++ flat_map (λ x. record_told (total_fields account x)) listed
-rows_csv account (rows.Holidays given added) =
-    holidays_head ++ (flat_map (λ day. record_told (holiday_fields false day)) given
-    ++ flat_map (λ day. record_told (holiday_fields true day)) added)
+rows_csv account (rows.Holidays listed) =
+    holidays_head ++ flat_map (λ x. record_told (holiday_fields x)) listed
 rows_csv account (rows.Runs listed) = runs_csv account listed
 rows_csv account (rows.Payments listed) =
     payments_head ++ flat_map (live_payment account) listed
 
 -- ---- JSON: a list of objects, also of what was voided
+
+-- a total has the amount that was first reported
+abbrev pub first_reported : KeptTotal → Cents
+first_reported (OfQuarter quarter cents first) = first
+first_reported (OfYear year cents first) = first
+
+abbrev pub total_object : List ℕ → KeptTotal → List ℕ
+total_object account x =
+    object_told (total_fields account x
+    ++ (text_field (codes "first") (cents_text (first_reported x).0) ∷ []))
 
 abbrev pub run_object : List ℕ → KeptRun → List ℕ
 run_object account x =
@@ -148,11 +164,9 @@ rows_json account (rows.Accounts listed) =
     list_of (map (λ x. object_told (account_fields x)) listed)
 rows_json account (rows.Years listed) =
     list_of (map (λ x. object_told (year_fields account x)) listed)
-rows_json account (rows.Reported listed) =
-    list_of (map (λ x. object_told (total_fields account x)) listed)
-rows_json account (rows.Holidays given added) =
-    list_of (map (λ day. object_told (holiday_fields false day)) given
-    ++ map (λ day. object_told (holiday_fields true day)) added)
+rows_json account (rows.Reported listed) = list_of (map (total_object account) listed)
+rows_json account (rows.Holidays listed) =
+    list_of (map (λ x. object_told (holiday_fields x)) listed)
 rows_json account (rows.Runs listed) = list_of (map (run_object account) listed)
 rows_json account (rows.Payments listed) = list_of (map (payment_object account) listed)
 

@@ -10,8 +10,8 @@ ghost use Rattle.ftd_listings.specs.Listings.{kind_name};
 
 use ftd_days::Day;
 use ftd_formats::Value;
-use ftd_machine::{KeptAccount, KeptPayment, KeptRun, KeptTotal};
-use ftd_rules::{Kind, YearLine};
+use ftd_machine::{KeptAccount, KeptHoliday, KeptPayment, KeptRun, KeptTotal, KeptYear};
+use ftd_rules::Kind;
 
 /// A day, or none.
 pub fn day_or_missing<'a>(day: Option<Day>) -> Value<'a>
@@ -48,33 +48,34 @@ pub fn account_fields(row: &KeptAccount) -> [(&str, Value<'_>); 4]
 }
 
 /// The fields of an open year of the account.
-pub fn year_fields<'a>(account: &'a str, line: &YearLine) -> [(&'a str, Value<'a>); 6]
-    ensures plain { map plain_of result ≡ plain_texts (year_fields account.now line.now) }
-    ensures members { map member_of result ≡ members_of (year_fields account.now line.now) }
+pub fn year_fields<'a>(account: &'a str, row: &KeptYear) -> [(&'a str, Value<'a>); 7]
+    ensures plain { map plain_of result ≡ plain_texts (year_fields account.now row.now) }
+    ensures members { map member_of result ≡ members_of (year_fields account.now row.now) }
 {
-    let opening = kind_name(line.opening);
+    let opening = kind_name(row.line.opening);
     [
         ("account", Value::Text(account)),
-        ("year", Value::Number(line.year)),
-        ("lookback", Value::Amount(line.lookback)),
+        ("year", Value::Number(row.line.year)),
+        ("lookback", Value::Amount(row.line.lookback)),
         ("opening", Value::Text(opening)),
-        ("carried", Value::Flag(line.carried)),
-        ("turned", day_or_missing(line.turn)),
+        ("carried", Value::Flag(row.line.carried)),
+        ("turned", day_or_missing(row.line.turn)),
+        ("first_lookback", Value::Amount(row.first_lookback)),
     ]
 }
 
-/// The fields of a total that the account reported.
+/// The fields of a total that the account reported, by the amount that is in force.
 pub fn total_fields<'a>(account: &'a str, total: &KeptTotal) -> [(&'a str, Value<'a>); 3]
     ensures plain { map plain_of result ≡ plain_texts (total_fields account.now total.now) }
     ensures members { map member_of result ≡ members_of (total_fields account.now total.now) }
 {
     match total {
-        KeptTotal::OfQuarter(quarter, cents) => [
+        KeptTotal::OfQuarter { quarter, cents, .. } => [
             ("account", Value::Text(account)),
             ("quarter", Value::Quarter(*quarter)),
             ("amount", Value::Amount(*cents)),
         ],
-        KeptTotal::OfYear(year, cents) => [
+        KeptTotal::OfYear { year, cents, .. } => [
             ("account", Value::Text(account)),
             ("year", Value::Number(*year)),
             ("amount", Value::Amount(*cents)),
@@ -82,12 +83,16 @@ pub fn total_fields<'a>(account: &'a str, total: &KeptTotal) -> [(&'a str, Value
     }
 }
 
-/// The fields of a holiday.
-pub fn holiday_fields<'a>(added: bool, day: Day) -> [(&'a str, Value<'a>); 2]
-    ensures plain { map plain_of result ≡ plain_texts (holiday_fields added day) }
-    ensures members { map member_of result ≡ members_of (holiday_fields added day) }
+/// The fields of a day that was given or added as a holiday.
+pub fn holiday_fields<'a>(row: &KeptHoliday) -> [(&'a str, Value<'a>); 3]
+    ensures plain { map plain_of result ≡ plain_texts (holiday_fields row.now) }
+    ensures members { map member_of result ≡ members_of (holiday_fields row.now) }
 {
-    [("day", Value::Day(day)), ("added", Value::Flag(added))]
+    [
+        ("day", Value::Day(row.day)),
+        ("added", Value::Flag(row.added)),
+        ("holiday", Value::Flag(row.is_holiday)),
+    ]
 }
 
 /// The fields of a pay run of the account.

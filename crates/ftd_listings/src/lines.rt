@@ -1,34 +1,28 @@
 //! What is kept, told in a line each.
 
 ghost use Rattle.std.specs.Prelude.{◌≡◌, true, OnOk, OnErr};
-ghost use Rattle.std.specs.Fmt.{decimal};
 ghost use Rattle.std.specs.Io.KnownBytes.{Appends};
-ghost use Rattle.ftd_days.specs.Text.{quarter_text};
 ghost use Rattle.ftd_ports.specs.Writing.{WritesPrefix};
+ghost use Rattle.ftd_reports.specs.Columns.{amount_in};
 ghost use Rattle.ftd_listings.specs.Listings.{name_text, enrolled_text, account_line, carried_end};
 ghost use Rattle.ftd_listings.specs.Listings.{carried_text, kind_name};
-ghost use Rattle.ftd_listings.specs.Listings.{year_text, turn_end, year_line, total_text, total_line};
-ghost use Rattle.ftd_listings.specs.Listings.{void_end, run_line, held_text};
-ghost use Rattle.ftd_listings.specs.Listings.{added_end, holiday_line, payment_line};
+ghost use Rattle.ftd_listings.specs.Listings.{year_text, turn_text, first_end, year_line};
+ghost use Rattle.ftd_listings.specs.Listings.{total_text, total_line, added_text, holiday_end};
+ghost use Rattle.ftd_listings.specs.Listings.{holiday_line, void_end, run_line, held_text};
+ghost use Rattle.ftd_listings.specs.Listings.{payment_line};
 
 use crate::fields::kind_name;
-use ftd_days::{Cents, Day, Quarter};
+use ftd_days::{Cents, Day};
 use ftd_formats::RowFormat;
-use ftd_machine::{Account, KeptAccount, KeptPayment, KeptRun, KeptTotal};
+use ftd_machine::{Account, KeptAccount, KeptHoliday, KeptPayment, KeptRun, KeptTotal, KeptYear};
 use ftd_ports::{Target, WriteFault, write_all, write_pieces};
-use ftd_reports::{amount_column, day_bytes, form_bytes, quarter_bytes, spaces_after};
+use ftd_reports::{amount_column, amount_text, day_bytes, form_bytes, quarter_bytes, spaces_after};
 use ftd_rules::{Kind, YearLine};
 use itoa::Buffer;
 
 /// What is kept, in lines of columns.
 #[derive(Drop)]
 pub struct Columns;
-
-/// Holidays, each in a line of its own: those that were added to their year, or the others.
-#[derive(Drop)]
-pub struct HolidayColumns {
-    pub added: bool,
-}
 
 /// The end of the line of an account.
 fn carried_end(carried: bool) -> &'static [u8]
@@ -44,11 +38,18 @@ fn void_end(voided: bool) -> &'static [u8]
     if voided { b" void\n" } else { b"\n" }
 }
 
-/// The end of the line of a holiday.
-fn added_end(added: bool) -> &'static [u8]
-    ensures { result.now ≡ added_end added }
+/// Whether a holiday was added to its year.
+fn added_text(added: bool) -> &'static [u8]
+    ensures { result.now ≡ added_text added }
 {
-    if added { b" added\n" } else { b"\n" }
+    if added { b" added" } else { b"" }
+}
+
+/// The end of the line of a day that was given or added as a holiday.
+fn holiday_end(is_holiday: bool) -> &'static [u8]
+    ensures { result.now ≡ holiday_end is_holiday }
+{
+    if is_holiday { b"\n" } else { b" taken-back\n" }
 }
 
 /// Whether an account is carried into a year.
@@ -136,83 +137,100 @@ fn write_year<W: Target>(line: &YearLine, target: &mut W) -> Result<(), WriteFau
     write_pieces(target, &pieces)
 }
 
-/// Writes the day on which an account turned, if it did, and the end of the line.
+/// Writes the day on which an account turned, if it did.
 fn write_turn<W: Target>(turn: Option<Day>, target: &mut W) -> Result<(), WriteFault>
     ensures ok { OnOk result
-        (Appends (W.taken target.old) (W.taken target.new) (turn_end turn)) }
+        (Appends (W.taken target.old) (W.taken target.new) (turn_text turn)) }
     ensures err { OnErr result
-        (WritesPrefix (W.taken target.old) (W.taken target.new) (turn_end turn)) }
+        (WritesPrefix (W.taken target.old) (W.taken target.new) (turn_text turn)) }
     ensures fault { OnErr result (W.failed target.new ≡ true) }
 {
     match turn {
-        None => write_all(target, b"\n"),
+        None => Ok(()),
         Some(turn) => {
             let turn = day_bytes(turn);
-            write_pieces(target, &[b" turned ", &turn, b"\n"])
+            write_pieces(target, &[b" turned ", &turn])
         }
     }
 }
 
-// Year, lookback total, opening, whether the account is carried, and turn.
-impl RowFormat<YearLine> for Columns {
+/// Writes the amount that was first reported, if it is another than the one in force, and the end
+/// of the line.
+fn write_first<W: Target>(cents: Cents, first: Cents, target: &mut W) -> Result<(), WriteFault>
+    ensures ok { OnOk result
+        (Appends (W.taken target.old) (W.taken target.new) (first_end cents.0 first.0)) }
+    ensures err { OnErr result
+        (WritesPrefix (W.taken target.old) (W.taken target.new) (first_end cents.0 first.0)) }
+    ensures fault { OnErr result (W.failed target.new ≡ true) }
+{
+    if cents.0 == first.0 {
+        return write_all(target, b"\n");
+    }
+    let mut dollars = Buffer::new();
+    let amount = amount_text(u128::from(first.0), &mut dollars);
+    write_pieces(target, &[b" first ", amount.dollars, &amount.cents, b"\n"])
+}
+
+// Year, lookback total, opening, whether the account is carried, turn, and first lookback total.
+impl RowFormat<KeptYear> for Columns {
     ghost row_text = { λ columns row. year_line row };
 
     #[tactic(auto, unfolding(crate::specs::Listings::year_line))]
-    fn write_row<W: Target>(&self, row: &YearLine, target: &mut W) -> Result<(), WriteFault> {
-        write_year(row, target)?;
-        write_turn(row.turn, target)
+    fn write_row<W: Target>(&self, row: &KeptYear, target: &mut W) -> Result<(), WriteFault> {
+        write_year(&row.line, target)?;
+        write_turn(row.line.turn, target)?;
+        write_first(row.line.lookback, row.first_lookback, target)
     }
 }
 
-/// Writes the line of a total of a quarter.
-fn write_quarter_total<W: Target>(
-    quarter: Quarter,
-    cents: Cents,
-    target: &mut W,
-) -> Result<(), WriteFault>
+/// Writes an amount in its column.
+fn write_amount<W: Target>(cents: Cents, target: &mut W) -> Result<(), WriteFault>
     ensures ok { OnOk result
-        (Appends (W.taken target.old) (W.taken target.new) (total_text (quarter_text quarter) cents.0)) }
+        (Appends (W.taken target.old) (W.taken target.new) (amount_in cents.0)) }
     ensures err { OnErr result
-        (WritesPrefix (W.taken target.old) (W.taken target.new) (total_text (quarter_text quarter) cents.0)) }
+        (WritesPrefix (W.taken target.old) (W.taken target.new) (amount_in cents.0)) }
     ensures fault { OnErr result (W.failed target.new ≡ true) }
 {
     let mut dollars = Buffer::new();
-    let quarter = quarter_bytes(quarter);
-    let total = amount_column(cents, &mut dollars);
-    let pieces: [&[u8]; 6] = [
-        &quarter,
-        b" ",
-        total.spaces,
-        total.dollars,
-        &total.cents,
-        b"\n",
-    ];
-    write_pieces(target, &pieces)
+    let amount = amount_column(cents, &mut dollars);
+    write_pieces(target, &[amount.spaces, amount.dollars, &amount.cents])
 }
 
-/// Writes the line of a total of a year.
-fn write_year_total<W: Target>(year: u32, cents: Cents, target: &mut W) -> Result<(), WriteFault>
+/// Writes the line of a total of a quarter or a year.
+fn write_total<W: Target>(
+    period: &[u8],
+    cents: Cents,
+    first: Cents,
+    target: &mut W,
+) -> Result<(), WriteFault>
     ensures ok { OnOk result
-        (Appends (W.taken target.old) (W.taken target.new) (total_text (decimal year) cents.0)) }
+        (Appends (W.taken target.old) (W.taken target.new)
+        (total_text period.now cents.0 first.0)) }
     ensures err { OnErr result
-        (WritesPrefix (W.taken target.old) (W.taken target.new) (total_text (decimal year) cents.0)) }
+        (WritesPrefix (W.taken target.old) (W.taken target.new)
+        (total_text period.now cents.0 first.0)) }
     ensures fault { OnErr result (W.failed target.new ≡ true) }
 {
-    let (mut digits, mut dollars) = (Buffer::new(), Buffer::new());
-    let year = digits.format(year).as_bytes();
-    let total = amount_column(cents, &mut dollars);
-    let pieces: [&[u8]; 6] = [year, b" ", total.spaces, total.dollars, &total.cents, b"\n"];
-    write_pieces(target, &pieces)
+    write_pieces(target, &[period, b" "])?;
+    write_amount(cents, target)?;
+    write_first(cents, first, target)
 }
 
-// Quarter or year, and amount.
+// Quarter or year, amount, and first amount.
 impl RowFormat<KeptTotal> for Columns {
     ghost row_text = { λ columns row. total_line row };
 
     fn write_row<W: Target>(&self, row: &KeptTotal, target: &mut W) -> Result<(), WriteFault> {
         match row {
-            KeptTotal::OfQuarter(quarter, cents) => write_quarter_total(*quarter, *cents, target),
-            KeptTotal::OfYear(year, cents) => write_year_total(*year, *cents, target),
+            KeptTotal::OfQuarter {
+                quarter,
+                cents,
+                first,
+            } => write_total(&quarter_bytes(*quarter), *cents, *first, target),
+            KeptTotal::OfYear { year, cents, first } => {
+                let mut digits = Buffer::new();
+                write_total(digits.format(*year).as_bytes(), *cents, *first, target)
+            }
         }
     }
 }
@@ -276,12 +294,13 @@ impl RowFormat<KeptPayment> for Columns {
     }
 }
 
-// The day, and whether it was added.
-impl RowFormat<Day> for HolidayColumns {
-    ghost row_text = { λ columns row. holiday_line columns.added row };
+// The day, whether it was added, and whether it was taken back.
+impl RowFormat<KeptHoliday> for Columns {
+    ghost row_text = { λ columns row. holiday_line row };
 
-    fn write_row<W: Target>(&self, row: &Day, target: &mut W) -> Result<(), WriteFault> {
-        let day = day_bytes(*row);
-        write_pieces(target, &[&day, added_end(self.added)])
+    fn write_row<W: Target>(&self, row: &KeptHoliday, target: &mut W) -> Result<(), WriteFault> {
+        let day = day_bytes(row.day);
+        let pieces: [&[u8]; 3] = [&day, added_text(row.added), holiday_end(row.is_holiday)];
+        write_pieces(target, &pieces)
     }
 }

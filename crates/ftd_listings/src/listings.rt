@@ -1,17 +1,16 @@
 //! Lists of what is kept.
 
-ghost use Rattle.std.specs.Prelude.{◌≡◌, ◌++◌, false, true, OnOk, OnErr};
-ghost use Rattle.std.specs.List.{flat_map};
+ghost use Rattle.std.specs.Prelude.{◌≡◌, true, OnOk, OnErr};
 ghost use Rattle.std.specs.Io.KnownBytes.{Appends};
 ghost use Rattle.ftd_ports.specs.Writing.{WritesPrefix};
 ghost use Rattle.ftd_listings.specs.KeptForms.{account_of, kept_as};
-ghost use Rattle.ftd_listings.specs.Listings.{head_text, holiday_line, kept_text, of_account};
-ghost use Rattle.ftd_listings.specs.Listings.{of_quarter, rows_text};
+ghost use Rattle.ftd_listings.specs.Listings.{head_text, kept_text, of_account, of_quarter};
+ghost use Rattle.ftd_listings.specs.Listings.{rows_text};
 
-use crate::lines::{Columns, HolidayColumns};
+use crate::lines::Columns;
 use crate::objects::write_kept_json;
 use crate::records::write_kept_csv;
-use ftd_days::{Day, Quarter};
+use ftd_days::Quarter;
 use ftd_formats::{ListFormat, write_rows};
 use ftd_machine::{Kept, KeptRows};
 use ftd_ports::{Target, WriteFault, write_all, write_pieces};
@@ -54,9 +53,9 @@ fn account_of(asked: &Kept) -> &str
     }
 }
 
-/// Writes what is kept, as far as it was asked for, as text: a first line that says what it is, and a
-/// line for each row. Where the target fails, a prefix of the text was written, and it fails nowhere
-/// else.
+/// Writes what is kept, as far as it was asked for, as text: a first line that says what it is, and
+/// a line for each row. Where the target fails, a prefix of the text was written, and it fails
+/// nowhere else.
 #[tactic(auto, unfolding(crate::specs::Listings::kept_text))]
 pub fn write_kept<W: Target>(
     asked: &Kept,
@@ -143,24 +142,8 @@ fn write_lines<W: Target>(rows: &KeptRows, target: &mut W) -> Result<(), WriteFa
         KeptRows::Accounts(accounts) => write_rows(&Columns, accounts.as_slice(), target),
         KeptRows::Years(years) => write_rows(&Columns, years.as_slice(), target),
         KeptRows::Reported(totals) => write_rows(&Columns, totals.as_slice(), target),
-        KeptRows::Holidays { given, added } => {
-            write_holidays(given.as_slice(), added.as_slice(), target)
-        }
+        KeptRows::Holidays(holidays) => write_rows(&Columns, holidays.as_slice(), target),
         KeptRows::Runs(runs) => write_rows(&Columns, runs.as_slice(), target),
         KeptRows::Payments(payments) => write_rows(&Columns, payments.as_slice(), target),
     }
-}
-
-/// Writes the holidays that were given, and those that were added.
-fn write_holidays<W: Target>(given: &[Day], added: &[Day], target: &mut W) -> Result<(), WriteFault>
-    ensures ok { OnOk result
-        (Appends (W.taken target.old) (W.taken target.new)
-        (flat_map (holiday_line false) given.now ++ flat_map (holiday_line true) added.now)) }
-    ensures err { OnErr result
-        (WritesPrefix (W.taken target.old) (W.taken target.new)
-        (flat_map (holiday_line false) given.now ++ flat_map (holiday_line true) added.now)) }
-    ensures fault { OnErr result (W.failed target.new ≡ true) }
-{
-    write_rows(&HolidayColumns { added: false }, given, target)?;
-    write_rows(&HolidayColumns { added: true }, added, target)
 }

@@ -1,21 +1,20 @@
 //! What is kept as JSON.
 
-ghost use Rattle.std.specs.Prelude.{◌≡◌, ◌∷◌, ◌++◌, [], codes, false, true, OnOk, OnErr, map};
-ghost use Rattle.std.specs.List.{join_with_byte};
+ghost use Rattle.std.specs.Prelude.{◌≡◌, ◌∷◌, ◌++◌, [], codes, true, OnOk, OnErr, map};
 ghost use Rattle.std.specs.Io.KnownBytes.{Appends};
 ghost use Rattle.ftd_ports.specs.Writing.{WritesPrefix};
-ghost use Rattle.ftd_formats.specs.Fields.{comma, flag_field, list_of, member_of, members_of};
-ghost use Rattle.ftd_formats.specs.Fields.{object_told};
-ghost use Rattle.ftd_listings.specs.KeptForms.{account_fields, day_field, holiday_fields};
-ghost use Rattle.ftd_listings.specs.KeptForms.{payment_fields, payment_object, rows_json};
-ghost use Rattle.ftd_listings.specs.KeptForms.{run_fields, run_object, total_fields, year_fields};
+ghost use Rattle.ftd_days.specs.Text.{cents_text};
+ghost use Rattle.ftd_formats.specs.Fields.{flag_field, member_of, members_of, object_told};
+ghost use Rattle.ftd_formats.specs.Fields.{text_field};
+ghost use Rattle.ftd_listings.specs.KeptForms.{account_fields, day_field, first_reported};
+ghost use Rattle.ftd_listings.specs.KeptForms.{holiday_fields, payment_fields, payment_object};
+ghost use Rattle.ftd_listings.specs.KeptForms.{rows_json, run_fields, run_object, total_fields};
+ghost use Rattle.ftd_listings.specs.KeptForms.{total_object, year_fields};
 
-use crate::fields::{account_fields, day_or_missing, holiday_fields, total_fields, year_fields};
-use ftd_days::Day;
-use ftd_formats::{RowFormat, Value, write_joined, write_list, write_object, write_others};
-use ftd_machine::{KeptAccount, KeptPayment, KeptRows, KeptRun, KeptTotal};
-use ftd_ports::{Target, WriteFault, write_all};
-use ftd_rules::YearLine;
+use crate::fields::{account_fields, day_or_missing, holiday_fields, year_fields};
+use ftd_formats::{RowFormat, Value, write_list, write_object};
+use ftd_machine::{KeptAccount, KeptHoliday, KeptPayment, KeptRows, KeptRun, KeptTotal, KeptYear};
+use ftd_ports::{Target, WriteFault};
 
 /// Objects of an account.
 #[derive(Drop)]
@@ -23,10 +22,30 @@ pub struct Objects<'a> {
     pub account: &'a str,
 }
 
-/// Objects of holidays: of those that were added to their year, or of the others.
-#[derive(Drop)]
-struct HolidayObjects {
-    added: bool,
+/// The fields of a total that the account reported, and the amount that was first reported.
+fn total_members<'a>(account: &'a str, total: &KeptTotal) -> [(&'a str, Value<'a>); 4]
+    ensures { map member_of result ≡ members_of
+        (total_fields account.now total.now
+        ++ (text_field (codes "first") (cents_text (first_reported total.now).0) ∷ [])) }
+{
+    match total {
+        KeptTotal::OfQuarter {
+            quarter,
+            cents,
+            first,
+        } => [
+            ("account", Value::Text(account)),
+            ("quarter", Value::Quarter(*quarter)),
+            ("amount", Value::Amount(*cents)),
+            ("first", Value::Amount(*first)),
+        ],
+        KeptTotal::OfYear { year, cents, first } => [
+            ("account", Value::Text(account)),
+            ("year", Value::Number(*year)),
+            ("amount", Value::Amount(*cents)),
+            ("first", Value::Amount(*first)),
+        ],
+    }
 }
 
 /// The fields of a pay run of the account, and whether it was voided.
@@ -72,27 +91,27 @@ impl<'a> RowFormat<KeptAccount> for Objects<'a> {
     }
 }
 
-impl<'a> RowFormat<YearLine> for Objects<'a> {
+impl<'a> RowFormat<KeptYear> for Objects<'a> {
     ghost row_text = { λ objects row. object_told (year_fields objects.account.now row) };
 
-    fn write_row<W: Target>(&self, row: &YearLine, target: &mut W) -> Result<(), WriteFault> {
+    fn write_row<W: Target>(&self, row: &KeptYear, target: &mut W) -> Result<(), WriteFault> {
         write_object(&year_fields(self.account, row), target)
     }
 }
 
 impl<'a> RowFormat<KeptTotal> for Objects<'a> {
-    ghost row_text = { λ objects row. object_told (total_fields objects.account.now row) };
+    ghost row_text = { λ objects row. total_object objects.account.now row };
 
     fn write_row<W: Target>(&self, row: &KeptTotal, target: &mut W) -> Result<(), WriteFault> {
-        write_object(&total_fields(self.account, row), target)
+        write_object(&total_members(self.account, row), target)
     }
 }
 
-impl RowFormat<Day> for HolidayObjects {
-    ghost row_text = { λ objects row. object_told (holiday_fields objects.added row) };
+impl<'a> RowFormat<KeptHoliday> for Objects<'a> {
+    ghost row_text = { λ objects row. object_told (holiday_fields row) };
 
-    fn write_row<W: Target>(&self, row: &Day, target: &mut W) -> Result<(), WriteFault> {
-        write_object(&holiday_fields(self.added, *row), target)
+    fn write_row<W: Target>(&self, row: &KeptHoliday, target: &mut W) -> Result<(), WriteFault> {
+        write_object(&holiday_fields(row), target)
     }
 }
 
@@ -132,46 +151,8 @@ pub fn write_kept_json<W: Target>(
         KeptRows::Accounts(accounts) => write_list(&objects, accounts.as_slice(), target),
         KeptRows::Years(years) => write_list(&objects, years.as_slice(), target),
         KeptRows::Reported(totals) => write_list(&objects, totals.as_slice(), target),
-        KeptRows::Holidays { given, added } => {
-            write_holidays(given.as_slice(), added.as_slice(), target)
-        }
+        KeptRows::Holidays(holidays) => write_list(&objects, holidays.as_slice(), target),
         KeptRows::Runs(runs) => write_list(&objects, runs.as_slice(), target),
         KeptRows::Payments(payments) => write_list(&objects, payments.as_slice(), target),
     }
-}
-
-/// Writes the holidays that were given, and those that were added, as a list.
-fn write_holidays<W: Target>(given: &[Day], added: &[Day], target: &mut W) -> Result<(), WriteFault>
-    ensures ok { OnOk result
-        (Appends (W.taken target.old) (W.taken target.new) (list_of
-        (map (λ day. object_told (holiday_fields false day)) given.now
-        ++ map (λ day. object_told (holiday_fields true day)) added.now))) }
-    ensures err { OnErr result
-        (WritesPrefix (W.taken target.old) (W.taken target.new) (list_of
-        (map (λ day. object_told (holiday_fields false day)) given.now
-        ++ map (λ day. object_told (holiday_fields true day)) added.now))) }
-    ensures fault { OnErr result (W.failed target.new ≡ true) }
-{
-    write_all(target, b"{\"rows\":[")?;
-    write_days(given, added, target)?;
-    write_all(target, b"]}\n")
-}
-
-/// Writes the holidays that were given, and those that were added, with one comma between.
-fn write_days<W: Target>(given: &[Day], added: &[Day], target: &mut W) -> Result<(), WriteFault>
-    ensures ok { OnOk result
-        (Appends (W.taken target.old) (W.taken target.new) (join_with_byte comma
-        (map (λ day. object_told (holiday_fields false day)) given.now
-        ++ map (λ day. object_told (holiday_fields true day)) added.now))) }
-    ensures err { OnErr result
-        (WritesPrefix (W.taken target.old) (W.taken target.new) (join_with_byte comma
-        (map (λ day. object_told (holiday_fields false day)) given.now
-        ++ map (λ day. object_told (holiday_fields true day)) added.now))) }
-    ensures fault { OnErr result (W.failed target.new ≡ true) }
-{
-    if given.is_empty() {
-        return write_joined(&HolidayObjects { added: true }, added, target);
-    }
-    write_joined(&HolidayObjects { added: false }, given, target)?;
-    write_others(&HolidayObjects { added: true }, added, target)
 }

@@ -1,11 +1,10 @@
 //! What is kept as CSV.
 
-ghost use Rattle.std.specs.Prelude.{◌≡◌, ◌++◌, false, true, OnOk, OnErr};
-ghost use Rattle.std.specs.List.{flat_map};
+ghost use Rattle.std.specs.Prelude.{◌≡◌, true, OnOk, OnErr};
 ghost use Rattle.std.specs.Io.KnownBytes.{Appends};
 ghost use Rattle.ftd_ports.specs.Writing.{WritesPrefix};
 ghost use Rattle.ftd_formats.specs.Fields.{record_told};
-ghost use Rattle.ftd_listings.specs.KeptForms.{account_fields, holiday_fields, holidays_head};
+ghost use Rattle.ftd_listings.specs.KeptForms.{account_fields, holiday_fields};
 ghost use Rattle.ftd_listings.specs.KeptForms.{live_payment, live_record, payment_fields};
 ghost use Rattle.ftd_listings.specs.KeptForms.{rows_csv, run_record};
 ghost use Rattle.ftd_listings.specs.KeptForms.{total_fields, year_fields};
@@ -13,22 +12,14 @@ ghost use Rattle.ftd_listings.specs.KeptForms.{total_fields, year_fields};
 use crate::fields::{
     account_fields, holiday_fields, payment_fields, run_fields, total_fields, year_fields,
 };
-use ftd_days::Day;
-use ftd_formats::{RowFormat, write_record, write_rows, write_table};
-use ftd_machine::{KeptAccount, KeptPayment, KeptRows, KeptRun, KeptTotal};
+use ftd_formats::{RowFormat, write_record, write_table};
+use ftd_machine::{KeptAccount, KeptHoliday, KeptPayment, KeptRows, KeptRun, KeptTotal, KeptYear};
 use ftd_ports::{Target, WriteFault};
-use ftd_rules::YearLine;
 
 /// Records of an account.
 #[derive(Drop)]
 struct Records<'a> {
     account: &'a str,
-}
-
-/// Records of holidays: of those that were added to their year, or of the others.
-#[derive(Drop)]
-struct HolidayRecords {
-    added: bool,
 }
 
 impl<'a> RowFormat<KeptAccount> for Records<'a> {
@@ -39,10 +30,10 @@ impl<'a> RowFormat<KeptAccount> for Records<'a> {
     }
 }
 
-impl<'a> RowFormat<YearLine> for Records<'a> {
+impl<'a> RowFormat<KeptYear> for Records<'a> {
     ghost row_text = { λ records row. record_told (year_fields records.account.now row) };
 
-    fn write_row<W: Target>(&self, row: &YearLine, target: &mut W) -> Result<(), WriteFault> {
+    fn write_row<W: Target>(&self, row: &KeptYear, target: &mut W) -> Result<(), WriteFault> {
         write_record(&year_fields(self.account, row), target)
     }
 }
@@ -55,11 +46,11 @@ impl<'a> RowFormat<KeptTotal> for Records<'a> {
     }
 }
 
-impl RowFormat<Day> for HolidayRecords {
-    ghost row_text = { λ records row. record_told (holiday_fields records.added row) };
+impl<'a> RowFormat<KeptHoliday> for Records<'a> {
+    ghost row_text = { λ records row. record_told (holiday_fields row) };
 
-    fn write_row<W: Target>(&self, row: &Day, target: &mut W) -> Result<(), WriteFault> {
-        write_record(&holiday_fields(self.added, *row), target)
+    fn write_row<W: Target>(&self, row: &KeptHoliday, target: &mut W) -> Result<(), WriteFault> {
+        write_record(&holiday_fields(row), target)
     }
 }
 
@@ -167,7 +158,7 @@ pub fn write_kept_csv<W: Target>(
             target,
         ),
         KeptRows::Years(years) => write_table(
-            b"employer,year,lookback,opening,carried,turned\n",
+            b"employer,year,lookback,opening,carried,turned,first_lookback\n",
             &records,
             years.as_slice(),
             target,
@@ -178,9 +169,12 @@ pub fn write_kept_csv<W: Target>(
             totals.as_slice(),
             target,
         ),
-        KeptRows::Holidays { given, added } => {
-            write_holidays(given.as_slice(), added.as_slice(), target)
-        }
+        KeptRows::Holidays(holidays) => write_table(
+            b"day,added,holiday\n",
+            &records,
+            holidays.as_slice(),
+            target,
+        ),
         KeptRows::Runs(runs) => write_table(
             b"employer,run,payday,fit,ss,medicare\n",
             &records,
@@ -194,25 +188,4 @@ pub fn write_kept_csv<W: Target>(
             target,
         ),
     }
-}
-
-/// Writes the holidays that were given, and those that were added.
-fn write_holidays<W: Target>(given: &[Day], added: &[Day], target: &mut W) -> Result<(), WriteFault>
-    ensures ok { OnOk result
-        (Appends (W.taken target.old) (W.taken target.new) (holidays_head
-        ++ (flat_map (λ day. record_told (holiday_fields false day)) given.now
-        ++ flat_map (λ day. record_told (holiday_fields true day)) added.now))) }
-    ensures err { OnErr result
-        (WritesPrefix (W.taken target.old) (W.taken target.new) (holidays_head
-        ++ (flat_map (λ day. record_told (holiday_fields false day)) given.now
-        ++ flat_map (λ day. record_told (holiday_fields true day)) added.now))) }
-    ensures fault { OnErr result (W.failed target.new ≡ true) }
-{
-    write_table(
-        b"day,added\n",
-        &HolidayRecords { added: false },
-        given,
-        target,
-    )?;
-    write_rows(&HolidayRecords { added: true }, added, target)
 }

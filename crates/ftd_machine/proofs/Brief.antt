@@ -1,9 +1,9 @@
 -- Answers that are no list, or one whose amounts are together below the end.
 use Rattle.std.proofs.Common.{◌≡◌, inl, inr, sym, subst, ℕ, Bool, true, false, List, [], ◌∷◌}
 use Rattle.std.proofs.Common.{if◌then◌else◌, Option, None, Some, Ok, Err}
-use Rattle.ftd_machine.specs.Limits.{IsBounded}
 use Rattle.ftd_machine.specs.State.{State, Entries, entries_of}
 use Rattle.ftd_machine.specs.Checks.{Answer, Decides, first_of, needs, done_if, finds, is_new}
+use Rattle.ftd_machine.specs.Laws.{IsBounded}
 use Rattle.ftd_machine.specs.Posting.{IsPosted}
 use Rattle.ftd_machine.specs.Step.{OpensNext, may_open}
 use Rattle.ftd_machine.specs.declared.replies.Reply.TheVariants.{Done, Already}

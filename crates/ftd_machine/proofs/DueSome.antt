@@ -32,7 +32,8 @@ use Rattle.ftd_machine.specs.Checks.{Answer}
 use Rattle.ftd_machine.specs.Asking.{return_period, return_total, has_next_day, preceding, IsSmall}
 use Rattle.ftd_machine.specs.Asking.{IsReturnPaid, paid_for_return, paid_for, IsCaseOf, IsDueRow}
 use Rattle.ftd_machine.specs.Asking.{first_of_row, IsDueList}
-use Rattle.ftd_machine.specs.declared.replies.Reply.TheVariants.{Due}
+use Rattle.ftd_machine.specs.declared.facts.Facts.TheVariants.{Due}
+use Rattle.ftd_machine.specs.declared.replies.Reply.TheVariants.{Told}
 use Rattle.ftd_machine.proofs.Lined.{owed_some}
 use Rattle.ftd_machine.proofs.ToldSome.{flag_or}
 
@@ -408,7 +409,7 @@ due_list_some holidays own lines quarter as_of h =
     let rows = owed_some holidays own lines h in
     let listed = rows_some holidays own rows.0 rows.0 quarter as_of
     (λ o k. k) rows.1.2.by_first_day in (
-      Ok (Due listed.0),
+      Ok (Told (Due listed.0)),
       record {
         rows = rows.0;
         owed = rows.1;

@@ -1,8 +1,9 @@
 -- What is kept is told one answer.
 use Rattle.std.proofs.Common.{◌≡◌, ◌∙◌, ◌⊎◌, inl, inr, sym, ap, subst, ℕ, ◌<◌, ◌≤◌, List, arith}
 use Rattle.std.proofs.Common.{Option, None, Some, refl}
-use Rattle.std.specs.Prelude.{◌↔◌}
+use Rattle.std.specs.Prelude.{◌↔◌, ◌++◌, true, false, map, [], ◌∷◌}
 use Rattle.ftd_rules.specs.declared.Obligation.{Obligation}
+use Rattle.ftd_rules.specs.declared.YearLine.{YearLine}
 use Rattle.ftd_rules.specs.Lists.{Has}
 use Rattle.ftd_machine.specs.State.{State, Entries, entries_of, holidays, kept_at}
 use Rattle.ftd_rules.specs.declared.payment.Payment.{Payment}
@@ -12,15 +13,19 @@ use Rattle.ftd_machine.specs.Checks.{Answer}
 use Rattle.ftd_machine.specs.Agenda.{EachToLater}
 use Rattle.ftd_machine.specs.Kept.{told_rows, IsAccountBefore, AreAccounts, AreYears, IsTotalBefore}
 use Rattle.ftd_machine.specs.Kept.{AreTotals, IsDayBefore, AreHolidays, IsRunBefore, AreRuns}
-use Rattle.ftd_machine.specs.Kept.{IsEnrolled, IsRunIn, IsHeldBy, IsPaymentIn, IsPaymentBefore, ArePayments, TellsKept}
+use Rattle.ftd_machine.specs.Kept.{as_first_reported, line_of, kept_days}
+use Rattle.ftd_machine.specs.History.{form_of, HasLookback}
+use Rattle.ftd_machine.specs.Kept.{IsEnrolled, IsRunIn, IsHeldBy, IsPaymentIn, IsPaymentBefore}
+use Rattle.ftd_machine.specs.Kept.{ArePayments, TellsKept}
 use Rattle.ftd_machine.specs.declared.kept.KeptAccount.{KeptAccount}
 use Rattle.ftd_machine.specs.declared.kept.KeptPayment.{KeptPayment}
 use Rattle.ftd_machine.specs.declared.kept.KeptRun.{KeptRun}
+use Rattle.ftd_machine.specs.declared.kept.KeptYear.{KeptYear}
 use Rattle.ftd_machine.specs.declared.kept.KeptRows.TheVariants as rows
 use Rattle.ftd_machine.specs.declared.requests.Kept.{Kept}
 use Rattle.ftd_machine.specs.declared.requests.Kept.TheVariants.{Accounts, Years, Reported}
 use Rattle.ftd_machine.specs.declared.requests.Kept.TheVariants.{Holidays, Runs, Payments}
-use Rattle.ftd_machine.proofs.Single.{IsOnce, lines_of_one, owed_one}
+use Rattle.ftd_machine.proofs.Single.{IsOnce, lookback_one, lines_of_one, owed_one}
 use Rattle.ftd_machine.proofs.Ordered.{ordered_one}
 use Rattle.ftd_machine.proofs.AgendaOrder.{inside, names_once, three}
 
@@ -96,8 +101,8 @@ held_one owed day (Some a) (Some b) g h =
 
 -- ---- rows of one key
 
-pub account_one : (s : State) (x y : KeptAccount) → x.name ≡ y.name → IsEnrolled s x → IsEnrolled s y
-    → x ≡ y
+pub account_one : (s : State) (x y : KeptAccount) → x.name ≡ y.name → IsEnrolled s x
+    → IsEnrolled s y → x ≡ y
 account_one s x y named g h =
     let account : x.account ≡ y.account = inside x.account y.account
     (sym g ∙ subst (λ n. (entries_of s n).account ≡ Some y.account) (sym named) h) in
@@ -142,6 +147,26 @@ payment_one owed own quarter x y g h same =
     (subst (λ d. IsHeldBy owed d y.obligation) day h.2) in
     rw (same, payment, voided, obligation) refl
 
+-- open years with the same lines, each with its lookback total by what was first reported
+kept_years_one : (own : Entries) (xs ys : List KeptYear) → IsOnce own
+    → map line_of xs ≡ map line_of ys
+    → ((x : KeptYear) → Has xs x → HasLookback own x.line.year x.first_lookback)
+    → ((y : KeptYear) → Has ys y → HasLookback own y.line.year y.first_lookback) → xs ≡ ys
+kept_years_one own [] [] once same f g = refl
+kept_years_one own [] (y ∷ ys) once same f g = absurd cc
+kept_years_one own (x ∷ xs) [] once same f g = absurd cc
+kept_years_one own (x ∷ xs) (y ∷ ys) once same f g =
+    let line : x.line ≡ y.line = cc in
+    let lines : map line_of xs ≡ map line_of ys = cc in
+    let there : HasLookback own x.line.year y.first_lookback =
+    subst (λ (l : YearLine). HasLookback own l.year y.first_lookback) (sym line) (g y (inl refl)) in
+    let amount : x.first_lookback.0 ≡ y.first_lookback.0 =
+    lookback_one (form_of own.account) own x.line.year x.first_lookback y.first_lookback once
+    (f x (inl refl)) there in
+    let rest : xs ≡ ys = kept_years_one own xs ys once lines (λ z has. f z (inr has))
+    (λ z has. g z (inr has)) in
+    rw (line, amount, rest) refl
+
 -- ---- answers
 
 accounts_one : (s : State) (a b : Answer) → AreAccounts s a → AreAccounts s b → a ≡ b
@@ -152,8 +177,12 @@ accounts_one s a b g h =
 
 years_one : (own : Entries) (a b : Answer) → IsOnce own → AreYears own a → AreYears own b → a ≡ b
 years_one own a b once g h =
+    let lines : map line_of g.listed ≡ map line_of h.listed =
+    lines_of_one own (map line_of g.listed) (map line_of h.listed) once g.are_lines h.are_lines in
     g.told ∙ ap (λ xs. told_rows (rows.Years xs))
-    (lines_of_one own g.lines h.lines once g.are_lines h.are_lines) ∙ sym h.told
+    (kept_years_one (as_first_reported own) g.listed h.listed
+    (record { quarters = once.quarters; years = once.years }) lines g.first_lookbacks
+    h.first_lookbacks) ∙ sym h.told
 
 totals_one : (own : Entries) (a b : Answer) → AreTotals own a → AreTotals own b → a ≡ b
 totals_one own a b g h =
@@ -165,10 +194,10 @@ holidays_one : (s : State) (year : ℕ) (a b : Answer) → AreHolidays s year a 
     → a ≡ b
 holidays_one s year a b g h =
     let given : g.given ≡ h.given = inside g.given h.given (sym g.is_given ∙ h.is_given) in
-    let added : g.added ≡ h.added = listed_one IsDayBefore (λ x y k l. omega arith) _ g.added h.added
-    g.rising h.rising g.all h.all in
-    g.told ∙ (ap (λ xs. told_rows (rows.Holidays xs g.added)) given
-    ∙ (ap (λ xs. told_rows (rows.Holidays h.given xs)) added ∙ sym h.told))
+    let added : g.added ≡ h.added = listed_one IsDayBefore (λ x y k l. omega arith) _ g.added
+    h.added g.rising h.rising g.all h.all in
+    g.told ∙ (ap (λ xs. told_rows (rows.Holidays (kept_days s xs g.added))) given
+    ∙ (ap (λ xs. told_rows (rows.Holidays (kept_days s h.given xs))) added ∙ sym h.told))
 
 runs_one : (own : Entries) (quarter : ℕ) (a b : Answer) → AreRuns own quarter a
     → AreRuns own quarter b → a ≡ b

@@ -31,7 +31,8 @@ use Rattle.ftd_machine.specs.Asking.{IsTurnBefore, HasNoTurnBefore, IsReason, Is
 use Rattle.ftd_machine.specs.Asking.{first_of_row, IsDueList, day_of_sum, IsScheduleB}
 use Rattle.ftd_machine.specs.declared.replies.Reason.{Reason}
 use Rattle.ftd_machine.specs.declared.replies.Reason.TheVariants as reason
-use Rattle.ftd_machine.specs.declared.replies.Reply.TheVariants.{Posted, Status, Due, Days}
+use Rattle.ftd_machine.specs.declared.facts.Facts.TheVariants.{Status, Due, Days}
+use Rattle.ftd_machine.specs.declared.replies.Reply.TheVariants.{Told, Posted}
 use Rattle.ftd_machine.specs.declared.replies.Refusal.{Refusal}
 use Rattle.ftd_machine.specs.declared.replies.Refusal.TheVariants.{QuarterMissing, YearMissing}
 
@@ -73,7 +74,7 @@ pub record IsOnce (own : Entries) : Type 0 where
   pub years : (corrected : List (Entry Cents))
       → AreReportedOnce (figures own.reported_years corrected)
 
-lookback_one : (form : Form) (own : Entries) (year : ℕ) (c d : Cents) → IsOnce own
+pub lookback_one : (form : Form) (own : Entries) (year : ℕ) (c d : Cents) → IsOnce own
     → IsLookbackOn form own year c → IsLookbackOn form own year d → c.0 ≡ d.0
 lookback_one F941 own year c d once h k =
     let reported = quarter_figures own in
@@ -234,14 +235,14 @@ due_list_one holidays own quarter as_of a b once g h =
     h.by_first_day
     (λ row k. (h.all row).1 (to row ((g.all row).0 k)))
     (λ row k. (g.all row).1 (back row ((h.all row).0 k))) in
-    g.told ∙ ap (λ xs. Ok (Due xs)) listed ∙ sym h.told
+    g.told ∙ ap (λ xs. Ok (Told (Due xs))) listed ∙ sym h.told
 
 pub schedule_one : (own : Entries) (quarter : ℕ) (a b : Answer) → IsScheduleB own quarter a
     → IsScheduleB own quarter b → a ≡ b
 schedule_one own quarter a b g h =
     let listed : g.listed ≡ h.listed = members_one day_of_sum g.listed h.listed g.by_day h.by_day
     (λ x k. (h.all x).1 ((g.all x).0 k)) (λ x k. (g.all x).1 ((h.all x).0 k)) in
-    g.told ∙ ap (λ xs. Ok (Days xs)) listed ∙ sym h.told
+    g.told ∙ ap (λ xs. Ok (Told (Days xs))) listed ∙ sym h.told
 
 inside : {X : Type 0} (x y : X) → Some x ≡ Some y → x ≡ y
 inside x y e = ap (λ o. unwrap_or o x) e
@@ -313,5 +314,6 @@ status_one own day a b once g h =
     (subst (λ xs. IsReason xs h.line h.status h.why) lines h.is_why)) in
     let reasons : h.why ≡ g.why = reason_one from.0 g.lines g.line g.status h.why g.why from.2 why
     g.is_why in
-    let told : Status g.status g.why ≡ Status h.status h.why = rw (same, reasons) refl in
+    let told : Told (Status g.status g.why) ≡ Told (Status h.status h.why) =
+    rw (same, reasons) refl in
     g.told ∙ ap Ok told ∙ sym h.told

@@ -24,14 +24,16 @@ use Rattle.ftd_rules.proofs.Owed.{has_left, has_right}
 use Rattle.ftd_machine.proofs.Members.{has_last}
 use Rattle.ftd_days.specs.Calendar.{year_start}
 use Rattle.ftd_machine.specs.State.{Entries, Entry, kept_at, content_of, has_key, is_open}
-use Rattle.ftd_machine.specs.History.{start_of, quarter_figures, year_figures, live_sums, IsLookbackOn, IsMissingOn}
+use Rattle.ftd_machine.specs.History.{start_of, quarter_figures, year_figures, live_sums}
+use Rattle.ftd_machine.specs.History.{IsLookbackOn, IsMissingOn}
 use Rattle.ftd_machine.specs.History.{year_of_line, year_of_entry, AreLinesOf}
 use Rattle.ftd_machine.specs.Checks.{Answer}
 use Rattle.ftd_machine.specs.Asking.{IsTurnBefore, HasNoTurnBefore, IsReason, IsStatus, day_of_sum}
 use Rattle.ftd_machine.specs.Asking.{IsScheduleB}
 use Rattle.ftd_machine.specs.declared.replies.Reason.{Reason}
 use Rattle.ftd_machine.specs.declared.replies.Reason.TheVariants as reason
-use Rattle.ftd_machine.specs.declared.replies.Reply.TheVariants.{Status, Days}
+use Rattle.ftd_machine.specs.declared.facts.Facts.TheVariants.{Status, Days}
+use Rattle.ftd_machine.specs.declared.replies.Reply.TheVariants.{Told}
 use Rattle.ftd_machine.specs.declared.replies.Refusal.{Refusal}
 use Rattle.ftd_machine.specs.declared.replies.Refusal.TheVariants.{QuarterMissing, YearMissing}
 
@@ -321,7 +323,7 @@ status_on_line own lines line day h has of_day =
       | inr not ↦ (kind.Monthly, not)
     ] in
     let why = reason_some own lines line day status.0 h has status.1 in (
-      Ok (Status status.0 why.0),
+      Ok (Told (Status status.0 why.0)),
       record {
         lines = lines;
         are_lines = h;
@@ -431,7 +433,7 @@ pub schedule_some : (own : Entries) (quarter : ℕ) → (answer : Answer)
 schedule_some own quarter =
     let sums = live_sums own in
     let found = days_below sums quarter (top sums) in (
-      Ok (Days found.0),
+      Ok (Told (Days found.0)),
       record {
         listed = found.0;
         by_day = found.1;

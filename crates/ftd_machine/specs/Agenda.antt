@@ -18,7 +18,8 @@ use Rattle.ftd_machine.specs.Asking.{IsDueRow}
 use Rattle.ftd_machine.specs.Checks.{Answer}
 use Rattle.ftd_machine.specs.declared.entries.Account.{Account}
 use Rattle.ftd_machine.specs.declared.lists.AgendaRow.{AgendaRow}
-use Rattle.ftd_machine.specs.declared.replies.Reply.TheVariants.{Agenda}
+use Rattle.ftd_machine.specs.declared.facts.Facts.TheVariants.{Agenda}
+use Rattle.ftd_machine.specs.declared.replies.Reply.TheVariants.{Told}
 
 -- ---- a row
 
@@ -96,7 +97,7 @@ pub record IsAgenda (s : State) (IsAsked : AgendaRow → Type 0) (as_of : ℕ) (
   pub listed : List AgendaRow
   pub in_order : EachToLater ComesBefore listed
   pub all : (x : AgendaRow) → Has listed x ↔ (IsAgendaRow s as_of x × IsAsked x)
-  pub told : answer ≡ Ok (Agenda listed)
+  pub told : answer ≡ Ok (Told (Agenda listed))
 
 -- ---- beside due lists
 

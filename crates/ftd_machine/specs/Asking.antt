@@ -23,12 +23,13 @@ use Rattle.ftd_rules.specs.Periods.{return_period_of, return_period_first, retur
 use Rattle.ftd_rules.specs.Returns.{IsReturnDue, IsMakeup, IsSmallQuarter}
 use Rattle.ftd_rules.specs.Payments.{paid_by}
 use Rattle.ftd_rules.specs.Verdicts.{IsVerdict}
-use Rattle.ftd_machine.specs.State.{Entries, kept_at}
+use Rattle.ftd_machine.specs.State.{Entries, figure_at}
 use Rattle.ftd_machine.specs.History.{form_of, live_sums, live_payments, AreLinesOf, AreOwed}
 use Rattle.ftd_machine.specs.Checks.{Answer}
 use Rattle.ftd_machine.specs.declared.replies.Reason.{Reason}
 use Rattle.ftd_machine.specs.declared.replies.Reason.TheVariants as reason
-use Rattle.ftd_machine.specs.declared.replies.Reply.TheVariants.{Status, Due, Days}
+use Rattle.ftd_machine.specs.declared.facts.Facts.TheVariants.{Status, Due, Days}
+use Rattle.ftd_machine.specs.declared.replies.Reply.TheVariants.{Told}
 
 -- ---- the deposit schedule of a day
 
@@ -68,7 +69,7 @@ pub record IsStatus (own : Entries) (day : ℕ) (answer : Answer) : Type 0 where
   pub has_status : HasStatusOn line day status
   pub why : Reason
   pub is_why : IsReason lines line status why
-  pub told : answer ≡ Ok (Status status why)
+  pub told : answer ≡ Ok (Told (Status status why))
 
 -- ---- the due list of a quarter
 
@@ -99,9 +100,9 @@ abbrev pub has_next_day : Form → List Obligation → ℕ → Bool
 has_next_day form rows n =
     list_any (λ o. (return_period_of form o.first == n) && is_next_day o.rule) rows
 
--- the figure of the quarter before, which counts on Form 941 alone
+-- the figure of the quarter before, as it is in force, which counts on Form 941 alone
 abbrev pub preceding : Form → Entries → ℕ → Option Cents
-preceding F941 own quarter = kept_at (quarter - 1) own.reported
+preceding F941 own quarter = figure_at (quarter - 1) own.reported own.corrected
 preceding F943 own quarter = None
 
 -- the obligations of the quarter, on Form 943 those of its year, may be paid with the return
@@ -159,7 +160,7 @@ pub record IsDueList (holidays : List ℕ) (own : Entries) (quarter as_of : ℕ)
   pub listed : List DueRow
   pub by_first_day : KeysRise first_of_row listed
   pub all : (row : DueRow) → Has listed row ↔ IsDueRow holidays own rows quarter as_of row
-  pub told : answer ≡ Ok (Due listed)
+  pub told : answer ≡ Ok (Told (Due listed))
 
 -- ---- the liability of a quarter by day
 
@@ -177,4 +178,4 @@ pub record IsScheduleB (own : Entries) (quarter : ℕ) (answer : Answer) : Type 
   pub listed : List DaySum
   pub by_day : KeysRise day_of_sum listed
   pub all : (x : DaySum) → Has listed x ↔ IsLiableDay own quarter x
-  pub told : answer ≡ Ok (Days listed)
+  pub told : answer ≡ Ok (Told (Days listed))

@@ -25,7 +25,8 @@ use Rattle.ftd_machine.specs.declared.explained.DayKind.TheVariants.{Holiday}
 use Rattle.ftd_machine.specs.declared.explained.Explanation.{Explanation}
 use Rattle.ftd_machine.specs.declared.explained.RunningSum.{RunningSum}
 use Rattle.ftd_machine.specs.declared.kept.KeptPayment.{KeptPayment}
-use Rattle.ftd_machine.specs.declared.replies.Reply.TheVariants.{Status, Explained}
+use Rattle.ftd_machine.specs.declared.facts.Facts.TheVariants.{Status, Explained}
+use Rattle.ftd_machine.specs.declared.replies.Reply.TheVariants.{Told}
 
 -- ---- its paydays
 
@@ -77,12 +78,12 @@ IsPaymentOf own o x =
 -- ---- the explanation
 
 -- of one of the obligations: the deposit schedule of its first day and why, its paydays, the days
--- counted to its due date, the due date of the return of the quarter in which it begins, on Form 943
--- of that year, and its payments
+-- counted to its due date, the due date of the return of the quarter in which it begins, on Form
+-- 943 of that year, and its payments
 pub record Explains (holidays : List ℕ) (own : Entries) (owed : List Obligation) (e : Explanation)
     : Type 0 where
   pub is_owed : Has owed e.obligation
-  pub schedule : IsStatus own e.obligation.first (Ok (Status e.kind e.reason))
+  pub schedule : IsStatus own e.obligation.first (Ok (Told (Status e.kind e.reason)))
   pub paydays_rise : KeysRise day_of_payday e.paydays
   pub paydays : (x : RunningSum) → Has e.paydays x ↔ IsPaydayOf own e.obligation x
   pub days_rise : KeysRise day_counted e.days
@@ -105,4 +106,4 @@ pub record IsExplanation (holidays : List ℕ) (own : Entries) (day : ℕ) (answ
   pub are_owed : AreOwed holidays own owed
   pub explained : Option Explanation
   pub is_explained : IsExplained holidays own owed day explained
-  pub told : answer ≡ Ok (Explained explained)
+  pub told : answer ≡ Ok (Told (Explained explained))

@@ -1,5 +1,6 @@
 -- What the desk answers to the question what is kept.
-use Rattle.std.specs.Prelude.{◌≡◌, ◌⊎◌, ◌≤◌, ◌<◌, ◌↔◌, ℕ, List, [], Option, None, Some, Ok}
+use Rattle.std.specs.Prelude.{◌≡◌, ◌⊎◌, ◌≤◌, ◌<◌, ◌↔◌, ◌++◌, ℕ, List, [], Option, None, Some, Ok}
+use Rattle.std.specs.Prelude.{Bool, true, false, map}
 use Rattle.ftd_days.specs.Calendar.{year_of, quarter_of}
 use Rattle.ftd_rules.specs.declared.Form.{Form}
 use Rattle.ftd_rules.specs.declared.Form.TheVariants.{F941, F943}
@@ -8,25 +9,28 @@ use Rattle.ftd_rules.specs.declared.YearLine.{YearLine}
 use Rattle.ftd_rules.specs.Laws.{Covers}
 use Rattle.ftd_rules.specs.Lists.{Has}
 use Rattle.ftd_machine.specs.State.{State, Entries, entries_of, holidays, calendar_at, is_given}
-use Rattle.ftd_machine.specs.State.{kept_at, figure_at}
-use Rattle.ftd_machine.specs.History.{form_of, AreLinesOf, AreOwed}
+use Rattle.ftd_machine.specs.State.{kept_at, figure_at, is_in_force}
+use Rattle.ftd_machine.specs.History.{form_of, AreLinesOf, AreOwed, HasLookback}
 use Rattle.ftd_machine.specs.Checks.{Answer}
 use Rattle.ftd_machine.specs.Requests.{kept_of_checks, kept_in_quarter_checks, holidays_checks}
 use Rattle.ftd_machine.specs.Agenda.{EachToLater, IsNameBefore}
 use Rattle.ftd_machine.specs.declared.kept.KeptAccount.{KeptAccount}
+use Rattle.ftd_machine.specs.declared.kept.KeptHoliday.{KeptHoliday}
 use Rattle.ftd_machine.specs.declared.kept.KeptPayment.{KeptPayment}
 use Rattle.ftd_machine.specs.declared.kept.KeptRun.{KeptRun}
 use Rattle.ftd_machine.specs.declared.kept.KeptTotal.{KeptTotal}
 use Rattle.ftd_machine.specs.declared.kept.KeptTotal.TheVariants.{OfQuarter, OfYear}
+use Rattle.ftd_machine.specs.declared.kept.KeptYear.{KeptYear}
 use Rattle.ftd_machine.specs.declared.kept.KeptRows.{KeptRows}
 use Rattle.ftd_machine.specs.declared.kept.KeptRows.TheVariants as rows
+use Rattle.ftd_machine.specs.declared.facts.Facts.TheVariants as facts
 use Rattle.ftd_machine.specs.declared.replies.Reply.TheVariants as reply
 use Rattle.ftd_machine.specs.declared.requests.Kept.{Kept}
 use Rattle.ftd_machine.specs.declared.requests.Kept.TheVariants.{Accounts, Years, Reported}
 use Rattle.ftd_machine.specs.declared.requests.Kept.TheVariants.{Holidays, Runs, Payments}
 
 abbrev pub told_rows : KeptRows → Answer
-told_rows kept = Ok (reply.Kept kept)
+told_rows kept = Ok (reply.Told (facts.Kept kept))
 
 -- ---- accounts
 
@@ -46,27 +50,39 @@ pub record AreAccounts (s : State) (answer : Answer) : Type 0 where
 
 -- ---- open years
 
+-- what was accepted of the account, as if none of its totals had been put right
+abbrev pub as_first_reported : Entries → Entries
+as_first_reported own = record own { corrected = []; corrected_years = [] }
+
+abbrev pub line_of : KeptYear → YearLine
+line_of x = x.line
+
 -- the answer is the lines of the account's open years: each with its lookback total, with whether
--- the account is carried into it, with its opening and its turn
+-- the account is carried into it, with its opening and its turn; and beside each its lookback total
+-- by the totals as they were first reported
 pub record AreYears (own : Entries) (answer : Answer) : Type 0 where
-  pub lines : List YearLine
-  pub are_lines : AreLinesOf own lines
-  pub told : answer ≡ told_rows (rows.Years lines)
+  pub listed : List KeptYear
+  pub are_lines : AreLinesOf own (map line_of listed)
+  pub first_lookbacks : (x : KeptYear) → Has listed x
+      → HasLookback (as_first_reported own) x.line.year x.first_lookback
+  pub told : answer ≡ told_rows (rows.Years listed)
 
 -- ---- reported totals
 
--- it was reported, and is in force: for a quarter on Form 941, for a year on Form 943
+-- it is in force, and was first reported so: for a quarter on Form 941, for a year on Form 943
 abbrev pub IsTotal : Form → Entries → KeptTotal → Type 0
-IsTotal F941 own (OfQuarter quarter cents) =
-    figure_at quarter own.reported own.corrected ≡ Some cents
-IsTotal F941 own (OfYear year cents) = ⊥
-IsTotal F943 own (OfQuarter quarter cents) = ⊥
-IsTotal F943 own (OfYear year cents) =
-    figure_at year own.reported_years own.corrected_years ≡ Some cents
+IsTotal F941 own (OfQuarter quarter cents first) =
+    (figure_at quarter own.reported own.corrected ≡ Some cents)
+    × (kept_at quarter own.reported ≡ Some first)
+IsTotal F941 own (OfYear year cents first) = ⊥
+IsTotal F943 own (OfQuarter quarter cents first) = ⊥
+IsTotal F943 own (OfYear year cents first) =
+    (figure_at year own.reported_years own.corrected_years ≡ Some cents)
+    × (kept_at year own.reported_years ≡ Some first)
 
 abbrev pub period_of : KeptTotal → ℕ
-period_of (OfQuarter quarter cents) = quarter
-period_of (OfYear year cents) = year
+period_of (OfQuarter quarter cents first) = quarter
+period_of (OfYear year cents first) = year
 
 abbrev pub IsTotalBefore : KeptTotal → KeptTotal → Type 0
 IsTotalBefore a b = period_of a < period_of b
@@ -87,14 +103,28 @@ IsAdded s year day = Has s.added_days day × (year_of day ≡ year)
 abbrev pub IsDayBefore : ℕ → ℕ → Type 0
 IsDayBefore a b = a < b
 
--- the answer is the calendar of the year as it was given, and all days that were added to it, rising
+-- the day, whether it was added, and whether it is a holiday now
+abbrev pub kept_holiday : State → Bool → ℕ → KeptHoliday
+kept_holiday s added day = record {
+  day = day;
+  added = added;
+  is_holiday = is_in_force s.changed_days day;
+}
+
+-- the days that were given, then those that were added
+abbrev pub kept_days : State → List ℕ → List ℕ → List KeptHoliday
+kept_days s given added =
+    map (kept_holiday s false) given ++ map (kept_holiday s true) added
+
+-- the answer is the days of the year's calendar as it was given, then all days that were added to
+-- it, rising
 pub record AreHolidays (s : State) (year : ℕ) (answer : Answer) : Type 0 where
   pub given : List ℕ
   pub is_given : calendar_at s year ≡ Some given
   pub added : List ℕ
   pub rising : EachToLater IsDayBefore added
   pub all : (day : ℕ) → Has added day ↔ IsAdded s year day
-  pub told : answer ≡ told_rows (rows.Holidays given added)
+  pub told : answer ≡ told_rows (rows.Holidays (kept_days s given added))
 
 -- ---- runs
 
@@ -126,7 +156,8 @@ IsHeldBy owed day (Some first) =
     (o : Obligation) × Has owed o × Covers o day × (o.first ≡ first)
     × ((p : Obligation) → Has owed p → Covers p day → first ≤ p.first)
 
--- it is the payment of its number, for a day of the quarter, with the obligation that holds that day
+-- it is the payment of its number, for a day of the quarter, with the obligation that holds this
+-- day
 abbrev pub IsPaymentIn : List Obligation → Entries → ℕ → KeptPayment → Type 0
 IsPaymentIn owed own quarter x =
     (kept_at x.number own.payments ≡ Some (record { value = x.payment; voided = x.voided }))

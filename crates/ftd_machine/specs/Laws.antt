@@ -1,15 +1,17 @@
 -- Words of the laws on requests.
-use Rattle.std.specs.Prelude.{◌≡◌, ◌⊎◌, ℕ, Bool, true, false, List, length, Ok, Err}
+use Rattle.std.specs.Prelude.{◌≡◌, ◌⊎◌, ℕ, Bool, true, false, List, length, Ok, Err, ⊤}
 use Rattle.ftd_machine.specs.State.{State, entries_of}
 use Rattle.ftd_machine.specs.Checks.{Answer}
-use Rattle.ftd_machine.specs.Questions.{AsksOf}
+use Rattle.ftd_machine.specs.Questions.{AsksOf, AreBounded}
 use Rattle.ftd_machine.specs.Runs.{IsFault}
+use Rattle.ftd_machine.specs.declared.replies.Reply.{Reply}
 use Rattle.ftd_machine.specs.declared.replies.Reply.TheVariants as reply
 use Rattle.ftd_machine.specs.declared.requests.Request.{Request}
 use Rattle.ftd_machine.specs.declared.requests.Request.TheVariants.{Enrol, Calendar, AddHoliday}
 use Rattle.ftd_machine.specs.declared.requests.Request.TheVariants.{Report, ReportYear, OpenYear}
 use Rattle.ftd_machine.specs.declared.requests.Request.TheVariants.{Post, Void, Pay, VoidPay}
-use Rattle.ftd_machine.specs.declared.requests.Request.TheVariants.{CorrectReport, CorrectReportYear}
+use Rattle.ftd_machine.specs.declared.requests.Request.TheVariants.{CorrectReport}
+use Rattle.ftd_machine.specs.declared.requests.Request.TheVariants.{CorrectReportYear}
 use Rattle.ftd_machine.specs.declared.requests.Request.TheVariants.{ChangeHoliday, CorrectAccount}
 use Rattle.ftd_machine.specs.declared.requests.Request.TheVariants.{Question}
 
@@ -18,13 +20,16 @@ abbrev pub is_change : Answer → Bool
 is_change (Ok reply.Done) = true
 is_change (Ok (reply.Posted from to removed added)) = true
 is_change (Ok reply.Already) = false
-is_change (Ok (reply.Status kind reason)) = false
-is_change (Ok (reply.Due rows)) = false
-is_change (Ok (reply.Days sums)) = false
-is_change (Ok (reply.Agenda rows)) = false
-is_change (Ok (reply.Explained explained)) = false
-is_change (Ok (reply.Kept rows)) = false
+is_change (Ok (reply.Told facts)) = false
 is_change (Err refusal) = false
+
+-- the amounts of a list of one account that is answered are together below 6,000,000,000,000,000
+-- cents
+abbrev pub IsBounded : Reply → Type 0
+IsBounded (reply.Told facts) = AreBounded facts
+IsBounded reply.Done = ⊤
+IsBounded reply.Already = ⊤
+IsBounded (reply.Posted from to removed added) = ⊤
 
 -- the request names the account; a calendar and holidays name none
 abbrev pub Names : Request → List ℕ → Type 0

@@ -1,14 +1,9 @@
 -- The limits of what a request may say.
-use Rattle.std.specs.Prelude.{ℕ, ◌==◌, ◌&&◌, ◌<◌, nat_le, nat_lt, Bool, List, length, drop, zip, ⊤}
-use Rattle.std.specs.List.{list_all, sum_by}
+use Rattle.std.specs.Prelude.{ℕ, ◌==◌, ◌&&◌, ◌<◌, nat_le, nat_lt, Bool, List, length, drop, zip}
+use Rattle.std.specs.List.{list_all}
 use Rattle.ftd_days.specs.Calendar.{year_of}
 use Rattle.ftd_days.specs.declared.cents.Cents.{Cents}
-use Rattle.ftd_rules.specs.Liability.{cents_of}
-use Rattle.ftd_rules.specs.Verdicts.{amount_of}
 use Rattle.ftd_rules.specs.declared.run.PayRun.{PayRun}
-use Rattle.ftd_machine.specs.declared.replies.Reply.{Reply}
-use Rattle.ftd_machine.specs.declared.replies.Reply.TheVariants.{Done, Already, Posted, Status}
-use Rattle.ftd_machine.specs.declared.replies.Reply.TheVariants.{Due, Days, Agenda, Explained, Kept}
 
 -- the year is one of these
 abbrev pub is_between : ℕ → ℕ → ℕ → Bool
@@ -48,16 +43,3 @@ most_entries = 20_000
 -- each
 abbrev pub amounts_end : ℕ
 amounts_end = 6_000_000_000_000_000
-
--- the amounts of a list of one account that is answered are together below it; what is due over all
--- accounts has no such limit
-abbrev pub IsBounded : Reply → Type 0
-IsBounded (Due rows) = sum_by amount_of rows < amounts_end
-IsBounded (Days sums) = sum_by cents_of sums < amounts_end
-IsBounded Done = ⊤
-IsBounded Already = ⊤
-IsBounded (Posted from to removed added) = ⊤
-IsBounded (Status kind reason) = ⊤
-IsBounded (Explained explained) = ⊤
-IsBounded (Agenda rows) = ⊤
-IsBounded (Kept rows) = ⊤

@@ -1,6 +1,10 @@
 -- The questions: the checks of each, and what it is answered.
-use Rattle.std.specs.Prelude.{◌≡◌, ℕ, List, Option, Some, None}
+use Rattle.std.specs.Prelude.{◌≡◌, ◌<◌, ℕ, List, Option, Some, None, ⊤}
+use Rattle.std.specs.List.{sum_by}
 use Rattle.ftd_days.specs.Calendar.{year_of, quarter_year}
+use Rattle.ftd_rules.specs.Liability.{cents_of}
+use Rattle.ftd_rules.specs.Verdicts.{amount_of}
+use Rattle.ftd_machine.specs.Limits.{amounts_end}
 use Rattle.ftd_machine.specs.State.{State, entries_of, holidays, is_open}
 use Rattle.ftd_machine.specs.Checks.{Answer}
 use Rattle.ftd_machine.specs.Requests.{status_checks, due_list_checks, schedule_b_checks}
@@ -9,6 +13,8 @@ use Rattle.ftd_machine.specs.Asking.{IsStatus, IsDueList, IsScheduleB}
 use Rattle.ftd_machine.specs.Agenda.{IsDueBetween, IsLeftBy, IsAgenda}
 use Rattle.ftd_machine.specs.Explaining.{IsExplanation}
 use Rattle.ftd_machine.specs.Kept.{kept_checks, TellsKept, account_kept}
+use Rattle.ftd_machine.specs.declared.facts.Facts.{Facts}
+use Rattle.ftd_machine.specs.declared.facts.Facts.TheVariants as facts
 use Rattle.ftd_machine.specs.declared.requests.Question.{Question}
 use Rattle.ftd_machine.specs.declared.requests.Question.TheVariants.{Status, Explain, DueList}
 use Rattle.ftd_machine.specs.declared.requests.Question.TheVariants.{ScheduleB, Agenda, Owed, Kept}
@@ -33,8 +39,8 @@ question_checks s (Agenda from to as_of) = agenda_checks from to as_of
 question_checks s (Owed until as_of) = owed_checks until as_of
 question_checks s (Kept kept) = kept_checks s kept
 
--- where they pass, this is the answer: the deposit schedule of a day, why the obligation that holds it
--- is so, the due list of a quarter, its liability by day, what is due between two days over all
+-- where they pass, this is the answer: the deposit schedule of a day, why the obligation that holds
+-- it is so, the due list of a quarter, its liability by day, what is due between two days over all
 -- accounts, what of it is not paid, or what is kept
 abbrev pub Tells : State → Question → Answer → Type 0
 Tells s (Status name day) answer = IsStatus (entries_of s name) day answer
@@ -45,6 +51,16 @@ Tells s (ScheduleB name quarter) answer = IsScheduleB (entries_of s name) quarte
 Tells s (Agenda from to as_of) answer = IsAgenda s (IsDueBetween from to) as_of answer
 Tells s (Owed until as_of) answer = IsAgenda s (IsLeftBy until) as_of answer
 Tells s (Kept kept) answer = TellsKept s kept answer
+
+-- the amounts of a list of one account that is told are together below 6,000,000,000,000,000 cents;
+-- what is due over all accounts has no such limit
+abbrev pub AreBounded : Facts → Type 0
+AreBounded (facts.Due rows) = sum_by amount_of rows < amounts_end
+AreBounded (facts.Days sums) = sum_by cents_of sums < amounts_end
+AreBounded (facts.Status kind reason) = ⊤
+AreBounded (facts.Explained explained) = ⊤
+AreBounded (facts.Agenda rows) = ⊤
+AreBounded (facts.Kept rows) = ⊤
 
 -- the account that a question names; what is due over all accounts names none
 abbrev pub account_asked : Question → Option (List ℕ)

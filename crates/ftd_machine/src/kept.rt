@@ -1,7 +1,7 @@
 //! What is kept, as it is told.
 
 use crate::entries::Account;
-use crate::lists::{AccountName, Days, ListOf};
+use crate::lists::{AccountName, ListOf};
 use ftd_days::{Cents, Day, Quarter};
 use ftd_rules::{PayRun, Payment, YearLine};
 
@@ -14,13 +14,41 @@ pub struct KeptAccount {
     pub account: Account,
 }
 
-/// A total that was reported.
+/// A year that is open.
+#[derive(Clone, Copy, Debug, PartialEq, Eq)]
+pub struct KeptYear {
+    /// Its line, by the totals that are in force.
+    pub line: YearLine,
+    /// Its lookback total by the totals as they were first reported, in cents.
+    pub first_lookback: Cents,
+}
+
+/// A total that was reported. Amounts are in cents.
 #[derive(Clone, Copy, Debug, PartialEq, Eq)]
 pub enum KeptTotal {
-    /// Of a quarter, on Form 941.
-    OfQuarter(Quarter, Cents),
-    /// Of a year, on Form 943.
-    OfYear(u32, Cents),
+    /// Of a quarter, on Form 941: as it is in force, and as it was first reported.
+    OfQuarter {
+        quarter: Quarter,
+        cents: Cents,
+        first: Cents,
+    },
+    /// Of a year, on Form 943: as it is in force, and as it was first reported.
+    OfYear {
+        year: u32,
+        cents: Cents,
+        first: Cents,
+    },
+}
+
+/// A day that was given or added as a holiday.
+#[derive(Clone, Copy, Debug, PartialEq, Eq)]
+pub struct KeptHoliday {
+    /// The day.
+    pub day: Day,
+    /// Whether it was added after the calendar of its year had been given.
+    pub added: bool,
+    /// Whether it is a holiday. Where it is none, it was taken back.
+    pub is_holiday: bool,
 }
 
 /// A pay run, void or not.
@@ -52,10 +80,13 @@ pub struct KeptPayment {
 pub type KeptAccounts = ListOf<KeptAccount>;
 
 /// Open years.
-pub type KeptYears = ListOf<YearLine>;
+pub type KeptYears = ListOf<KeptYear>;
 
 /// Reported totals.
 pub type KeptTotals = ListOf<KeptTotal>;
+
+/// Days that were given or added as holidays.
+pub type KeptHolidays = ListOf<KeptHoliday>;
 
 /// Pay runs.
 pub type KeptRuns = ListOf<KeptRun>;
@@ -72,9 +103,8 @@ pub enum KeptRows {
     Years(KeptYears),
     /// The totals that an account reported, by quarter or year.
     Reported(KeptTotals),
-    /// The legal holidays of a year, rising: those that its calendar was given with, and those that
-    /// were added to it.
-    Holidays { given: Days, added: Days },
+    /// The days of a year that were given as holidays, rising, then those that were added, rising.
+    Holidays(KeptHolidays),
     /// Runs of an account, by payday and number.
     Runs(KeptRuns),
     /// Payments of an account, by the day that they are for and number.

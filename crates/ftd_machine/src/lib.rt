@@ -9,6 +9,7 @@ mod checks;
 mod corrections;
 mod entries;
 mod explained;
+mod facts;
 mod kept;
 mod limits;
 mod lists;
@@ -28,11 +29,12 @@ pub use crate::entries::{Account, Beginning};
 pub use crate::explained::{
     CountedDay, CountedDays, DayKind, Explanation, RunningSum, RunningSums,
 };
+pub use crate::facts::Facts;
 pub use crate::kept::{
-    KeptAccount, KeptAccounts, KeptPayment, KeptPayments, KeptRows, KeptRun, KeptRuns, KeptTotal,
-    KeptTotals, KeptYears,
+    KeptAccount, KeptAccounts, KeptHoliday, KeptHolidays, KeptPayment, KeptPayments, KeptRows,
+    KeptRun, KeptRuns, KeptTotal, KeptTotals, KeptYear, KeptYears,
 };
-pub use crate::limits::{MOST_ENTRIES, MOST_HOLIDAYS, are_rising, are_sums_bounded, is_bounded};
+pub use crate::limits::{MOST_ENTRIES, MOST_HOLIDAYS, are_rising, are_sums_bounded};
 pub use crate::lists::{AccountName, AgendaRow, AgendaRows, DaySums, Days, DueRows, ListOf};
-pub use crate::replies::{Named, Reason, Refusal, Reply};
+pub use crate::replies::{Named, Reason, Refusal, Reply, is_bounded};
 pub use crate::requests::{Kept, Question, Request};

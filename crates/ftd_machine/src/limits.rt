@@ -5,10 +5,9 @@ ghost use Rattle.std.specs.List.{list_all, sum_by};
 ghost use Rattle.ftd_days.specs.Calendar.{quarter_start, year_of};
 ghost use Rattle.ftd_rules.specs.Liability.{cents_of};
 ghost use Rattle.ftd_rules.specs.Verdicts.{amount_of};
-ghost use Rattle.ftd_machine.specs.Limits.{IsBounded, amounts_end, is_between, is_amount};
+ghost use Rattle.ftd_machine.specs.Limits.{amounts_end, is_between, is_amount};
 ghost use Rattle.ftd_machine.specs.Limits.{is_number, are_rising, is_calendar};
 
-use crate::replies::Reply;
 use ftd_days::{Cents, Day, Quarter};
 use ftd_rules::{DaySum, DueRow};
 
@@ -76,27 +75,8 @@ pub(crate) fn is_before_end(day: Day, quarter: Quarter) -> bool
     day <= quarter.last()
 }
 
-/// Whether the amounts of a list of one account that is answered are together below
-/// 6,000,000,000,000,000 cents, as those of an account are. What is due over all accounts has no
-/// such limit: each of its amounts is below it.
-pub fn is_bounded(reply: &Reply) -> bool
-    ensures { IsTrue result ↔ IsBounded reply.now }
-{
-    match reply {
-        Reply::Due(rows) => are_rows_bounded(rows.as_slice()),
-        Reply::Days(sums) => are_sums_bounded(sums.as_slice()),
-        Reply::Done
-        | Reply::Already
-        | Reply::Posted { .. }
-        | Reply::Status { .. }
-        | Reply::Agenda(_)
-        | Reply::Explained(_)
-        | Reply::Kept(_) => true,
-    }
-}
-
 /// Whether the amounts of the rows are together below the end.
-fn are_rows_bounded(rows: &[DueRow]) -> bool
+pub(crate) fn are_rows_bounded(rows: &[DueRow]) -> bool
     ensures { IsTrue result ↔ (sum_by amount_of rows.now < amounts_end) }
 {
     let mut total = 0;

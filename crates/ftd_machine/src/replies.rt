@@ -1,12 +1,10 @@
 //! What the desk answers.
 
-ghost use Rattle.std.specs.Prelude.{◌≡◌};
+ghost use Rattle.std.specs.Prelude.{◌≡◌, ◌↔◌, IsTrue};
+ghost use Rattle.ftd_machine.specs.Laws.{IsBounded};
 
-use crate::explained::Explanation;
-use crate::kept::KeptRows;
-use crate::lists::{AgendaRows, DaySums, DueRows};
+use crate::facts::{Facts, are_bounded};
 use ftd_days::{Day, Quarter};
-use ftd_rules::Kind;
 use thiserror::Error;
 
 /// Why an account has its deposit schedule on a day.
@@ -28,29 +26,27 @@ pub enum Reply {
     /// What was asked for was done before.
     Already,
     /// The obligations that went and those that came: the least first day and the greatest last day
-    /// among them, and how many there are of each. Where there are none, both days are the payday, or
-    /// the first day of the quarter or the year whose total was corrected.
+    /// among them, and how many there are of each. Where there are none, both days are the payday,
+    /// or the first day of the quarter or the year whose total was corrected.
     Posted {
         from: Day,
         to: Day,
         removed: u32,
         added: u32,
     },
-    /// The deposit schedule of a day.
-    Status {
-        kind: Kind,
-        reason: Reason,
-    },
-    /// Why the obligation is so, or nothing where no obligation's deposit period holds the day.
-    Explained(Option<Explanation>),
-    /// The rows of a due list, by first day.
-    Due(DueRows),
-    /// The days of a quarter that have liability, by day.
-    Days(DaySums),
-    /// What is due over all accounts, by due date, then by account, then by first day.
-    Agenda(AgendaRows),
-    /// What is kept.
-    Kept(KeptRows),
+    /// What was asked for.
+    Told(Facts),
+}
+
+/// Whether the amounts of a list of one account that is answered are together below
+/// 6,000,000,000,000,000 cents, as those of an account are.
+pub fn is_bounded(reply: &Reply) -> bool
+    ensures { IsTrue result ↔ IsBounded reply.now }
+{
+    match reply {
+        Reply::Told(facts) => are_bounded(facts),
+        Reply::Done | Reply::Already | Reply::Posted { .. } => true,
+    }
 }
 
 /// Why the desk refuses a request. It prints with its number, and 16, 17, 18, 25 and 27 with what

@@ -1,6 +1,6 @@
 //! Sources whose peer may send nothing for a while.
 
-ghost use Rattle.std.specs.Prelude.{◌≡◌, Bool, true, false};
+ghost use Rattle.std.specs.Prelude.{◌≡◌, Bool, not};
 
 use ftd_ports::{Port, Source};
 use std::io::Read;
@@ -12,7 +12,7 @@ pub trait Peer: Source {
 
     /// Waits until the peer sends something or ends. False where it was idle for too long.
     fn waits(&mut self) -> bool
-        ensures idle { result ≡ false → idle self.new ≡ true }
+        ensures idle { idle self.new ≡ not result }
         ensures keeps { Self.left self.new ≡ Self.left self.old };
 }
 

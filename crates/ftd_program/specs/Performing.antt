@@ -232,16 +232,16 @@ module _ {S O E : Type 0} (g : store.Ghosts S) (o_taken : O → Option (List ℕ
   abbrev pub PrintsAnswer : Desk S → Desk S → List ℕ → Format → Request → Answer → Type 0
   PrintsAnswer old new db format request answer =
       (before : Desk S) → Handles (held g before) (held g old) request answer
-      → PerformsBy o_taken o_failed e_taken e_failed out err p (held g before) (held g new) db format
-      request answer
+      → PerformsBy o_taken o_failed e_taken e_failed out err p (held g before) (held g new) db
+      format request answer
 
-  -- the number was printed, and then the request asked, which is under it, and its answer printed; or
-  -- standard output took no more than a prefix of the number, and the request was not asked
+  -- the number was printed, and then the request asked, which is under it, and its answer printed;
+  -- or standard output took no more than a prefix of the number, and the request was not asked
   pub data AsksUnder (old new : Desk S) (db : List ℕ) (request : Request) (number : ℕ) : Type 0
     where
       asked : (told : O) → Appends (o_taken out) (o_taken told) (number_text number)
-          → Performs o_taken o_failed e_taken e_failed told err p (held g old) (held g new) db as_text
-          request → AsksUnder old new db request number
+          → Performs o_taken o_failed e_taken e_failed told err p (held g old) (held g new) db
+          as_text request → AsksUnder old new db request number
       unasked : new ≡ old
           → FailsOutput o_taken o_failed e_taken e_failed out err p (number_text number)
           → AsksUnder old new db request number
@@ -255,8 +255,8 @@ module _ {S O E : Type 0} (g : store.Ghosts S) (o_taken : O → Option (List ℕ
         → AsksUnder between new db (with_number request number) number
         → AsksNext old new db request
     answered : (answer : Answer) → next_of answer ≡ None
-        → PerformsBy o_taken o_failed e_taken e_failed out err p (held g old) (held g new) db as_text
-        (with_number request greatest_number) answer → AsksNext old new db request
+        → PerformsBy o_taken o_failed e_taken e_failed out err p (held g old) (held g new) db
+        as_text (with_number request greatest_number) answer → AsksNext old new db request
 
   -- the job of a task was done, with the desk of this file
   abbrev pub Does : Desk S → Desk S → List ℕ → List ℕ → Job → Type 0

@@ -42,9 +42,9 @@ fn write_number<W: Target>(number: u32, target: &mut W) -> Result<(), WriteFault
     write_pieces(target, &[b"number ", number, b"\n"])
 }
 
-/// Asks a correction of the desk under the next number. It is asked under the greatest number first,
-/// to which the desk answers how many corrections there are; where it answers otherwise, that is
-/// printed.
+/// Asks a correction of the desk under the next number. It is asked under the greatest number
+/// first, to which the desk answers how many corrections there are; where it answers otherwise,
+/// that is printed.
 pub(crate) fn ask_next<S: Alter, O: Target, E: Target>(
     desk: &mut Desk<S>,
     db: &str,
@@ -66,8 +66,8 @@ pub(crate) fn ask_next<S: Alter, O: Target, E: Target>(
     }
 }
 
-/// Prints the number, and asks the request of the desk, which is under it. Where standard output fails
-/// at the number, the request is not asked.
+/// Prints the number, and asks the request of the desk, which is under it. Where standard output
+/// fails at the number, the request is not asked.
 fn ask_under<S: Alter, O: Target, E: Target>(
     desk: &mut Desk<S>,
     db: &str,

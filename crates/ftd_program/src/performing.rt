@@ -7,7 +7,7 @@ ghost use Rattle.ftd_program.specs.Performing.{Asks, AsksDue, Does, Performs, Pe
 ghost use Rattle.ftd_program.specs.Performing.{PrintsAnswer};
 ghost use Rattle.ftd_program.specs.Performing.{PerformsImport, PerformsTrial, PrintsRefusal};
 ghost use Rattle.ftd_program.specs.Performing.{PrintsReply, PrintsStop, PrintsSummary};
-ghost use Rattle.ftd_machine.specs.Limits.{IsBounded};
+ghost use Rattle.ftd_machine.specs.Laws.{IsBounded};
 ghost use Rattle.ftd_machine.specs.declared.requests.Question.TheVariants.{DueList};
 ghost use Rattle.ftd_machine.specs.declared.requests.Request.TheVariants as requests;
 ghost use Rattle.ftd_ports.specs.Writing.{WritesPrefix};
@@ -43,12 +43,12 @@ pub struct Performed<O, E> {
     pub err: E,
 }
 
-/// Does the job of a task, with the desk of this file: asks its request of the desk, or a correction
-/// under the next number, or imports the entries of the input, CSV with the header of their sheet, or
-/// tells what an import would say of them. What came of it goes to `out`, and the line of a refusal
-/// or of a fault to `err`. What the desk took stands, also where `out` fails: the status is 3 then,
-/// and a prefix of the text was written. `progress` is told how far an import is, and its end before
-/// anything is printed.
+/// Does the job of a task, with the desk of this file: asks its request of the desk, or a
+/// correction under the next number, or imports the entries of the input, CSV with the header of
+/// their sheet, or tells what an import would say of them. What came of it goes to `out`, and the
+/// line of a refusal or of a fault to `err`. What the desk took stands, also where `out` fails: the
+/// status is 3 then, and a prefix of the text was written. `progress` is told how far an import is,
+/// and its end before anything is printed.
 pub fn perform<S: Alter, O: Target, E: Target, P: Progress>(
     alloc: Global,
     db: &str,

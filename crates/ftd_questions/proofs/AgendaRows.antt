@@ -20,7 +20,8 @@ use Rattle.ftd_machine.specs.Asking.{IsDueRow}
 use Rattle.ftd_machine.specs.Agenda.{first_day_of, IsDayFor, IsAgendaRow}
 use Rattle.ftd_machine.specs.Checks.{Answer}
 use Rattle.ftd_machine.specs.declared.lists.AgendaRow.{AgendaRow}
-use Rattle.ftd_machine.specs.declared.replies.Reply.TheVariants.{Due}
+use Rattle.ftd_machine.specs.declared.facts.Facts.TheVariants.{Due}
+use Rattle.ftd_machine.specs.declared.replies.Reply.TheVariants.{Told}
 use Rattle.ftd_questions.specs.Agendas.{IsListOf, KnowsList, KnowsLast, IsLast, day_for, IsRowOf}
 use Rattle.ftd_questions.specs.Agendas.{AddsRow, KnowsLastYears, KnowsRow}
 use Rattle.ftd_questions.specs.Listing.{KnowsDue}
@@ -41,7 +42,7 @@ pays_by form hs row return_due is Short day e = e
 pays_by form hs row return_due is Late day e = e
 
 abbrev due_list_of : List DueRow → Answer
-due_list_of rows = Ok (Due rows)
+due_list_of rows = Ok (Told (Due rows))
 
 list_is : (rows listed : List DueRow) → due_list_of rows ≡ due_list_of listed → rows ≡ listed
 list_is rows listed e = cc

@@ -34,7 +34,8 @@ use Rattle.ftd_machine.specs.Sound.{IsSound}
 use Rattle.ftd_machine.specs.Asking.{return_period, return_total, paid_for_return, paid_for}
 use Rattle.ftd_machine.specs.Asking.{has_next_day, preceding, first_of_row, IsSmall, IsReturnPaid}
 use Rattle.ftd_machine.specs.Asking.{IsDueRow, IsDueList}
-use Rattle.ftd_machine.specs.declared.replies.Reply.TheVariants.{Due}
+use Rattle.ftd_machine.specs.declared.facts.Facts.TheVariants.{Due}
+use Rattle.ftd_machine.specs.declared.replies.Reply.TheVariants.{Told}
 use Rattle.ftd_machine.proofs.Few.{few_in_force}
 use Rattle.ftd_machine.proofs.Members.{has_filtered}
 use Rattle.ftd_entries.specs.Standing.{StandsFor, IsSettled}
@@ -93,7 +94,8 @@ pub return_known : (form : Form) (quarter : ℕ) (read : List ℕ) (day : ℕ)
     → HasYears (quarter_year quarter) (quarter_year quarter + 1) read t
     → KnowsReturnDue form quarter day t
 return_known form quarter read day from_2001 to_2098 is t years s stands sound =
-    (return_same read (holidays s) (quarter_year quarter) from_2001 to_2098 (few_in_force s sound.few)
+    (return_same read (holidays s) (quarter_year quarter) from_2001 to_2098
+    (few_in_force s sound.few)
     (years_agree read (quarter_year quarter) from_2001 to_2098 t s stands sound years) form quarter
     day refl is).0
 
@@ -202,7 +204,8 @@ module _ (name : List ℕ) (quarter as_of : ℕ) (given : List YearDays) (period
 
   return_is : IsReturnDue form all quarter of_return.due
   return_is =
-      (return_same read all year from_2001 to_2098 (few_in_force s sound.few) agree form quarter of_return.due refl
+      (return_same read all year from_2001 to_2098 (few_in_force s sound.few) agree form quarter
+      of_return.due refl
       is_return.due).0
 
   -- ---- one row
@@ -234,8 +237,9 @@ module _ (name : List ℕ) (quarter as_of : ℕ) (given : List YearDays) (period
       let its_year : year_of o.last ≡ year = omega arith in
       let due = (piece name t s stands o has).due in
       let near = due_near all o.rule o.last o.due (few_in_force s sound.few) (omega arith) due in
-      makeup_same read all year from_2001 to_2098 (few_in_force s sound.few) agree form o.rule o.last o.due makeup
-      its_year within.1 (due_later all o.rule o.last o.due within.1 due) near.1.1
+      makeup_same read all year from_2001 to_2098 (few_in_force s sound.few) agree form o.rule
+      o.last o.due makeup its_year within.1
+      (due_later all o.rule o.last o.due within.1 due) near.1.1
       (subst (λ f. IsMakeup f read o.rule o.last o.due makeup) is_return.form_is
       (subst (λ (ys : List YearDays). IsMakeup of_return.form (holidays_of ys) o.rule o.last o.due
       makeup) is_return.holidays_are m))
@@ -345,7 +349,7 @@ module _ (name : List ℕ) (quarter as_of : ℕ) (given : List YearDays) (period
       (begun_has o is.owed is.begins) in
       subst (Has rows) (sym (row_one row to.0 to.2.obligation is (of_listed to.0 to.1))) to.1
 
-  pub due_listed : IsDueList all own quarter as_of (Ok (Due rows))
+  pub due_listed : IsDueList all own quarter as_of (Ok (Told (Due rows)))
   due_listed = record {
     rows = owed;
     owed = (

@@ -16,7 +16,8 @@ use Rattle.ftd_store.specs.Holidays.{HasYears}
 use Rattle.ftd_machine.specs.declared.entries.Account.{Account}
 use Rattle.ftd_machine.specs.declared.requests.Question.TheVariants.{DueList}
 use Rattle.ftd_machine.specs.declared.requests.Request.TheVariants.{Question}
-use Rattle.ftd_machine.specs.declared.replies.Reply.TheVariants.{Due}
+use Rattle.ftd_machine.specs.declared.facts.Facts.TheVariants.{Due}
+use Rattle.ftd_machine.specs.declared.replies.Reply.TheVariants.{Told}
 use Rattle.ftd_machine.specs.Checks.{Answer, first_of}
 use Rattle.ftd_machine.specs.Asking.{return_period, has_next_day}
 use Rattle.ftd_machine.specs.History.{form_of}
@@ -72,7 +73,7 @@ rows_known name quarter as_of read next_day of_return from to is_return t knows 
     sound rows are_rows =
     let asked = knows.1 s stands in
     let form_is = asked.1 in
-    passed _ s (Ok (Due rows)) s _ asked.0 (
+    passed _ s (Ok (Told (Due rows))) s _ asked.0 (
       refl,
       due_listed name quarter as_of read.holidays read.period next_day of_return rows from to t s
           stands sound
@@ -130,8 +131,9 @@ module _ (name : List ℕ) (quarter as_of : ℕ) (known : KnownForDue) where
   pub due_told : (account : Account) (rows : List DueRow) → known.account ≡ Some account
       → checks ≡ None
       → (t : Tables) (s : State) → StandsFor t s → IsSound s → KnowsForDue name quarter known t
-      × KnowsDueList name account.form quarter as_of rows t → Step s (Question (DueList name quarter as_of))
-      (Ok (Due rows)) s
+      × KnowsDueList name account.form quarter as_of rows t
+      → Step s (Question (DueList name quarter as_of))
+      (Ok (Told (Due rows))) s
   due_told account rows is_account is t s stands sound knows =
-      passed _ s (Ok (Due rows)) s _ (checks_are t s stands knows.0 ∙ is)
+      passed _ s (Ok (Told (Due rows))) s _ (checks_are t s stands knows.0 ∙ is)
       (refl, knows.1 s stands sound (ap form_of (knows.0.account s stands ∙ is_account)))

@@ -40,7 +40,8 @@ use Rattle.ftd_machine.specs.declared.replies.Refusal.TheVariants.{UnknownAccoun
 use Rattle.ftd_machine.specs.Limits.{is_between}
 use Rattle.ftd_rules.specs.Accounts.{is_account_name}
 use Rattle.ftd_machine.specs.declared.replies.Reply.{Reply}
-use Rattle.ftd_machine.specs.declared.replies.Reply.TheVariants.{Due}
+use Rattle.ftd_machine.specs.declared.facts.Facts.TheVariants.{Due}
+use Rattle.ftd_machine.specs.declared.replies.Reply.TheVariants.{Told}
 use Rattle.ftd_machine.specs.declared.requests.Question.{Question}
 use Rattle.ftd_machine.proofs.Few.{and_first, and_second}
 use Rattle.ftd_machine.proofs.Members.{has_filtered}
@@ -55,7 +56,7 @@ use Rattle.ftd_questions.proofs.OwedDays.{filter_same, quarter_begins}
 use Rattle.ftd_entries.proofs.OwedRows.{begins, begins_is, first_key, key_is, paired, rows_begin}
 
 abbrev due_of : List DueRow → Answer
-due_of rows = Ok (Due rows)
+due_of rows = Ok (Told (Due rows))
 
 -- ---- lists whose keys do not fall
 
@@ -81,8 +82,8 @@ kept_do_not_fall {X = X} key p (x ∷ xs) h =
             | inl is ↦ inl is
             | inr more ↦ inr (has_filter ys y more)
           ])
-          | inr left ↦ inr (has_filter ys y (subst (λ (l : List X). Has l y) (filter_out p z ys left)
-              has))
+          | inr left ↦ inr (has_filter ys y
+              (subst (λ (l : List X). Has l y) (filter_out p z ys left) has))
         ]
 
 -- ---- tests
@@ -234,7 +235,8 @@ module _ (name : List ℕ) (quarter : ℕ) where
       let same : read ≡ map (row_shown name) rows = rows_are of_return as_of found rows pairs in
       let falls : KeysDoNotFall first_key read =
       subst (KeysDoNotFall first_key) ordered
-      (next_do_not_fall first_key lists.ordered (λ k d less. key_rises _ _ (lists.rise k d less))) in
+      (next_do_not_fall first_key lists.ordered
+      (λ k d less. key_rises _ _ (lists.rise k d less))) in
       record {
         all =
             subst (λ l. IsPermutation (filter (begins name starts ends) (t Obligations)) l)
@@ -289,7 +291,8 @@ module _ (name : List ℕ) (quarter : ℕ) where
       ∙ rows_are of_return as_of (filter (begins_in quarter) found) rows pairs in
       let falls : KeysDoNotFall first_key read =
       subst (KeysDoNotFall first_key) ordered
-      (next_do_not_fall first_key lists.ordered (λ k d less. key_rises _ _ (lists.rise k d less))) in
+      (next_do_not_fall first_key lists.ordered
+      (λ k d less. key_rises _ _ (lists.rise k d less))) in
       record {
         all =
             subst (λ l. IsPermutation (filter G all) l) same

@@ -17,7 +17,8 @@ use Rattle.ftd_machine.specs.Asking.{IsDueList}
 use Rattle.ftd_machine.specs.Agenda.{IsAgendaRow}
 use Rattle.ftd_machine.specs.declared.entries.Account.{Account}
 use Rattle.ftd_machine.specs.declared.lists.AgendaRow.{AgendaRow}
-use Rattle.ftd_machine.specs.declared.replies.Reply.TheVariants.{Due}
+use Rattle.ftd_machine.specs.declared.facts.Facts.TheVariants.{Due}
+use Rattle.ftd_machine.specs.declared.replies.Reply.TheVariants.{Told}
 use Rattle.ftd_entries.specs.Standing.{StandsFor}
 use Rattle.ftd_questions.specs.DueRows.{KnowsYears}
 use Rattle.ftd_questions.specs.Listing.{KnowsDue}
@@ -34,7 +35,7 @@ pub record IsListOf (s : State) (name : List ℕ) (quarter as_of : ℕ) (list : 
   pub enrolled : (entries_of s name).account ≡ Some account
   pub form_is : list.form ≡ account.form
   pub due_list : IsDueList (holidays s) (entries_of s name) quarter as_of
-      (Ok (Due list.rows.items))
+      (Ok (Told (Due list.rows.items)))
   pub return_due : IsReturnDue list.form (holidays s) quarter list.return_due
 
 -- so in each sound state for which the tables stand

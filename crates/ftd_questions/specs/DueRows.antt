@@ -15,7 +15,8 @@ use Rattle.ftd_machine.specs.State.{State, entries_of, holidays}
 use Rattle.ftd_machine.specs.History.{form_of}
 use Rattle.ftd_machine.specs.Sound.{IsSound}
 use Rattle.ftd_machine.specs.Asking.{is_next_day, IsDueList}
-use Rattle.ftd_machine.specs.declared.replies.Reply.TheVariants.{Due}
+use Rattle.ftd_machine.specs.declared.facts.Facts.TheVariants.{Due}
+use Rattle.ftd_machine.specs.declared.replies.Reply.TheVariants.{Told}
 use Rattle.ftd_entries.specs.Known.{KnowsAccount, KnowsYear}
 use Rattle.ftd_entries.specs.Standing.{StandsFor}
 use Rattle.ftd_reasons.specs.declared.return_periods.ReturnPeriod.{ReturnPeriod}
@@ -83,7 +84,7 @@ KnowsYears quarter given t =
 abbrev pub KnowsDueList : List ℕ → Form → ℕ → ℕ → List DueRow → Tables → Type 0
 KnowsDueList name form quarter as_of rows t =
     (s : State) → StandsFor t s → IsSound s → form_of (entries_of s name).account ≡ form
-    → IsDueList (holidays s) (entries_of s name) quarter as_of (Ok (Due rows))
+    → IsDueList (holidays s) (entries_of s name) quarter as_of (Ok (Told (Due rows)))
 
 -- the return of the quarter is due on the day, in each sound state for which the tables stand
 abbrev pub KnowsReturnDue : Form → ℕ → ℕ → Tables → Type 0

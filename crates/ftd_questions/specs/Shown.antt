@@ -11,7 +11,8 @@ use Rattle.ftd_store.specs.Walking.{rows_in}
 use Rattle.ftd_machine.specs.Asking.{first_of_row}
 use Rattle.ftd_machine.specs.Checks.{Answer}
 use Rattle.ftd_machine.specs.Questions.{due_list_of}
-use Rattle.ftd_machine.specs.declared.replies.Reply.TheVariants.{Due}
+use Rattle.ftd_machine.specs.declared.facts.Facts.TheVariants.{Due}
+use Rattle.ftd_machine.specs.declared.replies.Reply.TheVariants.{Told}
 use Rattle.ftd_questions.specs.DueRows.{KnowsDueList, KnowsReturnDue}
 use Rattle.ftd_questions.specs.declared.due.QuarterRows.{QuarterRows}
 use Rattle.ftd_machine.specs.declared.requests.Question.{Question}
@@ -44,7 +45,7 @@ KnowsQuarter name form quarter as_of found t =
 abbrev pub ShowsList : Option (List ℕ × ℕ) → Answer → Tables → Type 0
 ShowsList None answer t = ⊤
 ShowsList (Some asked) answer t =
-    (rows : List DueRow) → answer ≡ Ok (Due rows) → ShowsRows asked.0 asked.1 rows t
+    (rows : List DueRow) → answer ≡ Ok (Told (Due rows)) → ShowsRows asked.0 asked.1 rows t
 
 abbrev pub Shows : Question → Answer → Tables → Type 0
 Shows question answer t = ShowsList (due_list_of question) answer t

@@ -10,7 +10,7 @@ ghost use Rattle.ftd_entries.specs.Words.{Serves};
 
 use crate::agenda_rows::rows_due;
 use ftd_days::Day;
-use ftd_machine::{AgendaRow, AgendaRows, Answer, Reply, agenda_check, owed_check};
+use ftd_machine::{AgendaRow, AgendaRows, Answer, Facts, Reply, agenda_check, owed_check};
 use ftd_store::{StoreFault, Tx};
 use sqlite::Alter;
 use std::alloc::{AllocError, Global};
@@ -42,7 +42,7 @@ pub(crate) fn agenda<S: Alter>(
         return Ok(answer);
     }
     match by_due_date(rows) {
-        Ok(rows) => Ok(Ok(Reply::Agenda(AgendaRows::from_vec(rows)))),
+        Ok(rows) => Ok(Ok(Reply::Told(Facts::Agenda(AgendaRows::from_vec(rows))))),
         Err(_) => tx.give_up(StoreFault::Memory),
     }
 }
@@ -62,7 +62,7 @@ pub(crate) fn owed<S: Alter>(
         return Ok(answer);
     }
     match by_due_date(rows) {
-        Ok(rows) => Ok(Ok(Reply::Agenda(AgendaRows::from_vec(rows)))),
+        Ok(rows) => Ok(Ok(Reply::Told(Facts::Agenda(AgendaRows::from_vec(rows))))),
         Err(_) => tx.give_up(StoreFault::Memory),
     }
 }

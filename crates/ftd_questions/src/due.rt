@@ -12,7 +12,7 @@ ghost use Rattle.ftd_questions.specs.Shown.{KnowsQuarter, Shows};
 use crate::due_rows::{due_rows, has_next_day, quarter_return};
 use ftd_days::{Day, Holidays, Quarter};
 use ftd_entries::{is_open, known};
-use ftd_machine::{Account, Answer, DueRows, Refusal, Reply, due_list_check};
+use ftd_machine::{Account, Answer, DueRows, Facts, Refusal, Reply, due_list_check};
 use ftd_reasons::return_period;
 use ftd_rules::{DueRow, Form};
 use ftd_store::{StoreFault, Tx};
@@ -95,7 +95,8 @@ pub(crate) fn due_list<S: Alter>(
     quarter: Quarter,
     as_of: Day,
 ) -> Result<Answer, StoreFault>
-    ensures call { Calls S.Store tx.old tx.new result (Serves (Question (DueList name.now quarter as_of))) }
+    ensures call { Calls S.Store tx.old tx.new result
+        (Serves (Question (DueList name.now quarter as_of))) }
     ensures shows { Calls S.Store tx.old tx.new result (λ answer before after t.
         Shows (DueList name.now quarter as_of) answer t) }
 {
@@ -111,5 +112,5 @@ pub(crate) fn due_list<S: Alter>(
     let year = quarter.year();
     let holidays = tx.holidays(alloc, year, year + 1)?;
     let found = rows_of_quarter(tx, alloc, name, form, quarter, as_of, holidays)?;
-    Ok(Ok(Reply::Due(DueRows::from_vec(found.rows))))
+    Ok(Ok(Reply::Told(Facts::Due(DueRows::from_vec(found.rows)))))
 }

@@ -1,5 +1,6 @@
 -- What is told of an obligation by what was read explains it.
-use Rattle.std.proofs.Common.{◌≡◌, ◌∙◌, ◌+◌, ◌<◌, ◌≤◌, ℕ, List, Option, None, Some, Ok, sym, ap, subst, refl}
+use Rattle.std.proofs.Common.{◌≡◌, ◌∙◌, ◌+◌, ◌<◌, ◌≤◌, ℕ, List, Option, None, Some, Ok, sym, ap}
+use Rattle.std.proofs.Common.{subst, refl}
 use Rattle.std.proofs.Common.{arith, Bool, true, false, [], ◌∷◌, inl, inr}
 use Rattle.std.specs.Prelude.{MatchOption, nat_le, ◌||◌, ◌↔◌}
 use Rattle.std.specs.List.{list_any, find}
@@ -35,7 +36,8 @@ use Rattle.ftd_machine.specs.State.{State, Entries, entries_of, holidays}
 use Rattle.ftd_machine.specs.declared.explained.Explanation.{Explanation}
 use Rattle.ftd_machine.specs.declared.explained.RunningSum.{RunningSum}
 use Rattle.ftd_machine.specs.declared.kept.KeptPayment.{KeptPayment}
-use Rattle.ftd_machine.specs.declared.replies.Reply.TheVariants.{Status}
+use Rattle.ftd_machine.specs.declared.facts.Facts.TheVariants.{Status}
+use Rattle.ftd_machine.specs.declared.replies.Reply.TheVariants.{Told}
 use Rattle.ftd_machine.proofs.Dated.{IsDated, dated}
 use Rattle.ftd_machine.proofs.Members.{has_filtered}
 use Rattle.ftd_entries.specs.Opening.{is_line_of}
@@ -65,7 +67,8 @@ any_has p (y ∷ xs) x (inr has) e =
 after_last : (rule : Rule) (last from : ℕ) → last ≤ last_day → IsCountedFrom rule last from
     → last < from
 after_last Monthly last from within is = let to = (in_month last within).1 in omega arith
-after_last Semiweekly last from within is = let close = is.1.not_before in let e = is.2 in omega arith
+after_last Semiweekly last from within is =
+    let close = is.1.not_before in let e = is.2 in omega arith
 after_last NextDay last from within is = omega arith
 
 module _ (name : List ℕ) (form : Form) (lines : List YearLine) (read : List ℕ)
@@ -94,7 +97,8 @@ module _ (name : List ℕ) (form : Form) (lines : List YearLine) (read : List �
   year = year_of o.first
 
   abbrev are : AreOwed all own owed
-  are = ((stands.settled name).lines, (stands.settled name).are_lines, (stands.settled name).are_owed)
+  are =
+      let settled = stands.settled name in (settled.lines, settled.are_lines, settled.are_owed)
 
   its : IsDated (stands.settled name).lines o
   its = dated all own owed are o has
@@ -142,7 +146,7 @@ module _ (name : List ℕ) (form : Form) (lines : List YearLine) (read : List �
 
   -- ---- the schedule
 
-  schedule : IsStatus own o.first (Ok (Status e.kind e.reason))
+  schedule : IsStatus own o.first (Ok (Told (Status e.kind e.reason)))
   schedule =
       let there : list_any (is_line_of (year_of o.first)) lines ≡ true =
       any_has (is_line_of (year_of o.first)) lines its.line

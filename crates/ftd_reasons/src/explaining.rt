@@ -18,8 +18,8 @@ use ftd_days::{Cents, Day, Holidays};
 use ftd_entries::{has_year, known};
 use ftd_kept::obligation_payments;
 use ftd_machine::{
-    Answer, CountedDay, CountedDays, DayKind, Explanation, KeptPayment, KeptPayments, Refusal,
-    Reply, RunningSum, RunningSums, status_check,
+    Answer, CountedDay, CountedDays, DayKind, Explanation, Facts, KeptPayment, KeptPayments,
+    Refusal, Reply, RunningSum, RunningSums, status_check,
 };
 use ftd_rules::{DaySum, Form, Obligation, Rule, YearLine, return_due};
 use ftd_store::{StoreFault, Tx};
@@ -45,11 +45,11 @@ pub fn explain<S: Alter>(
         return Ok(Err(Refusal::UnknownAccount));
     };
     let explained = explained(tx, alloc, name, account.form, &lines, day)?;
-    Ok(Ok(Reply::Explained(explained)))
+    Ok(Ok(Reply::Told(Facts::Explained(explained))))
 }
 
-/// Why the obligation is so whose deposit period holds the day, if one's does, by the account's form
-/// and the lines of its open years.
+/// Why the obligation is so whose deposit period holds the day, if one's does, by the account's
+/// form and the lines of its open years.
 fn explained<S: Alter>(
     tx: &mut Tx<'_, S>,
     alloc: Global,
@@ -208,7 +208,8 @@ fn counted_days(
 ) -> Result<Vec<CountedDay>, AllocError>
     requires last { year_of obligation.now.last ≤ 2098 }
     requires due { year_of obligation.now.due ≤ 2099 }
-    ensures { IfOk result (λ days. AreCounted (holidays_of holidays.now) obligation.now days.items) }
+    ensures { IfOk result (λ days.
+        AreCounted (holidays_of holidays.now) obligation.now days.items) }
 {
     let mut days = Vec::new(alloc);
     let mut day = first_counted(obligation);

@@ -7,7 +7,7 @@ ghost use Rattle.ftd_entries.specs.Words.{Serves};
 
 use ftd_days::Quarter;
 use ftd_entries::{is_open, known};
-use ftd_machine::{Answer, DaySums, Reply, schedule_b_check};
+use ftd_machine::{Answer, DaySums, Facts, Reply, schedule_b_check};
 use ftd_store::{StoreFault, Tx};
 use sqlite::Alter;
 use std::alloc::Global;
@@ -19,7 +19,8 @@ pub fn schedule_b<S: Alter>(
     name: &str,
     quarter: Quarter,
 ) -> Result<Answer, StoreFault>
-    ensures call { Calls S.Store tx.old tx.new result (Serves (Question (ScheduleB name.now quarter))) }
+    ensures call { Calls S.Store tx.old tx.new result
+        (Serves (Question (ScheduleB name.now quarter))) }
 {
     let account = known(tx, alloc, name)?;
     let there = is_open(tx, alloc, name, quarter.year())?;
@@ -27,5 +28,5 @@ pub fn schedule_b<S: Alter>(
         return Ok(answer);
     }
     let sums = tx.day_sums(alloc, name, quarter.first(), quarter.last())?;
-    Ok(Ok(Reply::Days(DaySums::from_vec(sums))))
+    Ok(Ok(Reply::Told(Facts::Days(DaySums::from_vec(sums)))))
 }

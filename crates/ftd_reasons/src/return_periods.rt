@@ -12,6 +12,7 @@ ghost use Rattle.ftd_reasons.specs.Returns.{KnowsLiability, KnowsPayments, Knows
 ghost use Rattle.ftd_reasons.specs.Returns.{KnowsPeriod};
 
 use ftd_days::{Cents, Day, Quarter};
+use ftd_entries::figure;
 use ftd_rules::{DaySum, Form, Payment, period};
 use ftd_store::{StoreFault, Tx};
 use sqlite::Alter;
@@ -101,9 +102,10 @@ pub fn payments_of<S: Alter>(
     Ok(payments)
 }
 
-/// The figure of the quarter before, which counts on Form 941 alone.
+/// The figure of the quarter before, as it is in force, which counts on Form 941 alone.
 fn preceding<S: Alter>(
     tx: &mut Tx<'_, S>,
+    alloc: Global,
     name: &str,
     form: Form,
     quarter: Quarter,
@@ -111,7 +113,7 @@ fn preceding<S: Alter>(
     requires { 2001 ≤ quarter_year quarter }
     ensures call { Reads S.Store tx.old tx.new result (KnowsPreceding name.now form quarter) }
 {
-    let found = tx.reported(name, Quarter::at(quarter.quarters() - 1))?;
+    let found = figure(tx, alloc, name, Quarter::at(quarter.quarters() - 1))?;
     match form {
         Form::F941 => Ok(found),
         Form::F943 => Ok(None),
@@ -134,7 +136,7 @@ pub fn return_period<S: Alter>(
     let (first, last) = period::return_period(form, quarter.first());
     let payments = payments_of(tx, alloc, name, first, last)?;
     let total = liability_of(tx, alloc, name, first, last)?;
-    let preceding = preceding(tx, name, form, quarter)?;
+    let preceding = preceding(tx, alloc, name, form, quarter)?;
     Ok(ReturnPeriod {
         first,
         last,

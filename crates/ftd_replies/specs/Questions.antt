@@ -10,6 +10,8 @@ use Rattle.ftd_listings.specs.Explanations.{status_text}
 use Rattle.ftd_listings.specs.ExplanationForms.{explanation_as}
 use Rattle.ftd_listings.specs.KeptForms.{kept_as}
 use Rattle.ftd_machine.specs.declared.explained.Explanation.{Explanation}
+use Rattle.ftd_machine.specs.declared.facts.Facts.{Facts}
+use Rattle.ftd_machine.specs.declared.facts.Facts.TheVariants as facts
 use Rattle.ftd_machine.specs.declared.kept.KeptRows.{KeptRows}
 use Rattle.ftd_machine.specs.declared.lists.AgendaRow.{AgendaRow}
 use Rattle.ftd_machine.specs.declared.replies.Reason.{Reason}
@@ -89,6 +91,15 @@ why_told format (Some (Agenda from to as_of)) explained = []
 why_told format (Some (Owed until as_of)) explained = []
 why_told format (Some (Kept asked)) explained = []
 why_told format None explained = []
+
+-- what is told, in a format where it has several
+abbrev pub facts_told : Format → Option Question → Facts → List ℕ
+facts_told format asked (facts.Status kind reason) = status_told asked kind reason
+facts_told format asked (facts.Explained explained) = why_told format asked explained
+facts_told format asked (facts.Due rows) = due_told format asked rows
+facts_told format asked (facts.Days sums) = days_told format asked sums
+facts_told format asked (facts.Agenda rows) = agenda_told format asked rows
+facts_told format asked (facts.Kept rows) = kept_told format asked rows
 
 -- ---- years and days out of range
 

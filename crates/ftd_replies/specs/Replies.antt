@@ -8,8 +8,7 @@ use Rattle.ftd_machine.specs.declared.replies.Reply.{Reply}
 use Rattle.ftd_machine.specs.declared.replies.Reply.TheVariants as reply
 use Rattle.ftd_machine.specs.declared.requests.Request.{Request}
 use Rattle.ftd_machine.specs.Questions.{question_of}
-use Rattle.ftd_replies.specs.Questions.{status_told, due_told, days_told, agenda_told, kept_told}
-use Rattle.ftd_replies.specs.Questions.{why_told}
+use Rattle.ftd_replies.specs.Questions.{facts_told}
 
 -- `posted 2024-05-01 2024-05-31 removed 0 added 1`
 unfoldable pub posted_text : ℕ → ℕ → ℕ → ℕ → List ℕ
@@ -22,11 +21,4 @@ abbrev pub reply_text : Format → Request → Reply → List ℕ
 reply_text format request reply.Done = concat (codes "done" ∷ (10 ∷ []) ∷ [])
 reply_text format request reply.Already = concat (codes "already" ∷ (10 ∷ []) ∷ [])
 reply_text format request (reply.Posted from to removed added) = posted_text from to removed added
-reply_text format request (reply.Status kind reason) = status_told (question_of request) kind reason
-reply_text format request (reply.Explained explained) =
-    why_told format (question_of request) explained
-reply_text format request (reply.Due rows) = due_told format (question_of request) rows
-reply_text format request (reply.Days sums) = days_told format (question_of request) sums
-reply_text format request (reply.Agenda rows) =
-    agenda_told format (question_of request) rows
-reply_text format request (reply.Kept rows) = kept_told format (question_of request) rows
+reply_text format request (reply.Told facts) = facts_told format (question_of request) facts

@@ -8,18 +8,45 @@ ghost use Rattle.ftd_ports.specs.Writing.{WritesPrefix};
 ghost use Rattle.ftd_rules.specs.Liability.{cents_of};
 ghost use Rattle.ftd_rules.specs.Verdicts.{amount_of};
 ghost use Rattle.ftd_machine.specs.Limits.{amounts_end};
-ghost use Rattle.ftd_machine.specs.Questions.{question_of};
+ghost use Rattle.ftd_machine.specs.Questions.{AreBounded, question_of};
 ghost use Rattle.ftd_replies.specs.Questions.{agenda_told, days_asked, days_told, due_told};
-ghost use Rattle.ftd_replies.specs.Questions.{kept_told, status_told, why_told, years_asked};
+ghost use Rattle.ftd_replies.specs.Questions.{facts_told, kept_told, status_told, why_told};
+ghost use Rattle.ftd_replies.specs.Questions.{years_asked};
 
 use ftd_formats::{Format, write_agenda_as, write_b_as, write_due_as, write_owed_as};
 use ftd_listings::{write_explanation_as, write_kept_as, write_schedule};
-use ftd_machine::{AgendaRow, Explanation, Kept, KeptRows, Question, Reason, Request};
+use ftd_machine::{AgendaRow, Explanation, Facts, Kept, KeptRows, Question, Reason, Request};
 use ftd_ports::{Target, WriteFault, write_all};
 use ftd_rules::{DaySum, DueRow, Kind};
 
+/// Writes what is told, in a format where it has several.
+pub fn write_facts<W: Target>(
+    format: Format,
+    request: &Request,
+    facts: &Facts,
+    target: &mut W,
+) -> Result<(), WriteFault>
+    requires bounded { AreBounded facts.now }
+    ensures ok { OnOk result
+        (Appends (W.taken target.old) (W.taken target.new)
+        (facts_told format (question_of request.now) facts.now)) }
+    ensures err { OnErr result
+        (WritesPrefix (W.taken target.old) (W.taken target.new)
+        (facts_told format (question_of request.now) facts.now)) }
+    ensures fault { OnErr result (W.failed target.new ≡ true) }
+{
+    match facts {
+        Facts::Status { kind, reason } => write_status(request, *kind, *reason, target),
+        Facts::Explained(explained) => write_why(format, request, explained, target),
+        Facts::Due(rows) => write_due(format, request, rows.as_slice(), target),
+        Facts::Days(sums) => write_days(format, request, sums.as_slice(), target),
+        Facts::Agenda(rows) => write_rows(format, request, rows.as_slice(), target),
+        Facts::Kept(rows) => write_kept_rows(format, request, rows, target),
+    }
+}
+
 /// Writes the deposit schedule of the day that was asked for; nothing for another request.
-pub fn write_status<W: Target>(
+fn write_status<W: Target>(
     request: &Request,
     kind: Kind,
     reason: Reason,
@@ -48,7 +75,7 @@ pub fn write_status<W: Target>(
 }
 
 /// Writes the due list that was asked for, in a format; nothing for another request.
-pub fn write_due<W: Target>(
+fn write_due<W: Target>(
     format: Format,
     request: &Request,
     rows: &[DueRow],
@@ -91,7 +118,7 @@ pub fn write_due<W: Target>(
 }
 
 /// Writes the Schedule B that was asked for, in a format; nothing for another request.
-pub fn write_days<W: Target>(
+fn write_days<W: Target>(
     format: Format,
     request: &Request,
     sums: &[DaySum],
@@ -127,7 +154,7 @@ pub fn write_days<W: Target>(
 }
 
 /// Writes what is due over all accounts, as it was asked for, in a format.
-pub fn write_rows<W: Target>(
+fn write_rows<W: Target>(
     format: Format,
     request: &Request,
     rows: &[AgendaRow],
@@ -160,7 +187,7 @@ pub fn write_rows<W: Target>(
 }
 
 /// Writes what is kept, as it was asked for, in a format.
-pub fn write_kept_rows<W: Target>(
+fn write_kept_rows<W: Target>(
     format: Format,
     request: &Request,
     rows: &KeptRows,
@@ -189,7 +216,7 @@ pub fn write_kept_rows<W: Target>(
 }
 
 /// Writes why the obligation is so that was asked for, in a format.
-pub fn write_why<W: Target>(
+fn write_why<W: Target>(
     format: Format,
     request: &Request,
     explained: &Option<Explanation>,

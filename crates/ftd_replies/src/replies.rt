@@ -3,12 +3,10 @@
 ghost use Rattle.std.specs.Prelude.{◌≡◌, true, OnOk, OnErr};
 ghost use Rattle.std.specs.Io.KnownBytes.{Appends};
 ghost use Rattle.ftd_ports.specs.Writing.{WritesPrefix};
-ghost use Rattle.ftd_machine.specs.Limits.{IsBounded};
+ghost use Rattle.ftd_machine.specs.Laws.{IsBounded};
 ghost use Rattle.ftd_replies.specs.Replies.{posted_text, reply_text};
 
-use crate::questions::{
-    write_days, write_due, write_kept_rows, write_rows, write_status, write_why,
-};
+use crate::questions::write_facts;
 use ftd_days::Day;
 use ftd_formats::Format;
 use ftd_machine::{Reply, Request};
@@ -25,7 +23,8 @@ pub fn write_reply<W: Target>(
 ) -> Result<(), WriteFault>
     requires bounded { IsBounded reply.now }
     ensures ok { OnOk result
-        (Appends (W.taken target.old) (W.taken target.new) (reply_text format request.now reply.now)) }
+        (Appends (W.taken target.old) (W.taken target.new)
+        (reply_text format request.now reply.now)) }
     ensures err { OnErr result
         (WritesPrefix (W.taken target.old) (W.taken target.new)
         (reply_text format request.now reply.now)) }
@@ -40,12 +39,7 @@ pub fn write_reply<W: Target>(
             removed,
             added,
         } => write_posted(*from, *to, *removed, *added, target),
-        Reply::Status { kind, reason } => write_status(request, *kind, *reason, target),
-        Reply::Explained(explained) => write_why(format, request, explained, target),
-        Reply::Due(rows) => write_due(format, request, rows.as_slice(), target),
-        Reply::Days(sums) => write_days(format, request, sums.as_slice(), target),
-        Reply::Agenda(rows) => write_rows(format, request, rows.as_slice(), target),
-        Reply::Kept(rows) => write_kept_rows(format, request, rows, target),
+        Reply::Told(facts) => write_facts(format, request, facts, target),
     }
 }
 

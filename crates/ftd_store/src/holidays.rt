@@ -43,7 +43,7 @@ fn add_both(
 
 /// Whether a day that was given or added as a holiday is one, by these changes: the last of it says
 /// so, or there is none.
-fn is_kept(changes: &[HolidayChange], day: Day) -> bool
+pub fn is_kept(changes: &[HolidayChange], day: Day) -> bool
     ensures { result ≡ is_kept changes.now day }
 {
     let mut is_kept = true;
@@ -92,9 +92,10 @@ fn add_in_force(
 
 impl<'store, S: Alter> Tx<'store, S> {
     /// Adds the holidays of a year to those of others: of the days that its calendar was given
-    /// with, and of those that were added later, the ones that no change took back. `false` where its calendar was not given, and nothing is
-    /// added. `Failed` also where the rows are no calendar of the year, or the year is among the
-    /// others; after an error some days may have been added.
+    /// with, and of those that were added later, the ones that no change took back. `false` where
+    /// its calendar was not given, and nothing is added. `Failed` also where the rows are no
+    /// calendar of the year, or the year is among the others; after an error some days may have
+    /// been added.
     pub fn add_holidays(
         &mut self,
         alloc: Global,

@@ -19,6 +19,7 @@ mod store;
 mod tx;
 mod years;
 
+pub use crate::holidays::is_kept;
 pub use crate::obligation_rows::{next_obligation, rows_of};
 pub use crate::store::Store;
 pub use crate::tx::Tx;

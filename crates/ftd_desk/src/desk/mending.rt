@@ -15,9 +15,9 @@ use sqlite::Alter;
 
 impl<S: Alter> Desk<S> {
     /// The quarters of the year's lookback period, from this one on, whose totals the account has
-    /// not reported (Pub. 15, section 11, "Lookback period"). `Memory` and `Store` may come in place
-    /// of them. The tables stay as they are. A desk that is stopped answers `Store`, and touches
-    /// nothing.
+    /// not reported (Pub. 15, section 11, "Lookback period"). `Memory` and `Store` may come in
+    /// place of them. The tables stay as they are. A desk that is stopped answers `Store`, and
+    /// touches nothing.
     pub fn missing_quarters(
         &mut self,
         account: &str,

@@ -17,11 +17,12 @@ use sqlite::{Alter, Connection};
 use std::alloc::Global;
 
 impl<S: Alter> Desk<S> {
-    /// Opens a desk over a database. A new database, in which none of the sixteen names is taken, is
-    /// given the tables, and one of version 1 or 2 becomes version 3. The desk stands for the state
-    /// for which the database's tables stood, over a new database for that in which nothing was
-    /// entered. What it lists takes its memory from the allocator. `NotOurs`, `Newer` and `Store`
-    /// come as from `ftd_setup::open`, and give the connection back with the rows that it had.
+    /// Opens a desk over a database. A new database, in which none of the sixteen names is taken,
+    /// is given the tables, and one of version 1 or 2 becomes version 3. The desk stands for the
+    /// state for which the database's tables stood, over a new database for that in which nothing
+    /// was entered. What it lists takes its memory from the allocator. `NotOurs`, `Newer` and
+    /// `Store` come as from `ftd_setup::open`, and give the connection back with the rows that it
+    /// had.
     pub fn open(alloc: Global, conn: Connection<S>) -> Result<Desk<S>, NotOpened<S>>
         ensures opens { IfOk result (λ desk. Opens (state S.Store conn) (held S.Store desk)) }
         ensures goes { IfOk result (λ desk. ¬ IsStopped desk) }

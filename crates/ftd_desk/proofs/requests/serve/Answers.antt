@@ -38,7 +38,8 @@ returns-in-Post-clause-repairs g c =
     post_repairs g.S.Store c.args.tx.now c.serve_post.new.tx c.serve_post.result
     c.args.request.now name c.in-Post.number run
     (c.in-Post.is
-    ∙ ap (λ n. Post n c.in-Post.number run.payday run.fit run.ss run.medicare) (sym c.as_str.ensures))
+    ∙ ap (λ n. Post n c.in-Post.number run.payday run.fit run.ss run.medicare)
+    (sym c.as_str.ensures))
     (rw c.run_of-run.ensures at c.serve_post.ensures.repairs)
 
 pub returns-in-Pay-clause-repairs : goal.returns-in-Pay-clause-repairs

@@ -26,6 +26,7 @@ returns-clause-takes g c =
     let most = c.loop-number.auto.number-end in
     let least = c.loop-number-test.false in
     let asked = c.requires in
-    takes_all (serves g.S.Store) (asks g.S.Store) _ _ c.loop-number.told _ _ _ _ c.loop-number.number
+    takes_all (serves g.S.Store) (asks g.S.Store) _ _ c.loop-number.told _ _ _ _
+    c.loop-number.number
     c.args.limits.connections
     c.loop-number.invariant (omega arith)

@@ -5,7 +5,8 @@ use Rattle.ftd_import.proofs.importing.import.Goals as goal
 pub returns-in-Err-clause-imports : goal.returns-in-Err-clause-imports
 returns-in-Err-clause-imports g c =
     text_fails (IsStopped c.args.desk.now) (held g.S.Store c.args.desk.now) c.args.sheet
-    c.args.text.now c.none-done.result c.in-Err.fault c.cause_of-cause.result c.cause_of-cause.ensures
+    c.args.text.now c.none-done.result c.in-Err.fault c.cause_of-cause.result
+    c.cause_of-cause.ensures
     c.none-done.ensures c.in-Err.ensures
 
 pub returns-clause-imports : goal.returns-clause-imports

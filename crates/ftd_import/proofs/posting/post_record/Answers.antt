@@ -45,6 +45,7 @@ returns-in-Err-clause-stops g c =
     let (it, is) = is_entry at c.args.place.now kept c.in-None.is in
     let post = first_post c.args.place.now.number it at later c.args.posts.now _ _ is posts first
     in
-    subst (λ (x : ℕ × SaidEntry). StopsAt (IsStopped c.post_entry.new.desk) before after x c.in-Err.cause)
+    subst
+    (λ (x : ℕ × SaidEntry). StopsAt (IsStopped c.post_entry.new.desk) before after x c.in-Err.cause)
     (sym is)
     (c.in-Err.ensures.stops it post)

@@ -1,68 +1,58 @@
-use Rattle.std.proofs.Common.{◌≡◌, ◌∙◌, None, Some, ap, refl, rules, subst, sym}
-use Rattle.ftd_store.specs.Finds.{ListsYears}
+use Rattle.std.proofs.Common.{◌≡◌, ◌∙◌, None, Some, ap, refl, rules}
 use Rattle.ftd_store.proofs.Telling.{then_reads}
 use Rattle.ftd_machine.specs.Checks.{first_of}
-use Rattle.ftd_machine.specs.History.{AreLinesOf}
 use Rattle.ftd_machine.specs.Kept.{told_rows}
 use Rattle.ftd_machine.specs.Requests.{kept_of_checks}
-use Rattle.ftd_machine.specs.State.{entries_of}
 use Rattle.ftd_machine.specs.declared.kept.KeptRows.TheVariants as rows
 use Rattle.ftd_machine.specs.declared.requests.Kept.TheVariants as kept
 use Rattle.ftd_machine.specs.declared.requests.Question.TheVariants as questions
 use Rattle.ftd_machine.specs.declared.requests.Request.TheVariants.{Question}
 use Rattle.ftd_machine.proofs.Deciding.{decided, passed}
-use Rattle.ftd_entries.specs.Known.{KnowsAccount, KnowsLines}
-use Rattle.ftd_entries.proofs.Lines.{lines_known}
+use Rattle.ftd_entries.specs.Known.{KnowsAccount}
 use Rattle.ftd_entries.proofs.Serving.{served_looked}
+use Rattle.ftd_kept.specs.Kept.{KnowsYears}
 use Rattle.ftd_kept.proofs.lists.years.Goals as goal
 
 pub returns-in-Some : goal.returns-in-Some
 returns-in-Some g c =
     let name = c.args.name.now in
-    let account = c.in_ok-account.account in
-    let lines = c.in_ok-lines.lines in
-    let fact = KnowsLines name account lines.items in
-    let read = then_reads g.S.Store c.args.tx.now c.known.new.tx c.years.new.self account lines
-    account (KnowsAccount name) (ListsYears name) (λ a. fact)
-    (λ t knows lists s stands. (
-      knows s stands,
-      lines_known name lines t s stands lists (stands.settled name),
-    )) c.in_ok-account.ensures.call c.in_ok-lines.ensures.call in
-    let is : first_of (kept_of_checks name account) ≡ Some c.in-Some.answer = search rules in
+    let found = c.in_ok-found.found in
+    let is : first_of (kept_of_checks name found) ≡ Some c.in-Some.answer = search rules in
     record {
       call = served_looked g.S.Store (Question (questions.Kept (kept.Years name))) c.args.tx.now
-          c.years.new.self account c.in-Some.answer (λ a. fact) read
+          c.known.new.tx found c.in-Some.answer (λ a. KnowsAccount name a)
+          c.in_ok-found.ensures.call
           (λ t s stands sound knows. decided _ s c.in-Some.answer _
-          (ap (λ a. first_of (kept_of_checks name a)) (knows s stands).0 ∙ is));
+          (ap (λ a. first_of (kept_of_checks name a)) (knows s stands) ∙ is));
     }
 
 pub returns : goal.returns
 returns g c =
     let name = c.args.name.now in
-    let account = c.in_ok-account.account in
-    let lines = c.in_ok-lines.lines in
-    let fact = KnowsLines name account lines.items in
-    let read = then_reads g.S.Store c.args.tx.now c.known.new.tx c.years.new.self account lines
-    account (KnowsAccount name) (ListsYears name) (λ a. fact)
-    (λ t knows lists s stands. (
-      knows s stands,
-      lines_known name lines t s stands lists (stands.settled name),
-    )) c.in_ok-account.ensures.call c.in_ok-lines.ensures.call in
-    let is : first_of (kept_of_checks name account) ≡ None = search rules in
+    let found = c.in_ok-found.found in
+    let account = c.in-Some-found.account in
+    let listed = c.in_ok-rows.rows in
+    let read = then_reads g.S.Store c.args.tx.now c.known.new.tx c.open_years.new.tx found listed
+    found (KnowsAccount name) (λ told. KnowsYears name account told.items)
+    (λ a t. KnowsAccount name a t × KnowsYears name account listed.items t)
+    (λ t knows years. (knows, years))
+    c.in_ok-found.ensures.call c.in_ok-rows.ensures.call in
+    let is : first_of (kept_of_checks name found) ≡ None = search rules in
+    let answer = told_rows (rows.Years c.from_vec.result) in
     record {
       call = served_looked g.S.Store (Question (questions.Kept (kept.Years name))) c.args.tx.now
-          c.years.new.self account (told_rows (rows.Years c.from_vec.result)) (λ a. fact) read
+          c.open_years.new.tx found answer
+          (λ a t. KnowsAccount name a t × KnowsYears name account listed.items t) read
           (λ t s stands sound knows.
-          (let told = knows s stands in
-          let are : AreLinesOf (entries_of s name) lines.items =
-          subst (AreLinesOf (entries_of s name)) (sym told.1) (stands.settled name).are_lines in
-          passed _ s (told_rows (rows.Years c.from_vec.result)) s _
-          (ap (λ a. first_of (kept_of_checks name a)) told.0 ∙ is) (
+          (let years = knows.1 s stands sound (knows.0 s stands ∙ c.in-Some-found.is) in
+          passed _ s answer s _
+          (ap (λ a. first_of (kept_of_checks name a)) (knows.0 s stands) ∙ is) (
             refl,
             record {
-              lines = lines.items;
-              are_lines = are;
-              told = ap (λ ls. told_rows (rows.Years ls)) c.from_vec.ensures;
+              listed = listed.items;
+              are_lines = years.are_lines;
+              first_lookbacks = years.first_lookbacks;
+              told = ap (λ xs. told_rows (rows.Years xs)) c.from_vec.ensures;
             },
           )));
     }

@@ -31,6 +31,16 @@ unfolding rows_json
 returns-in-Reported-clause-err g c =
     rw c.in-Reported.is (rw c.as_slice-in-Reported.ensures at c.write_list-in-Reported.ensures.err)
 
+pub returns-in-Holidays-clause-ok : goal.returns-in-Holidays-clause-ok
+unfolding rows_json
+returns-in-Holidays-clause-ok g c =
+    rw c.in-Holidays.is (rw c.as_slice-in-Holidays.ensures at c.write_list-in-Holidays.ensures.ok)
+
+pub returns-in-Holidays-clause-err : goal.returns-in-Holidays-clause-err
+unfolding rows_json
+returns-in-Holidays-clause-err g c =
+    rw c.in-Holidays.is (rw c.as_slice-in-Holidays.ensures at c.write_list-in-Holidays.ensures.err)
+
 pub returns-in-Runs-clause-ok : goal.returns-in-Runs-clause-ok
 unfolding rows_json
 returns-in-Runs-clause-ok g c =

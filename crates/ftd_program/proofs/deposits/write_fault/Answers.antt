@@ -21,13 +21,15 @@ pub returns-in-TooManyRuns-clause-ok : goal.returns-in-TooManyRuns-clause-ok
 returns-in-TooManyRuns-clause-ok g c = rw c.in-TooManyRuns.is c.write_all-in-TooManyRuns.ensures.ok
 
 pub returns-in-TooManyRuns-clause-err : goal.returns-in-TooManyRuns-clause-err
-returns-in-TooManyRuns-clause-err g c = rw c.in-TooManyRuns.is c.write_all-in-TooManyRuns.ensures.err
+returns-in-TooManyRuns-clause-err g c =
+    rw c.in-TooManyRuns.is c.write_all-in-TooManyRuns.ensures.err
 
 pub returns-in-BadCalendar-clause-ok : goal.returns-in-BadCalendar-clause-ok
 returns-in-BadCalendar-clause-ok g c = rw c.in-BadCalendar.is c.write_all-in-BadCalendar.ensures.ok
 
 pub returns-in-BadCalendar-clause-err : goal.returns-in-BadCalendar-clause-err
-returns-in-BadCalendar-clause-err g c = rw c.in-BadCalendar.is c.write_all-in-BadCalendar.ensures.err
+returns-in-BadCalendar-clause-err g c =
+    rw c.in-BadCalendar.is c.write_all-in-BadCalendar.ensures.err
 
 pub returns-in-Memory-clause-ok : goal.returns-in-Memory-clause-ok
 returns-in-Memory-clause-ok g c = rw c.in-Memory.is c.write_all-in-Memory.ensures.ok
@@ -38,19 +40,23 @@ returns-in-Memory-clause-err g c = rw c.in-Memory.is c.write_all-in-Memory.ensur
 pub returns-in-Malformed-clause-ok : goal.returns-in-Malformed-clause-ok
 returns-in-Malformed-clause-ok g c = rw c.in-Malformed.is
     (subst (λ z. OnOk c.write_record.result (Appends (g.E.Target.taken c.args.err.now)
-    (g.E.Target.taken c.write_record.new.err) z)) (record_is c.in-Malformed.number c.in-Malformed.field) c.write_record.ensures.ok)
+    (g.E.Target.taken c.write_record.new.err) z))
+    (record_is c.in-Malformed.number c.in-Malformed.field) c.write_record.ensures.ok)
 
 pub returns-in-Malformed-clause-err : goal.returns-in-Malformed-clause-err
 returns-in-Malformed-clause-err g c = rw c.in-Malformed.is
     (subst (λ z. OnErr c.write_record.result (WritesPrefix (g.E.Target.taken c.args.err.now)
-    (g.E.Target.taken c.write_record.new.err) z)) (record_is c.in-Malformed.number c.in-Malformed.field) c.write_record.ensures.err)
+    (g.E.Target.taken c.write_record.new.err) z))
+    (record_is c.in-Malformed.number c.in-Malformed.field) c.write_record.ensures.err)
 
 pub returns-in-RunDiffers-clause-ok : goal.returns-in-RunDiffers-clause-ok
 returns-in-RunDiffers-clause-ok g c = rw c.in-RunDiffers.is
     (subst (λ z. OnOk c.write_run.result (Appends (g.E.Target.taken c.args.err.now)
-    (g.E.Target.taken c.write_run.new.err) z)) (run_is c.in-RunDiffers.number) c.write_run.ensures.ok)
+    (g.E.Target.taken c.write_run.new.err) z))
+    (run_is c.in-RunDiffers.number) c.write_run.ensures.ok)
 
 pub returns-in-RunDiffers-clause-err : goal.returns-in-RunDiffers-clause-err
 returns-in-RunDiffers-clause-err g c = rw c.in-RunDiffers.is
     (subst (λ z. OnErr c.write_run.result (WritesPrefix (g.E.Target.taken c.args.err.now)
-    (g.E.Target.taken c.write_run.new.err) z)) (run_is c.in-RunDiffers.number) c.write_run.ensures.err)
+    (g.E.Target.taken c.write_run.new.err) z))
+    (run_is c.in-RunDiffers.number) c.write_run.ensures.err)

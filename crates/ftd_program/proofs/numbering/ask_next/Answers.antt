@@ -12,7 +12,8 @@ returns-in-Some g c =
     let first = c.with_number-first.ensures in
     let same : c.with_number.result ≡ with_number request number = c.with_number.ensures
     ∙ ap (λ r. with_number r number) first ∙ renumbered request greatest_number number in
-    counted c.handle-answer.result c.handle-answer.new.self number (rw first at c.handle-answer.ensures.handles)
+    counted c.handle-answer.result c.handle-answer.new.self number
+    (rw first at c.handle-answer.ensures.handles)
     (sym c.next_of.ensures ∙ c.in-Some.is)
     (rw same at c.ask_under.ensures)
 

@@ -4,7 +4,8 @@ use Rattle.sqlite.specs.State.{HasCleanDisk}
 use Rattle.ftd_machine.specs.State.{State}
 use Rattle.ftd_machine.specs.declared.requests.Question.TheVariants.{DueList}
 use Rattle.ftd_machine.specs.declared.requests.Request.TheVariants.{Question}
-use Rattle.ftd_machine.specs.declared.replies.Reply.TheVariants.{Due}
+use Rattle.ftd_machine.specs.declared.facts.Facts.TheVariants.{Due}
+use Rattle.ftd_machine.specs.declared.replies.Reply.TheVariants.{Told}
 use Rattle.ftd_machine.proofs.Listed.{lists_bounded}
 use Rattle.ftd_desk.specs.Desks.{KeepsIfOpen, held}
 use Rattle.ftd_program.specs.Mending.{KnowsFor}
@@ -91,8 +92,8 @@ returns-in-Err-Refused g c =
           c.in-Err-Refused.field-0 c.in-Err-Refused.is refusal
           c.in-Err-Refused.field-0-is (c.due_into.ensures.tells then s (λ on. keeps))) [
             | inl refuses ↦ refused refusal c.known_for.result refuses.0
-                (known_of s (Question (DueList c.args.account.now c.args.quarter c.args.as_of)) refusal
-                c.known_for.result known mended.fault)
+                (known_of s (Question (DueList c.args.account.now c.args.quarter c.args.as_of))
+                refusal c.known_for.result known mended.fault)
                 (record {
                   status_is = printed.status_is;
                   out_is = writer
@@ -153,8 +154,8 @@ returns-in-Err-Sink g c =
               | inl fails ↦ ap g.O.Target.failed writer ∙ fails
               | inr over ↦ absurd (let reached = come_to told.0 told.2 told.1 over in
                   let below = lists_bounded s
-                  (Question (DueList c.args.account.now c.args.quarter c.args.as_of)) (Due rows) s
-                  keeps.rests.kept.sound told.3 in omega arith)
+                  (Question (DueList c.args.account.now c.args.quarter c.args.as_of))
+                  (Told (Due rows)) s keeps.rests.kept.sound told.3 in omega arith)
             ]);
             line = c.fail_output-in-Err-Sink.ensures.line;
           });

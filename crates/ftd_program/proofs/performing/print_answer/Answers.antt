@@ -9,7 +9,8 @@ returns-in-Ok g c = λ before handles. record {
   handles = handles;
   known = Ok Nothing;
   knows = rw c.in-Ok.is
-      (answered_after (held g.S.Store before) _ c.args.request.now c.in-Ok.reply (rw c.in-Ok.is at handles));
+      (answered_after (held g.S.Store before) _ c.args.request.now c.in-Ok.reply
+      (rw c.in-Ok.is at handles));
   prints = rw c.in-Ok.is c.print_reply.ensures;
 }
 

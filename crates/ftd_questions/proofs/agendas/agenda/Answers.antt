@@ -2,7 +2,8 @@ use Rattle.std.proofs.Common.{None, Ok, refl, rules, sym}
 use Rattle.ftd_store.proofs.Turning.{gave_up_after}
 use Rattle.ftd_machine.specs.declared.requests.Question.TheVariants as asked
 use Rattle.ftd_machine.specs.declared.requests.Request.TheVariants.{Question}
-use Rattle.ftd_machine.specs.declared.replies.Reply.TheVariants.{Agenda}
+use Rattle.ftd_machine.specs.declared.facts.Facts.TheVariants.{Agenda}
+use Rattle.ftd_machine.specs.declared.replies.Reply.TheVariants.{Told}
 use Rattle.ftd_entries.proofs.Serving.{served_looked}
 use Rattle.ftd_questions.specs.Agendas.{KnowsRowsDue}
 use Rattle.ftd_questions.proofs.AgendaTold.{agenda_answered, agenda_refused}
@@ -29,7 +30,7 @@ returns-in-Ok g c =
     let rows = c.in_ok-rows.rows in
     record {
       call = served_looked g.S.Store (Question (asked.Agenda from to as_of)) c.args.tx.now
-          c.rows_due.new.tx rows (Ok (Agenda c.from_vec.result))
+          c.rows_due.new.tx rows (Ok (Told (Agenda c.from_vec.result)))
           (λ rs. KnowsRowsDue None from to as_of rs.items) c.in_ok-rows.ensures.call
           (λ t s stands sound knows. rw (sym c.from_vec.ensures) at
           (agenda_answered None from to as_of rows.items t s stands sound knows refl (search rules)

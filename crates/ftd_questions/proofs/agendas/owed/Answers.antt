@@ -2,7 +2,8 @@ use Rattle.std.proofs.Common.{◌≡◌, ◌∙◌, Ok, Some, refl, rules, sym}
 use Rattle.ftd_store.proofs.Turning.{gave_up_after}
 use Rattle.ftd_machine.specs.declared.requests.Question.TheVariants.{Owed}
 use Rattle.ftd_machine.specs.declared.requests.Request.TheVariants.{Question}
-use Rattle.ftd_machine.specs.declared.replies.Reply.TheVariants.{Agenda}
+use Rattle.ftd_machine.specs.declared.facts.Facts.TheVariants.{Agenda}
+use Rattle.ftd_machine.specs.declared.replies.Reply.TheVariants.{Told}
 use Rattle.ftd_entries.proofs.Serving.{served_looked}
 use Rattle.ftd_questions.specs.Agendas.{KnowsRowsDue}
 use Rattle.ftd_questions.proofs.AgendaTold.{first_month, owed_answered, owed_refused}
@@ -29,12 +30,13 @@ returns-in-Ok g c =
     c.first_of_month-from.ensures.value ∙ first_month in
     record {
       call = served_looked g.S.Store (Question (Owed until as_of)) c.args.tx.now
-          c.rows_due.new.tx rows (Ok (Agenda c.from_vec.result))
+          c.rows_due.new.tx rows (Ok (Told (Agenda c.from_vec.result)))
           (λ rs. KnowsRowsDue (Some as_of) c.first_of_month-from.result until as_of rs.items)
           c.in_ok-rows.ensures.call
           (λ t s stands sound knows. rw (sym c.from_vec.ensures) at
           (owed_answered (Some as_of) c.first_of_month-from.result until as_of rows.items t s stands
-          sound knows refl first (search rules) c.in-Ok.rows.items c.in-Ok.ensures.same c.in-Ok.ensures.in_order));
+          sound knows refl first (search rules) c.in-Ok.rows.items c.in-Ok.ensures.same
+          c.in-Ok.ensures.in_order));
     }
 
 pub returns-in-Err : goal.returns-in-Err

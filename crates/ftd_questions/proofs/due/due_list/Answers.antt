@@ -4,7 +4,8 @@ use Rattle.ftd_store.specs.Holidays.{HasYears}
 use Rattle.ftd_store.proofs.Telling.{then_reads}
 use Rattle.ftd_machine.specs.declared.requests.Question.TheVariants.{DueList}
 use Rattle.ftd_machine.specs.declared.requests.Request.TheVariants.{Question}
-use Rattle.ftd_machine.specs.declared.replies.Reply.TheVariants.{Due}
+use Rattle.ftd_machine.specs.declared.facts.Facts.TheVariants.{Due}
+use Rattle.ftd_machine.specs.declared.replies.Reply.TheVariants.{Told}
 use Rattle.ftd_entries.proofs.Serving.{served_looked}
 use Rattle.ftd_questions.specs.DueRows.{KnowsForDue, KnowsYears}
 use Rattle.ftd_questions.specs.Shown.{KnowsQuarter}
@@ -25,8 +26,8 @@ returns-in-Some g c =
           (due_decided name quarter as_of known answer (search rules));
       shows = shown_by g.S.Store c.args.tx.now c.known_for_due.new.tx known answer
           (DueList name quarter as_of) (KnowsForDue name quarter) c.in_ok-before.ensures.call
-          (λ t knows rows is. absurd ((due_list_refuses name quarter as_of known).never (Due rows)
-          (search rules ∙ ap Some is)));
+          (λ t knows rows is. absurd ((due_list_refuses name quarter as_of known).never
+          (Told (Due rows)) (search rules ∙ ap Some is)));
     }
 
 pub returns : goal.returns
@@ -55,13 +56,13 @@ returns g c =
     (λ t knows lists. (knows.0, lists knows.1)) years c.in_ok-found.ensures.call in
     record {
       call = served_looked g.S.Store (Question (DueList name quarter as_of)) c.args.tx.now
-          c.rows_of_quarter.new.tx found (Ok (Due c.from_vec.result)) _ read
+          c.rows_of_quarter.new.tx found (Ok (Told (Due c.from_vec.result))) _ read
           (λ t s stands sound knows.
           rw (sym c.from_vec.ensures) at
           (due_told name quarter as_of known account rows.items c.in-Some-account.is passed t s
           stands sound (knows.0, knows.1.0.0)));
       shows = shown_by g.S.Store c.args.tx.now c.rows_of_quarter.new.tx found
-          (Ok (Due c.from_vec.result)) (DueList name quarter as_of) _ read
-          (λ t knows others is. rw (sym c.from_vec.ensures ∙ told_rows c.from_vec.result others is) at
-          knows.1.0.1);
+          (Ok (Told (Due c.from_vec.result))) (DueList name quarter as_of) _ read
+          (λ t knows others is.
+          rw (sym c.from_vec.ensures ∙ told_rows c.from_vec.result others is) at knows.1.0.1);
     }

@@ -6,7 +6,8 @@ use Rattle.ftd_store.proofs.Telling.{then_reads}
 use Rattle.ftd_machine.specs.Checks.{first_of}
 use Rattle.ftd_machine.specs.History.{form_of}
 use Rattle.ftd_machine.specs.Requests.{status_checks}
-use Rattle.ftd_machine.specs.declared.replies.Reply.TheVariants.{Explained}
+use Rattle.ftd_machine.specs.declared.facts.Facts.TheVariants.{Explained}
+use Rattle.ftd_machine.specs.declared.replies.Reply.TheVariants.{Told}
 use Rattle.ftd_machine.specs.declared.requests.Question.TheVariants.{Explain}
 use Rattle.ftd_machine.specs.declared.requests.Request.TheVariants.{Question}
 use Rattle.ftd_machine.proofs.Deciding.{decided, passed}
@@ -69,7 +70,7 @@ returns g c =
     let is : first_of
     (status_checks name day account (list_any (is_line_of (year_of day)) lines.items)) ≡ None =
     search rules in
-    let answer = Ok (Explained explained) in
+    let answer = Ok (Told (Explained explained)) in
     record {
       call = served_looked g.S.Store (Question (Explain name day)) c.args.tx.now c.explained.new.tx
           explained answer (λ x t. fact t × KnowsExplained name its.form lines.items day x t) all

@@ -5,7 +5,8 @@ use Rattle.ftd_store.proofs.Telling.{then_reads}
 use Rattle.ftd_machine.specs.declared.entries.Account.{Account}
 use Rattle.ftd_machine.specs.declared.requests.Question.TheVariants.{ScheduleB}
 use Rattle.ftd_machine.specs.declared.requests.Request.TheVariants.{Question}
-use Rattle.ftd_machine.specs.declared.replies.Reply.TheVariants.{Days}
+use Rattle.ftd_machine.specs.declared.facts.Facts.TheVariants.{Days}
+use Rattle.ftd_machine.specs.declared.replies.Reply.TheVariants.{Told}
 use Rattle.ftd_entries.specs.Known.{KnowsAccount, KnowsYear}
 use Rattle.ftd_entries.proofs.Reading.{both_read}
 use Rattle.ftd_entries.proofs.Serving.{served_looked}
@@ -22,7 +23,8 @@ returns-in-Some g c =
     (KnowsAccount name) (KnowsYear name c.year.result) c.in_ok-account.ensures.call
     c.in_ok-there.ensures.call in
     record {
-      call = served_looked g.S.Store (Question (ScheduleB name quarter)) c.args.tx.now c.is_open.new.tx known
+      call = served_looked g.S.Store (Question (ScheduleB name quarter)) c.args.tx.now
+          c.is_open.new.tx known
           c.in-Some.answer _ read
           (λ t s stands sound knows. days_decided name quarter known c.in-Some.answer
           (search rules) t s stands sound
@@ -49,8 +51,9 @@ returns g c =
     ))
     read c.in_ok-sums.ensures.call in
     record {
-      call = served_looked g.S.Store (Question (ScheduleB name quarter)) c.args.tx.now c.day_sums.new.self
-          known (Ok (Days c.from_vec.result)) _ all
+      call = served_looked g.S.Store (Question (ScheduleB name quarter)) c.args.tx.now
+          c.day_sums.new.self
+          known (Ok (Told (Days c.from_vec.result))) _ all
           (λ t s stands sound knows.
           rw (sym c.from_vec.ensures) at
           (days_told name quarter known c.last.result sums c.last.ensures (search rules) t s stands

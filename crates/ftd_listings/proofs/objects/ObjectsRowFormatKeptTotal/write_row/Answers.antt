@@ -3,8 +3,8 @@ use Rattle.ftd_listings.proofs.objects.ObjectsRowFormatKeptTotal.write_row.Goals
 
 pub returns-clause-ok : goal.returns-clause-ok
 unfolding object_told
-returns-clause-ok g c = rw c.total_fields.ensures.members at c.write_object.ensures.ok
+returns-clause-ok g c = rw c.total_members.ensures at c.write_object.ensures.ok
 
 pub returns-clause-err : goal.returns-clause-err
 unfolding object_told
-returns-clause-err g c = rw c.total_fields.ensures.members at c.write_object.ensures.err
+returns-clause-err g c = rw c.total_members.ensures at c.write_object.ensures.err
