@@ -1,6 +1,6 @@
 //! Measures `assess` and repairs. The first line of standard input says what is asked:
-//! `assess FIRST COUNT` prints the obligations of so many years from the first on, with the day sums
-//! of the lines that follow, a day and its cents on each; `changes SEED COUNT` repairs random
+//! `assess FIRST COUNT` prints the obligations of so many years from the first on, with the day
+//! sums of the lines that follow, a day and its cents on each; `changes SEED COUNT` repairs random
 //! histories after random changes of one day, and compares what comes of it with a new assessment;
 //! `speed COUNT` tells on standard error the time of an assessment and of so many repairs.
 #![tactic(auto)]

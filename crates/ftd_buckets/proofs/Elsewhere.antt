@@ -2,9 +2,9 @@
 use Rattle.ftd_rules.specs.declared.Form.{Form}
 use Rattle.std.proofs.Common.{◌≡◌, ℕ, ◌+◌, ◌-◌, ◌<◌, ◌≤◌, ◌⊎◌, inl, inr, List, Bool, refl, sym, ap}
 use Rattle.std.proofs.Common.{◌∙◌, subst, arith}
-use Rattle.std.specs.Prelude.{Option, None, Some, min}
+use Rattle.std.specs.Prelude.{Option, None, Some}
 use Rattle.std.specs.List.{All}
-use Rattle.std.proofs.lemmas.Bool.{lt-ltb}
+use Rattle.std.proofs.lemmas.Bool.{cases_lt}
 use Rattle.ftd_days.specs.Calendar.{last_day, month_of, month_start, year_start}
 use Rattle.ftd_days.specs.Business.{holidays_end}
 use Rattle.ftd_days.proofs.Months.{month_of_is, month_start-mono, month_start-end}
@@ -18,11 +18,11 @@ use Rattle.ftd_rules.specs.Years.{IsTurn, year_last}
 use Rattle.ftd_rules.specs.Private.Years.{semiweekly_from}
 use Rattle.ftd_rules.specs.Private.Periods.{rule_on}
 use Rattle.ftd_rules.specs.Private.Walk.{due_date, periods, period_first, period_last}
-use Rattle.ftd_rules.proofs.Cuts.{lt_or_le}
 use Rattle.ftd_rules.proofs.Schedules.{year_facts, year_start-mono, year_divides, line_one}
 use Rattle.ftd_rules.proofs.Schedules.{cases_turn, turn_is, from_turn, from_none}
 use Rattle.ftd_rules.proofs.Pieces.{IsYear}
 use Rattle.ftd_rules.proofs.Covering.{line_is}
+use Rattle.ftd_rules.proofs.Status.{first_monthly, last_monthly, rule_monthly}
 use Rattle.ftd_buckets.specs.Histories.{History, IsChange}
 use Rattle.ftd_buckets.specs.Patches.{IsOwed}
 use Rattle.ftd_buckets.specs.Private.Turned.{IsYearChange}
@@ -129,17 +129,17 @@ same_status L M day old new c y z =
           elim (cases_turn old.turn) [
             | inl none ↦
                 both (λ t e. absurd (let z : ◌≡◌ {A = Option ℕ} None (Some t) = sym none ∙ e in cc))
-                (λ t e. elim (lt_or_le t day) [
+                (λ t e. elim (cases_lt t day) [
                   | inl l ↦ absurd (let k = turn_early M L day new old (year_back L M day old new c)
                       t e l in let z : ◌≡◌ {A = Option ℕ} None (Some t) = sym none ∙ k in cc)
                   | inr l ↦ l
                 ])
-            | inr some ↦ elim (lt_or_le some.0 day) [
+            | inr some ↦ elim (cases_lt some.0 day) [
               | inl l ↦ one some.0 some.1 l
               | inr l ↦
                   both (λ t e. (let k : ◌≡◌ {A = Option ℕ} (Some some.0) (Some t) = sym some.1
                   ∙ e in let same : some.0 ≡ t = cc in omega arith))
-                  (λ t e. elim (lt_or_le t day) [
+                  (λ t e. elim (cases_lt t day) [
                     | inl m3 ↦
                         absurd (let k = turn_early M L day new old (year_back L M day old new c) t e
                         m3 in
@@ -150,16 +150,6 @@ same_status L M day old new c y z =
             ]
           ]
     ]
-
-first_monthly : (form : Form) → (s d : ℕ) → d < s → period_first form s d ≡ month_start (month_of d)
-first_monthly form s d h = rw (lt-ltb d s h) refl
-
-last_monthly : (form : Form) → (s d : ℕ) → d < s → period_last form s d ≡ min (s - 1)
-    (month_start (month_of d + 1) - 1)
-last_monthly form s d h = rw (lt-ltb d s h) refl
-
-rule_monthly : (s d : ℕ) → d < s → rule_on s d ≡ Monthly
-rule_monthly s d h = rw (lt-ltb d s h) refl
 
 -- before the day's deposit period, periods are the same under both lines
 abbrev pub SameBefore : (form : Form) → ℕ → ℕ → ℕ → Type 0
@@ -174,7 +164,7 @@ months_before form s r day d top m n l =
     let is0 = is.0 in
     let is_d = month_of_is d (omega arith) in
     let d0 = is_d.0 in
-    let less : month_of d < month_of day = elim (lt_or_le (month_of d) (month_of day)) [
+    let less : month_of d < month_of day = elim (cases_lt (month_of d) (month_of day)) [
       | inl y ↦ y
       | inr y ↦ absurd (let q = month_start-mono (month_of day) (month_of d) y in omega arith)
     ] in
@@ -233,13 +223,13 @@ owed_earlier form day g h holidays known c old new m n e from to o before owed =
     let years = c.is_before.years in
     let at_w = year_divides form line yw.0 yw.1 yw.2 o.first w0 w1 in
     let q0 = at_w.0 in let q1 = at_w.1 in let q2 = at_w.2 in let q3 = at_w.3 in
-    elim (lt_or_le line.year old.year) [
+    elim (cases_lt line.year old.year) [
       | inl less ↦
           let mono = year_start-mono (line.year + 1) old.year (omega arith) in
           let has = early_same day g h c line w.1 (omega arith) in
           (owed_is_at form h holidays o known c.is_after).1
           (line, has, owed_kept form day g h holidays c line o (inl (omega arith)) w.2)
-      | inr more ↦ elim (lt_or_le old.year line.year) [
+      | inr more ↦ elim (cases_lt old.year line.year) [
         | inl less ↦ absurd (let mono = year_start-mono (old.year + 1) line.year (omega arith) in
             let x3 = divides.3 in let x2 = divides.2 in omega arith)
         | inr eq ↦
@@ -250,7 +240,7 @@ owed_earlier form day g h holidays known c old new m n e from to o before owed =
             let p = year_divides form old y.0 y.1 y.2 o.first h0 h1 in
             let p1 = p.1 in let p2 = p.2 in
             let apart : period_last form (semiweekly_from old) o.first < day =
-            elim (lt_or_le (period_last form (semiweekly_from old) o.first) day) [
+            elim (cases_lt (period_last form (semiweekly_from old) o.first) day) [
               | inl less ↦ less
               | inr over ↦ absurd (let at_day = p.4 day (omega arith) over in let a0 = at_day.0 in
                   omega arith)

@@ -3,7 +3,7 @@ use Rattle.ftd_rules.specs.declared.Form.{Form}
 use Rattle.std.proofs.Common.{◌≡◌, ℕ, ◌+◌, ◌-◌, ◌<◌, ◌≤◌, ◌%◌, ◌⊎◌, inl, inr, List, [], ◌∷◌, length}
 use Rattle.std.proofs.Common.{refl, sym, ap, ◌∙◌, subst, arith}
 use Rattle.std.specs.Prelude.{min}
-use Rattle.std.proofs.lemmas.Bool.{lt-ltb, le-ltb}
+use Rattle.std.proofs.lemmas.Bool.{lt-ltb, le-ltb, cases_lt}
 use Rattle.ftd_days.specs.Calendar.{month_of, month_start}
 use Rattle.ftd_days.specs.Private.Intervals.{interval_close}
 use Rattle.ftd_days.proofs.Months.{month_of_only, month_start-end}
@@ -20,7 +20,7 @@ use Rattle.ftd_rules.specs.Private.Periods.{rule_on}
 use Rattle.ftd_rules.specs.Private.Walk.{period_last}
 use Rattle.ftd_rules.proofs.Stated.{period_run, piece_owed}
 use Rattle.ftd_rules.specs.Private.Periods.{IsStretch}
-use Rattle.ftd_rules.proofs.Cuts.{lt_or_le, cuts_from_stops}
+use Rattle.ftd_rules.proofs.Cuts.{cuts_from_stops}
 use Rattle.ftd_rules.proofs.Schedules.{year_facts, year_only, line_one, cases_turn, turn_is}
 use Rattle.ftd_rules.proofs.Schedules.{from_semiweekly, from_turn}
 use Rattle.ftd_rules.proofs.Covering.{line_is, piece_within, within_period, period_same}
@@ -42,7 +42,7 @@ few a b (o ∷ rows) h f =
 -- an interval has at most four days
 close_near : (d : ℕ) → interval_close d ≤ d + 3
 close_near d =
-    elim (lt_or_le ((d + 5) % 7) 3) [
+    elim (cases_lt ((d + 5) % 7) 3) [
       | inl y ↦ rw (lt-ltb ((d + 5) % 7) 3 y) (omega arith)
       | inr y ↦ rw (le-ltb ((d + 5) % 7) 3 y) (omega arith)
     ]

@@ -3,6 +3,7 @@ use Rattle.ftd_rules.specs.declared.Form.{Form}
 use Rattle.std.proofs.Common.{◌≡◌, ℕ, ◌+◌, ◌<◌, ◌≤◌, inl, inr, List, ◌++◌, sym, ap, ◌∙◌, subst}
 use Rattle.std.proofs.Common.{arith}
 use Rattle.std.specs.List.{All}
+use Rattle.std.proofs.lemmas.Bool.{cases_lt}
 use Rattle.ftd_days.specs.Business.{holidays_end}
 use Rattle.ftd_days.specs.Holidays.{holidays_of}
 use Rattle.ftd_rules.specs.declared.DaySum.{DaySum}
@@ -12,7 +13,6 @@ use Rattle.ftd_rules.specs.Liability.{liability}
 use Rattle.ftd_rules.specs.Lists.{Has}
 use Rattle.ftd_rules.specs.Private.Years.{semiweekly_from}
 use Rattle.ftd_rules.specs.Private.Walk.{due_date, AreOwed, periods, period_first, period_last}
-use Rattle.ftd_rules.proofs.Cuts.{lt_or_le}
 use Rattle.ftd_rules.proofs.Schedules.{year_facts, year_start-mono, year_divides, year_only}
 use Rattle.ftd_rules.proofs.Schedules.{line_one}
 use Rattle.ftd_rules.proofs.Covering.{line_is}
@@ -48,18 +48,18 @@ kept_later form day g h holidays known c old m n a b whole l k o past owed =
     let years = c.is_before.years in
     let x = year_divides form line y.0 y.1 y.2 o.first start end in
     let x0 = x.0 in let x1 = x.1 in let x2 = x.2 in
-    let later : old.year ≤ line.year = elim (lt_or_le line.year old.year) [
+    let later : old.year ≤ line.year = elim (cases_lt line.year old.year) [
       | inr fine ↦ fine
       | inl less ↦ absurd (let mono = year_start-mono (line.year + 1) old.year (omega arith) in
           omega arith)
     ] in (
       later_same day g h c old m n (omega arith) line has later,
-      elim (lt_or_le old.year line.year) [
+      elim (cases_lt old.year line.year) [
         | inl less ↦ (let mono = year_start-mono (old.year + 1) line.year (omega arith) in
             omega arith)
         | inr same ↦
             let one : line ≡ old = line_one years.0 g.lines line old years.2 has m (omega arith) in
-            elim (lt_or_le day (period_first form (semiweekly_from line) o.first)) [
+            elim (cases_lt day (period_first form (semiweekly_from line) o.first)) [
               | inl fine ↦ fine
               | inr over ↦
                   let at_day = x.4 day over (omega arith) in
@@ -123,7 +123,7 @@ kept_done form day holidays before after s sums added patch known0 st agree whol
               (λ w. rw years ((st.common.changed.all line).1 (
                 w.0,
                 w.1,
-                elim (lt_or_le line.year old.year) [
+                elim (cases_lt line.year old.year) [
                   | inl less ↦ less
                   | inr more ↦
                       absurd (w.1 (later_same day after before back old n m in_year line w.0 more))
@@ -159,7 +159,7 @@ kept_done form day holidays before after s sums added patch known0 st agree whol
             let past = later.later in
             let from_day = st.at.of_day.0 in
             let more : old.year ≤ later.old.year =
-            elim (lt_or_le later.old.year old.year) [
+            elim (cases_lt later.old.year old.year) [
               | inr fine ↦ fine
               | inl less ↦ absurd (let mono = year_start-mono later.old.year old.year
                   (omega arith) in omega arith)

@@ -3,6 +3,7 @@ use Rattle.ftd_rules.specs.declared.Form.{Form}
 use Rattle.std.proofs.Common.{◌≡◌, ℕ, ◌+◌, ◌<◌, ◌≤◌, inl, inr, List, [], ◌∷◌, length, Bool, refl}
 use Rattle.std.proofs.Common.{sym, ap, ◌∙◌, subst, arith}
 use Rattle.std.specs.Prelude.{Option, IsSome, map}
+use Rattle.std.proofs.lemmas.Bool.{cases_lt}
 use Rattle.ftd_days.specs.Calendar.{year_start}
 use Rattle.ftd_rules.specs.declared.YearLine.{YearLine}
 use Rattle.ftd_rules.specs.Lists.{Has}
@@ -10,7 +11,6 @@ use Rattle.ftd_rules.specs.Liability.{liability}
 use Rattle.ftd_rules.specs.Years.{year_last, IsSemiweeklyOn, basis_of, TurnedBefore}
 use Rattle.ftd_rules.specs.Private.Years.{semiweekly_from, IsScheduled}
 use Rattle.ftd_rules.proofs.Stated.{period_run, semiweekly_is}
-use Rattle.ftd_rules.proofs.Cuts.{lt_or_le}
 use Rattle.ftd_rules.proofs.Schedules.{year_facts, year_start-mono, year_only, line_one}
 use Rattle.ftd_rules.proofs.Schedules.{schedule_iff}
 use Rattle.ftd_rules.proofs.Covering.{line_is, period_same}
@@ -111,7 +111,7 @@ only_period form day before after fed period line c m n of_day (inr (inr later))
     let p1 = of_day.0.1 in let p2 = of_day.0.2 in let p3 = of_day.1 in let p4 = of_day.2 in
     let begins = later.later in
     let more : line.year ≤ later.old.year =
-    elim (lt_or_le later.old.year line.year) [
+    elim (cases_lt later.old.year line.year) [
       | inr fine ↦ fine
       | inl less ↦ absurd (let mono = year_start-mono later.old.year line.year (omega arith) in
           omega arith)
@@ -157,7 +157,7 @@ pub one_at_most : (form : Form) (day : ℕ) (before after : History) (holidays :
     → Has before.lines line → year_start line.year ≤ day → day ≤ year_last line.year
     → (IsSemiweeklyOn line patch.from → ⊥) → length patch.rows ≤ 1
 one_at_most form day before after holidays fed patch line c is last none m from to monthly =
-    elim (lt_or_le 1 (length patch.rows)) [
+    elim (cases_lt 1 (length patch.rows)) [
       | inr fine ↦ fine
       | inl many ↦ absurd (kept_line form day before after holidays fed patch line c is none m (λ n.
           let its = is.is_period in
@@ -177,7 +177,7 @@ one_at_most form day before after holidays fed patch line c is last none m from 
           same.1 in
           let some = of_day.0.0 in let low = of_day.0.1 in let high = of_day.0.2 in
           let early : period.from < semiweekly_from line =
-          elim (lt_or_le period.from (semiweekly_from line)) [
+          elim (cases_lt period.from (semiweekly_from line)) [
             | inl first ↦ first
             | inr late ↦
                 absurd (monthly ((semiweekly_is line patch.from (omega arith) (omega arith)).1
@@ -198,7 +198,7 @@ four_at_most form day before after holidays fed patch c is last none =
     let line = its.0 in
     let p1 = its.2.0.1 in let p2 = its.2.0.2 in let p3 = its.2.1 in let p4 = its.2.2 in
     let begins : patch.from ≡ period.from = is.from in
-    elim (lt_or_le 4 (length patch.rows)) [
+    elim (cases_lt 4 (length patch.rows)) [
       | inr fine ↦ fine
       | inl many ↦ absurd (kept_line form day before after holidays fed patch line c is none its.1
           (λ n.
@@ -206,7 +206,7 @@ four_at_most form day before after holidays fed patch c is last none =
           last.needed in
           let rows = rows_of_period form day before after holidays fed patch line period is is.from
           same.1 in
-          elim (lt_or_le period.from (semiweekly_from line)) [
+          elim (cases_lt period.from (semiweekly_from line)) [
             | inl monthly ↦
                 (let few = one_row form after holidays line period.from period.to patch.rows
                 c.is_after n its.2.0 monthly rows in omega arith)

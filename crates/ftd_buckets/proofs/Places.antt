@@ -18,7 +18,7 @@ use Rattle.ftd_rules.proofs.Stated.{piece_owed, owed_stated}
 use Rattle.ftd_rules.proofs.DueDates.{due_is}
 use Rattle.ftd_rules.proofs.Cuts.{stops_from_cuts, cuts_from_stops}
 use Rattle.ftd_rules.proofs.Walk.{cuts_same, between_same}
-use Rattle.ftd_rules.proofs.Owed.{rows_between}
+use Rattle.ftd_rules.proofs.Owed.{rows_between, rows_end}
 use Rattle.ftd_rules.proofs.Along.{liability_empty}
 use Rattle.ftd_rules.proofs.Schedules.{year_divides, year_only, line_one}
 use Rattle.ftd_rules.proofs.Assessing.{IsOwedIn, owed_same}
@@ -27,11 +27,6 @@ use Rattle.ftd_rules.proofs.Covering.{line_is}
 use Rattle.ftd_buckets.specs.Histories.{History, IsHistory}
 use Rattle.ftd_buckets.specs.Patches.{IsOwed, AreRows}
 
-rise_top : (a b : ℕ) (rows : List Obligation) → RowsRise a b rows → a ≤ b
-rise_top a b [] h = h
-rise_top a b (x ∷ rows) h = let k = rise_top (x.last + 1) b rows h.2 in let h0 = h.0 in
-    let h1 = h.1 in omega arith
-
 -- rows that rise from a to b begin and end there
 pub rise_within : (a b : ℕ) (rows : List Obligation) (o : Obligation) → RowsRise a b rows
     → Has rows o → (a ≤ o.first) × (o.first ≤ o.last) × (o.last < b)
@@ -39,7 +34,7 @@ rise_within a b [] o h k = absurd k
 rise_within a b (x ∷ rows) o h (inl e) =
     let first : o.first ≡ x.first = ap (λ (z : Obligation). z.first) e in
     let last : o.last ≡ x.last = ap (λ (z : Obligation). z.last) e in
-    let h0 = h.0 in let h1 = h.1 in let top = rise_top (x.last + 1) b rows h.2 in
+    let h0 = h.0 in let h1 = h.1 in let top = rows_end (x.last + 1) b rows h.2 in
     (omega arith, omega arith, omega arith)
 rise_within a b (x ∷ rows) o h (inr k) =
     let r = rise_within (x.last + 1) b rows o h.2 k in

@@ -21,6 +21,7 @@ use Rattle.ftd_rules.specs.Private.Walk.{due_date, AreOwed, Divides, periods, pe
 use Rattle.ftd_rules.proofs.Status.{month_at_least}
 use Rattle.ftd_rules.proofs.Schedules.{year_facts, year_divides, month_in_year, cases_turn, turn_is}
 use Rattle.ftd_rules.proofs.Schedules.{from_turn, from_none}
+use Rattle.ftd_rules.proofs.Turning.{month_total}
 use Rattle.ftd_buckets.specs.declared.Window.{Window}
 use Rattle.ftd_buckets.specs.declared.state.Settled.{Settled}
 use Rattle.ftd_buckets.specs.declared.state.Stage.TheVariants as stage
@@ -31,7 +32,7 @@ use Rattle.ftd_buckets.specs.Private.Ready.{with_turn, IsWhole}
 use Rattle.ftd_buckets.specs.Private.Turned.{IsMonthStart}
 use Rattle.ftd_buckets.specs.Standing.{Stands, StandsIn}
 use Rattle.ftd_buckets.specs.Private.Answered.{IsSettledYear}
-use Rattle.ftd_buckets.proofs.Turns.{month_total, line_same, line_year}
+use Rattle.ftd_buckets.proofs.Turns.{line_same, line_year}
 use Rattle.ftd_buckets.proofs.Chain.{year_change}
 use Rattle.ftd_buckets.proofs.Places.{rows_are}
 use Rattle.ftd_buckets.proofs.Years.{rows_append}

@@ -14,6 +14,7 @@ use Rattle.ftd_rules.specs.Private.Years.{OpensBy, IsScheduled}
 use Rattle.ftd_rules.proofs.Schedules.{year_facts, year_start-mono, line_one}
 use Rattle.ftd_rules.proofs.Covering.{line_is}
 use Rattle.ftd_rules.proofs.Earlier.{counterpart}
+use Rattle.ftd_rules.proofs.Stated.{cases_kind}
 use Rattle.ftd_buckets.specs.declared.Window.{Window}
 use Rattle.ftd_buckets.specs.declared.Patch.{Patch}
 use Rattle.ftd_buckets.specs.declared.state.Settled.{Settled}
@@ -24,7 +25,6 @@ use Rattle.ftd_buckets.specs.Patches.{AreRows, IsPatch}
 use Rattle.ftd_buckets.specs.Ready.{Repairing}
 use Rattle.ftd_buckets.specs.Standing.{Stands, AreChangedBefore}
 use Rattle.ftd_buckets.specs.Private.Answered.{IsSettledYear}
-use Rattle.ftd_buckets.proofs.Turns.{cases_kind}
 use Rattle.ftd_buckets.proofs.Chain.{change_back, later_same, opening_line}
 use Rattle.ftd_buckets.proofs.Begun.{last_has}
 use Rattle.ftd_buckets.proofs.Years.{SameAfter, next_year, owed_after, needed_after, none_needed}

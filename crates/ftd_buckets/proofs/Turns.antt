@@ -1,41 +1,32 @@
 -- What a change of one day's runs does to the turn of its year, as the day's deposit period tells
 -- it.
 use Rattle.ftd_rules.specs.declared.Form.{Form}
-use Rattle.std.proofs.Common.{◌≡◌, ℕ, ◌+◌, ◌-◌, ◌<◌, ◌≤◌, ◌⊎◌, inl, inr, Bool, refl, sym, ap, ◌∙◌}
+use Rattle.std.proofs.Common.{◌≡◌, ℕ, ◌+◌, ◌-◌, ◌<◌, ◌≤◌, ◌⊎◌, inl, inr, Bool, sym, ap, ◌∙◌}
 use Rattle.std.proofs.Common.{subst, arith}
 use Rattle.std.specs.Prelude.{Option, None, Some, IfSome, min, true, false}
 use Rattle.std.specs.Option.{option_eq}
-use Rattle.std.proofs.lemmas.Bool.{cases_order, lt-ltb, false≢true}
+use Rattle.std.proofs.lemmas.Bool.{cases_order, lt-ltb, false≢true, cases_lt}
 use Rattle.ftd_days.specs.Calendar.{month_of, month_start, year_start}
 use Rattle.ftd_days.proofs.Months.{month_of_is, month_of_only, month_start-mono, month_start-end}
 use Rattle.ftd_rules.specs.declared.YearLine.{YearLine}
-use Rattle.ftd_rules.specs.declared.Kind.{Kind}
 use Rattle.ftd_rules.specs.declared.Kind.TheVariants as kind
 use Rattle.ftd_rules.specs.Years.{Reaches, IsTurn, HasTurn, basis_of, year_last}
 use Rattle.ftd_rules.specs.Private.Years.{semiweekly_from}
 use Rattle.ftd_rules.specs.Periods.{IsPeriod}
 use Rattle.ftd_rules.specs.Private.Walk.{years_end, period_first, period_last}
-use Rattle.ftd_rules.proofs.Stated.{period_run}
-use Rattle.ftd_rules.proofs.Cuts.{lt_or_le}
+use Rattle.ftd_rules.proofs.Stated.{period_run, cases_kind}
 use Rattle.ftd_rules.proofs.Status.{month_at_least}
 use Rattle.ftd_rules.proofs.Bridge.{period_only}
 use Rattle.ftd_rules.proofs.Pieces.{IsYear}
 use Rattle.ftd_rules.proofs.Schedules.{year_facts, year_divides, cases_turn, turn_is}
 use Rattle.ftd_rules.proofs.Schedules.{from_semiweekly, from_turn, from_none}
+use Rattle.ftd_rules.proofs.Turning.{month_total}
 use Rattle.ftd_buckets.specs.Histories.{TurnsWithin}
 use Rattle.ftd_buckets.specs.Private.Turned.{IsYearChange}
-
--- the liability of a day's month up to the day
-abbrev pub month_total : (ℕ → ℕ → ℕ) → ℕ → ℕ
-month_total L t = L (month_start (month_of t)) t
 
 -- no day from a to b reaches 100,000.00
 abbrev pub Quiet : (ℕ → ℕ → ℕ) → ℕ → ℕ → Type 0
 Quiet F a b = (v : ℕ) → a ≤ v → v ≤ b → Reaches F v → ⊥
-
-pub cases_kind : (k : Kind) → (k ≡ kind.Semiweekly) ⊎ (k ≡ kind.Monthly)
-cases_kind kind.Semiweekly = inl refl
-cases_kind kind.Monthly = inr refl
 
 cases_opening : (line : YearLine) → (line.opening ≡ kind.Semiweekly) ⊎ (line.opening ≡ kind.Monthly)
 cases_opening line = cases_kind line.opening
@@ -215,7 +206,7 @@ turn_shown form L M F day old new a b t c monthly its =
       record {
         not_before = omega arith;
         holds = omega arith;
-        first = λ v l m reaches. elim (lt_or_le v a) [
+        first = λ v l m reaches. elim (cases_lt v a) [
           | inl before ↦ quiet_before form L M F day old new a b c monthly v l before reaches
           | inr within ↦
               let e = total_within form L M F day old new a b c monthly v within (omega arith) in
@@ -237,9 +228,9 @@ turn_after form L M F day old new a b c monthly quiet t e =
     let P : ℕ → Type 0 = λ y. year_start y ≤ t in
     let a0 : year_start old.year ≤ t = subst P (sym year) at.0.not_before in
     let a2 = at.0.holds in
-    elim (lt_or_le b t) [
+    elim (cases_lt b t) [
       | inl less ↦ less
-      | inr more ↦ absurd (elim (lt_or_le t a) [
+      | inr more ↦ absurd (elim (cases_lt t a) [
         | inl before ↦ quiet_before form L M F day old new a b c monthly t a0 before a2
         | inr within ↦
             let q = total_within form L M F day old new a b c monthly t within more in
@@ -272,9 +263,9 @@ turn_stays form L M F day old new a b c monthly quiet other =
     let small : (v : ℕ) → year_start old.year ≤ v → v ≤ year_last old.year
     → (b < v → month_start (month_of a + 1) ≤ b + 1) → (b < v → Reaches L v → ⊥)
     → Reaches M v → ⊥ =
-    λ v l m whole less reaches. elim (lt_or_le v a) [
+    λ v l m whole less reaches. elim (cases_lt v a) [
       | inl before ↦ quiet_before form L M F day old new a b c monthly v l before reaches
-      | inr from ↦ elim (lt_or_le b v) [
+      | inr from ↦ elim (cases_lt b v) [
         | inl past ↦ let e = later v past m (whole past) in less past (omega arith)
         | inr within ↦ let e = total_within form L M F day old new a b c monthly v from within in
             quiet v from within (omega arith)
@@ -293,7 +284,7 @@ turn_stays form L M F day old new a b c monthly quiet other =
           let e = from_turn old t h.0 some.1 in
           let its = turn_is L old t some.1 h.1 in
           let i0 = its.0.not_before in let i1 = its.1 in let i2 = its.0.holds in
-          let past : b < t = elim (lt_or_le b t) [
+          let past : b < t = elim (cases_lt b t) [
             | inl less ↦ less
             | inr more ↦ absurd (let same : b ≡ t = omega arith in
                 other (some.1 ∙ ap Some (sym same)))

@@ -3,6 +3,7 @@ use Rattle.ftd_rules.specs.declared.Form.{Form}
 use Rattle.std.proofs.Common.{◌≡◌, ℕ, ◌+◌, ◌<◌, ◌≤◌, inl, inr, List, [], ◌∷◌, ◌++◌, refl, sym, ap}
 use Rattle.std.proofs.Common.{subst, arith}
 use Rattle.std.specs.List.{All}
+use Rattle.std.proofs.lemmas.Bool.{cases_lt}
 use Rattle.ftd_days.specs.Calendar.{year_start}
 use Rattle.ftd_days.specs.Business.{holidays_end}
 use Rattle.ftd_rules.specs.declared.YearLine.{YearLine}
@@ -10,7 +11,6 @@ use Rattle.ftd_rules.specs.declared.Obligation.{Obligation}
 use Rattle.ftd_rules.specs.Lists.{Has}
 use Rattle.ftd_rules.specs.Obligations.{ByFirstDay}
 use Rattle.ftd_rules.specs.Years.{AreOpenYears, YearsFrom, year_last}
-use Rattle.ftd_rules.proofs.Cuts.{lt_or_le}
 use Rattle.ftd_rules.proofs.Owed.{has_append, has_left, has_right}
 use Rattle.ftd_rules.proofs.Schedules.{year_facts, year_start-mono, year_divides, years_within}
 use Rattle.ftd_rules.proofs.Schedules.{line_one}
@@ -46,7 +46,7 @@ rows_append form h holidays a c b xs ys l m x y = record {
       | inl old ↦ let w = (x.all o).0 old in let w2 = w.2 in (w.0, w.1, omega arith)
       | inr new ↦ let w = (y.all o).0 new in let w1 = w.1 in (w.0, omega arith, w.2)
     ]),
-    (λ w. elim (lt_or_le o.first c) [
+    (λ w. elim (cases_lt o.first c) [
       | inl before ↦ has_left xs ys o ((x.all o).1 (w.0, w.1, before))
       | inr from ↦ has_right xs ys o ((y.all o).1 (w.0, from, w.2))
     ]),
@@ -113,7 +113,7 @@ owed_after form day g h holidays year known c l m to same o past owed =
     let f3 = f.3 in
     let fw = year_facts line.year y.0 y.1 in
     let fw3 = fw.3 in
-    let later : year < line.year = elim (lt_or_le year line.year) [
+    let later : year < line.year = elim (cases_lt year line.year) [
       | inl less ↦ less
       | inr more ↦ absurd (let mono = year_start-mono (line.year + 1) (year + 1) (omega arith) in
           omega arith)
@@ -140,7 +140,7 @@ needed_after form day g h year c l m to w (inr (inl rest)) past =
     let fo3 = fo.3 in
     let from = rest.of_day.0 in
     let some = rest.some in let ends = rest.to in
-    absurd (elim (lt_or_le year old.year) [
+    absurd (elim (cases_lt year old.year) [
       | inl less ↦ let mono = year_start-mono (year + 1) old.year (omega arith) in omega arith
       | inr more ↦ let mono = year_start-mono (old.year + 1) (year + 1) (omega arith) in omega arith
     ])
@@ -149,7 +149,7 @@ needed_after form day g h year c l m to w (inr (inr later)) past =
     let from = later.from in
     let f = year_facts year l m in
     let f1 = f.1 in
-    let less : year < old.year = elim (lt_or_le year old.year) [
+    let less : year < old.year = elim (cases_lt year old.year) [
       | inl less ↦ less
       | inr more ↦ absurd (let mono = year_start-mono old.year year more in omega arith)
     ] in
@@ -160,7 +160,7 @@ pub none_needed : (form : Form) → (day : ℕ) (g h : History) (year : ℕ) →
     → 2001 ≤ year → year ≤ 2098 → day ≤ year_last year → SameAfter g h year
     → (w : Window) → IsNeeded form day g h w → w.from ≤ year_last year
 none_needed form day g h year c l m to same w needed =
-    elim (lt_or_le (year_last year) w.from) [
+    elim (cases_lt (year_last year) w.from) [
       | inr fine ↦ fine
       | inl past ↦
           let k = needed_after form day g h year c l m to w needed past in
@@ -180,7 +180,7 @@ all_changed g h year lines k same = record {
     (λ w. (k.all line).1 (
       w.0,
       w.1,
-      elim (lt_or_le year line.year) [
+      elim (cases_lt year line.year) [
         | inl later ↦ absurd (w.1 (same line w.0 later))
         | inr fine ↦ omega arith
       ],
@@ -210,7 +210,7 @@ one_changed g h old new lines years afters year differs k =
           )
           | inr (inr never) ↦ absurd never
         ]),
-        (λ w. elim (lt_or_le line.year old.year) [
+        (λ w. elim (cases_lt line.year old.year) [
           | inl less ↦ has_left lines (new ∷ []) line ((k.all line).1 (w.0, w.1, less))
           | inr more ↦
               let w2 = w.2 in

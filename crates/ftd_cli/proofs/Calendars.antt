@@ -5,7 +5,7 @@ use Rattle.std.proofs.Common.{◌∙◌, arith, length-take, length-drop, get_or
 use Rattle.std.specs.Prelude.{All, ◌==◌, ◌↔◌, IsErrOf, Result, Err, count_by}
 use Rattle.std.specs.List.{prefix_len}
 use Rattle.std.specs.List.Sorted.{IsStrictlyIncreasing}
-use Rattle.std.proofs.lemmas.Bool.{cases_order, false≢true}
+use Rattle.std.proofs.lemmas.Bool.{cases_order, false≢true, cases_lt}
 use Rattle.std.proofs.lemmas.Bool.Decides.{nat_tests}
 use Rattle.std.proofs.lemmas.List.{append-nil}
 use Rattle.std.proofs.lemmas.List.Elements.{All-cons, All-nil, All-head, All-tail}
@@ -15,7 +15,6 @@ use Rattle.std.proofs.lemmas.Map.Keys.{below_from_sorted, sorted_from_strictly_i
 use Rattle.ftd_days.specs.Calendar.{year_of}
 use Rattle.ftd_days.specs.Holidays.{YearDays, MayAdd, holidays_of}
 use Rattle.ftd_days.proofs.Months.{early_year, year_later}
-use Rattle.ftd_days.proofs.Numerals.{lt_or_le}
 use Rattle.ftd_days.specs.declared.holidays.CalendarFault.{CalendarFault}
 use Rattle.ftd_days.specs.declared.holidays.CalendarFault.TheVariants as calendar
 use Rattle.ftd_cli.specs.Faults.{plain_fault}
@@ -176,7 +175,7 @@ whole_rising year days late front back after k within =
           let next_day = rw zero_more at at in
           let next : year_of (get_or days (k + 1) 0) ≡ year + 1 = sym (ap (λ d. year_of d) next_day)
           ∙ after 0 0 (omega arith) in
-          elim (lt_or_le (get_or days k 0) (get_or days (k + 1) 0)) [
+          elim (cases_lt (get_or days k 0) (get_or days (k + 1) 0)) [
             | inl less ↦ less
             | inr not ↦
                 absurd
@@ -208,7 +207,7 @@ whole_years : (year : ℕ) (days : List ℕ) → All (λ day. year_of day ≡ ye
 whole_years year days after k d within =
     let n = first_days year days in
     let long = length-drop n days in
-    elim (lt_or_le k n) [
+    elim (cases_lt k n) [
       | inl first ↦
           inl (is_year year (get_or days k d) (prefix_len_passes (of_year year) days k d first))
       | inr past ↦

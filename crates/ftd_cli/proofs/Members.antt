@@ -1,6 +1,6 @@
 -- What a list contains, and what an ordered map's entries are after one more.
 use Rattle.std.proofs.Common.{◌≡◌, ◌≢◌, ◌⊎◌, inl, inr, ℕ, zero, suc, ◌<◌, ◌≤◌, ◌+◌, List, [], ◌∷◌}
-use Rattle.std.proofs.Common.{◌++◌, length, map, take, get_or, Option, Some, None, Bool, true}
+use Rattle.std.proofs.Common.{◌++◌, length, take, get_or, Option, Some, None, Bool, true}
 use Rattle.std.proofs.Common.{false, cond, refl, sym, ap, ◌∙◌, subst, arith, length-append}
 use Rattle.std.proofs.Common.{Ordering, Less, Equal, Greater}
 use Rattle.std.specs.Prelude.{Contains, AllPairs, nat_lt, ◌==◌}
@@ -15,6 +15,7 @@ use Rattle.std.specs.Ordering.{nat_cmp, is_eq, match_ordering}
 use Rattle.std.proofs.lemmas.Map.Lookups.{exact_unsigned}
 use Rattle.std.proofs.lemmas.Bool.{false≢true}
 use Rattle.std.proofs.lemmas.Bool.Decides.{nat_tests}
+use Rattle.std.proofs.lemmas.Option.{same_Some}
 use Rattle.ftd_rules.specs.Lists.{Has}
 
 -- ---- two words for membership
@@ -33,50 +34,18 @@ contains_from_has (y ∷ ys) x (inl e) = (0, omega arith, sym e)
 contains_from_has (y ∷ ys) x (inr h) = let (k, l, e) = contains_from_has ys x h in
     (suc k, omega arith, e)
 
-pub has_map : {X Y : Type 0} (f : X → Y) (xs : List X) (x : X) → Has xs x → Has (map f xs) (f x)
-has_map f [] x h = absurd h
-has_map f (y ∷ ys) x (inl e) = inl (ap f e)
-has_map f (y ∷ ys) x (inr h) = inr (has_map f ys x h)
-
-pub map_has : {X Y : Type 0} (f : X → Y) (xs : List X) (y : Y) → Has (map f xs) y
-    → (x : X) × Has xs x × (y ≡ f x)
-map_has f [] y h = absurd h
-map_has f (x ∷ xs) y (inl e) = (x, inl refl, e)
-map_has f (x ∷ xs) y (inr h) = let (z, there, e) = map_has f xs y h in (z, inr there, e)
-
-pub has_push : {X : Type 0} (xs : List X) (y x : X) → Has (xs ++ y ∷ []) x → Has xs x ⊎ (x ≡ y)
-has_push [] y x (inl e) = inr e
-has_push [] y x (inr h) = absurd h
-has_push (z ∷ xs) y x (inl e) = inl (inl e)
-has_push (z ∷ xs) y x (inr h) = elim (has_push xs y x h) [
-  | inl there ↦ inl (inr there)
-  | inr e ↦ inr e
-]
-
-pub push_has : {X : Type 0} (xs : List X) (y x : X) → Has xs x → Has (xs ++ y ∷ []) x
-push_has [] y x h = absurd h
-push_has (z ∷ xs) y x (inl e) = inl e
-push_has (z ∷ xs) y x (inr h) = inr (push_has xs y x h)
-
-pub push_last : {X : Type 0} (xs : List X) (y : X) → Has (xs ++ y ∷ []) y
-push_last [] y = inl refl
-push_last (z ∷ xs) y = inr (push_last xs y)
-
 -- ---- entries
 equal_keys : (a b : ℕ) (o : Ordering) → nat_cmp a b ≡ o → is_eq o ≡ true → a ≡ b
 equal_keys a b Less e h = cc h
 equal_keys a b Equal e h = exact_unsigned a b e
 equal_keys a b Greater e h = cc h
 
-pub some_same : {X : Type 0} (a b : X) → Some a ≡ Some b → a ≡ b
-some_same a b e = cc
-
 found_or_later : {X : Type 0} (key : ℕ) (v : X) (e : ℕ × X) (es : List (ℕ × X)) (b : Bool)
     → is_at (nat_cmp key) e.0 ≡ b → cond b (Some e.1) (lookup (is_at (nat_cmp key)) es) ≡ Some v
     → (lookup (is_at (nat_cmp key)) es ≡ Some v → Has es (key, v)) → Has (e ∷ es) (key, v)
 found_or_later key v e es true at f later =
     let same = equal_keys key e.0 (nat_cmp key e.0) refl at in
-    let value = some_same e.1 v f in
+    let value = same_Some e.1 v f in
     inl (rw (same, ← value) refl)
 found_or_later key v e es false at f later = inr (later f)
 

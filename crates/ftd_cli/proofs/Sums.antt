@@ -1,6 +1,6 @@
 -- The sums of the runs that count.
 use Rattle.std.proofs.Common.{◌≡◌, ◌⊎◌, inl, inr, ℕ, ◌+◌, ◌-◌, ◌*◌, ◌<◌, ◌≤◌, List, [], ◌∷◌, length}
-use Rattle.std.proofs.Common.{map, get_or, Option, Some, None, Bool, true, false, cond, refl, sym}
+use Rattle.std.proofs.Common.{map, Option, Some, None, Bool, true, false, cond, refl, sym}
 use Rattle.std.proofs.Common.{ap, ◌∙◌, arith}
 use Rattle.std.specs.Prelude.{All, ◌&&◌, ◌==◌, if◌then◌else◌, option_and_then, IfSome}
 use Rattle.std.specs.List.{cons_option, sum_by}
@@ -8,8 +8,10 @@ use Rattle.std.specs.Map.{values_of}
 use Rattle.std.specs.Str.{bytes_eq}
 use Rattle.std.proofs.lemmas.Bool.Decides.{nat_tests}
 use Rattle.std.proofs.lemmas.List.{length-map}
-use Rattle.std.proofs.lemmas.List.Elements.{All-map, All-weaker, Contains-get_or}
+use Rattle.std.proofs.lemmas.List.Elements.{All-map, All-weaker}
 use Rattle.std.proofs.lemmas.List.Sums.{sum_by-le}
+use Rattle.std.proofs.lemmas.Option.{same_Some}
+use Rattle.std.proofs.lemmas.Bool.{and_parts}
 use Rattle.ftd_days.specs.Calendar.{month_of, year_of, year_start}
 use Rattle.ftd_days.proofs.Months.{early_year, in_month, month_start-mono}
 use Rattle.ftd_rules.specs.declared.DaySum.{DaySum}
@@ -32,8 +34,9 @@ use Rattle.ftd_csv.specs.Records.{Run, Said, SaidRun, enters, from, malformed, r
 use Rattle.ftd_cli.specs.Taking.{CalendarFails, IsSmall, TakesAll, StopsAtFault, run_of, runs_of}
 use Rattle.ftd_cli.specs.Taking.{sum_of}
 use Rattle.ftd_rules.specs.declared.run.PayRun.{PayRun}
-use Rattle.ftd_cli.proofs.Members.{contains_from_has, has_from_contains, has_map, map_has}
-use Rattle.ftd_cli.proofs.Members.{some_same}
+use Rattle.ftd_rules.proofs.Members.{mapped_has, has_mapped}
+use Rattle.ftd_rules.proofs.Rising.{all_has}
+use Rattle.ftd_cli.proofs.Members.{contains_from_has, has_from_contains}
 use Rattle.ftd_days.proofs.Spelling.{cents_small}
 
 -- ---- the sums are those of the runs
@@ -126,7 +129,7 @@ taken_of account year (enters r) run e = go (is_taken account year r) refl e
   where
     go : (b : Bool) → is_taken account year r ≡ b → cond b (Some r) None ≡ Some run
         → (enters r ≡ enters run) × (is_taken account year run ≡ true)
-    go true is f = let same = some_same r run f in (ap (λ (z : Run). enters z) same, rw same at is)
+    go true is f = let same = same_Some r run f in (ap (λ (z : Run). enters z) same, rw same at is)
     go false is f = cc f
 
 one_taken : (account : List ℕ) (year : ℕ) (said : SaidRun) (o : Option Run) (run : Run)
@@ -138,7 +141,8 @@ one_taken account year said (Some r) run rest e (inl same) =
 one_taken account year said (Some r) run rest e (inr h) = inr h
 
 taken_said : (account : List ℕ) (year : ℕ) (records : List SaidRun) (run : Run)
-    → Has (taken account year records) run → (said : SaidRun) × Has records said × (said ≡ enters run)
+    → Has (taken account year records) run → (said : SaidRun) × Has records said
+    × (said ≡ enters run)
     × (is_taken account year run ≡ true)
 taken_said account year [] run h = absurd h
 taken_said account year (said ∷ records) run h =
@@ -149,21 +153,13 @@ taken_said account year (said ∷ records) run h =
           (s, inr there, is, mine))
     ]
 
-and_right : (a b : Bool) → (a && b) ≡ true → b ≡ true
-and_right true b e = e
-and_right false b e = absurd (cc e)
-
 year_is : (account : List ℕ) (year : ℕ) (run : Run) → is_taken account year run ≡ true
     → year_of run.payday ≡ year
 year_is account year run e =
-    let test = and_right (bytes_eq run.employer account) (year_of run.payday == year) e in
+    let test = (and_parts (bytes_eq run.employer account) (year_of run.payday == year) e).1 in
     grind (arith, nat_tests)
 
 -- ---- what is kept
-all_from_has : {X : Type 0} (P : X → Type 0) (xs : List X) → ((x : X) → Has xs x → P x) → All P xs
-all_from_has P xs each k d within = each (get_or xs k d)
-    (has_from_contains xs (get_or xs k d) (Contains-get_or xs k d within))
-
 values_has : (entries : List (ℕ × PayRun)) (kept : PayRun) → Has (values_of entries) kept
     → (e : ℕ × PayRun) × Has entries e × (kept ≡ e.1)
 values_has [] kept h = absurd h
@@ -178,16 +174,16 @@ kept_run account year rows entries e all there =
     let run = run_of account e in
     let mine = has_from_contains (taken account year (map run_in rows)) run
     ((all.same run).0 (contains_from_has (runs_of account entries) run
-    (has_map (run_of account) entries e there))) in
+    (mapped_has (run_of account) entries e there))) in
     let (said, at, is, taken_it) = taken_said account year (map run_in rows) run mine in
-    let (row, there, says) = map_has run_in rows said at in
+    let (row, there, says) = has_mapped run_in rows said at in
     (said_small row run (sym says ∙ is), year_is account year run taken_it)
 
 pub kept_small : (account : List ℕ) (year : ℕ) (rows : List (List (List ℕ)))
     (entries : List (ℕ × PayRun)) → TakesAll account year (map run_in rows) entries
     → All IsSmall (values_of entries)
 kept_small account year rows entries all =
-    all_from_has IsSmall (values_of entries) (λ kept h.
+    all_has IsSmall (values_of entries) (λ kept h.
     let (e, there, is) = values_has entries kept h in
     let small = (kept_run account year rows entries e all there).0 in
     rw is (record { fit = small.fit; ss = small.ss; medicare = small.medicare }))
@@ -196,7 +192,7 @@ kept_year : (account : List ℕ) (year : ℕ) (rows : List (List (List ℕ)))
     (entries : List (ℕ × PayRun)) → TakesAll account year (map run_in rows) entries
     → All (λ (kept : PayRun). year_of kept.payday ≡ year) (values_of entries)
 kept_year account year rows entries all =
-    all_from_has (λ (kept : PayRun). year_of kept.payday ≡ year) (values_of entries) (λ kept h.
+    all_has (λ (kept : PayRun). year_of kept.payday ≡ year) (values_of entries) (λ kept h.
     let (e, there, is) = values_has entries kept h in
     ap (λ (k : PayRun). year_of k.payday) is ∙ (kept_run account year rows entries e all there).1)
 

@@ -18,15 +18,15 @@ use Rattle.ftd_csv.specs.Records.{Run, SaidRun, enters, malformed}
 use Rattle.ftd_cli.specs.Plain.{AreCounted, AtFault, NoneAtFault, RunFault, is_taken, most_runs}
 use Rattle.ftd_cli.specs.Plain.{taken, taken_run}
 use Rattle.ftd_cli.specs.Taking.{HasTaken, RefusesRecord, RefusesRun, StopsAtFault, TakesAll}
-use Rattle.ftd_cli.specs.Taking.{TakesRecord}
-use Rattle.ftd_cli.specs.Taking.{TakesRun, kept_of, run_of, runs_of}
+use Rattle.ftd_cli.specs.Taking.{TakesRecord, TakesRun, kept_of, run_of, runs_of}
 use Rattle.ftd_cli.specs.declared.fault.PlainFault.{PlainFault}
 use Rattle.ftd_cli.specs.declared.fault.PlainFault.TheVariants as fault
 use Rattle.ftd_rules.specs.declared.run.PayRun.{PayRun}
-use Rattle.ftd_cli.proofs.Members.{contains_from_has, has_from_contains, has_map, map_has, has_push}
-use Rattle.ftd_cli.proofs.Members.{push_has, push_last, lookup_has, lookup_apart, lookup_rising}
-use Rattle.ftd_cli.proofs.Members.{insert_adds, no_longer, comes_once, some_same}
-use Rattle.std.proofs.lemmas.Bool.{false≢true}
+use Rattle.ftd_rules.proofs.Members.{mapped_has, has_mapped, has_last, has_before, has_end}
+use Rattle.ftd_cli.proofs.Members.{contains_from_has, has_from_contains, lookup_has, lookup_apart}
+use Rattle.ftd_cli.proofs.Members.{lookup_rising, insert_adds, no_longer, comes_once}
+use Rattle.std.proofs.lemmas.Bool.{false≢true, and_parts}
+use Rattle.std.proofs.lemmas.Option.{same_Some}
 
 -- ---- one more record
 no_part : {X : Type 0} (before : List X) (x : X) (after : List X) → [] ≡ before ++ x ∷ after → ⊥
@@ -79,14 +79,10 @@ taken_none : (account : List ℕ) (year : ℕ) (run : Run) → is_taken account 
     → taken account year (enters run ∷ []) ≡ []
 taken_none account year run e = rw e refl
 
-and_left : (a b : Bool) → (a && b) ≡ true → a ≡ true
-and_left true b e = refl
-and_left false b e = e
-
 employer_is : (account : List ℕ) (year : ℕ) (run : Run) → is_taken account year run ≡ true
     → run.employer ≡ account
 employer_is account year run e = (bytes_eq-Decides run.employer account).0
-    (and_left (bytes_eq run.employer account) (year_of run.payday == year) e)
+    (and_parts (bytes_eq run.employer account) (year_of run.payday == year) e).0
 
 -- a run of the account is what is kept of it
 run_kept : (account : List ℕ) (run : Run) → run.employer ≡ account
@@ -138,11 +134,11 @@ same_again : (account : List ℕ) (entries : List (ℕ × PayRun)) (runs : List 
     → Same account entries (runs ++ run ∷ [])
 same_again account entries runs run same mine found other =
     let here : Has (runs_of account entries) run = rw (run_kept account run mine)
-    (has_map (run_of account) entries (run.number, kept_of run)
+    (mapped_has (run_of account) entries (run.number, kept_of run)
     (lookup_has run.number (kept_of run) entries found)) in (
       (λ c. contains_from_has (runs ++ run ∷ []) other
-          (push_has runs run other (has_from_contains runs other ((same other).0 c)))),
-      (λ c. elim (has_push runs run other (has_from_contains (runs ++ run ∷ []) other c)) [
+          (has_before runs run other (has_from_contains runs other ((same other).0 c)))),
+      (λ c. elim (has_last runs run other (has_from_contains (runs ++ run ∷ []) other c)) [
         | inl old ↦ (same other).1 (contains_from_has runs other old)
         | inr new ↦ rw new (contains_from_has (runs_of account entries) run here)
       ]),
@@ -157,27 +153,27 @@ same_new account entries runs run same mine none other =
     let new = insert_entry nat_cmp entries run.number (kept_of run) in
     let is_run = run_kept account run mine in (
       (λ c.
-          let (e, there, is) = map_has (run_of account) new other
+          let (e, there, is) = has_mapped (run_of account) new other
           (has_from_contains (runs_of account new) other c) in
           elim (adds.only e there) [
             | inl old ↦ contains_from_has (runs ++ run ∷ []) other
-                (push_has runs run other
+                (has_before runs run other
                 (has_from_contains runs other
                 ((same other).0 (contains_from_has (runs_of account entries) other
-                (rw is (has_map (run_of account) entries e old))))))
+                (rw is (mapped_has (run_of account) entries e old))))))
             | inr last ↦ (let it : other ≡ run = is ∙ ap (run_of account) last ∙ sym is_run in
-                rw it (contains_from_has (runs ++ run ∷ []) run (push_last runs run)))
+                rw it (contains_from_has (runs ++ run ∷ []) run (has_end runs run)))
           ]),
-      (λ c. elim (has_push runs run other (has_from_contains (runs ++ run ∷ []) other c)) [
+      (λ c. elim (has_last runs run other (has_from_contains (runs ++ run ∷ []) other c)) [
         | inl old ↦
-            (let (e, there, is) = map_has (run_of account) entries other
+            (let (e, there, is) = has_mapped (run_of account) entries other
             (has_from_contains (runs_of account entries) other
             ((same other).1 (contains_from_has runs other old))) in
             contains_from_has (runs_of account new) other
-            (rw is (has_map (run_of account) new e (adds.kept e there))))
+            (rw is (mapped_has (run_of account) new e (adds.kept e there))))
         | inr it ↦ rw (it, is_run) (contains_from_has (runs_of account new)
             (run_of account (run.number, kept_of run))
-            (has_map (run_of account) new (run.number, kept_of run) adds.there))
+            (mapped_has (run_of account) new (run.number, kept_of run) adds.there))
       ]),
     )
 
@@ -186,7 +182,7 @@ other_number : (account : List ℕ) (entries : List (ℕ × PayRun)) (runs : Lis
     → Same account entries runs → lookup (is_at (nat_cmp number)) entries ≡ None
     → (other : Run) → Contains runs other → other.number ≢ number
 other_number account entries runs number same none other c =
-    let (e, there, is) = map_has (run_of account) entries other
+    let (e, there, is) = has_mapped (run_of account) entries other
     (has_from_contains (runs_of account entries) other ((same other).1 c)) in
     λ n. lookup_apart number entries e none there (sym (ap (λ (r : Run). r.number) is) ∙ n)
 
@@ -196,12 +192,12 @@ one_entry : (account : List ℕ) (entries : List (ℕ × PayRun)) (runs : List R
     → lookup (is_at (nat_cmp number)) entries ≡ Some kept → (other : Run) → Contains runs other
     → other.number ≡ number → other ≡ run_of account (number, kept)
 one_entry account entries runs number kept sorted same found other c n =
-    let (e, there, is) = map_has (run_of account) entries other
+    let (e, there, is) = has_mapped (run_of account) entries other
     (has_from_contains (runs_of account entries) other ((same other).1 c)) in
     let key : e.0 ≡ number = sym (ap (λ (r : Run). r.number) is) ∙ n in
     let looked = lookup_rising entries e sorted there in
     let again = rw key at looked in
-    let value : e.1 ≡ kept = some_same e.1 kept (sym again ∙ found) in
+    let value : e.1 ≡ kept = same_Some e.1 kept (sym again ∙ found) in
     is ∙ rw (key, value) refl
 
 entry_there : (account : List ℕ) (entries : List (ℕ × PayRun)) (runs : List Run) (number : ℕ)
@@ -210,7 +206,7 @@ entry_there : (account : List ℕ) (entries : List (ℕ × PayRun)) (runs : List
     → Contains runs (run_of account (number, kept))
 entry_there account entries runs number kept same found =
     (same (run_of account (number, kept))).0 (contains_from_has (runs_of account entries)
-    (run_of account (number, kept)) (has_map (run_of account) entries (number, kept)
+    (run_of account (number, kept)) (mapped_has (run_of account) entries (number, kept)
     (lookup_has number kept entries found)))
 
 counted_no_longer : (account : List ℕ) (entries : List (ℕ × PayRun)) (runs counted : List Run)
@@ -349,7 +345,8 @@ parts_more : (records before : List SaidRun) (said : SaidRun) (left : List SaidR
 parts_more records before said left e = e ∙ sym (append_assoc before (said ∷ []) left)
 
 pub taken_next : (account : List ℕ) (year : ℕ) (records : List SaidRun) (said : SaidRun)
-    (left : List SaidRun) (number : ℕ) (entries new : List (ℕ × PayRun)) → IsStrictlySortedBy nat_cmp
+    (left : List SaidRun) (number : ℕ) (entries new : List (ℕ × PayRun))
+    → IsStrictlySortedBy nat_cmp
     (keys_of entries)
     → HasTaken account year records (said ∷ left) number entries
     → TakesRecord account year entries said new → HasTaken account year records left

@@ -218,6 +218,7 @@ all_names =
     name.Calendar ∷ name.Enrol ∷ name.Report ∷ name.ReportYear ∷ name.OpenYear ∷ name.Post
     ∷ name.ImportAccounts ∷ name.ImportReported ∷ name.Import ∷ name.ImportPayments ∷ name.Due
     ∷ name.Agenda ∷ name.Owed ∷ name.Pay ∷ name.Status ∷ name.Explain ∷ name.ScheduleB
-    ∷ name.Accounts ∷ name.Years ∷ name.Reported ∷ name.Holidays ∷ name.Runs ∷ name.Payments ∷ name.Void
+    ∷ name.Accounts ∷ name.Years ∷ name.Reported ∷ name.Holidays ∷ name.Runs ∷ name.Payments
+    ∷ name.Void
     ∷ name.VoidPay ∷ name.AddHoliday ∷ name.CorrectReport ∷ name.CorrectReportYear
     ∷ name.CorrectAccount ∷ name.ChangeHoliday ∷ name.Plain ∷ name.Serve ∷ []

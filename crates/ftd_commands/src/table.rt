@@ -258,7 +258,7 @@ impl Name {
             Name::Accounts => "List the accounts",
             Name::Years => "List the open years of an account, and how each opened",
             Name::Reported => "List the totals that were reported for an account",
-            Name::Holidays => "List the legal holidays of a year",
+            Name::Holidays => "List the legal holidays of a year, and days taken back",
             Name::Runs => "List the pay runs of a quarter, void ones too",
             Name::Payments => "List the deposits paid for a quarter, with their periods",
         }

@@ -1,11 +1,12 @@
 -- One connection more.
 use Rattle.std.proofs.Common.{◌≡◌, ℕ, ◌+◌, List, [], ◌∷◌, ◌++◌, length, Option, All}
-use Rattle.std.proofs.Common.{Result, Ok, Err, Bool, true, false, not, refl, sym, ap, ◌∙◌, subst}
+use Rattle.std.proofs.Common.{Result, Ok, Err, Bool, true, false, not, sym, ap, ◌∙◌, subst}
 use Rattle.std.proofs.Common.{append_assoc, append-nil, arith, length-append}
 use Rattle.std.specs.Prelude.{OnOk, OnErr}
 use Rattle.std.specs.Io.KnownBytes.{Appends}
 use Rattle.std.proofs.KnownBytes.{Appends-nil, Appends-trans}
 use Rattle.std.proofs.lemmas.List.Elements.{All-nil, All-push}
+use Rattle.std.proofs.lemmas.Bool.{not-false}
 use Rattle.ftd_ports.specs.declared.writing.WriteFault.{WriteFault}
 use Rattle.ftd_ports.specs.Writing.{WritesPrefix}
 use Rattle.ftd_connections.specs.declared.outcome.Outcome.{Outcome}
@@ -13,10 +14,6 @@ use Rattle.ftd_connections.specs.declared.outcome.Turn.{Turn}
 use Rattle.ftd_connections.specs.declared.stop.Stop.{Stop}
 use Rattle.ftd_connections.specs.Listening.{HasTaken, IsTold, IsToldMore, IsTurn, none, more}
 use Rattle.ftd_connections.specs.Listening.{outcome_line, stop_line, stop_of, turn_lines}
-
-is_true : (b : Bool) → not b ≡ false → b ≡ true
-is_true true same = refl
-is_true false same = cc
 
 shift : (number : ℕ) (turn : Turn) (turns : List Turn)
     → (number + 1) + length turns ≡ number + length (turn ∷ turns)
@@ -35,17 +32,6 @@ lines_more number (t ∷ turns) turn =
     (shift number t turns))
     ∙ sym (append_assoc (outcome_line number t.outcome) (turn_lines (number + 1) turns)
     (outcome_line (number + length (t ∷ turns)) turn.outcome))
-
--- a longer text has the same prefixes
-pub prefix_longer : (before after : Option (List ℕ)) (text others : List ℕ)
-    → WritesPrefix before after text → WritesPrefix before after (text ++ others)
-prefix_longer before after text others p =
-    record {
-      written = p.written;
-      unwritten = p.unwritten ++ others;
-      parts = ap (λ z. z ++ others) p.parts ∙ append_assoc p.written p.unwritten others;
-      appends = p.appends;
-    }
 
 -- a prefix of what follows a text
 pub prefix_after : (before now after : Option (List ℕ)) (text others : List ℕ)
@@ -68,11 +54,6 @@ told_line (Ok done) now after failed_now failed_after line t before text a =
     Appends-trans before now after text line a t
 told_line (Err fault) now after failed_now failed_after line t before text a =
     (prefix_after before now after text line a t.0, t.1)
-
--- no line more, after a fault
-pub told_nothing : (fault : WriteFault) (now : Option (List ℕ)) (failed : Bool) (line : List ℕ)
-    → IsToldMore (Err fault) (Err fault) now now failed failed line
-told_nothing fault now failed line before text t = (prefix_longer before now text line t.0, t.1)
 
 pub told_of : (result : Result (Unit {0}) WriteFault) (now after : Option (List ℕ)) (failed : Bool)
     (line : List ℕ)
@@ -148,7 +129,7 @@ module _ {D : Type 0} (serves : D → Outcome → D → Type 0) (asks : D → Bo
         takes_more start now after told result err_before err_now err_after failed_now failed_after
             first taken turn going t m,
         All-push (λ turn. turn.answers ≡ true) going.0.turns turn going.1
-            (is_true turn.answers answers),
+            (not-false turn.answers answers),
       )
 
   -- all connections were taken

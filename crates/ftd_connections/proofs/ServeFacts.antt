@@ -23,10 +23,9 @@ use Rattle.ftd_routes.specs.Asking.{asked_of}
 use Rattle.ftd_connections.specs.Replying.{Responds}
 use Rattle.ftd_routes.specs.declared.ask.Asked.{Asked}
 use Rattle.ftd_connections.specs.Serving.{Ends, closed, truncated, bad, asked, limit, idled}
-use Rattle.ftd_connections.specs.Serving.{closes_after, refusal_text, IsAnswer, none, more}
-use Rattle.ftd_connections.specs.Serving.{Broken, ServesMessages, BreaksOff, unasked, in_answer}
-use Rattle.ftd_connections.specs.Serving.{Answered, in_refusal}
-use Rattle.ftd_connections.specs.Serving.{Breaks, HasEnded, HasFailed, Talk}
+use Rattle.ftd_connections.specs.Serving.{closes_after, refusal_text, IsAnswer, none, more, Broken}
+use Rattle.ftd_connections.specs.Serving.{ServesMessages, BreaksOff, unasked, in_answer, Answered}
+use Rattle.ftd_connections.specs.Serving.{in_refusal, Breaks, HasEnded, HasFailed, Talk}
 use Rattle.ftd_connections.specs.declared.connection.End.{End}
 use Rattle.ftd_connections.specs.declared.connection.End.TheVariants as end
 use Rattle.ftd_connections.specs.declared.connection.Cause.{Cause}
@@ -235,7 +234,8 @@ module _ {M : Type 0} (goes : M → Request → Answer → M → Type 0) where
       why_ends → HasEnded why_ends left' is_idle
       → ServesMessages (Answered goes start later) left left' is_idle taken taken'
       (record { answered = answered + 1; end = why_ends })
-  last start now later left left' taken mid taken' buf answered is_idle parts message answer why_ends
+  last start now later left left' taken mid taken' buf answered is_idle parts message answer
+      why_ends
       talk at is written ends at_end =
       let same = talk.count in
       record {

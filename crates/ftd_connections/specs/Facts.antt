@@ -4,7 +4,6 @@ use Rattle.std.specs.List.{concat}
 use Rattle.ftd_days.specs.Text.{day_text}
 use Rattle.ftd_rules.specs.declared.DaySum.{DaySum}
 use Rattle.ftd_rules.specs.declared.Kind.{Kind}
-use Rattle.ftd_rules.specs.declared.Kind.TheVariants.{Monthly, Semiweekly}
 use Rattle.ftd_rules.specs.declared.verdict.DueRow.{DueRow}
 use Rattle.ftd_machine.specs.declared.explained.Explanation.{Explanation}
 use Rattle.ftd_machine.specs.declared.facts.Facts.{Facts}
@@ -20,14 +19,11 @@ use Rattle.ftd_formats.specs.Formats.{agenda_as, b_as, due_as, list_format, owed
 use Rattle.ftd_formats.specs.declared.formats.Format.{Format}
 use Rattle.ftd_listings.specs.ExplanationForms.{explanation_as}
 use Rattle.ftd_listings.specs.KeptForms.{kept_as}
+use Rattle.ftd_listings.specs.Listings.{kind_name}
 use Rattle.ftd_messages.specs.declared.status.Status.TheVariants as status
 use Rattle.ftd_connections.specs.Responses.{Said, bare, json, formatted, told}
 
 -- the schedule on a day, as JSON
-abbrev pub kind_text : Kind → List ℕ
-kind_text Monthly = codes "monthly"
-kind_text Semiweekly = codes "semiweekly"
-
 abbrev pub reason_text : Reason → List ℕ
 reason_text Lookback = codes "lookback\"}"
 reason_text Carried = codes "carried\"}"
@@ -35,7 +31,7 @@ reason_text (Turned day) = concat (codes "turned\",\"turn\":\"" ∷ day_text day
 
 abbrev pub schedule_text : ℕ → Kind → Reason → List ℕ
 schedule_text day kind reason =
-    concat (codes "{\"day\":\"" ∷ day_text day ∷ codes "\",\"kind\":\"" ∷ kind_text kind
+    concat (codes "{\"day\":\"" ∷ day_text day ∷ codes "\",\"kind\":\"" ∷ kind_name kind
     ∷ codes "\",\"reason\":\"" ∷ reason_text reason ∷ [])
 
 -- the response to a schedule that a request asked for

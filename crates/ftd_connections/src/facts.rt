@@ -2,7 +2,7 @@
 
 ghost use Rattle.std.specs.Prelude.{◌≡◌, IfOk};
 ghost use Rattle.std.specs.List.{flat_map};
-ghost use Rattle.ftd_connections.specs.Facts.{facts_said, gathered, kept_said, kind_text, listed};
+ghost use Rattle.ftd_connections.specs.Facts.{facts_said, gathered, kept_said, listed};
 ghost use Rattle.ftd_connections.specs.Facts.{reason_text, schedule_text, scheduled, summed};
 ghost use Rattle.ftd_connections.specs.Facts.{why_said};
 ghost use Rattle.ftd_connections.specs.Responses.{json, said_of};
@@ -18,7 +18,7 @@ use ftd_days::{Day, Quarter};
 use ftd_formats::{
     Format, ListFormat, write_agenda_as, write_b_as, write_due_csv, write_due_json, write_owed_as,
 };
-use ftd_listings::{write_explanation_as, write_kept_as};
+use ftd_listings::{kind_bytes, write_explanation_as, write_kept_as};
 use ftd_machine::{
     AgendaRow, Explanation, Facts, Kept, KeptRows, Question, Reason, Request, are_sums_bounded,
 };
@@ -97,21 +97,11 @@ fn schedule_text(alloc: Global, day: Day, kind: Kind, reason: Reason) -> Result<
             b"{\"day\":\"",
             &day_bytes(day),
             b"\",\"kind\":\"",
-            kind_text(kind),
+            kind_bytes(kind),
             b"\",\"reason\":\"",
             reason.as_slice(),
         ],
     )
-}
-
-/// A kind of depositor.
-fn kind_text(kind: Kind) -> &'static [u8]
-    ensures { result.now ≡ kind_text kind }
-{
-    match kind {
-        Kind::Monthly => b"monthly",
-        Kind::Semiweekly => b"semiweekly",
-    }
 }
 
 /// A reason, to the end of its object.

@@ -1,11 +1,12 @@
 -- The fields of a row, one after the other beside those of a header.
-use Rattle.std.proofs.Common.{◌≡◌, ◌∙◌, ◌<◌, ◌≤◌, ◌+◌, ◌∷◌, [], ℕ, zero, suc, List, length, Option, Some}
-use Rattle.std.proofs.Common.{refl, sym, ap, arith, take, get_or, map, Bor, None, option_map}
+use Rattle.std.proofs.Common.{◌≡◌, ◌∙◌, ◌<◌, ◌≤◌, ◌+◌, ◌∷◌, [], ℕ, zero, suc, List, length, Option}
+use Rattle.std.proofs.Common.{Some, refl, sym, ap, arith, take, get_or, map, Bor, None, option_map}
 use Rattle.std.specs.Prelude.{IfSome, MatchOption}
 use Rattle.std.specs.Option.{option_copied}
 use Rattle.std.proofs.lemmas.List.{get_or-map, length-map}
 use Rattle.std.proofs.Math.Seq.{take-length}
 use Rattle.csv.specs.Records.{field_at}
+use Rattle.csv.proofs.RecordFacts.{field-none}
 
 -- the field at a place
 pub at_place : (fields : List (List ℕ)) (i : ℕ) (default : List ℕ) → i < length fields
@@ -14,12 +15,6 @@ unfolding field_at
 at_place [] i default within = absurd (omega arith)
 at_place (field ∷ fields) zero default within = refl
 at_place (field ∷ fields) (suc i) default within = at_place fields i default (omega arith)
-
-pub past_end : (fields : List (List ℕ)) (i : ℕ) → length fields ≤ i → field_at fields i ≡ None
-unfolding field_at
-past_end [] i past = refl
-past_end (field ∷ fields) zero past = absurd (omega arith)
-past_end (field ∷ fields) (suc i) past = past_end fields i (omega arith)
 
 -- one more field is the same
 pub one_more : (fields names : List (List ℕ)) (i : ℕ) (name : List ℕ)
@@ -83,6 +78,6 @@ module _ (fields names : List (List ℕ)) (columns : List (Bor (List ℕ)))
       → option_map text (option_copied found) ≡ field_at names i
   column_is i None is past =
       let long = sym (ap length are) ∙ length-map columns text in
-      sym (past_end names i (omega (arith, long)))
+      sym (field-none names i (omega (arith, long)))
   column_is i (Some name) is within =
       ap (λ (it : Bor (List ℕ)). Some (text it)) is ∙ sym (name_at i name.now within)

@@ -7,6 +7,7 @@ use Rattle.std.specs.List.{list_all}
 use Rattle.std.specs.Str.{IsAscii, IsUtf8}
 use Rattle.std.proofs.lemmas.Bool.Decides.{nat_tests}
 use Rattle.std.proofs.lemmas.Str.{IsUtf8-from_ascii}
+use Rattle.std.proofs.lemmas.Bool.{and_parts}
 use Rattle.ftd_rules.specs.Accounts.{is_account_name, is_name_byte}
 
 small_letter : (byte : ℕ) → is_ascii_lowercase byte ≡ true → byte < 128
@@ -14,10 +15,6 @@ small_letter byte e = grind (arith, nat_tests)
 
 name_byte_small : (byte : ℕ) → is_name_byte byte ≡ true → byte < 128
 name_byte_small byte e = grind (arith, nat_tests)
-
-and_both : (a b : Bool) → (a && b) ≡ true → (a ≡ true) × (b ≡ true)
-and_both true b e = (refl, e)
-and_both false b e = cc e
 
 and_outer : (a b c : Bool) → (a && b && c) ≡ true → (a ≡ true) × (c ≡ true)
 and_outer true true c e = (refl, e)
@@ -27,9 +24,9 @@ and_outer false b c e = cc e
 all_small : (bytes : List ℕ) → list_all is_name_byte bytes ≡ true → IsAscii bytes
 all_small [] e i = omega arith
 all_small (byte ∷ bytes) e zero = name_byte_small byte
-    (and_both (is_name_byte byte) (list_all is_name_byte bytes) e).0
+    (and_parts (is_name_byte byte) (list_all is_name_byte bytes) e).0
 all_small (byte ∷ bytes) e (suc i) =
-    all_small bytes (and_both (is_name_byte byte) (list_all is_name_byte bytes) e).1 i
+    all_small bytes (and_parts (is_name_byte byte) (list_all is_name_byte bytes) e).1 i
 
 name_ascii : (text : List ℕ) → is_account_name text ≡ true → IsAscii text
 unfolding is_account_name

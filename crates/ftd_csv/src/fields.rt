@@ -3,7 +3,8 @@
 ghost use Rattle.std.specs.Prelude.{◌≡◌, ◌∷◌, option_and_then, option_map};
 ghost use Rattle.csv.specs.Records.{field_at, fields_of};
 ghost use Rattle.ftd_days.specs.Spelling.{cents_of, day_of};
-ghost use Rattle.ftd_csv.specs.Fields.{flag_of, form_of, name_of, period_of, run_number_of, year_of};
+ghost use Rattle.ftd_csv.specs.Fields.{flag_of, form_of, name_of, period_of, run_number_of};
+ghost use Rattle.ftd_csv.specs.Fields.{year_of};
 
 use crate::entries::Period;
 use csv::ByteRecord;

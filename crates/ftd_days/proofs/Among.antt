@@ -43,7 +43,8 @@ count_less year test (x ∷ xs) = step (count_less year test xs) (test x)
     step : count_by (λ day. year_of day == year) (filter test xs)
         ≤ count_by (λ day. year_of day == year) xs
         → (passes : Bool)
-        → count_by (λ day. year_of day == year) (if passes then x ∷ filter test xs else filter test xs)
+        → count_by (λ day. year_of day == year)
+        (if passes then x ∷ filter test xs else filter test xs)
         ≤ count_by (λ day. year_of day == year) (x ∷ xs)
     step less true =
         let one = sum_by-cons own x xs in

@@ -1,15 +1,14 @@
 -- The close and the first day of an interval, by arithmetic.
 use Rattle.std.proofs.Common.{◌≡◌, ℕ, ◌+◌, ◌-◌, ◌%◌, ◌<◌, ◌≤◌, ◌⊎◌, ◌↔◌, inl, inr, arith}
-use Rattle.std.proofs.lemmas.Bool.{cases_order, lt-ltb, le-ltb}
+use Rattle.std.proofs.lemmas.Bool.{cases_order, lt-ltb, le-ltb, cases_lt}
 use Rattle.ftd_days.specs.Calendar.{IsClose, IsIntervalStart}
 use Rattle.ftd_days.specs.Private.Intervals.{interval_start, interval_close}
-use Rattle.ftd_days.proofs.Numerals.{lt_or_le}
 
 -- the close, by the weekday
 close_value : (d : ℕ) → (((d + 5) % 7 < 3) × (interval_close d + (d + 5) % 7 ≡ d + 2))
     ⊎ ((3 ≤ (d + 5) % 7) × (interval_close d + (d + 5) % 7 ≡ d + 6))
 close_value d =
-    elim (lt_or_le ((d + 5) % 7) 3) [
+    elim (cases_lt ((d + 5) % 7) 3) [
       | inl l ↦ inl (l, rw (lt-ltb ((d + 5) % 7) 3 l) (omega arith))
       | inr m ↦ inr (m, rw (le-ltb ((d + 5) % 7) 3 m) (omega arith))
     ]
@@ -17,7 +16,7 @@ close_value d =
 start_value : (d : ℕ) → (((d + 5) % 7 < 3) × (interval_start d ≡ d - (d + 5) % 7))
     ⊎ ((3 ≤ (d + 5) % 7) × (interval_start d ≡ d - ((d + 5) % 7 - 3)))
 start_value d =
-    elim (lt_or_le ((d + 5) % 7) 3) [
+    elim (cases_lt ((d + 5) % 7) 3) [
       | inl l ↦ inl (l, rw (lt-ltb ((d + 5) % 7) 3 l) (omega arith))
       | inr m ↦ inr (m, rw (le-ltb ((d + 5) % 7) 3 m) (omega arith))
     ]
@@ -90,7 +89,7 @@ ends d =
         | inl w ↦ absurd (let v0 = v.0 in let w0 = w.0 in omega arith)
         | inr w ↦
             let v0 = v.0 in let v1 = v.1 in let w1 = w.1 in
-            elim (lt_or_le d 2) [
+            elim (cases_lt d 2) [
               | inl early ↦ inr (inr (omega arith, omega arith))
               | inr later ↦ inr (inl (omega arith, omega arith))
             ]

@@ -26,7 +26,7 @@ is_equal : (a b : ℕ) → (a == b) ≡ true → a ≡ b
 is_equal a b e = grind (arith, nat_tests)
 
 -- ---- days and quarters
-same_text : (a b : List ℕ) → bytes_eq a b ≡ true → a ≡ b
+pub same_text : (a b : List ℕ) → bytes_eq a b ≡ true → a ≡ b
 same_text a b e = (bytes_eq-Decides a b).0 e
 
 text_same : (a b : List ℕ) → a ≡ b → bytes_eq a b ≡ true
@@ -228,9 +228,6 @@ spelled_cents text amount s =
     let few : nat_le count 9 ≡ true = grind (arith, nat_tests) in
     rw (some, few, read_fraction (drop count text) parts.cents parts.fraction)
     (ap Some (sym parts.value))
-
-cents_missing : (text : List ℕ) (amount : ℕ) → cents_of text ≡ None → SpellsCents text amount → ⊥
-cents_missing text amount e s = let found = spelled_cents text amount s in cc
 
 -- a reader of what the text spells reads cents_of
 pub cents_read : (text : List ℕ) (found : Option Cents)

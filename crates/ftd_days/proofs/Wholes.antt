@@ -1,7 +1,7 @@
 -- Whole numbers and lists of days, read of texts.
 use Rattle.std.proofs.Common.{◌≡◌, ℕ, suc, ◌+◌, ◌<◌, ◌^◌, List, [], ◌∷◌, ◌++◌, length, map, drop}
 use Rattle.std.proofs.Common.{get_or, Option, Some, None, Result, Ok, Err, Bool, true, false, cond}
-use Rattle.std.proofs.Common.{refl, sym, ap, ◌∙◌, arith, append_assoc, add-one, drop-cons}
+use Rattle.std.proofs.Common.{refl, sym, ap, ◌∙◌, arith, add-one, drop-cons}
 use Rattle.std.specs.Prelude.{option_map, option_and_then, nat_lt, ◌&&◌}
 use Rattle.std.specs.Result.{result_ok}
 use Rattle.std.specs.Str.{all_ascii_digits}
@@ -12,9 +12,6 @@ use Rattle.ftd_days.specs.Spelling.{day_of, days_of, whole_number}
 use Rattle.ftd_days.proofs.Numerals.{own}
 
 -- ---- a whole number
-all_true : (a b c : Bool) → a ≡ true → b ≡ true → c ≡ true → (a && b && c) ≡ true
-all_true a b c e f g = rw (e, f, g) refl
-
 pub whole_read : {E : Type 0} (text : List ℕ) (r : Result ℕ E) → ParsesUnsigned 32 10 text r
     → result_ok r ≡ whole_number text
 unfolding whole_number
@@ -54,30 +51,10 @@ whole_read text (Err e) h = go (nat_lt 0 (length (without_leading_plus text)))
 abbrev pub on_front : List ℕ → Option (List ℕ) → Option (List ℕ)
 on_front days rest = option_map (λ others. days ++ others) rest
 
-pub front_none : (o : Option (List ℕ)) → on_front [] o ≡ o
-front_none None = refl
-front_none (Some days) = refl
-
-front_more : (days : List ℕ) (day : ℕ) (o : Option (List ℕ))
-    → on_front days (option_map (λ others. day ∷ others) o) ≡ on_front (days ++ day ∷ []) o
-front_more days day None = refl
-front_more days day (Some others) = ap Some (sym (append_assoc days (day ∷ []) others))
-
-rest_of : {X : Type 0} (words : List X) (i : ℕ) (word : X) → i < length words
+pub rest_of : {X : Type 0} (words : List X) (i : ℕ) (word : X) → i < length words
     → word ≡ get_or words i word → drop i words ≡ word ∷ drop (i + 1) words
 rest_of words i word within is = rw (add-one i) (drop-cons words i word within
     ∙ ap (λ w. w ∷ drop (suc i) words) (sym is))
-
-pub days_next : {X : Type 0} (text : X → List ℕ) (words : List X) (i : ℕ) (word : X) (days : List ℕ)
-    (day : ℕ) → i < length words → word ≡ get_or words i word → Some day ≡ day_of (text word)
-    → on_front days (days_of (map text (drop i words))) ≡ on_front (days ++ day ∷ [])
-    (days_of (map text (drop (i + 1) words)))
-days_next text words i word days day within is e =
-    ap (λ ws. on_front days (days_of (map text ws))) (rest_of words i word within is)
-    ∙ ap (λ o. on_front days
-    (option_and_then
-    (λ d. option_map (λ others. d ∷ others) (days_of (map text (drop (i + 1) words)))) o)) (sym e)
-    ∙ front_more days day (days_of (map text (drop (i + 1) words)))
 
 pub no_day : {X : Type 0} (text : X → List ℕ) (words : List X) (i : ℕ) (word : X) (days : List ℕ)
     → i < length words → word ≡ get_or words i word → None ≡ day_of (text word)

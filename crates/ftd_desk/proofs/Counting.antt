@@ -1,7 +1,7 @@
 -- What a request does where runs and payments are counted.
 use Rattle.std.proofs.Common.{◌≡◌, ◌∙◌, refl, sym, ap, subst, arith, ℕ, ◌+◌, List, Bool, true}
 use Rattle.std.proofs.Common.{false, Option, Some, Result, Ok, Err, inl, inr, length}
-use Rattle.std.specs.Prelude.{if◌then◌else◌, ◌⊎◌, OnOk}
+use Rattle.std.specs.Prelude.{if◌then◌else◌, ◌⊎◌}
 use Rattle.sqlite.specs.Store as store
 use Rattle.sqlite.specs.State as database
 use Rattle.ftd_rows.specs.declared.faults.StoreFault.{StoreFault}
@@ -33,11 +33,6 @@ use Rattle.ftd_desk.specs.Kept.{Takes, kept_of}
 use Rattle.ftd_desk.proofs.Keeping.{kept_is, right_still, right_after}
 use Rattle.ftd_desk.specs.declared.counts.Counts.{Counts}
 use Rattle.ftd_desk.specs.declared.kept.Kept.{Kept}
-
--- what holds anyway
-pub on_ok : {A E P : Type 0} (r : Result A E) → P → OnOk r P
-on_ok (Ok x) p = p
-on_ok (Err e) p = tt
 
 same_fault : {A B : Type 0} (fault other : StoreFault) (r : Result A StoreFault)
     (q : Result B StoreFault) → r ≡ Err fault → q ≡ Err fault → r ≡ Err other → q ≡ Err other

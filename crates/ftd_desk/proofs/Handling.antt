@@ -27,6 +27,7 @@ use Rattle.ftd_store.specs.Seen.{shown}
 use Rattle.ftd_store.specs.Frame.{Calls}
 use Rattle.ftd_entries.specs.Words.{IsKept}
 use Rattle.ftd_questions.specs.Faults.{refusal_of}
+use Rattle.ftd_questions.proofs.RowsTold.{is_fault}
 use Rattle.ftd_desk.specs.Counted.{AreRight}
 use Rattle.ftd_desk.specs.Books.{IsKnown, ServesKnown}
 use Rattle.ftd_desk.specs.Desks.{Held, Rests, Keeps}
@@ -331,10 +332,6 @@ served_ok g request known taken old new served is c = record {
       (subst (λ x. IsKnown x s) (sym is) counted) in
       inr (done.0, done.1, done.2, (c.frame.stays clean).is_open, done.3);
 }
-
-pub is_fault : (fault : StoreFault) → IsFault (Err (refusal_of fault))
-is_fault fault.Memory = inl refl
-is_fault fault.Failed = inr refl
 
 -- there was a fault, and what was known is forgotten
 pub served_err : {S : Type 0} (g : store.Ghosts S) (request : Request) (known later taken : Known)

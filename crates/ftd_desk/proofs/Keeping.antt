@@ -10,7 +10,8 @@ use Rattle.std.proofs.lemmas.List.Folds.{find-set, find_at, find_past, find-appe
 use Rattle.std.proofs.lemmas.List.Quantifiers.{position-Some}
 use Rattle.std.proofs.lemmas.Option.{slice_get-get_or}
 use Rattle.ftd_days.proofs.Years.{find_none}
-use Rattle.ftd_machine.proofs.Adding.{same_name, own_name, other_name}
+use Rattle.ftd_days.proofs.Spelling.{same_text}
+use Rattle.ftd_machine.proofs.Adding.{own_name, other_name}
 use Rattle.ftd_desk.specs.Kept.{Takes, TakesFound, EachIs, is_of, content_of}
 use Rattle.ftd_desk.specs.declared.kept.OfAccount.{OfAccount}
 
@@ -61,7 +62,7 @@ right_after old new account taken Was Is takes own stay right other =
   where
     by : (same : Bool) → bytes_eq account other ≡ same → IfSome (new other) (Is other)
     by true same =
-        subst (λ (name : List ℕ). IfSome (new name) (Is name)) (same_name account other same)
+        subst (λ (name : List ℕ). IfSome (new name) (Is name)) (same_text account other same)
         (if_more (λ later. later ≡ taken) (Is account) (new account)
         (λ later so. subst (Is account) (sym so) own) takes.own)
     by false differs =
@@ -114,7 +115,7 @@ module _ {X : Type 0} where
     changed new place x taken found is changes =
         let at = position-Some (is_of account) old place x found in
         let later : OfAccount X = record x { content = taken } in
-        let was : (get_or old place x).account ≡ account = same_name _ account at.1 in
+        let was : (get_or old place x).account ≡ account = same_text _ account at.1 in
         let named : x.account ≡ account = ap (λ (y : OfAccount X). y.account) is ∙ was in
         let made : find (is_of account) (set old place later) ≡ Some later =
         find-set (is_of account) old place later (place_is (is_of account) old place found) at.0

@@ -1,7 +1,6 @@
 -- What a request on a run makes of the rows, from its first call to its last.
 use Rattle.std.proofs.Common.{◌≡◌, ◌⊎◌, Bool, true, false, sym, ap, subst, arith, ℕ, List, Option}
-use Rattle.std.proofs.Common.{Result}
-use Rattle.std.proofs.Common.{Ok, Err, inl, inr}
+use Rattle.std.proofs.Common.{Result, Ok, Err, inl, inr}
 use Rattle.std.proofs.lemmas.Bool.{true≢false}
 use Rattle.sqlite.specs.Effect.{Database}
 use Rattle.sqlite.specs.Store as store
@@ -18,7 +17,7 @@ use Rattle.ftd_store.specs.Frame.{Calls, Reads}
 use Rattle.ftd_store.proofs.Going.{goes_on, then_call}
 use Rattle.ftd_machine.specs.Checks.{Answer}
 use Rattle.ftd_rules.specs.declared.Form.{Form}
-use Rattle.ftd_machine.specs.Laws.{adds_entry, is_change, is_on_run}
+use Rattle.ftd_machine.specs.Laws.{adds_entry, is_on_run}
 use Rattle.ftd_machine.specs.declared.requests.Question.{Question as Questions}
 use Rattle.ftd_machine.specs.declared.requests.Request.{Request}
 use Rattle.ftd_machine.specs.declared.requests.Request.TheVariants.{Enrol, Calendar, AddHoliday}
@@ -31,6 +30,7 @@ use Rattle.ftd_machine.specs.declared.requests.Request.TheVariants.{Question}
 use Rattle.ftd_posting.specs.Repaired.{PostsRun, VoidsRun, Becoming, Repairs}
 use Rattle.ftd_posting.specs.Repaired.{CorrectsQuarter, CorrectsYear}
 use Rattle.ftd_desk.specs.Counted.{Knows}
+use Rattle.ftd_desk.specs.Private.Reports.{is_report}
 use Rattle.ftd_desk.specs.Words.{RepairsRows}
 use Rattle.ftd_desk.specs.declared.listed.Answered.{Answered}
 use Rattle.ftd_desk.specs.declared.requests.Served.{Served}
@@ -79,6 +79,30 @@ others_on_none request (inr (inr (inr (inr (inr (inr (inl is))))))) = ap is_on_r
 others_on_none request (inr (inr (inr (inr (inr (inr (inr (inl is)))))))) = ap is_on_run is.3
 others_on_none request (inr (inr (inr (inr (inr (inr (inr (inr (inl is))))))))) = ap is_on_run is.4
 others_on_none request (inr (inr (inr (inr (inr (inr (inr (inr (inr is))))))))) = ap is_on_run is.1
+
+-- the request adds a run or a payment
+abbrev pub AddsOne : Request → Type 0
+AddsOne request =
+    ((name : List ℕ) × (number payday : ℕ) × (fit ss medicare : Cents)
+    × (request ≡ Post name number payday fit ss medicare))
+    ⊎ ((name : List ℕ) × (number paid for_day : ℕ) × (cents : Cents)
+    × (request ≡ Pay name number paid for_day cents))
+
+pub one_is_added : (request : Request) → AddsOne request → adds_entry request ≡ true
+unfolding adds_entry
+one_is_added request (inl is) = ap adds_entry is.6
+one_is_added request (inr is) = ap adds_entry is.5
+
+-- the request is that a total is kept which was reported
+abbrev pub KeepsTotal : Request → Type 0
+KeepsTotal request =
+    ((name : List ℕ) × (quarter : ℕ) × (cents : Cents) × (request ≡ Report name quarter cents))
+    ⊎ ((name : List ℕ) × (year : ℕ) × (cents : Cents) × (request ≡ ReportYear name year cents))
+
+pub total_is_kept : (request : Request) → KeepsTotal request → is_report request ≡ true
+unfolding is_report
+total_is_kept request (inl is) = ap is_report is.3
+total_is_kept request (inr is) = ap is_report is.3
 
 -- the request repairs rows, and adds no run
 abbrev pub RepairsOnly : Request → Type 0
@@ -267,9 +291,3 @@ module _ {S : Type 0} (g : store.Ghosts S) where
       let made = c.does clean_m t (subst (λ db. Stands db t) (sym start) stands) in
       subst (λ db. Repairs request served.answer a.now db t) (sym end)
       (subst (λ db. Repairs request served.answer db (shown g new).now t) start made)
-
--- an answer that tells of no change
-pub quiet_repairs : (a e : database.State) (request : Request) (answer : Answer)
-    → is_change answer ≡ false → RepairsRows a e request answer
-quiet_repairs a e request answer quiet clean opened change t stands =
-    absurd (true≢false (sym (rw quiet at change)))

@@ -10,6 +10,7 @@ ghost use Rattle.ftd_posting.specs.Repaired.{Becoming, PostsRun, Repairs};
 ghost use Rattle.ftd_desk.specs.Counted.{Knows, ServesCounted};
 ghost use Rattle.ftd_desk.specs.Kept.{kept_of};
 ghost use Rattle.ftd_desk.specs.Shown.{ShowsFor};
+ghost use Rattle.ftd_desk.specs.Private.Reports.{is_report};
 
 use crate::counts::Counts;
 use crate::kept::Kept;
@@ -21,7 +22,7 @@ use ftd_holidays::{add_holiday, change_holiday};
 use ftd_machine::{Account, Answer, Beginning, Request};
 use ftd_posting::{correct_report, correct_report_year, post, void};
 use ftd_questions::ask;
-use ftd_rules::{PayRun, Payment};
+use ftd_rules::{Form, PayRun, Payment};
 use ftd_store::{StoreFault, Tx};
 use sqlite::Alter;
 use std::alloc::Global;
@@ -54,6 +55,24 @@ fn payment_of(paid: Day, for_day: Day, cents: Cents) -> Payment
         for_day,
         cents,
     }
+}
+
+/// The account of these values.
+fn account_of(start: Day, carried: bool, form: Form) -> Account
+    ensures { result ≡ record { start = start; carried = carried; form = form } }
+{
+    Account {
+        start,
+        carried,
+        form,
+    }
+}
+
+/// The beginning of these values.
+fn beginning_of(start: Day, carried: bool) -> Beginning
+    ensures { result ≡ record { start = start; carried = carried } }
+{
+    Beginning { start, carried }
 }
 
 /// A pay run that is to be posted, of an account and under a number.
@@ -113,6 +132,44 @@ pub(crate) fn serve<S: Alter>(
         ShowsFor request.now served.answer t) }
 {
     match request {
+        Request::Post { .. } | Request::Pay { .. } => serve_counted(tx, alloc, counts, request),
+        Request::Void { .. } | Request::CorrectReport { .. } | Request::CorrectReportYear { .. } =>
+            {
+                let answer = serve_repair(tx, alloc, request)?;
+                Ok(Served { answer, counts })
+            }
+        Request::Enrol { .. }
+        | Request::Calendar { .. }
+        | Request::AddHoliday { .. }
+        | Request::Report { .. }
+        | Request::ReportYear { .. }
+        | Request::OpenYear { .. }
+        | Request::VoidPay { .. }
+        | Request::ChangeHoliday { .. }
+        | Request::CorrectAccount { .. }
+        | Request::Question(_) => {
+            let answer = serve_entry(tx, alloc, request)?;
+            Ok(Served { answer, counts })
+        }
+    }
+}
+
+/// Answers a request that adds a run or a payment.
+#[tactic(auto, unfolding(ftd_machine::specs::Laws::adds_entry))]
+fn serve_counted<S: Alter>(
+    tx: &mut Tx<'_, S>,
+    alloc: Global,
+    counts: Counts,
+    request: &Request,
+) -> Result<Served, StoreFault>
+    requires adds { adds_entry request.now ≡ true }
+    ensures call { Calls S.Store tx.old tx.new result (ServesCounted counts request.now) }
+    ensures repairs { Calls S.Store tx.old tx.new result (λ served before after.
+        Repairs request.now served.answer before.now after.now) }
+    ensures shows { Calls S.Store tx.old tx.new result (λ served before after t.
+        ShowsFor request.now served.answer t) }
+{
+    match request {
         Request::Post {
             account,
             run: number,
@@ -134,24 +191,19 @@ pub(crate) fn serve<S: Alter>(
             let content = payment_of(*paid, *for_day, *cents);
             serve_pay(tx, alloc, counts, account.as_str(), *payment, content)
         }
-        Request::Void { .. } | Request::CorrectReport { .. } | Request::CorrectReportYear { .. } =>
-            {
-                let answer = serve_repair(tx, alloc, request)?;
-                Ok(Served { answer, counts })
-            }
         Request::Enrol { .. }
         | Request::Calendar { .. }
         | Request::AddHoliday { .. }
         | Request::Report { .. }
         | Request::ReportYear { .. }
         | Request::OpenYear { .. }
+        | Request::Void { .. }
         | Request::VoidPay { .. }
+        | Request::CorrectReport { .. }
+        | Request::CorrectReportYear { .. }
         | Request::ChangeHoliday { .. }
         | Request::CorrectAccount { .. }
-        | Request::Question(_) => {
-            let answer = serve_entry(tx, alloc, request)?;
-            Ok(Served { answer, counts })
-        }
+        | Request::Question(_) => unreachable!(),
     }
 }
 
@@ -286,33 +338,14 @@ fn serve_entry<S: Alter>(
             start,
             carried,
             form,
-        } => {
-            let content = Account {
-                start: *start,
-                carried: *carried,
-                form: *form,
-            };
-            enrol(tx, account.as_str(), content)
-        }
+        } => enrol(tx, account.as_str(), account_of(*start, *carried, *form)),
         Request::Calendar { year, days } => take_calendar(tx, alloc, *year, days.as_slice()),
         Request::AddHoliday { day } => add_holiday(tx, alloc, *day),
-        Request::Report {
-            account,
-            quarter,
-            cents,
-        } => report(tx, alloc, account.as_str(), *quarter, *cents),
-        Request::ReportYear {
-            account,
-            year,
-            cents,
-        } => report_year(tx, alloc, account.as_str(), *year, *cents),
+        Request::Report { .. } | Request::ReportYear { .. } => serve_report(tx, alloc, request),
         Request::OpenYear { account, year } => open_year(tx, alloc, account.as_str(), *year),
-        Request::VoidPay { account, payment } => void_payment(
-            tx,
-            alloc,
-            account.as_str(),
-            *payment,
-        ),
+        Request::VoidPay { account, payment } => {
+            void_payment(tx, alloc, account.as_str(), *payment)
+        }
         Request::ChangeHoliday {
             day,
             number,
@@ -324,10 +357,7 @@ fn serve_entry<S: Alter>(
             start,
             carried,
         } => {
-            let beginning = Beginning {
-                start: *start,
-                carried: *carried,
-            };
+            let beginning = beginning_of(*start, *carried);
             correct_account(tx, alloc, account.as_str(), *number, beginning)
         }
         Request::Question(question) => ask(tx, alloc, question),
@@ -336,5 +366,42 @@ fn serve_entry<S: Alter>(
         | Request::Pay { .. }
         | Request::CorrectReport { .. }
         | Request::CorrectReportYear { .. } => unreachable!(),
+    }
+}
+
+/// Keeps a total that was reported.
+#[tactic(auto, unfolding(crate::specs::Private::Reports::is_report))]
+fn serve_report<S: Alter>(
+    tx: &mut Tx<'_, S>,
+    alloc: Global,
+    request: &Request,
+) -> Result<Answer, StoreFault>
+    requires { is_report request.now ≡ true }
+    ensures call { Calls S.Store tx.old tx.new result (Serves request.now) }
+{
+    match request {
+        Request::Report {
+            account,
+            quarter,
+            cents,
+        } => report(tx, alloc, account.as_str(), *quarter, *cents),
+        Request::ReportYear {
+            account,
+            year,
+            cents,
+        } => report_year(tx, alloc, account.as_str(), *year, *cents),
+        Request::Enrol { .. }
+        | Request::Calendar { .. }
+        | Request::AddHoliday { .. }
+        | Request::OpenYear { .. }
+        | Request::Post { .. }
+        | Request::Void { .. }
+        | Request::Pay { .. }
+        | Request::VoidPay { .. }
+        | Request::CorrectReport { .. }
+        | Request::CorrectReportYear { .. }
+        | Request::ChangeHoliday { .. }
+        | Request::CorrectAccount { .. }
+        | Request::Question(_) => unreachable!(),
     }
 }

@@ -1,5 +1,5 @@
-//! Rows that were changed under the desk: a repair reads and writes the rows of its windows alone. A
-//! desk that is opened again over rows as they were.
+//! Rows that were changed under the desk: a repair reads and writes the rows of its windows alone.
+//! A desk that is opened again over rows as they were.
 
 use crate::asking::{answers, ask};
 use crate::desks::{ASH, desk, desk_over};

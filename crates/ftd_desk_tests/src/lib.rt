@@ -1,5 +1,5 @@
-//! Tests of the desk, of imports and of `serve`: what texts of examples can't say, since a socket, a
-//! reader or a writer fails, or rows were made or changed under the desk.
+//! Tests of the desk, of imports and of `serve`: what texts of examples can't say, since a socket,
+//! a reader or a writer fails, or rows were made or changed under the desk.
 #![tactic(auto)]
 
 #[cfg(test)]

@@ -5,6 +5,7 @@ use crate::exchanges::{INPUT, OUTPUT};
 use crate::taker::Taker;
 use ftd_http::{Limits, Stop, announce, serve_on};
 use ftd_ports::Port;
+use std::alloc::Global;
 use std::io::{Read, Write};
 use std::net::{Shutdown, TcpListener, TcpStream};
 use std::process::Abort;
@@ -34,48 +35,58 @@ fn served(rt: &HostRuntime, listener: &TcpListener, count: u32) -> Result<(u32, 
     Ok((taken, err.into_inner()))
 }
 
-#[test]
-fn a_peer_is_answered_over_a_socket(rt: HostRuntime) -> Result<(), Fail> {
-    let alloc = rt.alloc();
-    let listener = TcpListener::bind(&rt, "127.0.0.1:0")?;
-    let address = listener.local_addr()?;
+/// The port is told.
+fn is_announced(rt: &impl Abort, alloc: Global, listener: &TcpListener) -> Result<(), Fail> {
     let (mut out, mut err) = (Port::new(Vec::new(alloc)), Port::new(Vec::new(alloc)));
-    assert_eq!(rt; announce(&listener, &mut out, &mut err), Ok(()));
-    let line = format!(in alloc; "listening 127.0.0.1:{}\n", address.port())?;
-    are_same(&rt, out.into_inner().as_slice(), line.as_bytes());
-    are_same(&rt, err.into_inner().as_slice(), b"");
-    let mut stream = TcpStream::connect(&rt, address)?;
+    assert_eq!(rt; announce(listener, &mut out, &mut err), Ok(()));
+    let port = listener.local_addr()?.port();
+    let line = format!(in alloc; "listening 127.0.0.1:{port}\n")?;
+    are_same(rt, out.into_inner().as_slice(), line.as_bytes());
+    are_same(rt, err.into_inner().as_slice(), b"");
+    Ok(())
+}
+
+/// A client that sends the messages, and no more.
+fn client(rt: &HostRuntime, listener: &TcpListener) -> Result<TcpStream, Fail> {
+    let mut stream = TcpStream::connect(rt, listener.local_addr()?)?;
     stream.write_all(INPUT)?;
     stream.shutdown(Shutdown::Write)?;
+    Ok(stream)
+}
+
+/// All messages of the client are answered.
+fn are_answered(rt: &impl Abort, alloc: Global, mut client: TcpStream) -> Result<(), Fail> {
+    let mut answers = Vec::new(alloc);
+    client.read_to_end(&mut answers)?;
+    are_same(rt, answers.as_slice(), OUTPUT);
+    Ok(())
+}
+
+#[test]
+fn a_peer_is_answered_over_a_socket(rt: HostRuntime) -> Result<(), Fail> {
+    let listener = TcpListener::bind(&rt, "127.0.0.1:0")?;
+    is_announced(&rt, rt.alloc(), &listener)?;
+    let client = client(&rt, &listener)?;
     let (taken, told) = served(&rt, &listener, 1)?;
     assert_eq!(rt; taken, 1);
     are_same(&rt, told.as_slice(), b"");
-    let mut answers = Vec::new(alloc);
-    stream.read_to_end(&mut answers)?;
-    are_same(&rt, answers.as_slice(), OUTPUT);
-    Ok(())
+    are_answered(&rt, rt.alloc(), client)
 }
 
 #[test]
 fn an_idle_peer_is_not_told_a_silent_one_fails_and_the_next_is_answered(
     rt: HostRuntime,
 ) -> Result<(), Fail> {
-    let alloc = rt.alloc();
     let listener = TcpListener::bind(&rt, "127.0.0.1:0")?;
-    let address = listener.local_addr()?;
-    let mut idle = TcpStream::connect(&rt, address)?;
-    let mut silent = TcpStream::connect(&rt, address)?;
+    let mut idle = TcpStream::connect(&rt, listener.local_addr()?)?;
+    let mut silent = TcpStream::connect(&rt, listener.local_addr()?)?;
     silent.write_all(&INPUT[..20])?;
-    let mut stream = TcpStream::connect(&rt, address)?;
-    stream.write_all(INPUT)?;
-    stream.shutdown(Shutdown::Write)?;
+    let client = client(&rt, &listener)?;
     let (taken, told) = served(&rt, &listener, 3)?;
     assert_eq!(rt; taken, 3);
     are_same(&rt, told.as_slice(), b"connection 2 failed Read\n");
-    let mut answers = Vec::new(alloc);
-    stream.read_to_end(&mut answers)?;
-    are_same(&rt, answers.as_slice(), OUTPUT);
-    let mut nothing = Vec::new(alloc);
+    are_answered(&rt, rt.alloc(), client)?;
+    let mut nothing = Vec::new(rt.alloc());
     idle.read_to_end(&mut nothing)?;
     let _ = silent.read_to_end(&mut nothing);
     are_same(&rt, nothing.as_slice(), b"");

@@ -2,7 +2,7 @@
 use Rattle.std.proofs.Common.{◌≡◌, ℕ, ℤ, Bool, true, false, pos, negsuc, ◌<◌, ◌≤◌, ◌==◌, List, []}
 use Rattle.std.proofs.Common.{◌∷◌, ◌++◌, map, Option, None, Some, Vec, inl, inr, refl, sym, ap}
 use Rattle.std.proofs.Common.{subst, ◌∙◌, arith}
-use Rattle.std.proofs.lemmas.Bool.{true≢false, eqb-true, ltb-true}
+use Rattle.std.proofs.lemmas.Bool.{true≢false, eqb-true, ltb-true, and_parts}
 use Rattle.std.proofs.lemmas.Bool.Decides.{Decides-int_eq}
 use Rattle.std.proofs.lemmas.Int.{ints}
 use Rattle.std.proofs.lemmas.List.{append-nil}
@@ -17,6 +17,7 @@ use Rattle.ftd_days.specs.Calendar.{year_of}
 use Rattle.ftd_days.specs.Holidays.{YearDays}
 use Rattle.ftd_rules.specs.Lists.{Has, KeysRise}
 use Rattle.ftd_rules.proofs.Rising.{sorted_is, next_do_not_fall}
+use Rattle.ftd_rules.proofs.Members.{has_mapped}
 use Rattle.ftd_schema.specs.declared.TableName.TheVariants.{Holidays}
 use Rattle.ftd_schema.specs.Rows.{HolidayRow, CalendarYearRow}
 use Rattle.ftd_schema.specs.Standing.{Tables}
@@ -24,14 +25,11 @@ use Rattle.ftd_schema.specs.Orders.{HolidaysRise}
 use Rattle.ftd_schema.specs.Tests.{is_calendar_year, is_holiday_of}
 use Rattle.ftd_rows.specs.Lists.{Pairs, Lists}
 use Rattle.ftd_rows.specs.Rows.{calendar_year_row, holiday_row}
-use Rattle.ftd_rows.proofs.Found.{both}
 use Rattle.ftd_store.specs.Finds.{FindsCalendar, IsHoliday}
 use Rattle.ftd_machine.specs.Limits.{are_rising}
 use Rattle.ftd_machine.specs.State.{State, days_of, calendar_at}
 use Rattle.ftd_machine.specs.Sound.{IsSound, AreDistinct, year_of_calendar}
-use Rattle.ftd_machine.proofs.Keeping.{same_key}
-use Rattle.ftd_machine.proofs.Keeping.{is_year}
-use Rattle.ftd_machine.proofs.Members.{has_mapped}
+use Rattle.ftd_machine.proofs.Keeping.{same_key, is_year}
 use Rattle.ftd_entries.specs.Standing.{StandsFor, KeepsDays, calendar_entry, holiday_entries}
 
 -- ---- years as cells
@@ -173,7 +171,7 @@ pub rising : (days : List ℕ) → are_rising days ≡ true → KeysRise itself 
 rising [] e = tt
 rising (x ∷ []) e = ((λ later has. absurd has), tt)
 rising (x ∷ y ∷ days) e =
-    let parts = both (nat_lt x y) (are_rising (y ∷ days)) e in
+    let parts = and_parts (nat_lt x y) (are_rising (y ∷ days)) e in
     let first : x < y = ltb-true x y parts.0 in
     let rest : KeysRise itself (y ∷ days) = rising (y ∷ days) parts.1 in (
       (λ later has. elim has [
@@ -236,9 +234,10 @@ calendar_rises : (s : State) → IsSound s → (c : YearDays) → Has s.calendar
 calendar_rises s sound c has =
     let fits = (sound.are_calendars c has).1 in
     let rest =
-    (both (nat_le _ 60) (list_all (λ day. year_of day == c.year) c.days && are_rising c.days)
+    (and_parts (nat_le _ 60) (list_all (λ day. year_of day == c.year) c.days && are_rising c.days)
     fits).1 in
-    rising c.days (both (list_all (λ day. year_of day == c.year) c.days) (are_rising c.days) rest).1
+    rising c.days (and_parts (list_all (λ day. year_of day == c.year) c.days) (are_rising c.days)
+    rest).1
 
 abbrev pub days_found : {A : Type 0} → Vec ℕ A → List ℕ
 days_found days = days.items

@@ -1,11 +1,11 @@
 -- What is in force of an account and of its totals, by their rows and those of their corrections.
-use Rattle.std.proofs.Common.{◌≡◌, ◌∙◌, refl, sym, ap, subst, ℕ, ◌&&◌, pos, Bool}
-use Rattle.std.proofs.Common.{true, false, List, [], ◌∷◌, map, filter, Option, None, Some, Vec}
-use Rattle.std.proofs.Common.{bytes_eq}
+use Rattle.std.proofs.Common.{◌≡◌, ◌∙◌, refl, sym, ap, subst, ℕ, ◌&&◌, pos, Bool, true, false, List}
+use Rattle.std.proofs.Common.{[], ◌∷◌, map, filter, Option, None, Some, Vec, bytes_eq}
 use Rattle.std.specs.Prelude.{option_map}
-use Rattle.std.proofs.lemmas.Bool.{eqb-true}
+use Rattle.std.proofs.lemmas.Bool.{eqb-true, and_parts}
 use Rattle.ftd_days.specs.Calendar.{quarter_year, quarter_number}
 use Rattle.ftd_days.specs.declared.cents.Cents.{Cents}
+use Rattle.ftd_days.proofs.Spelling.{same_text}
 use Rattle.ftd_schema.specs.declared.TableName.TheVariants.{CorrectedAccounts}
 use Rattle.ftd_schema.specs.Orders.{CorrectionsRise, YearCorrectionsRise, AccountCorrectionsRise}
 use Rattle.ftd_schema.specs.Rows.{CorrectedQuarterRow, CorrectedYearRow, CorrectedAccountRow}
@@ -25,23 +25,20 @@ use Rattle.ftd_store.specs.Corrections.{ListsCorrections, ListsYearCorrections}
 use Rattle.ftd_store.specs.Finds.{FindsReported, FindsReportedYear, FindsInForce, FindsForm}
 use Rattle.ftd_machine.specs.declared.entries.Account.{Account}
 use Rattle.ftd_machine.specs.declared.entries.Beginning.{Beginning}
-use Rattle.ftd_machine.specs.State.{State, Entry, Move, entries_of, is_of, has_key, content_of, all_at}
-use Rattle.ftd_machine.specs.State.{latest, moves_of, moves_in, is_move_of}
-use Rattle.ftd_machine.specs.State.{beginning_of, account_in_force, enrolled_in}
+use Rattle.ftd_machine.specs.State.{State, Entry, Move, entries_of, is_of, has_key, content_of}
+use Rattle.ftd_machine.specs.State.{all_at, latest, moves_of, moves_in, is_move_of, beginning_of}
+use Rattle.ftd_machine.specs.State.{account_in_force, enrolled_in}
 use Rattle.ftd_machine.specs.History.{is_carried}
 use Rattle.ftd_machine.specs.Step.{is_under}
-use Rattle.ftd_machine.proofs.Adding.{same_name}
 use Rattle.ftd_entries.specs.Standing.{StandsFor, with_earlier, correction_entry}
 use Rattle.ftd_entries.specs.Standing.{year_correction_entry, account_correction_entry}
 use Rattle.ftd_entries.specs.Known.{KnowsAccount, KnowsCorrections, joined}
 use Rattle.ftd_entries.specs.Known.{KnowsYearCorrections, KnowsFigure, KnowsYearFigure}
 use Rattle.ftd_entries.specs.Known.{cents_of, amounts_of, begins_at, beginnings_of}
-use Rattle.ftd_entries.proofs.CalendarRows.{whole, whole_rises}
+use Rattle.ftd_entries.proofs.CalendarRows.{whole, whole_rises, year_cell}
 use Rattle.ftd_entries.proofs.Corrections.{Picks, rows_are, numbered_rows, numbered_listed}
 use Rattle.ftd_entries.proofs.Found.{day_is, flag_is, knows_enrolled, stored_of, stored_is}
-use Rattle.ftd_entries.proofs.Kept.{same_number, same_quarter, cents_is, first_kept}
-use Rattle.ftd_entries.proofs.Kept.{first_year_kept}
-use Rattle.ftd_rows.proofs.Found.{both}
+use Rattle.ftd_entries.proofs.Kept.{same_quarter, cents_is, first_kept, first_year_kept}
 
 -- ---- under a name and a key
 
@@ -52,7 +49,7 @@ picks_at : {X : Type 0} (name : List ℕ) (key : ℕ)
     → Picks (own_at {X = X} name key) (is_under name key) content_of
 picks_at name key = record {
   none = refl;
-  one = λ x xs is. (let parts = both (is_of name x) (has_key key x) is in
+  one = λ x xs is. (let parts = and_parts (is_of name x) (has_key key x) is in
       rw (parts.0, parts.1) refl);
   other = λ x xs off. other x xs (is_of name x) (has_key key x) refl refl off;
 }
@@ -80,8 +77,8 @@ module _ (name : List ℕ) (quarter : ℕ) where
       rows_are (own_at name quarter) (is_under name quarter) content_of (picks_at name quarter)
       quarter_test correction_entry quarter_as_row
       (λ b x. ap (λ z. bytes_eq x.name name && z) (same_quarter x.key quarter))
-      (λ b x is. (let parts = both (is_of name x) (has_key quarter x) is in
-      let who = same_name x.name name parts.0 in
+      (λ b x is. (let parts = and_parts (is_of name x) (has_key quarter x) is in
+      let who = same_text x.name name parts.0 in
       let key = eqb-true x.key quarter parts.1 in
       rw (who, key) refl)) [] xs
 
@@ -121,9 +118,9 @@ module _ (name : List ℕ) (year : ℕ) where
   year_rows xs =
       rows_are (own_at name year) (is_under name year) content_of (picks_at name year)
       year_test year_correction_entry year_as_row
-      (λ b x. ap (λ z. bytes_eq x.name name && z) (same_number x.key year))
-      (λ b x is. (let parts = both (is_of name x) (has_key year x) is in
-      let who = same_name x.name name parts.0 in
+      (λ b x. ap (λ z. bytes_eq x.name name && z) (year_cell x.key year))
+      (λ b x is. (let parts = and_parts (is_of name x) (has_key year x) is in
+      let who = same_text x.name name parts.0 in
       let key = eqb-true x.key year parts.1 in
       rw (who, key) refl)) [] xs
 
@@ -197,7 +194,7 @@ module _ (name : List ℕ) where
       rows_are (moves_of name) (is_move_of name) beginning_of picks_moves
       (is_account_correction_of name) account_correction_entry account_as_row
       (λ b x. refl)
-      (λ b x is. (let who = same_name x.name name is in rw who refl)) [] xs
+      (λ b x is. (let who = same_text x.name name is in rw who refl)) [] xs
 
   begins : (n : ℕ) (v : Beginning) (l : AccountCorrection)
       → IsAccountCorrection name (account_as_row n v) l → begins_at l ≡ v

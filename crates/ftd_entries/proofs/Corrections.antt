@@ -1,13 +1,13 @@
--- The rows of corrections: those of one total, of one account or of one day have the numbers 1, 2 and
--- so on, so that a list of them by number is what the state keeps.
-use Rattle.std.proofs.Common.{◌≡◌, ◌∙◌, inl, inr, refl, sym, ap, subst, ℕ, ◌+◌, ◌≤◌, ◌<◌, Bool, true}
-use Rattle.std.proofs.Common.{false, List, [], ◌∷◌, ◌++◌, length, map, filter, arith}
+-- The rows of corrections: those of one total, of one account or of one day have the numbers 1, 2
+-- and so on, so that a list of them by number is what the state keeps.
+use Rattle.std.proofs.Common.{◌≡◌, ◌∙◌, inl, inr, refl, sym, ap, subst, ℕ, ◌+◌, ◌≤◌, ◌<◌, Bool}
+use Rattle.std.proofs.Common.{true, false, List, [], ◌∷◌, ◌++◌, length, map, filter, arith}
 use Rattle.std.proofs.lemmas.Bool.{cases_Bool}
 use Rattle.std.proofs.lemmas.List.{length-append}
 use Rattle.ftd_rules.specs.Lists.{Has, KeysRise}
 use Rattle.ftd_rules.proofs.Rising.{sorted_is, next_do_not_fall}
+use Rattle.ftd_rules.proofs.Members.{filter_in, filter_out}
 use Rattle.ftd_rows.specs.Lists.{Lists, Pairs}
-use Rattle.ftd_store.proofs.Sifted.{filter_in, filter_out}
 use Rattle.ftd_entries.specs.Standing.{with_earlier}
 
 -- a list of what is kept under one key, beside the list of all

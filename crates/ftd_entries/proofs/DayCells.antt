@@ -6,20 +6,15 @@ use Rattle.std.specs.Int.Signed.{◌≤ℤ◌, ◌<ℤ◌, le_z_yes, lt_z_yes}
 use Rattle.std.specs.Ordering.{int_eq}
 use Rattle.std.proofs.Math.Dec.{T}
 use Rattle.std.proofs.lemmas.Int.{ints}
-use Rattle.std.proofs.lemmas.Bool.{le-leb, lt-leb, lt-ltb, le-ltb}
+use Rattle.std.proofs.lemmas.Bool.{le-leb, lt-leb, lt-ltb, le-ltb, false_from_ne_true, cases_lt}
 use Rattle.std.proofs.lemmas.Bool.Decides.{Decides-int_eq, Decides-eqb, Decides-like}
 use Rattle.std.proofs.lemmas.Bool.Decides.{same_from_decides}
-use Rattle.ftd_rules.proofs.Cuts.{lt_or_le}
 use Rattle.ftd_rows.specs.Cells.{day_number}
 use Rattle.ftd_entries.proofs.Found.{day_is}
 
 passed : (b : Bool) → T b → b ≡ true
 passed true t = refl
 passed false t = absurd t
-
-failed : (b : Bool) → (b ≡ true → ⊥) → b ≡ false
-failed true off = absurd (off refl)
-failed false off = refl
 
 pub le_from : (x y : ℤ) → int_le x y ≡ true → x ≤ℤ y
 le_from x y e = le_z_yes (subst T (sym e) tt)
@@ -33,9 +28,9 @@ lt_from x y e = lt_z_yes (subst T (sym e) tt)
 -- the days in cells are in the order of the days
 pub day_le : (a b : ℕ) → int_le (day_number a) (day_number b) ≡ nat_le a b
 day_le a b =
-    elim (lt_or_le b a) [
+    elim (cases_lt b a) [
       | inl less ↦
-          failed (int_le (day_number a) (day_number b))
+          false_from_ne_true (int_le (day_number a) (day_number b))
           (λ e. let h = le_from (day_number a) (day_number b) e in
           omega (arith, ints)) ∙ sym (lt-leb a b less)
       | inr some ↦
@@ -45,12 +40,12 @@ day_le a b =
 
 pub day_lt : (a b : ℕ) → int_lt (day_number a) (day_number b) ≡ nat_lt a b
 day_lt a b =
-    elim (lt_or_le a b) [
+    elim (cases_lt a b) [
       | inl less ↦
           (let h : day_number a <ℤ day_number b = omega (arith, ints) in
           passed (int_lt (day_number a) (day_number b)) h.lt ∙ sym (lt-ltb a b less))
       | inr some ↦
-          failed (int_lt (day_number a) (day_number b))
+          false_from_ne_true (int_lt (day_number a) (day_number b))
           (λ e. let h = lt_from (day_number a) (day_number b) e in
           omega (arith, ints)) ∙ sym (le-ltb a b some)
     ]

@@ -1,7 +1,7 @@
--- The changes of the days of a year, by their rows: of each day they are what the state keeps of it.
+-- The changes of the days of a year, by their rows: of each day they are what the state keeps of
+-- it.
 use Rattle.std.proofs.Common.{◌≡◌, ◌∙◌, inl, inr, refl, sym, ap, subst, ℕ, suc, ◌+◌, ◌≤◌, ◌==◌}
-use Rattle.std.proofs.Common.{◌&&◌, pos, Bool, true, false, List, [], ◌∷◌, map, filter}
-use Rattle.std.proofs.Common.{Vec, arith}
+use Rattle.std.proofs.Common.{◌&&◌, pos, Bool, true, false, List, [], ◌∷◌, map, filter, Vec, arith}
 use Rattle.std.proofs.lemmas.Int.{ints}
 use Rattle.std.specs.Int.Signed.{◌<ℤ◌}
 use Rattle.std.specs.Ordering.{int_eq}
@@ -14,6 +14,7 @@ use Rattle.ftd_days.specs.Calendar.{year_of}
 use Rattle.ftd_days.proofs.Years.{eq_same}
 use Rattle.ftd_rules.specs.Lists.{Has, KeysRise, KeysDoNotFall}
 use Rattle.ftd_rules.proofs.Rising.{rising_one, has_permuted}
+use Rattle.ftd_rules.proofs.Members.{has_kept}
 use Rattle.ftd_tables.specs.Order.{EachToNext}
 use Rattle.ftd_schema.specs.declared.TableName.TheVariants.{ChangedHolidays}
 use Rattle.ftd_schema.specs.Orders.{HolidayChangesRise}
@@ -30,7 +31,7 @@ use Rattle.ftd_store.proofs.Same.{same_int}
 use Rattle.ftd_machine.specs.Agenda.{EachToLater}
 use Rattle.ftd_machine.specs.State.{DayChange, changes_of, is_on_day, is_in_force, latest}
 use Rattle.ftd_machine.specs.State.{says_holiday as its_word}
-use Rattle.ftd_machine.proofs.Members.{has_filtered, has_kept}
+use Rattle.ftd_machine.proofs.Members.{has_filtered}
 use Rattle.ftd_entries.specs.Standing.{with_earlier, change_entry}
 use Rattle.ftd_entries.proofs.CalendarRows.{whole, whole_rises, year_cell}
 use Rattle.ftd_entries.proofs.Corrections.{Picks, rows_are, numbered_rows, numbers_rise, values_are}
@@ -55,7 +56,8 @@ later_all R trans (y ∷ z ∷ zs) h =
       rest,
     )
 
-later_those : {X : Type 0} (R : X → X → Type 0) (test : X → Bool) (xs : List X) → EachToLater R xs
+pub later_those : {X : Type 0} (R : X → X → Type 0) (test : X → Bool) (xs : List X)
+    → EachToLater R xs
     → EachToLater R (filter test xs)
 later_those R test [] h = tt
 later_those {X = X} R test (x ∷ xs) h = step (test x) (later_those R test xs h.1)
@@ -190,7 +192,8 @@ module _ (day : ℕ) where
       passes_both
       (λ b x is. (let same = eqb-true x.day day is in rw same refl)) [] xs
 
-  says : (n : ℕ) (v : Bool) (l : HolidayChange) → IsHolidayChange (year_of day) (change_as_row n v) l
+  says : (n : ℕ) (v : Bool) (l : HolidayChange)
+      → IsHolidayChange (year_of day) (change_as_row n v) l
       → says_holiday l ≡ v
   says n v l is =
       flag_is l.is_holiday v (sym (ap (λ (r : ChangedHolidayRow). r.is_holiday) is))

@@ -5,6 +5,7 @@ use Rattle.std.proofs.lemmas.Bool.{true≢false}
 use Rattle.std.proofs.lemmas.List.{map-append}
 use Rattle.std.proofs.lemmas.List.Sorted.{IsPermutation-append_left}
 use Rattle.std.specs.Prelude.{filter, bytes_eq, is_some, IsPermutation}
+use Rattle.ftd_days.proofs.Spelling.{same_text}
 use Rattle.ftd_rules.specs.declared.Form.{Form}
 use Rattle.ftd_rules.specs.declared.YearLine.{YearLine}
 use Rattle.ftd_rules.specs.declared.DaySum.{DaySum}
@@ -27,7 +28,7 @@ use Rattle.ftd_machine.specs.Checks.{Answer, first_of, Decides}
 use Rattle.ftd_machine.specs.Requests.{enrol_checks}
 use Rattle.ftd_machine.specs.Step.{Step, with_account}
 use Rattle.ftd_machine.specs.Sound.{IsSound}
-use Rattle.ftd_machine.proofs.Adding.{same_name, own_name}
+use Rattle.ftd_machine.proofs.Adding.{own_name}
 use Rattle.ftd_machine.proofs.Members.{has_filtered}
 use Rattle.ftd_machine.proofs.Others.{others}
 use Rattle.ftd_machine.proofs.Heads.{Gives, gives_new, skip_needs}
@@ -54,7 +55,7 @@ no_entry name s sound none = go (filter (is_of name) s.open_years) refl
         let from = has_filtered (is_of name) s.open_years e
         (subst (λ ys. Has ys e) (sym is) (inl refl)) in
         let there = sound.enrolled e from.0 in
-        let own : e.name ≡ name = same_name e.name name from.1 in
+        let own : e.name ≡ name = same_text e.name name from.1 in
         absurd (true≢false (sym (subst (λ n. is_some (entries_of s n).account ≡ true) own there)
         ∙ ap is_some none))
 
@@ -166,7 +167,7 @@ module _ (name : List ℕ) (account : Account) where
           → bytes_eq name other ≡ b
           → IsSettled (with_enrolled name account t) (Next s) other
       by_name t s sound none stands step other true is =
-          subst (IsSettled (with_enrolled name account t) (Next s)) (same_name name other is)
+          subst (IsSettled (with_enrolled name account t) (Next s)) (same_text name other is)
           (settled_new t s sound none (stands.settled name))
       by_name t s sound none stands step other false is =
           settled_other t s other (others s Asked (Ok Done) (Next s) other step

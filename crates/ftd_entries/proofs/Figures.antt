@@ -5,11 +5,11 @@ use Rattle.std.specs.Prelude.{find, option_map, if◌then◌else◌}
 use Rattle.std.proofs.lemmas.Bool.{eqb-true}
 use Rattle.ftd_days.specs.declared.cents.Cents.{Cents}
 use Rattle.ftd_rules.specs.Lists.{Has}
-use Rattle.ftd_machine.specs.State.{Entry, has_key, content_of, kept_at, latest, all_at}
-use Rattle.ftd_machine.specs.State.{figure_at}
+use Rattle.ftd_rules.proofs.Members.{has_mapped}
+use Rattle.ftd_machine.specs.State.{Entry, has_key, content_of, kept_at, latest, all_at, figure_at}
 use Rattle.ftd_machine.specs.History.{figure_of, figures}
 use Rattle.ftd_machine.proofs.Keeping.{same_key}
-use Rattle.ftd_machine.proofs.Members.{has_mapped, found_none}
+use Rattle.ftd_machine.proofs.Members.{found_none}
 use Rattle.ftd_machine.proofs.Numbers.{first_of_force, none_in_force}
 
 -- what is reported under a key is a figure of it, as it is in force

@@ -117,7 +117,8 @@ stored_is name found (x ∷ xs) h = step (bytes_eq x.name name) found (stored_is
         → option_map stored_of (option_map account_of (find (is_named name) xs)) ≡ found)
         → (if b then enrolled_row x ∷ filter (is_account name) (map enrolled_row xs) else filter
         (is_account name) (map enrolled_row xs)) ≡ rows_of (account_row name) found
-        → option_map stored_of (option_map account_of (if b then Some x else find (is_named name) xs))
+        → option_map stored_of (option_map account_of
+        (if b then Some x else find (is_named name) xs))
         ≡ found
     step false found more h = more h
     step true None more h = absurd cc

@@ -3,7 +3,7 @@ use Rattle.std.proofs.Common.{◌≡◌, ◌≢◌, ℕ, ◌+◌, ◌==◌, Bool
 use Rattle.std.proofs.Common.{Option, None, Some, Ok, inl, inr, refl, sym, ap, subst, ◌∙◌}
 use Rattle.std.specs.Prelude.{filter, flat_map, is_some, nat_le, ◌||◌, ◌&&◌}
 use Rattle.std.specs.List.{All, list_all}
-use Rattle.std.proofs.lemmas.Bool.{true≢false, eqb-true}
+use Rattle.std.proofs.lemmas.Bool.{true≢false, eqb-true, and_parts}
 use Rattle.std.proofs.lemmas.List.{append-nil, map-append}
 use Rattle.std.proofs.lemmas.List.Folds.{list_any-append}
 use Rattle.std.proofs.lemmas.Grind.{flat_map-append}
@@ -18,9 +18,9 @@ use Rattle.ftd_rules.specs.Obligations.{AreObligations}
 use Rattle.ftd_rules.proofs.Rising.{all_has, has_all}
 use Rattle.ftd_rules.proofs.Resting.{obligations_later, obligations_same}
 use Rattle.ftd_rules.proofs.Stated.{rows_owed, rows_stated}
+use Rattle.ftd_rules.proofs.Members.{has_mapped, mapped_has}
 use Rattle.ftd_schema.specs.Standing.{Tables}
 use Rattle.ftd_rows.specs.Rows.{holiday_row}
-use Rattle.ftd_rows.proofs.Found.{both}
 use Rattle.ftd_store.specs.Changes.{with_calendar}
 use Rattle.ftd_machine.proofs.Few.{few_in_force}
 use Rattle.ftd_machine.specs.declared.requests.Request.{Request}
@@ -35,7 +35,7 @@ use Rattle.ftd_machine.specs.Requests.{calendar_checks}
 use Rattle.ftd_machine.specs.Step.{Step}
 use Rattle.ftd_machine.specs.Sound.{IsSound}
 use Rattle.ftd_machine.proofs.Heads.{Gives, gives_needs, gives_new, skip_needs}
-use Rattle.ftd_machine.proofs.Members.{has_mapped, has_filtered, mapped_has}
+use Rattle.ftd_machine.proofs.Members.{has_filtered}
 use Rattle.ftd_entries.specs.Standing.{StandsFor, IsSettled, calendar_entry, holiday_entries}
 
 -- each line is of an open year of the account
@@ -53,16 +53,18 @@ line_opened s name lines sound are line has =
 passes : (test : ℕ → Bool) (xs : List ℕ) → list_all test xs ≡ true → (x : ℕ) → Has xs x
     → test x ≡ true
 passes test [] e x has = absurd has
-passes test (z ∷ xs) e x (inl is) = ap test is ∙ (both (test z) (list_all test xs) e).0
-passes test (z ∷ xs) e x (inr has) = passes test xs (both (test z) (list_all test xs) e).1 x has
+passes test (z ∷ xs) e x (inl is) = ap test is ∙ (and_parts (test z) (list_all test xs) e).0
+passes test (z ∷ xs) e x (inr has) = passes test xs (and_parts (test z) (list_all test xs) e).1 x
+    has
 
 -- the days of a calendar are days of its year
 days_of_its_year : (year : ℕ) (days : List ℕ) → is_calendar year days ≡ true
     → All (λ day. year_of day ≡ year) days
 days_of_its_year year days fits =
-    let rest = (both (nat_le _ 60) (list_all (λ day. year_of day == year) days && are_rising days)
+    let rest = (and_parts (nat_le _ 60) (list_all (λ day. year_of day == year) days
+    && are_rising days)
     fits).1 in
-    let all = (both (list_all (λ day. year_of day == year) days) (are_rising days) rest).0 in
+    let all = (and_parts (list_all (λ day. year_of day == year) days) (are_rising days) rest).0 in
     all_has (λ day. year_of day ≡ year) days
     (λ day has. eqb-true (year_of day) year (passes (λ d. year_of d == year) days all day has))
 

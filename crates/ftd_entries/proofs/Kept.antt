@@ -3,7 +3,7 @@ use Rattle.std.proofs.Common.{◌≡◌, refl, sym, ap, ◌∙◌, ℕ, suc, ◌
 use Rattle.std.proofs.Common.{if◌then◌else◌, List, [], ◌∷◌, map, length, Option, None, Some, arith}
 use Rattle.std.specs.Prelude.{filter, find, bytes_eq, option_map}
 use Rattle.std.specs.Ordering.{int_eq}
-use Rattle.std.proofs.lemmas.Bool.Decides.{Decides-int_eq, Decides-eqb, Decides-like, Decides-and}
+use Rattle.std.proofs.lemmas.Bool.Decides.{Decides-eqb, Decides-like, Decides-and}
 use Rattle.std.proofs.lemmas.Bool.Decides.{same_from_decides}
 use Rattle.ftd_days.specs.Calendar.{quarter_year, quarter_number}
 use Rattle.ftd_days.specs.declared.cents.Cents.{Cents}
@@ -20,9 +20,10 @@ use Rattle.ftd_store.specs.Finds.{FindsReported, FindsReportedYear, FindsRun, Fi
 use Rattle.ftd_store.specs.Finds.{CountsRuns, CountsPayments}
 use Rattle.ftd_machine.specs.State.{State, Entry, entries_of, is_of, has_key, content_of, kept_at}
 use Rattle.ftd_machine.specs.Step.{is_under}
-use Rattle.ftd_entries.specs.Standing.{StandsFor, KeepsFigures, quarter_entry, year_entry, run_entry}
-use Rattle.ftd_entries.specs.Standing.{payment_entry}
+use Rattle.ftd_entries.specs.Standing.{StandsFor, KeepsFigures, quarter_entry, year_entry}
+use Rattle.ftd_entries.specs.Standing.{run_entry, payment_entry}
 use Rattle.ftd_entries.proofs.Found.{day_is, flag_is}
+use Rattle.ftd_entries.proofs.CalendarRows.{year_cell}
 
 -- ---- any table of entries
 
@@ -75,11 +76,6 @@ module _ {X R : Type 0} (row : Entry X → R) (test : R → Bool) where
 pub same_nat : (a b : ℕ) → pos a ≡ pos b → a ≡ b
 same_nat a b is = cc
 
-pub same_number : (a b : ℕ) → int_eq (pos a) (pos b) ≡ (a == b)
-same_number a b = same_from_decides (int_eq (pos a) (pos b)) (a == b)
-    (Decides-like (int_eq (pos a) (pos b)) (same_nat a b) (λ is. ap pos is)
-    (Decides-int_eq (pos a) (pos b))) (Decides-eqb a b)
-
 pub quarter_is : (a b : ℕ) → quarter_year a ≡ quarter_year b → quarter_number a ≡ quarter_number b
     → a ≡ b
 quarter_is a b year number = omega arith
@@ -92,8 +88,8 @@ same_quarter a b =
     let both = Decides-and (quarter_year a == quarter_year b) (quarter_number a == quarter_number b)
     years numbers in
     rw (
-      same_number (quarter_year a) (quarter_year b),
-      same_number (quarter_number a)
+      year_cell (quarter_year a) (quarter_year b),
+      year_cell (quarter_number a)
           (quarter_number b),
     )
     (same_from_decides _ (a == b) (Decides-like _ (λ is. quarter_is a b is.0 is.1)
@@ -169,7 +165,7 @@ module _ (name : List ℕ) (t : Tables) (s : State) (keeps : KeepsFigures t s) w
   first_year_kept year found finds =
       let test : ReportedYearRow → Bool = is_reported_year name (pos year) in
       kept_is year_entry test name year (reported_year_row name year)
-      (λ e. ap (λ b. bytes_eq e.name name && b) (same_number e.key year))
+      (λ e. ap (λ b. bytes_eq e.name name && b) (year_cell e.key year))
       (λ e x is. cents_is e.content x (ap (λ (r : ReportedYearRow). r.cents) is)) found
       s.reported_years (ap (filter test) (sym keeps.reported_years) ∙ finds)
 
@@ -187,7 +183,7 @@ module _ (name : List ℕ) (t : Tables) (s : State) (stands : StandsFor t s) whe
   kept_run number found finds =
       let test : RunRow → Bool = is_run name (pos number) in
       kept_is run_entry test name number (λ r. run_row name (pos number) r.value r.voided)
-      (λ e. ap (λ b. bytes_eq e.name name && b) (same_number e.key number))
+      (λ e. ap (λ b. bytes_eq e.name name && b) (year_cell e.key number))
       (run_is name number) found s.runs (ap (filter test) (sym stands.runs) ∙ finds)
 
   pub kept_payment : (number : ℕ) (found : Option (Voidable Payment))
@@ -195,7 +191,7 @@ module _ (name : List ℕ) (t : Tables) (s : State) (stands : StandsFor t s) whe
   kept_payment number found finds =
       let test : PaymentRow → Bool = is_payment name (pos number) in
       kept_is payment_entry test name number (λ p. payment_row name (pos number) p.value p.voided)
-      (λ e. ap (λ b. bytes_eq e.name name && b) (same_number e.key number))
+      (λ e. ap (λ b. bytes_eq e.name name && b) (year_cell e.key number))
       (payment_is name number) found s.payments (ap (filter test) (sym stands.payments) ∙ finds)
 
   pub counted_runs : (count : ℕ) → CountsRuns name count t → length (entries_of s name).runs ≡ count

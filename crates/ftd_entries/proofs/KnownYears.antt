@@ -3,13 +3,11 @@ use Rattle.std.proofs.Common.{◌≡◌, ℕ, ◌+◌, ◌<◌, ◌≤◌, ◌==
 use Rattle.std.proofs.Common.{map, Option, None, Some, Vec, inl, inr, refl, sym, ap, ◌∙◌, arith}
 use Rattle.std.specs.Prelude.{find, option_map, is_some, min, nat_le, if◌then◌else◌}
 use Rattle.std.specs.List.{list_any}
-use Rattle.std.proofs.lemmas.Bool.{eqb-true, leb-true}
+use Rattle.std.proofs.lemmas.Bool.{eqb-true, leb-true, and_parts, cases_lt}
 use Rattle.ftd_days.specs.Holidays.{YearDays}
 use Rattle.ftd_rules.specs.declared.YearLine.{YearLine}
 use Rattle.ftd_rules.specs.Lists.{Has}
-use Rattle.ftd_rules.proofs.Cuts.{lt_or_le}
 use Rattle.ftd_schema.specs.Standing.{Tables}
-use Rattle.ftd_rows.proofs.Found.{both}
 use Rattle.ftd_store.specs.Finds.{FindsCalendar, ListsYears}
 use Rattle.ftd_machine.specs.declared.entries.Account.{Account}
 use Rattle.ftd_machine.specs.State.{State, Entry, entries_of, has_key, content_of, kept_at, days_of}
@@ -42,7 +40,7 @@ open_lines year (line ∷ lines) (e ∷ opened) same =
     step true more = refl
     step false more = more
 
-mapped_some : {X Y : Type 0} (f : X → Y) (o : Option X) → is_some (option_map f o) ≡ is_some o
+pub mapped_some : {X Y : Type 0} (f : X → Y) (o : Option X) → is_some (option_map f o) ≡ is_some o
 mapped_some f (Some x) = refl
 mapped_some f None = refl
 
@@ -63,13 +61,13 @@ given_early year (c ∷ cs) early far = step (c.year == year) refl
 none_after : (s : State) (year : ℕ) → IsSound s → 2099 < year → is_given s year ≡ false
 none_after s year sound far =
     given_early year s.calendars
-    (λ c has. leb-true c.year 2099 (both (nat_le 2001 c.year) (nat_le c.year 2099)
+    (λ c has. leb-true c.year 2099 (and_parts (nat_le 2001 c.year) (nat_le c.year 2099)
     (sound.are_calendars c has).0).1) far
 
 next_given : (s : State) (year next : ℕ) → IsSound s → next ≡ min (year + 1) 4_294_967_295
     → is_given s (year + 1) ≡ is_given s next
 next_given s year next sound is =
-    elim (lt_or_le year 4_294_967_295) [
+    elim (cases_lt year 4_294_967_295) [
       | inl small ↦ ap (is_given s) (omega arith)
       | inr large ↦ none_after s (year + 1) sound (omega arith)
           ∙ sym (none_after s next sound (omega arith))

@@ -27,3 +27,4 @@ pub mod ListedRows
 pub mod QuarterDays
 pub mod DayChanges
 pub mod PutRight
+pub mod InOrder

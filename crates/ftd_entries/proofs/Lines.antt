@@ -10,6 +10,7 @@ use Rattle.ftd_rules.specs.Lists.{Has, KeysRise}
 use Rattle.ftd_rules.specs.Years.{YearsFrom, OnlyFirstCarried}
 use Rattle.ftd_rules.proofs.Rising.{sorted_is, next_do_not_fall}
 use Rattle.ftd_rules.proofs.Schedules.{years_within}
+use Rattle.ftd_rules.proofs.Members.{has_mapped}
 use Rattle.ftd_schema.specs.Rows.{YearRow}
 use Rattle.ftd_schema.specs.Standing.{Tables}
 use Rattle.ftd_rows.specs.declared.accounts.Account.{Account as StoredAccount}
@@ -20,7 +21,6 @@ use Rattle.ftd_rows.specs.Years.{FirstCarriedAs, is_carried as is_carried_in}
 use Rattle.ftd_store.specs.Finds.{IsYear, ListsYears, FindsInForce}
 use Rattle.ftd_machine.specs.State.{State, entries_of}
 use Rattle.ftd_machine.specs.History.{is_carried, AreCarried}
-use Rattle.ftd_machine.proofs.Members.{has_mapped}
 use Rattle.ftd_entries.specs.Standing.{StandsFor, IsSettled}
 use Rattle.ftd_entries.proofs.Corrected.{carried_known}
 use Rattle.ftd_entries.proofs.Found.{day_is}

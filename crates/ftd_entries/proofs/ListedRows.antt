@@ -4,12 +4,12 @@ use Rattle.std.specs.Prelude.{filter, string_bytes}
 use Rattle.std.proofs.lemmas.List.Sorted.{IsPermutation-sym}
 use Rattle.ftd_rules.specs.Lists.{Has}
 use Rattle.ftd_rules.proofs.Rising.{has_permuted}
+use Rattle.ftd_rules.proofs.Members.{has_kept}
 use Rattle.ftd_schema.specs.Rows.{ObligationRow}
 use Rattle.ftd_rows.specs.declared.obligations.AccountObligation.{AccountObligation}
 use Rattle.ftd_rows.specs.Lists.{Pairs, Lists}
 use Rattle.ftd_rows.specs.Rows.{obligation_row}
 use Rattle.ftd_store.specs.Finds.{IsAccountObligation}
-use Rattle.ftd_store.proofs.Sifted.{keeps_has}
 use Rattle.ftd_machine.proofs.Members.{has_filtered}
 
 -- ---- values that each have their row
@@ -51,23 +51,13 @@ module _ {X Y : Type 0} (row_for : Y → X) where
         row_value listed.ordered given listed.pairs r
         (has_permuted listed.ordered (filter test rows)
         (IsPermutation-sym (filter test rows) listed.ordered listed.same) r
-        (keeps_has test rows r has passes))
+        (has_kept test rows r has passes))
 
 -- ---- obligations with their accounts
 
 -- the row of an obligation and its account
 abbrev pub row_of : AccountObligation → ObligationRow
 row_of x = obligation_row (string_bytes x.account) x.obligation
-
-pub listed_row : (rows : List ObligationRow) (given : List AccountObligation)
-    → Pairs IsAccountObligation rows given → (x : AccountObligation) → Has given x
-    → Has rows (row_of x)
-listed_row rows given pairs x has = value_row row_of rows given pairs x has
-
-pub row_listed : (rows : List ObligationRow) (given : List AccountObligation)
-    → Pairs IsAccountObligation rows given → (r : ObligationRow) → Has rows r
-    → (x : AccountObligation) × Has given x × (r ≡ row_of x)
-row_listed rows given pairs r has = row_value row_of rows given pairs r has
 
 module _ (Rise : ObligationRow → ObligationRow → Type 0) (test : ObligationRow → Bool)
     (rows : List ObligationRow) (given : List AccountObligation)

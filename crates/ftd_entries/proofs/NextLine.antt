@@ -4,26 +4,14 @@ use Rattle.std.proofs.Common.{false, List, [], ◌∷◌, length, None, inl, inr
 use Rattle.std.proofs.Common.{arith}
 use Rattle.std.specs.Prelude.{is_some, IsSome, IsTrue, nat_lt}
 use Rattle.std.specs.List.{list_any}
-use Rattle.std.proofs.lemmas.Bool.{true≢false, eqb-true, eq-eqb, ltb-true, lt-ltb}
+use Rattle.std.proofs.lemmas.Bool.{true≢false, eqb-true, eq-eqb, ltb-true, lt-ltb, or_cases}
+use Rattle.std.proofs.lemmas.Bool.{or_left, or_right, and_parts}
 use Rattle.ftd_rules.specs.declared.Kind.{Kind}
 use Rattle.ftd_rules.specs.declared.Kind.TheVariants.{Monthly, Semiweekly}
 use Rattle.ftd_rules.specs.declared.YearLine.{YearLine}
 use Rattle.ftd_rules.specs.Lists.{Has}
 use Rattle.ftd_rules.specs.Years.{TurnedBefore}
-use Rattle.ftd_rows.proofs.Found.{both}
 use Rattle.ftd_entries.specs.Opening.{turns_into, HasOpening, IsNextLine}
-
-one_of : (a b : Bool) → (a || b) ≡ true → (a ≡ true) ⊎ (b ≡ true)
-one_of true b e = inl refl
-one_of false b e = inr e
-
-left_true : (a b : Bool) → a ≡ true → (a || b) ≡ true
-left_true true b e = refl
-left_true false b e = absurd (true≢false (sym e))
-
-right_true : (a b : Bool) → b ≡ true → (a || b) ≡ true
-right_true true b e = refl
-right_true false b e = e
 
 all_true : (a b c : Bool) → a ≡ true → b ≡ true → c ≡ true → (a && (b && c)) ≡ true
 all_true a b c x y z = rw (x, y, z) refl
@@ -32,11 +20,12 @@ turned_from : (year : ℕ) (lines : List YearLine) → list_any (turns_into year
     → TurnedBefore lines year
 turned_from year [] e = absurd (true≢false (sym e))
 turned_from year (line ∷ lines) e =
-    elim (one_of (turns_into year line) (list_any (turns_into year) lines) e) [
+    elim (or_cases (turns_into year line) (list_any (turns_into year) lines) e) [
       | inl here ↦
-          let parts = both (nat_lt line.year year) ((year - line.year == 1) && is_some line.turn)
+          let parts = and_parts (nat_lt line.year year)
+          ((year - line.year == 1) && is_some line.turn)
           here in
-          let rest = both (year - line.year == 1) (is_some line.turn) parts.1 in
+          let rest = and_parts (year - line.year == 1) (is_some line.turn) parts.1 in
           let less = ltb-true line.year year parts.0 in
           let one = eqb-true (year - line.year) 1 rest.0 in
           (line, inl refl, omega arith, rest.1)
@@ -51,10 +40,10 @@ turned_to year (line ∷ lines) before (inl is) next some =
     let here : turns_into year before ≡ true =
     all_true (nat_lt before.year year) (year - before.year == 1) (is_some before.turn)
     (lt-ltb before.year year (omega arith)) (eq-eqb (year - before.year) 1 (omega arith)) some in
-    left_true (turns_into year line) (list_any (turns_into year) lines)
+    or_left (turns_into year line) (list_any (turns_into year) lines)
     (ap (turns_into year) (sym is) ∙ here)
 turned_to year (line ∷ lines) before (inr has) next some =
-    right_true (turns_into year line) (list_any (turns_into year) lines)
+    or_right (turns_into year line) (list_any (turns_into year) lines)
     (turned_to year lines before has next some)
 
 opening_is : (lines : List YearLine) (line : YearLine) (kind : Kind) → line.opening ≡ kind
@@ -68,7 +57,7 @@ opening_is lines line Semiweekly is semiweekly monthly =
       is,
       elim (semiweekly.0 refl) [
         | inl much ↦ inl much
-        | inr on ↦ elim (one_of line.carried (list_any (turns_into line.year) lines) on) [
+        | inr on ↦ elim (or_cases line.carried (list_any (turns_into line.year) lines) on) [
           | inl carried ↦ inr (inl carried)
           | inr turned ↦ inr (inr (turned_from line.year lines turned))
         ]
@@ -83,10 +72,10 @@ opening_is lines line Monthly is semiweekly monthly =
         | inl much ↦ absurd (omega arith)
         | inr on ↦ elim on [
           | inl carried ↦ true≢false
-              (sym (left_true line.carried (list_any (turns_into line.year) lines) carried)
+              (sym (or_left line.carried (list_any (turns_into line.year) lines) carried)
               ∙ facts.1)
           | inr turned ↦ true≢false
-              (sym (right_true line.carried (list_any (turns_into line.year) lines)
+              (sym (or_right line.carried (list_any (turns_into line.year) lines)
               (turned_to line.year lines turned.0 turned.1 turned.2 turned.3)) ∙ facts.1)
         ]
       ]),

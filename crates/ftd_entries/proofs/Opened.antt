@@ -16,7 +16,7 @@ use Rattle.ftd_store.specs.Finds.{ListsYears, IsYear}
 use Rattle.ftd_machine.specs.State.{Entry, has_key, content_of, kept_at, is_of}
 use Rattle.ftd_machine.specs.History.{year_of_line, year_of_entry}
 use Rattle.ftd_entries.specs.Known.{KnowsYear}
-use Rattle.ftd_entries.proofs.Kept.{same_number}
+use Rattle.ftd_entries.proofs.CalendarRows.{year_cell}
 
 module _ (year : ℕ) where
   abbrev is_it : ℕ → Bool
@@ -47,7 +47,7 @@ module _ (year : ℕ) where
   any_row : (name : List ℕ) (lines : List YearLine) → list_any is_row (map (year_row name) lines)
       ≡ list_any is_line lines
   any_row name [] = refl
-  any_row name (line ∷ lines) = rw (same_number line.year year, any_row name lines) refl
+  any_row name (line ∷ lines) = rw (year_cell line.year year, any_row name lines) refl
 
   any_paired : (name : List ℕ) (rows : List YearRow) (lines : List YearLine)
       → Pairs (IsYear name) rows lines → list_any is_row rows ≡ list_any is_line lines
@@ -56,7 +56,7 @@ module _ (year : ℕ) where
   any_paired name (row ∷ rows) [] pairs = absurd pairs
   any_paired name (row ∷ rows) (line ∷ lines) pairs = rw (
     pairs.0,
-    same_number line.year year,
+    year_cell line.year year,
     any_paired name rows lines pairs.1,
   ) refl
 

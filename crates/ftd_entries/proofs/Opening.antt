@@ -2,14 +2,15 @@
 use Rattle.std.proofs.Common.{◌≡◌, ℕ, ◌+◌, ◌≤◌, ◌==◌, ◌&&◌, ◌⊎◌, Bool, true, false, pos, List}
 use Rattle.std.proofs.Common.{[], ◌∷◌, ◌++◌, length, map, Option, None, Some, Ok, Err, inl, inr}
 use Rattle.std.proofs.Common.{refl, sym, ap, subst, ◌∙◌, arith}
-use Rattle.std.specs.Prelude.{filter, bytes_eq, is_some, nat_le, IsSome, IsPermutation}
+use Rattle.std.specs.Prelude.{filter, bytes_eq, is_some, IsSome, IsPermutation}
 use Rattle.std.specs.Ordering.{int_eq}
-use Rattle.std.proofs.lemmas.Bool.{true≢false, eqb-true, leb-true, cases_Bool}
+use Rattle.std.proofs.lemmas.Bool.{true≢false, eqb-true, cases_Bool, and_parts, cases_lt}
 use Rattle.std.proofs.lemmas.List.{map-append}
 use Rattle.std.proofs.lemmas.List.Sorted.{IsPermutation-append_left, IsPermutation-sym}
 use Rattle.ftd_days.specs.Calendar.{year_of, year_start, month_of, month_start}
 use Rattle.ftd_days.specs.declared.cents.Cents.{Cents}
 use Rattle.ftd_days.proofs.Months.{year_is}
+use Rattle.ftd_days.proofs.Spelling.{same_text}
 use Rattle.ftd_rules.specs.declared.Form.{Form}
 use Rattle.ftd_rules.specs.declared.Form.TheVariants.{F941, F943}
 use Rattle.ftd_rules.specs.declared.YearLine.{YearLine}
@@ -19,30 +20,28 @@ use Rattle.ftd_rules.specs.declared.run.PayRun.{PayRun}
 use Rattle.ftd_rules.specs.declared.run.Voidable.{Voidable}
 use Rattle.ftd_rules.specs.Lists.{Has}
 use Rattle.ftd_rules.specs.Liability.{liability, share}
-use Rattle.ftd_rules.specs.Years.{year_last, YearsFrom, AreOpenYears, TurnedBefore, OpensSemiweekly}
+use Rattle.ftd_rules.specs.Years.{year_last, AreOpenYears, TurnedBefore, OpensSemiweekly}
 use Rattle.ftd_rules.specs.Years.{IsTurnOf, HasSchedule, AreLines}
 use Rattle.ftd_rules.specs.Obligations.{AreObligations}
-use Rattle.ftd_rules.proofs.Cuts.{lt_or_le}
 use Rattle.ftd_rules.proofs.Walk.{liability-cons, share_before, share_after}
 use Rattle.ftd_rules.proofs.Schedules.{year_facts, month_in_year}
 use Rattle.ftd_rules.proofs.Covering.{within_period}
 use Rattle.ftd_rules.proofs.Stated.{rows_owed, rows_stated}
 use Rattle.ftd_rules.specs.Private.Obligations.{IsOwedPiece}
 use Rattle.ftd_rules.proofs.Rising.{has_permuted}
+use Rattle.ftd_rules.proofs.Members.{has_last, has_mapped, mapped_has, has_before}
 use Rattle.ftd_schema.specs.declared.TableName.TheVariants.{Years}
 use Rattle.ftd_schema.specs.Rows.{YearRow}
 use Rattle.ftd_schema.specs.Standing.{Tables}
 use Rattle.ftd_schema.specs.Tests.{is_year, is_year_of}
 use Rattle.ftd_rows.specs.Rows.{year_row}
-use Rattle.ftd_rows.proofs.Found.{both}
 use Rattle.ftd_store.specs.Changes.{with_year, put_among}
 use Rattle.ftd_machine.specs.Limits.{is_between}
 use Rattle.ftd_machine.specs.State.{State, Entry, Entries, entries_of, is_of, has_key, content_of}
 use Rattle.ftd_machine.specs.State.{kept_at, is_open, is_given, holidays}
 use Rattle.ftd_machine.specs.History.{form_of, is_carried, is_live, value_of, live, liability_of}
 use Rattle.ftd_machine.specs.History.{live_sums, IsLookbackOn, HasLookback, AreCarried}
-use Rattle.ftd_machine.specs.History.{year_of_line, year_of_entry, AreLinesOf}
-use Rattle.ftd_machine.specs.History.{LacksFigure}
+use Rattle.ftd_machine.specs.History.{year_of_line, year_of_entry, AreLinesOf, LacksFigure}
 use Rattle.ftd_machine.specs.Checks.{Answer, first_of}
 use Rattle.ftd_machine.specs.Requests.{open_year_checks}
 use Rattle.ftd_machine.specs.Step.{Step, OpensNext, may_open, with_entry}
@@ -54,25 +53,16 @@ use Rattle.ftd_machine.specs.declared.replies.Refusal.{Refusal}
 use Rattle.ftd_machine.proofs.Deciding.{decided, passed}
 use Rattle.ftd_machine.proofs.Heads.{Gives, gives_needs, gives_done, skip_needs, skip_finds}
 use Rattle.ftd_machine.proofs.Others.{others}
-use Rattle.ftd_machine.specs.Sound.{IsSound, FollowFrom, Follow}
-use Rattle.ftd_machine.proofs.Adding.{entry_own, same_name, own_name, filter_more}
-use Rattle.ftd_machine.proofs.Members.{has_last, has_mapped, has_filtered, found_none}
-use Rattle.ftd_machine.proofs.Members.{mapped_has}
+use Rattle.ftd_machine.specs.Sound.{IsSound, Follow}
+use Rattle.ftd_machine.proofs.Adding.{entry_own, own_name, filter_more}
+use Rattle.ftd_machine.proofs.Members.{has_filtered, found_none}
 use Rattle.ftd_machine.proofs.Soundness.{step_sound}
+use Rattle.ftd_machine.proofs.Lined.{open_years_of, between_is}
 use Rattle.ftd_entries.specs.Standing.{StandsFor, IsSettled}
 use Rattle.ftd_entries.specs.Opening.{HasOpening, IsNextLine, KeepsYear}
 use Rattle.ftd_entries.proofs.CalendarRows.{year_cell}
 
 -- ---- lists with one more
-
-has_before : {X : Type 0} (xs : List X) (y x : X) → Has xs x → Has (xs ++ y ∷ []) x
-has_before [] y x has = absurd has
-has_before (z ∷ xs) y x (inl is) = inl is
-has_before (z ∷ xs) y x (inr has) = inr (has_before xs y x has)
-
-has_end : {X : Type 0} (xs : List X) (y : X) → Has (xs ++ y ∷ []) y
-has_end [] y = inl refl
-has_end (z ∷ xs) y = inr (has_end xs y)
 
 carried_more : (carried : Bool) (lines : List YearLine) (line : YearLine)
     → line.carried ≡ ((length lines == 0) && carried) → AreCarried carried lines
@@ -96,35 +86,6 @@ carried_more carried (first ∷ lines) line is are = (
 
 -- ---- years that follow one another
 
-follow_years : (first : ℕ) (lines : List YearLine) → FollowFrom first (map year_of_line lines)
-    → first ≤ 2098 → ((line : YearLine) → Has lines line → line.year ≤ 2098)
-    → YearsFrom (first + 1) lines
-follow_years first [] follow top within = omega arith
-follow_years first (line ∷ lines) follow top within = (
-  follow.0,
-  subst (λ y. YearsFrom (y + 1) lines) follow.0
-      (follow_years line.year lines follow.1 (within line (inl refl))
-      (λ other has. within other (inr has))),
-)
-
-open_years : (lines : List YearLine) → Follow (map year_of_line lines)
-    → ((line : YearLine) → Has lines line → (2001 ≤ line.year) × (line.year ≤ 2098))
-    → AreOpenYears lines
-open_years [] follow within = (2001, omega arith, omega arith)
-open_years (line ∷ lines) follow within = (
-  line.year,
-  (within line (inl refl)).0,
-  (
-    refl,
-    follow_years line.year lines follow (within line (inl refl)).1
-        (λ other has. (within other (inr has)).1),
-  ),
-)
-
-between : (year : ℕ) → is_between 2001 2098 year ≡ true → (2001 ≤ year) × (year ≤ 2098)
-between year e = let parts = both (nat_le 2001 year) (nat_le year 2098) e in
-    (leb-true 2001 year parts.0, leb-true year 2098 parts.1)
-
 -- each line is of an open year
 line_entry : (s : State) (name : List ℕ) (lines : List YearLine)
     → map year_of_line lines ≡ map year_of_entry (entries_of s name).open_years → (line : YearLine)
@@ -138,10 +99,10 @@ line_entry s name lines years line has =
 lines_open : (s : State) (name : List ℕ) (lines : List YearLine) → IsSound s
     → map year_of_line lines ≡ map year_of_entry (entries_of s name).open_years → AreOpenYears lines
 lines_open s name lines sound years =
-    open_years lines (subst Follow (sym years) (sound.in_turn name)) (λ line has.
+    open_years_of lines (subst Follow (sym years) (sound.in_turn name)) (λ line has.
     (let from = line_entry s name lines years line has in
     let its = has_filtered (is_of name) s.open_years from.0 from.1 in
-    let within = between from.0.key (sound.opened from.0 its.0).0 in
+    let within = between_is from.0.key (sound.opened from.0 its.0).0 in
     let low = within.0 in let high = within.1 in let same = from.2 in
     (omega arith, omega arith)))
 
@@ -155,9 +116,9 @@ no_liability (x ∷ sums) year low high none a b from to =
     let rest = no_liability sums year low high (λ y has. none y (inr has)) a b from to in
     let cons = liability-cons x sums a b in
     let here : share a b x ≡ 0 =
-    elim (lt_or_le x.day a) [
+    elim (cases_lt x.day a) [
       | inl before ↦ share_before x a b before
-      | inr after ↦ elim (lt_or_le b x.day) [
+      | inr after ↦ elim (cases_lt b x.day) [
         | inl late ↦ share_after x a b after late
         | inr within ↦
             let facts = year_facts year low high in
@@ -184,7 +145,7 @@ no_payday s name year sound closed x has is =
     ∙ sym (ap (λ (y : DaySum). y.day) run.2) in
     let here : is_open (entries_of s name) year ≡ true =
     sym (ap (λ n. is_open (entries_of s n) (year_of e.content.value.payday))
-    (same_name e.name name its.1) ∙ ap (λ d. is_open (entries_of s name) (year_of d)) day
+    (same_text e.name name its.1) ∙ ap (λ d. is_open (entries_of s name) (year_of d)) day
     ∙ ap (is_open (entries_of s name)) is) ∙ open_there in
     true≢false (sym here ∙ closed)
 
@@ -338,7 +299,7 @@ no_row s t name year closed settled = none_passes (is_year name (pos year)) (t Y
     other : (row : YearRow) → Has (t Years) row → is_year name (pos year) row ≡ true → ⊥
     other row has is =
         let own = (entries_of s name).open_years in
-        let parts = both (bytes_eq row.account name) (int_eq row.year (pos year)) is in
+        let parts = and_parts (bytes_eq row.account name) (int_eq row.year (pos year)) is in
         let among = has_permuted (map (year_row name) settled.lines)
         (filter (is_year_of name) (t Years)) (IsPermutation-sym _ _ settled.line_rows) row
         (kept (is_year_of name) (t Years) row has parts.0) in
@@ -443,7 +404,7 @@ module _ (name : List ℕ) (year : ℕ) where
       its_bounds =
           let fact : Gives (open_year_checks name year account there given next)
           (is_between 2001 2098 year ≡ true) = skip_needs _ _ _ _ (gives_needs _ _ _) in
-          between year (fact.fact all_passed)
+          between_is year (fact.fact all_passed)
 
       module _ (t : Tables) (stands : StandsFor t s) (sound : IsSound s) (total : Cents)
           (has : HasLookback (entries_of s name) year total)
@@ -569,7 +530,7 @@ module _ (name : List ℕ) (year : ℕ) where
             where
               by_name : (other : List ℕ) (b : Bool) → bytes_eq name other ≡ b
                   → IsSettled After (Next s) other
-              by_name other true is = subst (IsSettled After (Next s)) (same_name name other is)
+              by_name other true is = subst (IsSettled After (Next s)) (same_text name other is)
                   settled_own
               by_name other false is =
                   settled_other other is (others s Asked (Ok Done) (Next s) other

@@ -1,5 +1,5 @@
--- Rows of obligations: an obligation is known by its row, and those that were read are the account's
--- that begin on the days.
+-- Rows of obligations: an obligation is known by its row, and those that were read are the
+-- account's that begin on the days.
 use Rattle.std.proofs.Common.{◌≡◌, ℕ, pos, inl, inr, List, [], ◌∷◌, ◌++◌, map, Bool, false, ◌&&◌}
 use Rattle.std.proofs.Common.{Vec, refl, sym, ap, ◌∙◌, subst, arith}
 use Rattle.std.proofs.Math.IntN.{◌+ℤ◌, -ℤ-+ℤ_cancel}
@@ -11,8 +11,9 @@ use Rattle.ftd_rules.specs.declared.Rule.{Rule}
 use Rattle.ftd_rules.specs.declared.Rule.TheVariants.{Monthly, Semiweekly, NextDay}
 use Rattle.ftd_rules.specs.declared.Obligation.{Obligation}
 use Rattle.ftd_rules.specs.Lists.{KeysRise}
-use Rattle.ftd_rules.specs.Obligations.{ByFirstDay}
+use Rattle.ftd_rules.specs.Obligations.{ByFirstDay, begins_on}
 use Rattle.ftd_rules.proofs.Rising.{sorted_is, next_do_not_fall}
+use Rattle.ftd_rules.proofs.Members.{has_mapped, filter_in, filter_out}
 use Rattle.ftd_tables.specs.Order.{EachToNext}
 use Rattle.ftd_schema.specs.Rows.{ObligationRow}
 use Rattle.ftd_schema.specs.Orders.{ObligationsRise}
@@ -23,10 +24,10 @@ use Rattle.ftd_rows.specs.Rows.{obligation_row}
 use Rattle.ftd_schema.specs.declared.TableName.TheVariants.{Obligations}
 use Rattle.ftd_schema.specs.Standing.{Tables}
 use Rattle.ftd_store.specs.Finds.{IsObligation, ListsObligations}
-use Rattle.ftd_store.proofs.Sifted.{filter_in, filter_out, sifted}
+use Rattle.ftd_store.proofs.Sifted.{sifted}
 use Rattle.ftd_machine.proofs.Adding.{own_name}
-use Rattle.ftd_machine.proofs.Members.{has_mapped, has_filtered}
-use Rattle.ftd_entries.specs.Owed.{begins_on, KnowsObligations}
+use Rattle.ftd_machine.proofs.Members.{has_filtered}
+use Rattle.ftd_entries.specs.Owed.{KnowsObligations}
 use Rattle.ftd_entries.specs.Standing.{is_obligation_of}
 use Rattle.ftd_entries.proofs.CalendarRows.{whole, key_rises}
 use Rattle.ftd_entries.proofs.DayCells.{day_le}
@@ -159,7 +160,8 @@ module _ (account : List ℕ) (first last : ℕ) where
       let tail : xs ≡ ys = obligations_same xs ys tail_rows in
       cc
 
-  pub paired : (rows : List ObligationRow) (os : List Obligation) → Pairs (IsObligation account) rows os
+  pub paired : (rows : List ObligationRow) (os : List Obligation)
+      → Pairs (IsObligation account) rows os
       → rows ≡ map row os
   paired [] [] pairs = refl
   paired [] (o ∷ os) pairs = absurd pairs

@@ -29,8 +29,9 @@ use Rattle.ftd_entries.specs.declared.payments.KnownForPay.{KnownForPay}
 use Rattle.ftd_entries.specs.Known.{KnowsAccount}
 use Rattle.ftd_entries.specs.Payments.{KnowsForPay}
 use Rattle.ftd_entries.proofs.Reading.{Both}
-use Rattle.ftd_entries.proofs.Kept.{same_number, kept_payment, counted_payments}
+use Rattle.ftd_entries.proofs.Kept.{kept_payment, counted_payments}
 use Rattle.ftd_entries.proofs.Growing.{settled_grows}
+use Rattle.ftd_entries.proofs.CalendarRows.{year_cell}
 
 -- other payments change no line and no obligation
 paid_stands : (t : Tables) (s : State) (rows : List PaymentRow)
@@ -138,7 +139,7 @@ module _ (name : List ℕ) (number : ℕ) (payment : Payment) (count : ℕ) wher
 module _ (name : List ℕ) (number : ℕ) where
   test_is : (e : Entry (Voidable Payment)) → is_payment name (pos number) (payment_entry e)
       ≡ is_under name number e
-  test_is e = ap (λ b. bytes_eq e.name name && b) (same_number e.key number)
+  test_is e = ap (λ b. bytes_eq e.name name && b) (year_cell e.key number)
 
   -- the row of an entry that is voided, is voided
   row_voided : (e : Entry (Voidable Payment))

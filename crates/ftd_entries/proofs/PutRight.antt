@@ -1,9 +1,10 @@
 -- How an account begins is put right: what is answered, and the tables stand for the machine's next
 -- state.
 use Rattle.std.proofs.Common.{◌≡◌, ◌∙◌, refl, sym, ap, subst, ℕ, ◌+◌, ◌==◌, ◌&&◌, Bool, true}
-use Rattle.std.proofs.Common.{append-nil, append_assoc, false, List, [], ◌∷◌, ◌++◌, map, length, Option, None, Some, Ok, Vec, arith}
+use Rattle.std.proofs.Common.{append-nil, append_assoc, false, List, [], ◌∷◌, ◌++◌, map, length}
+use Rattle.std.proofs.Common.{Option, None, Some, Ok, Vec, arith}
 use Rattle.std.specs.Prelude.{filter, bytes_eq}
-use Rattle.std.proofs.lemmas.Bool.{true≢false, eqb-true}
+use Rattle.std.proofs.lemmas.Bool.{true≢false, eqb-true, and_parts}
 use Rattle.std.proofs.lemmas.List.{map-append, length-map}
 use Rattle.std.proofs.lemmas.List.Sorted.{length_permutation}
 use Rattle.ftd_rules.specs.declared.YearLine.{YearLine}
@@ -21,26 +22,27 @@ use Rattle.ftd_machine.specs.Checks.{Answer, first_of}
 use Rattle.ftd_machine.specs.Requests.{correct_account_checks, is_unused}
 use Rattle.ftd_machine.specs.Step.{Step, with_move}
 use Rattle.ftd_machine.specs.Sound.{IsSound}
-use Rattle.ftd_machine.proofs.Adding.{same_name, own_name}
+use Rattle.ftd_machine.proofs.Adding.{own_name}
 use Rattle.ftd_machine.proofs.Deciding.{decided, passed}
 use Rattle.ftd_machine.proofs.Others.{others}
 use Rattle.ftd_entries.specs.Correcting.{KnowsForCorrection}
 use Rattle.ftd_entries.specs.Standing.{StandsFor, IsSettled, with_earlier, account_correction_entry}
-use Rattle.std.proofs.Common.{suc}
 use Rattle.std.specs.Prelude.{if◌then◌else◌, IsPermutation}
+use Rattle.ftd_days.proofs.Spelling.{same_text}
 use Rattle.ftd_rules.specs.Years.{AreLines}
 use Rattle.ftd_rules.specs.Obligations.{AreObligations}
 use Rattle.ftd_schema.specs.Orders.{QuartersRise, ReportedYearsRise}
 use Rattle.ftd_schema.specs.Tests.{is_reported_of, is_reported_year_of, is_year_of}
 use Rattle.ftd_schema.specs.declared.TableName.TheVariants.{Years}
-use Rattle.ftd_rows.specs.Lists.{Lists, Pairs}
+use Rattle.ftd_rows.specs.Lists.{Lists}
 use Rattle.ftd_rows.specs.Rows.{account_correction_row, year_row}
-use Rattle.ftd_rows.proofs.Found.{both}
 use Rattle.ftd_store.specs.Finds.{ListsYears}
 use Rattle.ftd_store.specs.Kept.{IsQuarterTotal, IsYearTotal, ListsReported, ListsReportedYears}
+use Rattle.ftd_store.proofs.Items.{pairs_length}
 use Rattle.ftd_machine.specs.State.{holidays}
 use Rattle.ftd_machine.specs.History.{form_of, live_sums, year_of_line, year_of_entry, AreLinesOf}
 use Rattle.ftd_machine.proofs.Heads.{Gives, gives_needs, skip_needs, skip_finds, skip_new}
+use Rattle.ftd_machine.proofs.Soundness.{empty_of}
 use Rattle.ftd_entries.specs.Correcting.{KnowsUnused, correction_of}
 use Rattle.ftd_entries.specs.Standing.{quarter_entry, year_entry}
 use Rattle.ftd_entries.proofs.Enrolling.{owed_none, lines_none}
@@ -72,18 +74,11 @@ filtered_rows {X = X} test mine row same (x ∷ xs) =
     step true more = ap (λ rows. row x ∷ rows) more
     step false more = more
 
-as_many_pairs : {X Y : Type 0} (R : X → Y → Type 0) (xs : List X) (ys : List Y) → Pairs R xs ys
-    → length xs ≡ length ys
-as_many_pairs R [] [] pairs = refl
-as_many_pairs R [] (y ∷ ys) pairs = absurd pairs
-as_many_pairs R (x ∷ xs) [] pairs = absurd pairs
-as_many_pairs R (x ∷ xs) (y ∷ ys) pairs = ap suc (as_many_pairs R xs ys pairs.1)
-
 -- as many are listed as there are
 as_many : {X Y : Type 0} (Rise : X → X → Type 0) (R : X → Y → Type 0) (rows : List X)
     (listed : List Y) → Lists Rise R rows listed → length rows ≡ length listed
 as_many Rise R rows listed l =
-    sym (length_permutation rows l.ordered l.same) ∙ as_many_pairs R l.ordered listed l.pairs
+    sym (length_permutation rows l.ordered l.same) ∙ pairs_length R l.ordered listed l.pairs
 
 module _ (name : List ℕ) (t : Tables) (s : State) (stands : StandsFor t s) where
   quarters_counted : {A : Type 0} (listed : Vec QuarterTotal A) → ListsReported name listed t
@@ -127,10 +122,6 @@ unused_known name quarters years lines t of_quarters of_years of_lines s stands 
     (years_counted name t s stands years of_years)
     ∙ ap (λ n. (length quarters.items == 0) && ((length years.items == 0) && (n == 0)))
     (lines_counted name t s stands lines of_lines)
-
-no_items : {X : Type 0} (xs : List X) → (length xs == 0) ≡ true → xs ≡ []
-no_items [] e = refl
-no_items (x ∷ xs) e = absurd (let none = eqb-true (length (x ∷ xs)) 0 e in omega (arith, none))
 
 -- ---- put right
 
@@ -177,7 +168,8 @@ module _ (name : List ℕ) (number : ℕ) (beginning : Beginning) where
   pub put_right_decided : (known : KnownForCorrection) (answer : Answer)
       → first_of (correct_account_checks name number beginning known.account known.known
       known.is_unused known.count) ≡ Some answer
-      → (t : Tables) (s : State) → StandsFor t s → IsSound s → KnowsForCorrection name number known t
+      → (t : Tables) (s : State) → StandsFor t s → IsSound s
+      → KnowsForCorrection name number known t
       → Step s Asked answer s
   put_right_decided known answer is t s stands sound knows =
       decided _ s answer _ (checks_are known t s stands knows ∙ is)
@@ -202,10 +194,10 @@ module _ (name : List ℕ) (number : ℕ) (beginning : Beginning) where
       → IsSettled t s name → IsSettled (After t) (Next s) name
   settled_own t s unused was =
       let own = entries_of s name in
-      let parts = both (length own.reported == 0)
+      let parts = and_parts (length own.reported == 0)
       ((length own.reported_years == 0) && (length own.open_years == 0)) unused in
       let opened : own.open_years ≡ [] =
-      no_items own.open_years (both (length own.reported_years == 0)
+      empty_of own.open_years (and_parts (length own.reported_years == 0)
       (length own.open_years == 0) parts.1).1 in
       let lines : was.lines ≡ [] = lines_none was.lines (was.are_lines.years
       ∙ ap (map year_of_entry) opened) in
@@ -279,7 +271,7 @@ module _ (name : List ℕ) (number : ℕ) (beginning : Beginning) where
           → bytes_eq name other ≡ b
           → IsSettled (After t) (Next s) other
       by_name t s unused stands step other true is =
-          subst (IsSettled (After t) (Next s)) (same_name name other is)
+          subst (IsSettled (After t) (Next s)) (same_text name other is)
           (settled_own t s unused (stands.settled name))
       by_name t s unused stands step other false is =
           settled_other t s other (others s Asked (Ok Done) (Next s) other step

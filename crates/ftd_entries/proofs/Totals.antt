@@ -17,8 +17,7 @@ use Rattle.ftd_machine.specs.History.{HasLookback, IsMissingOn, LacksFigure}
 use Rattle.ftd_machine.specs.Sound.{IsSound}
 use Rattle.ftd_machine.proofs.Soundness.{sound_once}
 use Rattle.ftd_entries.specs.Totals.{IsTotalOn941, IsTotalOn943, IsTotal, as_figures, figures_found}
-use Rattle.ftd_entries.specs.Totals.{AreFiguresOnce}
-use Rattle.ftd_entries.specs.Totals.{figure_before}
+use Rattle.ftd_entries.specs.Totals.{AreFiguresOnce, figure_before}
 use Rattle.ftd_entries.proofs.Figures.{kept_has, kept_none}
 
 -- both lists have the same figures of the quarter, or of the year
@@ -113,7 +112,8 @@ has_found (x ∷ more) key amount (inr has) = has_right (as_figures x.0 x.1) (fi
 
 -- where what was found is what is kept, and that stands once, its figures are those that are kept
 same_found : (reported corrected : List (Entry Cents)) (found : List (ℕ × Option Cents))
-    → AreReportedOnce (figures reported corrected) → ((key : ℕ) (o : Option Cents) → Has found (key, o)
+    → AreReportedOnce (figures reported corrected)
+    → ((key : ℕ) (o : Option Cents) → Has found (key, o)
     → figure_at key reported corrected ≡ o)
     → (key : ℕ) (o : Option Cents) → Has found (key, o) → SameAt (figures_found found)
     (figures reported corrected) key
@@ -173,14 +173,18 @@ module _ (reported corrected : List (Entry Cents)) (start year : ℕ)
   abbrev Found : List (ℕ × Option Cents)
   Found = (third, a) ∷ (fourth, b) ∷ (first, c) ∷ (second, d) ∷ []
 
-  module _ (kept_a : figure_at third reported corrected ≡ a) (kept_b : figure_at fourth reported corrected ≡ b)
-      (kept_c : figure_at first reported corrected ≡ c) (kept_d : figure_at second reported corrected ≡ d) where
+  module _ (kept_a : figure_at third reported corrected ≡ a)
+      (kept_b : figure_at fourth reported corrected ≡ b)
+      (kept_c : figure_at first reported corrected ≡ c)
+      (kept_d : figure_at second reported corrected ≡ d) where
     among : (key : ℕ) (o : Option Cents) → Has Found (key, o) → figure_at key reported corrected ≡ o
     among key o (inl is) = subst (λ (p : ℕ × Option Cents). figure_at p.0 reported corrected ≡ p.1)
         (sym is) kept_a
-    among key o (inr (inl is)) = subst (λ (p : ℕ × Option Cents). figure_at p.0 reported corrected ≡ p.1)
+    among key o (inr (inl is)) =
+        subst (λ (p : ℕ × Option Cents). figure_at p.0 reported corrected ≡ p.1)
         (sym is) kept_b
-    among key o (inr (inr (inl is))) = subst (λ (p : ℕ × Option Cents). figure_at p.0 reported corrected ≡ p.1)
+    among key o (inr (inr (inl is))) =
+        subst (λ (p : ℕ × Option Cents). figure_at p.0 reported corrected ≡ p.1)
         (sym is) kept_c
     among key o (inr (inr (inr (inl is)))) =
         subst (λ (p : ℕ × Option Cents). figure_at p.0 reported corrected ≡ p.1) (sym is) kept_d
@@ -197,9 +201,11 @@ module _ (reported corrected : List (Entry Cents)) (start year : ℕ)
           (figures reported corrected) quarter
       same quarter (inl is) = subst (SameAt (figures_found Found) (figures reported corrected))
           (is_third ∙ sym is) (at_key third a (inl refl))
-      same quarter (inr (inl is)) = subst (SameAt (figures_found Found) (figures reported corrected))
+      same quarter (inr (inl is)) =
+          subst (SameAt (figures_found Found) (figures reported corrected))
           (is_fourth ∙ sym is) (at_key fourth b (inr (inl refl)))
-      same quarter (inr (inr (inl is))) = subst (SameAt (figures_found Found) (figures reported corrected))
+      same quarter (inr (inr (inl is))) = subst
+          (SameAt (figures_found Found) (figures reported corrected))
           (is_first ∙ sym is) (at_key first c (inr (inr (inl refl))))
       same quarter (inr (inr (inr (inl is)))) =
           subst (SameAt (figures_found Found) (figures reported corrected)) (is_second ∙ sym is)
@@ -209,7 +215,8 @@ module _ (reported corrected : List (Entry Cents)) (start year : ℕ)
       pub quarters_known : (total : Result Cents Refusal)
           → IsTotalOn941 (figures_found Found) start year total
           → IsTotalOn941 (figures reported corrected) start year total
-      quarters_known total h = total_on_941 (figures_found Found) (figures reported corrected) start year
+      quarters_known total h = total_on_941 (figures_found Found) (figures reported corrected) start
+          year
           total same h
 
 -- ---- the figures of a sound state

@@ -8,6 +8,7 @@ use Rattle.std.proofs.lemmas.Bool.{true≢false, cases_Bool}
 use Rattle.std.proofs.lemmas.List.{length-map}
 use Rattle.std.proofs.lemmas.List.Folds.{list_any-append}
 use Rattle.std.proofs.lemmas.List.Sorted.{list_any-IsPermutation, length_permutation}
+use Rattle.ftd_rules.proofs.Members.{filter_in, filter_out}
 use Rattle.ftd_days.specs.Calendar.{year_of}
 use Rattle.ftd_days.specs.Business.{is_holiday}
 use Rattle.ftd_days.specs.Holidays.{holidays_of}
@@ -22,12 +23,11 @@ use Rattle.ftd_store.specs.Finds.{IsHoliday, FindsCalendar, ListsAdded}
 use Rattle.ftd_store.specs.Corrections.{ListsHolidayChanges}
 use Rattle.ftd_store.specs.Holidays.{HasHolidays, is_holiday_in, is_kept}
 use Rattle.ftd_rows.specs.declared.corrections.HolidayChange.{HolidayChange}
-use Rattle.ftd_store.proofs.Sifted.{filter_in, filter_out}
 use Rattle.ftd_machine.specs.State.{State, days_of, calendar_at, added_in, holidays, all_days}
 use Rattle.ftd_machine.specs.State.{is_in_force}
 use Rattle.ftd_machine.specs.Sound.{IsSound}
-use Rattle.ftd_machine.proofs.InYear.{AreFiled, filed_of, in_calendar, none_of, own_year, never_added}
-use Rattle.ftd_machine.proofs.InYear.{is_in}
+use Rattle.ftd_machine.proofs.InYear.{AreFiled, filed_of, in_calendar, none_of, own_year}
+use Rattle.ftd_machine.proofs.InYear.{never_added, is_in}
 use Rattle.ftd_machine.proofs.Keeping.{is_year}
 use Rattle.ftd_machine.proofs.Members.{found_none}
 use Rattle.ftd_entries.specs.Standing.{StandsFor, KeepsDays, added_entry}

@@ -1,13 +1,10 @@
 -- Which of an account's obligations begin on some days.
-use Rattle.std.specs.Prelude.{◌≡◌, ◌&&◌, ℕ, nat_le, Bool, List, filter}
+use Rattle.std.specs.Prelude.{◌≡◌, ◌&&◌, ℕ, List, filter}
 use Rattle.ftd_rules.specs.declared.Obligation.{Obligation}
+use Rattle.ftd_rules.specs.Obligations.{begins_on}
 use Rattle.ftd_schema.specs.Standing.{Tables}
 use Rattle.ftd_machine.specs.State.{State}
 use Rattle.ftd_entries.specs.Standing.{StandsFor}
-
--- the obligation begins on one of the days
-abbrev pub begins_on : ℕ → ℕ → Obligation → Bool
-begins_on first last o = nat_le first o.first && nat_le o.first last
 
 -- these are the account's obligations that begin on the days, by first day
 abbrev pub KnowsObligations : List ℕ → ℕ → ℕ → List Obligation → Tables → Type 0

@@ -1,8 +1,7 @@
 -- When tables stand for a state: each holds the rows of its entries, in the order in which they
 -- were accepted, and the rows that follow from them are settled.
 use Rattle.std.specs.Prelude.{◌≡◌, ℕ, ◌+◌, pos, Bool, bytes_eq, List, [], ◌∷◌, ◌++◌, map, flat_map}
-use Rattle.std.specs.Prelude.{filter, length}
-use Rattle.std.specs.Prelude.{IsPermutation}
+use Rattle.std.specs.Prelude.{filter, length, IsPermutation}
 use Rattle.ftd_days.specs.Calendar.{year_of}
 use Rattle.ftd_days.specs.Holidays.{YearDays}
 use Rattle.ftd_days.specs.declared.cents.Cents.{Cents}
@@ -169,9 +168,9 @@ pub record HasLater (t : Tables) (s : State) : Type 0 where
   pub reported_years : t ReportedYears ≡ map year_entry s.reported_years
   pub added_days : t AddedHolidays ≡ map added_entry s.added_days
 
--- the tables are marked as those of an earlier version, and stand for the state: neither version has
--- tables for corrections, and the other tables hold the rows of their entries, and the rows that
--- follow from them are settled
+-- the tables are marked as those of an earlier version, and stand for the state: neither version
+-- has tables for corrections, and the other tables hold the rows of their entries, and the rows
+-- that follow from them are settled
 pub record StandsForEarlier (version : ℕ) (t : Tables) (s : State) : Type 0 where
   pub meta : HasVersion (t Metas) version
   pub first : version ≡ 1 → HasNoLater s

@@ -95,7 +95,8 @@ fn correction_of(number: u32, beginning: Beginning) -> AccountCorrection
     }
 }
 
-/// Puts right how an account begins: its first day, and whether it was carried over. Its form stays.
+/// Puts right how an account begins: its first day, and whether it was carried over. Its form
+/// stays.
 pub fn correct_account<S: Alter>(
     tx: &mut Tx<'_, S>,
     alloc: Global,

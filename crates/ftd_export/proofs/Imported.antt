@@ -2,7 +2,7 @@
 use Rattle.std.proofs.Common.{◌≡◌, ◌⊎◌, refl, subst, ℕ, ◌≤◌, Bool, true, false, inl, inr}
 use Rattle.std.proofs.Common.{List, [], ◌∷◌, Option, None, Some, Ok, arith}
 use Rattle.std.specs.Prelude.{nat_le}
-use Rattle.std.proofs.lemmas.Bool.{leb-true}
+use Rattle.std.proofs.lemmas.Bool.{leb-true, and_parts}
 use Rattle.ftd_days.specs.Calendar.{year_of, quarter_year}
 use Rattle.ftd_days.proofs.Months.{day_in_years}
 use Rattle.ftd_rules.specs.declared.run.PayRun.{PayRun}
@@ -29,7 +29,6 @@ use Rattle.ftd_machine.specs.declared.requests.Question.TheVariants as question
 use Rattle.ftd_machine.specs.declared.requests.Request.TheVariants.{Question}
 use Rattle.ftd_machine.proofs.Deciding.{either}
 use Rattle.ftd_machine.proofs.Entered.{of_kept}
-use Rattle.ftd_machine.proofs.Few.{and_second}
 use Rattle.ftd_machine.proofs.Members.{some_of}
 use Rattle.ftd_machine.proofs.Soundness.{reached_sound}
 use Rattle.ftd_export.specs.Exports.{IsPosted}
@@ -93,8 +92,8 @@ module _ (s : State) (account : List ℕ) (quarter : ℕ) (listed : List KeptRun
   early year e =
       let some = some_of (kept_at year (entries_of s account).open_years) e in
       let found = of_kept account s.open_years sound.open_years year some.0 some.1 in
-      let between = and_second (nat_le 2001 found.0.key) (nat_le found.0.key 2098)
-      (sound.opened found.0 found.1).0 in
+      let between = (and_parts (nat_le 2001 found.0.key) (nat_le found.0.key 2098)
+      (sound.opened found.0 found.1).0).1 in
       let last = leb-true found.0.key 2098 between in
       let key = found.3 in
       omega (arith, last, key)

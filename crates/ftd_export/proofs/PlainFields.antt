@@ -1,24 +1,19 @@
 -- The fields of a record are plain: no byte of them calls for quotes.
 use Rattle.std.proofs.Common.{◌≡◌, ◌∙◌, refl, sym, ap, ℕ, ◌/◌, ◌<◌, ◌^◌, ◌&&◌, ◌||◌, ◌==◌}
 use Rattle.std.proofs.Common.{Bool, true, false, inl, inr, List, [], ◌∷◌, ◌++◌, length, arith}
-use Rattle.std.specs.Prelude.{nat_le, nat_lt}
+use Rattle.std.specs.Prelude.{nat_lt}
 use Rattle.std.specs.Char.{is_ascii_digit, is_ascii_lowercase}
 use Rattle.std.specs.Fmt.{decimal}
 use Rattle.std.specs.List.{list_all, list_any}
 use Rattle.std.specs.Str.{all_ascii_digits}
-use Rattle.std.proofs.lemmas.Bool.{cases_Bool, eqb-true, true≢false, le-leb}
+use Rattle.std.proofs.lemmas.Bool.{cases_Bool, eqb-true, true≢false, and_parts}
 use Rattle.std.proofs.lemmas.Fmt.{digits_decimal}
 use Rattle.csv.specs.Writing.{default_writer, needs_byte}
 use Rattle.ftd_days.specs.Digits.{digit, two_digits, four_digits}
 use Rattle.ftd_days.specs.Text.{day_text, cents_text}
 use Rattle.ftd_days.specs.Calendar.{year_of, month_in_year, day_of_month}
-use Rattle.ftd_days.proofs.Numerals.{own}
+use Rattle.ftd_days.proofs.Numerals.{own, digit_is}
 use Rattle.ftd_rules.specs.Accounts.{is_name_byte, is_account_name}
-use Rattle.ftd_machine.proofs.Few.{and_first, and_second}
-
--- both tests of two are met
-both : (a b : Bool) → (a && b) ≡ true → (a ≡ true) × (b ≡ true)
-both a b e = (and_first a b e, and_second a b e)
 
 -- letters, digits, hyphens and points
 abbrev pub is_own : ℕ → Bool
@@ -46,7 +41,7 @@ pub plain : (field : List ℕ) → are_own field ≡ true
     → list_any (needs_byte default_writer) field ≡ false
 plain [] e = refl
 plain (b ∷ field) e =
-    let parts = both (is_own b) (are_own field) e in
+    let parts = and_parts (is_own b) (are_own field) e in
     rw (own_plain b parts.0, plain field parts.1) refl
 
 -- ---- each field
@@ -60,15 +55,11 @@ own_digit b e = elim (cases_Bool (is_ascii_lowercase b)) [
 pub own_digits : (ds : List ℕ) → all_ascii_digits ds ≡ true → are_own ds ≡ true
 own_digits [] e = refl
 own_digits (d ∷ ds) e =
-    let parts = both (is_ascii_digit d) (all_ascii_digits ds) e in
+    let parts = and_parts (is_ascii_digit d) (all_ascii_digits ds) e in
     rw (own_digit d parts.0, own_digits ds parts.1) refl
 
-one_digit : (n : ℕ) → is_ascii_digit (digit n) ≡ true
-one_digit n = ap (λ b. b && nat_le (digit n) 57) (le-leb 48 (digit n) (omega arith))
-    ∙ le-leb (digit n) 57 (omega arith)
-
 own_of : (n : ℕ) → is_own (digit n) ≡ true
-own_of n = own_digit (digit n) (one_digit n)
+own_of n = own_digit (digit n) (digit_is n)
 
 pub own_decimal : (n : ℕ) → n < 2 ^ 64 → are_own (decimal n) ≡ true
 own_decimal n small = own_digits (decimal n) (digits_decimal own n small)
@@ -76,7 +67,7 @@ own_decimal n small = own_digits (decimal n) (digits_decimal own n small)
 own_append : (xs ys : List ℕ) → are_own xs ≡ true → are_own ys ≡ true → are_own (xs ++ ys) ≡ true
 own_append [] ys a b = b
 own_append (x ∷ xs) ys a b =
-    let parts = both (is_own x) (are_own xs) a in
+    let parts = and_parts (is_own x) (are_own xs) a in
     rw (parts.0, own_append xs ys parts.1 b) refl
 
 own_two : (n : ℕ) → are_own (two_digits n) ≡ true
@@ -100,14 +91,14 @@ own_cents amount small =
 name_own : (bytes : List ℕ) → list_all is_name_byte bytes ≡ true → are_own bytes ≡ true
 name_own [] e = refl
 name_own (b ∷ bytes) e =
-    let parts = both (is_name_byte b) (list_all is_name_byte bytes) e in
+    let parts = and_parts (is_name_byte b) (list_all is_name_byte bytes) e in
     rw (parts.0, name_own bytes parts.1) refl
 
 pub own_name : (account : List ℕ) → is_account_name account ≡ true → are_own account ≡ true
 unfolding is_account_name
 own_name [] e = absurd cc
 own_name (first ∷ others) e =
-    let whole = both (is_ascii_lowercase first && nat_lt (length others) 20)
+    let whole = and_parts (is_ascii_lowercase first && nat_lt (length others) 20)
     (list_all is_name_byte others) e in
-    let front = both (is_ascii_lowercase first) (nat_lt (length others) 20) whole.0 in
+    let front = and_parts (is_ascii_lowercase first) (nat_lt (length others) 20) whole.0 in
     rw (front.0, name_own others whole.1) refl

@@ -10,7 +10,8 @@ use Rattle.ftd_days.proofs.Months.{in_month, date_bounds}
 use Rattle.ftd_days.proofs.Spelling.{day_missing, day_spelled}
 
 four_same : (a b : ℕ) → a < 10_000 → b < 10_000 → digit (a / 1000) ≡ digit (b / 1000)
-    → digit (a / 100) ≡ digit (b / 100) → digit (a / 10) ≡ digit (b / 10) → digit a ≡ digit b → a ≡ b
+    → digit (a / 100) ≡ digit (b / 100) → digit (a / 10) ≡ digit (b / 10) → digit a ≡ digit b
+    → a ≡ b
 four_same a b p q w x y z = omega arith
 
 two_same : (a b : ℕ) → a < 100 → b < 100 → digit (a / 10) ≡ digit (b / 10) → digit a ≡ digit b

@@ -1,12 +1,11 @@
 -- The CSV of runs is read as those that were not voided.
-use Rattle.std.proofs.Common.{◌≡◌, ◌∙◌, refl, sym, ap, ℕ, ◌<◌, ◌≤◌, ◌&&◌, Bool, true}
+use Rattle.std.proofs.Common.{◌≡◌, ◌∙◌, refl, sym, ap, ℕ, ◌<◌, ◌≤◌, ◌&&◌, true}
 use Rattle.std.proofs.Common.{inl, inr, List, [], ◌∷◌, ◌++◌, map, length, Some, arith}
-use Rattle.std.specs.Prelude.{filter, codes, nat_le, ◌^◌}
-use Rattle.std.specs.Prelude.{if◌then◌else◌}
+use Rattle.std.specs.Prelude.{filter, codes, nat_le, ◌^◌, if◌then◌else◌}
 use Rattle.std.specs.Str.{all_ascii_digits}
 use Rattle.std.specs.Fmt.{decimal}
 use Rattle.std.specs.List.{flat_map}
-use Rattle.std.proofs.lemmas.Bool.{cases_Bool, leb-true, le-leb, lt-ltb}
+use Rattle.std.proofs.lemmas.Bool.{cases_Bool, leb-true, le-leb, lt-ltb, and_parts}
 use Rattle.std.proofs.lemmas.Fmt.{digits_decimal, digits_value-decimal, length-decimal-le}
 use Rattle.std.proofs.lemmas.Fmt.{decimal_nonempty}
 use Rattle.csv.specs.Reading.{default_config, records, strip_bom}
@@ -29,16 +28,11 @@ use Rattle.ftd_formats.specs.Fields.{record_told}
 use Rattle.ftd_listings.specs.KeptForms.{live_record, run_record, runs_csv, records_head}
 use Rattle.ftd_machine.specs.Limits.{is_amount}
 use Rattle.ftd_machine.specs.declared.kept.KeptRun.{KeptRun}
-use Rattle.ftd_machine.proofs.Few.{and_first, and_second}
 use Rattle.ftd_export.specs.Exports.{IsPosted, is_live, said_as}
 use Rattle.ftd_export.proofs.PlainFields.{own_name, own_decimal, own_day, own_cents}
 use Rattle.ftd_export.proofs.RecordText.{AreOwn, row_is}
 use Rattle.ftd_export.proofs.PrintedDays.{day_reread}
 use Rattle.ftd_export.proofs.ReadBack.{AreRows, read_written}
-
--- both tests of two are met
-both : (a b : Bool) → (a && b) ≡ true → (a ≡ true) × (b ≡ true)
-both a b e = (and_first a b e, and_second a b e)
 
 -- ---- one run
 
@@ -51,15 +45,15 @@ module _ (account : List ℕ) (name : is_account_name account ≡ true) (x : Kep
     (fits : IsPosted x) where
   number_fits : (1 ≤ x.number) × (x.number ≤ 999_999_999)
   number_fits =
-      let parts = both (nat_le 1 x.number) (nat_le x.number 999_999_999) fits.number in
+      let parts = and_parts (nat_le 1 x.number) (nat_le x.number 999_999_999) fits.number in
       (leb-true 1 x.number parts.0, leb-true x.number 999_999_999 parts.1)
 
   amounts_fit : (x.run.fit.0 ≤ 99_999_999_999) × (x.run.ss.0 ≤ 99_999_999_999)
       × (x.run.medicare.0 ≤ 99_999_999_999)
   amounts_fit =
-      let parts = both (is_amount x.run.fit) (is_amount x.run.ss && is_amount x.run.medicare)
+      let parts = and_parts (is_amount x.run.fit) (is_amount x.run.ss && is_amount x.run.medicare)
       fits.amounts in
-      let rest = both (is_amount x.run.ss) (is_amount x.run.medicare) parts.1 in (
+      let rest = and_parts (is_amount x.run.ss) (is_amount x.run.medicare) parts.1 in (
         leb-true x.run.fit.0 99_999_999_999 parts.0,
         leb-true x.run.ss.0 99_999_999_999 rest.0,
         leb-true x.run.medicare.0 99_999_999_999 rest.1,
@@ -160,7 +154,8 @@ module _ (account : List ℕ) (name : is_account_name account ≡ true) where
       ]
 
   says : (listed : List KeptRun) → Fit listed
-      → map (entry_in Runs) (live_rows account listed) ≡ map (said_as account) (filter is_live listed)
+      → map (entry_in Runs) (live_rows account listed)
+      ≡ map (said_as account) (filter is_live listed)
   says [] fit = refl
   says (x ∷ listed) fit =
       let rest = says listed (λ y has. fit y (inr has)) in

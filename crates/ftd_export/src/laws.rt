@@ -26,7 +26,8 @@ pub fn exported_runs_are_read_again()
     ensures records { (account : List ℕ) (listed : List KeptRun)
         → is_account_name account ≡ true
         → ((x : KeptRun) → Has listed x → IsPosted x)
-        → records_of Runs (runs_csv account listed) ≡ map (said_as account) (filter is_live listed) }
+        → records_of Runs (runs_csv account listed)
+        ≡ map (said_as account) (filter is_live listed) }
 {}
 
 /// What a desk that requests lead to answers of the runs of an account's quarter, told as CSV, is
@@ -37,5 +38,6 @@ pub fn exported_runs_are_imported()
         → Step s (Question (question.Kept (kept.Runs account quarter)))
         (told_rows (rows.Runs listed)) next
         → HasHeader Runs (runs_csv account listed)
-        × (records_of Runs (runs_csv account listed) ≡ map (said_as account) (filter is_live listed)) }
+        × (records_of Runs (runs_csv account listed)
+        ≡ map (said_as account) (filter is_live listed)) }
 {}

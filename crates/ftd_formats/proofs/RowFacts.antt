@@ -3,14 +3,14 @@ use Rattle.std.proofs.Common.{◌≡◌, ℕ, ◌+◌, ◌<◌, ◌≤◌, List,
 use Rattle.std.proofs.Common.{refl, sym, ap, ◌∙◌, append-nil, append_assoc}
 use Rattle.std.specs.List.{join_with_byte, flat_map}
 use Rattle.std.proofs.lemmas.List.{drop_all, nil_from_length}
-use Rattle.ftd_reports.proofs.LineFacts.{row_on}
+use Rattle.ftd_days.proofs.Wholes.{rest_of}
 use Rattle.ftd_formats.specs.Fields.{comma, member}
 
 -- the texts of the rows from one on are its text and those of the rows after it
 pub texts_at : {X : Type 0} (text : X → List ℕ) (rows : List X) (i : ℕ) (row : X)
     → i < length rows → row ≡ get_or rows i row
     → flat_map text (drop i rows) ≡ text row ++ flat_map text (drop (i + 1) rows)
-texts_at {X} text rows i row h is = ap (λ (z : List X). flat_map text z) (row_on rows i row h is)
+texts_at {X} text rows i row h is = ap (λ (z : List X). flat_map text z) (rest_of rows i row h is)
 
 -- after the last row there is none
 pub texts_end : {X : Type 0} (text : X → List ℕ) (rows : List X) (i : ℕ) → length rows ≤ i

@@ -5,7 +5,7 @@ use Rattle.std.specs.Prelude.{filter}
 use Rattle.std.specs.List.{enumerate_from, flat_map}
 use Rattle.ftd_csv.specs.Fields.{numbered_field}
 use Rattle.ftd_csv.specs.Places.{Advances, fields_at, number_of, rows_after, said_at, sheet_of}
-use Rattle.ftd_csv.specs.Records.{Entry, SaidEntry, enters, entry_in, malformed}
+use Rattle.ftd_csv.specs.Records.{SaidEntry, entry_in, malformed}
 use Rattle.ftd_csv.specs.declared.reading.Records.{Records}
 use Rattle.ftd_csv.specs.declared.sheets.Sheet.{Sheet}
 use Rattle.ftd_hints.specs.Hints.{is_malformed, row_hint, said_hint, text_hint}
@@ -31,11 +31,6 @@ none_left most records e =
     ap (λ (rows : List (List (List ℕ))). hints_among (sheet_of records) most
     (number_of records + 1) rows) e ∙ none_among (sheet_of records) most (number_of records + 1)
 
-good_first : (kind : Sheet) (most number : ℕ) (fields : List (List ℕ))
-    (rows : List (List (List ℕ))) (it : Entry) → entry_in kind fields ≡ enters it
-    → hints_among kind most number (fields ∷ rows) ≡ hints_among kind most (number + 1) rows
-good_first kind most number fields rows it e = rw e refl
-
 bad_first : (kind : Sheet) (most number field : ℕ) (fields : List (List ℕ))
     (rows : List (List (List ℕ))) → entry_in kind fields ≡ malformed field
     → hints_among kind (suc most) number (fields ∷ rows)
@@ -58,11 +53,6 @@ with_first most old new goes =
     goes.rows
     ∙ ap (λ n. hints_among (sheet_of new) most n (fields_at new ∷ rows_after new))
     (sym goes.number)
-
-pub past_good : (most : ℕ) (old new : Records) (it : Entry) → Advances old new
-    → said_at new ≡ enters it → hints_left most old ≡ hints_left most new
-past_good most old new it goes e = with_first most old new goes
-    ∙ good_first (sheet_of new) most (number_of new) (fields_at new) (rows_after new) it e
 
 pub past_bad : (most left field : ℕ) (old new : Records) → Advances old new
     → said_at new ≡ malformed field → most ≡ suc left

@@ -3,14 +3,11 @@ use Rattle.std.proofs.Common.{◌≡◌, ◌+◌, ℕ, List, [], ◌∷◌, leng
 use Rattle.std.proofs.Common.{refl, Option, Some, None, Bor, MatchOption, unwrap_or, eqb, sym, ◌∙◌}
 use Rattle.std.specs.Prelude.{◌&&◌}
 use Rattle.std.specs.Cmp.Lexicographic.{pointwise}
+use Rattle.std.proofs.Math.Bool.{and-false}
 use Rattle.csv.specs.Reading.{is_bom, strip_bom}
 
 abbrev mark : List ℕ
 mark = 0xEF ∷ 0xBB ∷ 0xBF ∷ []
-
-and_false : (a : Bool) → (a && false) ≡ false
-and_false true = refl
-and_false false = refl
 
 three : (a b c : Bool) → ((a && b) && c) ≡ (a && (b && (c && true)))
 three false b c = refl
@@ -19,13 +16,13 @@ three true true false = refl
 three true true true = refl
 
 two : (a b : Bool) → (a && (b && false)) ≡ false
-two true b = and_false b
+two true b = and-false b
 two false b = refl
 
 marked : (text : List ℕ) → pointwise eqb (take 3 text) mark ≡ true → drop 3 text ≡ strip_bom text
 unfolding strip_bom
 marked [] h = cc
-marked (a ∷ []) h = let f = sym h ∙ and_false (eqb a 0xEF) in cc f
+marked (a ∷ []) h = let f = sym h ∙ and-false (eqb a 0xEF) in cc f
 marked (a ∷ b ∷ []) h = let f = sym h ∙ two (eqb a 0xEF) (eqb b 0xBB) in cc f
 marked (a ∷ b ∷ c ∷ rest) h =
     let found : is_bom a b c ≡ true = three (eqb a 0xEF) (eqb b 0xBB) (eqb c 0xBF) ∙ h in

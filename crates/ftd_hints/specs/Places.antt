@@ -13,4 +13,5 @@ malformed_left records =
 
 -- the hints of so many of them at most
 abbrev pub hints_left : ℕ → Records → List ℕ
-hints_left most records = flat_map (row_hint (sheet_of records)) (take most (malformed_left records))
+hints_left most records = flat_map (row_hint (sheet_of records))
+    (take most (malformed_left records))

@@ -52,9 +52,9 @@ impl From<WriteFault> for HintFault {
 
 /// Writes the hints of the first malformed records of a text of the sheet, of as many at most as
 /// `most` says: for each a line with what its least bad field says and what is asked for there, or
-/// with how many fields it has, where the header has more or fewer. Nothing is written where the text has more
-/// than 16 MiB or no header. It reads the records again, and beside the text it holds one of them.
-/// Where there is no memory, or the target fails, a prefix of the hints was written.
+/// with how many fields it has, where the header has more or fewer. Nothing is written where the
+/// text has more than 16 MiB or no header. It reads the records again, and beside the text it holds
+/// one of them. Where there is no memory, or the target fails, a prefix of the hints was written.
 pub fn write_record_hints<W: Target>(
     alloc: Global,
     sheet: Sheet,
@@ -65,7 +65,8 @@ pub fn write_record_hints<W: Target>(
     ensures ok { OnOk result
         (Appends (W.taken target.old) (W.taken target.new) (record_hints sheet most text.now)) }
     ensures err { OnErr result
-        (WritesPrefix (W.taken target.old) (W.taken target.new) (record_hints sheet most text.now)) }
+        (WritesPrefix (W.taken target.old) (W.taken target.new)
+        (record_hints sheet most text.now)) }
     ensures fault { result ≡ Err HintFault.Write → W.failed target.new ≡ true }
 {
     match Records::open(alloc, sheet, text) {
@@ -182,7 +183,8 @@ fn write_field_hint<W: Target>(
     target: &mut W,
 ) -> Result<(), WriteFault>
     ensures ok { OnOk result
-        (Appends (W.taken target.old) (W.taken target.new) (field_hint sheet number field text.now)) }
+        (Appends (W.taken target.old) (W.taken target.new)
+        (field_hint sheet number field text.now)) }
     ensures err { OnErr result
         (WritesPrefix (W.taken target.old) (W.taken target.new)
         (field_hint sheet number field text.now)) }

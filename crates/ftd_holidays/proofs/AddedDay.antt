@@ -21,8 +21,8 @@ use Rattle.ftd_machine.specs.declared.replies.Reply.TheVariants.{Done}
 use Rattle.ftd_machine.specs.declared.replies.Refusal.TheVariants.{BadDay, BadCalendar}
 use Rattle.ftd_machine.specs.declared.replies.Refusal.TheVariants.{CalendarMissing}
 use Rattle.ftd_machine.specs.Limits.{is_between, most_holidays}
-use Rattle.ftd_machine.specs.State.{State, calendar_at, added_in, holidays, all_days}
-use Rattle.ftd_machine.specs.State.{DayChange, changes_of, says_holiday, is_on_day, is_in_force, latest}
+use Rattle.ftd_machine.specs.State.{State, calendar_at, added_in, holidays, all_days, DayChange}
+use Rattle.ftd_machine.specs.State.{changes_of, says_holiday, is_on_day, is_in_force, latest}
 use Rattle.ftd_machine.specs.Checks.{Answer, first_of, needs, done_if, finds, Decides}
 use Rattle.ftd_machine.specs.Requests.{add_holiday_checks, days_of_year}
 use Rattle.ftd_machine.specs.Step.{Step}
@@ -75,7 +75,8 @@ no_change_of day all (c ∷ cs) known new =
     step (c.day == day) refl (no_change_of day all cs (λ x has. known x (inr has)) new)
   where
     step : (same : Bool) → (c.day == day) ≡ same → changes_of day cs ≡ []
-        → map says_holiday (if same then c ∷ filter (is_on_day day) cs else filter (is_on_day day) cs)
+        → map says_holiday (if same then c ∷ filter (is_on_day day) cs else filter (is_on_day day)
+        cs)
         ≡ []
     step true e more =
         absurd (true≢false (sym (known c (inl refl)) ∙ ap (is_holiday all) (eqb-true c.day day e)

@@ -18,7 +18,8 @@ use Rattle.ftd_machine.specs.declared.requests.Request.{Request}
 use Rattle.ftd_machine.specs.declared.requests.Request.TheVariants.{ChangeHoliday}
 use Rattle.ftd_machine.specs.declared.replies.Reply.TheVariants.{Done}
 use Rattle.ftd_machine.specs.State.{State, DayChange, calendar_at, added_in, holidays, all_days}
-use Rattle.ftd_machine.specs.State.{changes_of, says_holiday, is_on_day, is_in_force, latest, numbered}
+use Rattle.ftd_machine.specs.State.{changes_of, says_holiday, is_on_day, is_in_force, latest}
+use Rattle.ftd_machine.specs.State.{numbered}
 use Rattle.ftd_machine.specs.Checks.{Answer, first_of}
 use Rattle.ftd_machine.specs.Requests.{change_holiday_checks, days_of_year}
 use Rattle.ftd_machine.specs.Step.{Step}

@@ -24,7 +24,7 @@ use Rattle.ftd_rules.proofs.Moving.{due_moves}
 use Rattle.ftd_rules.proofs.Resting.{from_later, due_from, due_same}
 use Rattle.ftd_rules.proofs.Schedules.{year_facts}
 use Rattle.ftd_rules.proofs.Stated.{piece_owed, due_by, due_stated}
-use Rattle.ftd_machine.proofs.Members.{has_mapped, mapped_has}
+use Rattle.ftd_rules.proofs.Members.{has_mapped, mapped_has}
 
 -- ---- one obligation
 

@@ -1,24 +1,25 @@
 -- The rows of an account's obligations after due dates were moved are those of its obligations by
 -- the new holidays.
 use Rattle.std.proofs.Common.{◌≡◌, ◌⊎◌, ℕ, zero, suc, ℤ, pos, ◌<◌, ◌≤◌, Bool, true, false, List, []}
-use Rattle.std.proofs.Common.{◌∷◌, map, inl, inr, refl, sym, ap, ◌∙◌, subst, arith}
+use Rattle.std.proofs.Common.{◌∷◌, map, inl, inr, refl, sym, ap, ◌∙◌, subst}
 use Rattle.std.specs.Prelude.{◌&&◌, filter, bytes_eq, int_le, nat_lt, nat_le, string_bytes}
 use Rattle.std.specs.List.Sorted.{IsPermutation}
 use Rattle.std.specs.Ordering.{int_eq}
 use Rattle.std.proofs.Math.IntN.{◌+ℤ◌, -ℤ-+ℤ_cancel}
 use Rattle.std.proofs.lemmas.Bool.{cases_Bool, eqb-true, ltb-true, leb-true, lt-ltb, le-leb}
-use Rattle.std.proofs.lemmas.Bool.{true≢false}
+use Rattle.std.proofs.lemmas.Bool.{true≢false, and_parts, cases_lt}
 use Rattle.std.proofs.lemmas.List.Sorted.{IsPermutation-map, IsPermutation-sym}
 use Rattle.ftd_days.proofs.Years.{eq_same}
+use Rattle.ftd_days.proofs.Spelling.{same_text}
 use Rattle.ftd_rules.specs.declared.Rule.{Rule}
 use Rattle.ftd_rules.specs.declared.Rule.TheVariants.{Monthly, Semiweekly, NextDay}
 use Rattle.ftd_rules.specs.declared.Obligation.{Obligation}
 use Rattle.ftd_rules.specs.Due.{IsDue}
 use Rattle.ftd_rules.specs.Lists.{Has}
 use Rattle.ftd_rules.specs.Obligations.{ByFirstDay}
-use Rattle.ftd_rules.proofs.Cuts.{lt_or_le}
 use Rattle.ftd_rules.proofs.DueDates.{due_some}
 use Rattle.ftd_rules.proofs.Rising.{has_permuted}
+use Rattle.ftd_rules.proofs.Members.{has_mapped, filter_in, filter_out, has_kept}
 use Rattle.ftd_schema.specs.Rows.{ObligationRow}
 use Rattle.ftd_schema.specs.Orders.{AccountsRise}
 use Rattle.ftd_schema.specs.Tests.{is_due_over, with_due}
@@ -26,11 +27,10 @@ use Rattle.ftd_rows.specs.declared.obligations.AccountObligation.{AccountObligat
 use Rattle.ftd_rows.specs.Cells.{day_number, rule_number}
 use Rattle.ftd_rows.specs.Lists.{Pairs, Lists}
 use Rattle.ftd_rows.specs.Rows.{obligation_row}
-use Rattle.ftd_rows.proofs.Found.{both}
 use Rattle.ftd_store.specs.Finds.{IsAccountObligation}
-use Rattle.ftd_store.proofs.Sifted.{filter_in, filter_out, keeps_has, both_are}
-use Rattle.ftd_machine.proofs.Adding.{same_name, own_name}
-use Rattle.ftd_machine.proofs.Members.{has_mapped}
+use Rattle.ftd_store.proofs.Sifted.{both_are}
+use Rattle.ftd_machine.proofs.Adding.{own_name}
+use Rattle.ftd_machine.proofs.AgendaOrder.{first_one}
 use Rattle.ftd_entries.specs.Standing.{is_obligation_of}
 use Rattle.ftd_entries.proofs.CalendarRows.{whole}
 use Rattle.ftd_entries.proofs.DayCells.{day_le, day_lt, same_day}
@@ -104,20 +104,6 @@ redated_rows holidays name R (r ∷ rows) (s ∷ news) pairs each =
           ∙ (rest ∙ sym (ap (map (redated holidays)) (filter_out own r rows other)))
     ]
 
--- ---- obligations by first day
-
-one_of_first : (os : List Obligation) → ByFirstDay os → (o p : Obligation) → Has os o → Has os p
-    → o.first ≡ p.first → o ≡ p
-one_of_first [] by o p has_o has_p same = absurd has_o
-one_of_first (x ∷ os) by o p (inl is) (inl also) same = is ∙ sym also
-one_of_first (x ∷ os) by o p (inl is) (inr later) same =
-    absurd (let less = by.0 p later in
-    let e : o.first ≡ x.first = ap (λ (q : Obligation). q.first) is in omega arith)
-one_of_first (x ∷ os) by o p (inr later) (inl is) same =
-    absurd (let less = by.0 o later in
-    let e : p.first ≡ x.first = ap (λ (q : Obligation). q.first) is in omega arith)
-one_of_first (x ∷ os) by o p (inr a) (inr b) same = one_of_first os by.1 o p a b same
-
 -- ---- obligations that were listed
 
 row_its : (x : AccountObligation) → is_row_of x (row_of x) ≡ true
@@ -139,15 +125,15 @@ over_is day name o = ap (λ b. b && int_le (day_number day) (day_number o.due)) 
 is_over : (day : ℕ) (name : List ℕ) (o : Obligation) → is_due_over (day_number day)
     (obligation_row name o) ≡ true → IsOver day o
 is_over day name o e =
-    let k = both (nat_lt o.first day) (nat_le day o.due) (sym (over_is day name o) ∙ e) in
+    let k = and_parts (nat_lt o.first day) (nat_le day o.due) (sym (over_is day name o) ∙ e) in
     (ltb-true o.first day k.0, leb-true day o.due k.1)
 
 not_over : (day : ℕ) (name : List ℕ) (o : Obligation) → is_due_over (day_number day)
     (obligation_row name o) ≡ false → (day ≤ o.first) ⊎ (o.due < day)
 not_over day name o e =
-    elim (lt_or_le o.first day) [
+    elim (cases_lt o.first day) [
       | inr late ↦ inl late
-      | inl early ↦ elim (lt_or_le o.due day) [
+      | inl early ↦ elim (cases_lt o.due day) [
         | inl passed ↦ inr passed
         | inr due ↦
             (let on : (nat_lt o.first day && nat_le day o.due) ≡ true =
@@ -178,7 +164,7 @@ module _ (day : ℕ) (read after : List ℕ) (given : List AccountObligation)
       has_mapped (obligation_row name) owed r
       (has_permuted (map (obligation_row name) owed) (filter own rows)
       (IsPermutation-sym (filter own rows) (map (obligation_row name) owed) had) r
-      (keeps_has own rows r has its))
+      (has_kept own rows r has its))
 
   -- so is that of an obligation that was listed for it
   owed_listed : (x : AccountObligation) → Has given x → string_bytes x.account ≡ name
@@ -207,16 +193,16 @@ module _ (day : ℕ) (read after : List ℕ) (given : List AccountObligation)
       let x = m.0 in
       let found = owed_row r has its in
       let o = found.0 in
-      let parts = both (bytes_eq r.account (string_bytes x.account))
+      let parts = and_parts (bytes_eq r.account (string_bytes x.account))
       (int_eq r.first (day_number x.obligation.first)) m.2 in
       let account : string_bytes x.account ≡ name =
-      sym (same_name r.account (string_bytes x.account) parts.0) ∙ same_name r.account name its in
+      sym (same_text r.account (string_bytes x.account) parts.0) ∙ same_text r.account name its in
       let first : o.first ≡ x.obligation.first =
       eqb-true o.first x.obligation.first (sym (same_day o.first x.obligation.first)
       ∙ (ap (λ (q : ObligationRow). int_eq q.first (day_number x.obligation.first)) (sym found.2)
       ∙ parts.1)) in
       let mine = owed_listed x m.1 account in
-      let same : x.obligation ≡ o = one_of_first owed by x.obligation o mine.0 found.1
+      let same : x.obligation ≡ o = first_one owed by x.obligation o mine.0 found.1
       (sym first) in
       let due : m.3.0 ≡ due_again after x.obligation =
       agree x.obligation mine.0 mine.1 m.3.0 m.3.1 in

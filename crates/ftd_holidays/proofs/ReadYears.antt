@@ -2,13 +2,13 @@
 use Rattle.std.proofs.Common.{◌≡◌, ℕ, ◌+◌, ◌-◌, ◌≤◌, ◌⊎◌, Bool, true, false, List, [], Global, inl}
 use Rattle.std.proofs.Common.{inr, refl, sym, ap, ◌∙◌, subst, arith}
 use Rattle.std.specs.Prelude.{◌==◌, ◌||◌, ◌&&◌}
+use Rattle.std.proofs.Math.Bool.{or-false}
 use Rattle.ftd_days.specs.Calendar.{year_of}
 use Rattle.ftd_days.specs.Business.{is_holiday}
 use Rattle.ftd_days.proofs.Years.{eq_same, eq_not, same_or_not}
 use Rattle.ftd_schema.specs.Standing.{Tables}
 use Rattle.ftd_store.specs.Finds.{HasCalendar}
 use Rattle.ftd_store.specs.Holidays.{AddsYear, AddsIfGiven, is_holiday_in}
-use Rattle.ftd_store.proofs.AddedYears.{or_false}
 use Rattle.ftd_machine.specs.State.{State, holidays}
 use Rattle.ftd_machine.specs.Sound.{IsSound}
 use Rattle.ftd_entries.specs.Standing.{KeepsDays}
@@ -33,7 +33,7 @@ none_kept year old t finds s keeps sound day =
           ∙ holiday_unknown t s keeps sound Global year day finds its
       | inr other ↦ ap (λ b. b && is_holiday (holidays s) day) (eq_not (year_of day) year other)
     ] in
-    sym (ap (λ b. is_holiday old day || b) off ∙ or_false (is_holiday old day))
+    sym (ap (λ b. is_holiday old day || b) off ∙ or-false (is_holiday old day))
 
 -- another one those that it was given with, or that were added, and that no change took back
 both_kept : (year : ℕ) (old new : List ℕ) (t : Tables) → AddsYear year old new t

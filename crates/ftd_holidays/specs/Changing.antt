@@ -11,7 +11,8 @@ use Rattle.ftd_holidays.specs.declared.changing.KnownForChange.{KnownForChange}
 abbrev pub KnowsWords : ℕ → List Bool → Tables → Type 0
 KnowsWords day words t = (s : State) → StandsFor t s → words ≡ changes_of day s.changed_days
 
--- the calendar of its year, the days added to it, what the day's changes say, and how many there are
+-- the calendar of its year, the days added to it, what the day's changes say, and how many there
+-- are
 pub record KnowsForChange (day : ℕ) (before : KnownForChange) (t : Tables) : Type 0 where
   pub calendar : FindsCalendar (year_of day) before.calendar t
   pub added : ListsAdded (year_of day) before.added t

@@ -84,8 +84,8 @@ fn known_for_change<S: Alter>(
 }
 
 /// Takes back a day that was given or added as a holiday, or makes it one again, as the change of
-/// this number, and moves the due dates that count it, of all accounts. `Failed` also where the rows
-/// stand for no state that requests lead to.
+/// this number, and moves the due dates that count it, of all accounts. `Failed` also where the
+/// rows stand for no state that requests lead to.
 pub fn change_holiday<S: Alter>(
     tx: &mut Tx<'_, S>,
     alloc: Global,

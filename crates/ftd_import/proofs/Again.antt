@@ -1,11 +1,12 @@
 -- Records posted in lists.
 use Rattle.std.proofs.Common.{◌≡◌, ◌⊎◌, refl, sym, ap, subst, ◌∙◌, ◌<◌, ◌≤◌, inl, inr, arith}
-use Rattle.std.proofs.Common.{rules, Bool, true, false, ℕ, List, [], ◌∷◌, ◌++◌, length, map, Option}
+use Rattle.std.proofs.Common.{rules, false, ℕ, List, [], ◌∷◌, ◌++◌, length, map, Option}
 use Rattle.std.proofs.Common.{Some, None, Result, Ok, Err, length-append}
 use Rattle.std.specs.List.{cons_option, filter_map, list_any}
 use Rattle.std.specs.Prelude.{MatchResult, ◌||◌}
 use Rattle.std.proofs.lemmas.List.{append_assoc, append-nil}
 use Rattle.std.proofs.lemmas.List.Elements.{filter_map-append}
+use Rattle.std.proofs.lemmas.Bool.{or_parts}
 use Rattle.sqlite.specs.State.{Survives}
 use Rattle.ftd_csv.specs.Records.{SaidEntry}
 use Rattle.ftd_machine.specs.State.{State}
@@ -52,15 +53,11 @@ cons_none : {X : Type 0} (o : Option X) (xs : List X) → cons_option o xs ≡ [
 cons_none None xs e = (refl, e)
 cons_none (Some x) xs e = absurd (cc)
 
-either_false : (p q : Bool) → (p || q) ≡ false → (p ≡ false) × (q ≡ false)
-either_false false q e = (refl, e)
-either_false true q e = absurd (cc)
-
 pub none_faulty : (xs : List Outcome) → list_any is_fault (filter_map answer_in xs) ≡ false
     → filter_map fault_in xs ≡ []
 none_faulty [] e = refl
 none_faulty (posted number it answer ∷ xs) e =
-    let both = either_false (is_fault answer) (list_any is_fault (filter_map answer_in xs)) e in
+    let both = or_parts (is_fault answer) (list_any is_fault (filter_map answer_in xs)) e in
     rw (fault_none answer both.0) (none_faulty xs both.1)
 none_faulty (skipped number field ∷ xs) e = none_faulty xs e
 

@@ -1,21 +1,18 @@
 -- Records that are counted with the answers to their posts.
 use Rattle.std.proofs.Common.{◌≡◌, refl, sym, ap, subst, ◌∙◌, ◌+◌, ◌<◌, ◌≤◌, suc, add-one, ℕ, List}
-use Rattle.std.proofs.Common.{[]}
-use Rattle.std.proofs.Common.{◌∷◌, ◌++◌, length, map, take, drop, get_or, drop-cons, Some, None}
+use Rattle.std.proofs.Common.{[], ◌∷◌, ◌++◌, length, map, take, drop, get_or, drop-cons, Some, None}
 use Rattle.std.proofs.Common.{arith}
 use Rattle.std.specs.List.{filter, filter_map}
-use Rattle.std.proofs.lemmas.List.{append_assoc, append-nil, drop_all, length-map, map-append}
-use Rattle.std.proofs.lemmas.List.{take_all}
+use Rattle.std.proofs.lemmas.List.{append_assoc, append-nil, map-append}
 use Rattle.std.proofs.lemmas.List.Elements.{filter_map-append}
 use Rattle.ftd_csv.specs.Records.{Entry, SaidEntry, malformed, enters}
 use Rattle.ftd_machine.specs.Checks.{Answer}
-use Rattle.ftd_import.specs.Lists.{has_post, kept_of}
-use Rattle.ftd_import.specs.Outcomes.{Counts, CountsAnswers, Outcome, answer_in, posted, record_in}
-use Rattle.ftd_import.specs.Outcomes.{skipped}
+use Rattle.ftd_import.specs.Lists.{has_post}
+use Rattle.ftd_import.specs.Outcomes.{Counts, Outcome, answer_in, posted, record_in, skipped}
 use Rattle.ftd_import.specs.declared.reading.Place.{Place}
 use Rattle.ftd_import.specs.declared.summary.Summary.{Summary}
 use Rattle.ftd_import.proofs.Places.{IsNext, is_malformed, is_entry}
-use Rattle.ftd_import.proofs.Outcomes.{counts_then, same}
+use Rattle.ftd_import.proofs.Outcomes.{counts_then}
 
 -- some records were counted, and these answers are left
 pub record CountsSome (before : Summary) (passed : List (ℕ × SaidEntry))
@@ -25,9 +22,6 @@ pub record CountsSome (before : Summary) (passed : List (ℕ × SaidEntry))
   pub all : map record_in outcomes ≡ passed
   pub answered : filter_map answer_in outcomes ++ left ≡ answers
   pub counts : Counts before outcomes after
-
-pub some_none : (p : Summary) (answers : List Answer) → CountsSome p [] answers answers p
-some_none p answers = record { outcomes = []; all = refl; answered = refl; counts = same p }
 
 pub some_skipped : (p q r : Summary) (rs : List (ℕ × SaidEntry)) (answers left : List Answer)
     (number field : ℕ) → CountsSome p rs answers left q → Counts q (skipped number field ∷ []) r
@@ -57,16 +51,6 @@ some_posted p q r rs answers left later number it answer some first counts = rec
       ∙ ap (λ (z : List Answer). filter_map answer_in some.outcomes ++ z) (sym first)
       ∙ some.answered;
   counts = counts_then p q r some.outcomes (posted number it answer ∷ []) some.counts counts;
-}
-
--- no answer is left
-pub all_counted : (p q : Summary) (rs : List (ℕ × SaidEntry)) (answers : List Answer)
-    → CountsSome p rs answers [] q → CountsAnswers p rs answers q
-all_counted p q rs answers some = record {
-  outcomes = some.outcomes;
-  all = some.all;
-  answered = sym (append-nil (filter_map answer_in some.outcomes)) ∙ some.answered;
-  counts = some.counts;
 }
 
 module _ (records : List (ℕ × SaidEntry)) (i : ℕ) (place : Place)
@@ -111,18 +95,3 @@ module _ (places : List Place) (i : ℕ) (default : Place) (here : i < length pl
 pub nothing : {X : Type 0} (xs : List X) → length xs ≤ 0 → xs ≡ []
 nothing [] none = refl
 nothing (x ∷ xs) none = absurd (omega arith)
-
--- every record was counted
-pub counted_all : (records : List (ℕ × SaidEntry)) (places : List Place) (i : ℕ) (p q : Summary)
-    (answers left : List Answer) → places ≡ map kept_of records → length places ≤ i
-    → length left ≡ length (filter has_post (drop i places))
-    → CountsSome p (take i records) answers left q → CountsAnswers p records answers q
-counted_all records places i p q answers left are end count some =
-    let long = ap length are ∙ length-map records kept_of in
-    let none : drop i places ≡ [] = drop_all i places end in
-    let last : length left ≡ length (filter has_post []) = rw none at count in
-    let no_answer : left ≡ [] = nothing left (omega arith) in
-    let all : take i records ≡ records = take_all i records (omega arith) in
-    all_counted p q records answers
-    (subst (λ (rs : List (ℕ × SaidEntry)). CountsSome p rs answers [] q) all
-    (subst (λ (ls : List Answer). CountsSome p (take i records) answers ls q) no_answer some))

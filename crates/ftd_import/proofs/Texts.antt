@@ -1,7 +1,5 @@
 -- The records of a text, in lists.
-use Rattle.std.proofs.Common.{◌≡◌, ◌⊎◌, sym, subst, inl, inr, rules, true, ℕ, List, Some, Ok}
-use Rattle.std.proofs.Common.{Err}
-use Rattle.std.proofs.lemmas.Bool.{false≢true}
+use Rattle.std.proofs.Common.{◌≡◌, ◌⊎◌, sym, subst, inl, inr, rules, ℕ, List, Some, Ok, Err}
 use Rattle.ftd_csv.specs.Answers.{RecordsFail}
 use Rattle.ftd_csv.specs.Places.{Opens, records_left}
 use Rattle.ftd_csv.specs.declared.reading.Records.{Records}
@@ -17,7 +15,7 @@ use Rattle.ftd_desk.proofs.Running.{all_none}
 use Rattle.ftd_import.specs.Outcomes.{Counts, IsNothing, Outcome, fault_of, posted, skipped}
 use Rattle.ftd_import.specs.Outcomes.{text_cause}
 use Rattle.ftd_import.specs.Imports.{AreOutcomes, Imports, IsStop, Posts, StopsAmong, StopsFor}
-use Rattle.ftd_import.specs.Imports.{StopsWithin, is_of_text, numbered_in}
+use Rattle.ftd_import.specs.Imports.{StopsWithin, numbered_in}
 use Rattle.ftd_import.specs.declared.summary.StopCause.{StopCause}
 use Rattle.ftd_import.specs.declared.summary.StopCause.TheVariants as cause
 use Rattle.ftd_import.specs.declared.summary.Summary.{Summary}
@@ -82,12 +80,3 @@ module _ (kind : Sheet) (text : List ℕ) (records : Records) (opens : Opens kin
         | inr store ↦ subst (λ (c : StopCause). StopsFor failed a b kind text q c) (sym store)
             (subst (λ (c : StopCause). StopsAmong failed a b kind text q c) store among)
       ]
-
--- the text is not at fault then
-pub not_of_text : (failed : Type 0) (a b : Held) (rs : List (ℕ × SaidEntry)) (IsTold : List Outcome
-    → Type 0) (why : StopCause) → StopsWithin failed a b rs IsTold why → is_of_text why ≡ true → ⊥
-not_of_text failed a b rs IsTold why stops of_text =
-    elim (stop_cause stops.at why stops.last stops.stop) [
-      | inl memory ↦ false≢true (rw memory at of_text)
-      | inr store ↦ false≢true (rw store at of_text)
-    ]

@@ -1,12 +1,10 @@
 -- Records that are answered, and not posted.
 use Rattle.std.proofs.Common.{◌≡◌, ◌⊎◌, ◌∙◌, ◌++◌, [], sym, subst, ap, false, ℕ, List, Ok, length}
-use Rattle.std.proofs.Common.{arith, inl, inr}
+use Rattle.std.proofs.Common.{arith}
 use Rattle.std.specs.List.{filter_map, list_any}
 use Rattle.std.proofs.lemmas.List.{append-nil}
-use Rattle.ftd_csv.specs.Answers.{RecordsFail}
 use Rattle.ftd_csv.specs.Places.{Opens, records_left, rows_after}
 use Rattle.ftd_csv.specs.Records.{SaidEntry}
-use Rattle.ftd_csv.specs.declared.reading.RecordFault.{RecordFault}
 use Rattle.ftd_csv.specs.declared.reading.RecordFault.TheVariants as text_fault
 use Rattle.ftd_csv.specs.declared.reading.Records.{Records}
 use Rattle.ftd_csv.specs.declared.sheets.Sheet.{Sheet}
@@ -17,12 +15,10 @@ use Rattle.ftd_desk.specs.Desks.{Held}
 use Rattle.ftd_desk.specs.Trials.{Tries}
 use Rattle.ftd_desk.specs.Words.{AreAnswers, AreSteps, is_fault}
 use Rattle.ftd_import.specs.Lists.{TakesList}
-use Rattle.ftd_import.specs.Outcomes.{CountsAnswers, IsNothing, IsSame, answer_in}
-use Rattle.ftd_import.specs.Outcomes.{posts_of, text_cause}
+use Rattle.ftd_import.specs.Outcomes.{CountsAnswers, IsNothing, IsSame, answer_in, posts_of}
 use Rattle.ftd_import.specs.Imports.{AreOutcomes}
-use Rattle.ftd_import.specs.Trials.{FailsFor, FailsTrial, WouldImport, WouldPost}
+use Rattle.ftd_import.specs.Trials.{WouldImport, WouldPost}
 use Rattle.ftd_import.specs.declared.reading.RecordList.{RecordList}
-use Rattle.ftd_import.specs.declared.summary.StopCause.{StopCause}
 use Rattle.ftd_import.specs.declared.summary.StopCause.TheVariants as cause
 use Rattle.ftd_import.specs.declared.summary.Summary.{Summary}
 use Rattle.ftd_import.proofs.Again.{none_faulty, requests_of_records}
@@ -78,31 +74,4 @@ would_import a b kind text records rs p q opens all none would = record {
       (all ∙ records_first kind text records opens) would.are;
   summary_is = summary_of p q would.outcomes none would.counts;
   would = would.would;
-}
-
--- nothing is said
-fault_for : (kind : Sheet) (text : List ℕ) (fault : RecordFault) → RecordsFail kind text fault
-    → FailsFor kind text (text_cause fault)
-fault_for kind text text_fault.TooLong fails = fails
-fault_for kind text text_fault.BadHeader fails = fails
-fault_for kind text text_fault.Memory fails = tt
-
-pub no_records : (kind : Sheet) (text : List ℕ) (done : Summary) (fault : RecordFault)
-    (why : StopCause) → why ≡ text_cause fault → IsNothing done → RecordsFail kind text fault
-    → FailsTrial kind text (record { done = done; cause = why })
-no_records kind text done fault why is none fails = record {
-  nothing = none;
-  reason = subst (λ (c : StopCause). FailsFor kind text c) (sym is)
-      (fault_for kind text fault fails);
-}
-
-pub tried_none : (kind : Sheet) (text : List ℕ) (p q : Summary) (why : StopCause)
-    → (why ≡ cause.Memory) ⊎ (why ≡ cause.Store) → IsNothing p → IsSame p q
-    → FailsTrial kind text (record { done = q; cause = why })
-tried_none kind text p q why faulty none same = record {
-  nothing = summary_of p q [] none same;
-  reason = elim faulty [
-    | inl memory ↦ subst (λ (c : StopCause). FailsFor kind text c) (sym memory) tt
-    | inr store ↦ subst (λ (c : StopCause). FailsFor kind text c) (sym store) tt
-  ];
 }

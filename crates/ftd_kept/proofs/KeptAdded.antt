@@ -1,9 +1,9 @@
 -- The holidays that were read of a year are those that were added to it.
-use Rattle.std.proofs.Common.{◌≡◌, ◌∙◌, refl, sym, ap, subst, ℕ, pos, true, List, [], ◌∷◌, map}
-use Rattle.std.proofs.Common.{Option, None, Some}
-use Rattle.std.specs.Prelude.{◌↔◌, filter, is_some, option_map}
+use Rattle.std.proofs.Common.{◌≡◌, ◌∙◌, sym, ap, subst, ℕ, pos, true, List, [], ◌∷◌, map}
+use Rattle.std.specs.Prelude.{◌↔◌, filter}
 use Rattle.ftd_days.specs.Calendar.{year_of}
 use Rattle.ftd_rules.specs.Lists.{Has, KeysRise}
+use Rattle.ftd_rules.proofs.Members.{has_mapped, mapped_has}
 use Rattle.ftd_schema.specs.Orders.{HolidaysRise}
 use Rattle.ftd_schema.specs.Rows.{HolidayRow}
 use Rattle.ftd_schema.specs.Standing.{Tables}
@@ -17,7 +17,6 @@ use Rattle.ftd_machine.specs.Kept.{IsAdded, IsDayBefore}
 use Rattle.ftd_machine.specs.Limits.{are_rising}
 use Rattle.ftd_machine.specs.State.{State}
 use Rattle.ftd_machine.proofs.Keeping.{same_key}
-use Rattle.ftd_machine.proofs.Members.{has_mapped, mapped_has}
 use Rattle.ftd_entries.specs.Standing.{StandsFor, added_entry}
 use Rattle.ftd_entries.proofs.CalendarRows.{year_cell, itself, rising}
 use Rattle.ftd_entries.proofs.Found.{day_is}
@@ -60,8 +59,3 @@ days_rise days e = each days (rising days e)
     each : (ds : List ℕ) → KeysRise itself ds → EachToLater IsDayBefore ds
     each [] rise = tt
     each (d ∷ ds) rise = (rise.0, each ds rise.1)
-
--- what is mapped is there as before
-pub still_some : {X Y : Type 0} (f : X → Y) (o : Option X) → is_some (option_map f o) ≡ is_some o
-still_some f None = refl
-still_some f (Some x) = refl

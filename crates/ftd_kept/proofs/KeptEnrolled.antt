@@ -6,7 +6,9 @@ use Rattle.ftd_store.proofs.Items.{taken, pairs_more, paired_from, paired_to}
 use Rattle.ftd_store.proofs.Replaced.{all_taken}
 use Rattle.ftd_entries.specs.Known.{KnowsAccount}
 use Rattle.std.specs.Prelude.{filter, string_bytes, unwrap_or}
+use Rattle.ftd_days.proofs.Spelling.{same_text}
 use Rattle.ftd_rules.specs.Lists.{Has}
+use Rattle.ftd_rules.proofs.Members.{mapped_has}
 use Rattle.ftd_schema.specs.Orders.{NamesRise}
 use Rattle.ftd_schema.specs.Rows.{AccountRow}
 use Rattle.ftd_schema.specs.Standing.{Tables}
@@ -22,8 +24,7 @@ use Rattle.ftd_machine.specs.State.{account_in_force, entries_of}
 use Rattle.ftd_machine.specs.declared.entries.Account.{Account}
 use Rattle.ftd_machine.specs.declared.entries.Beginning.{Beginning}
 use Rattle.ftd_machine.specs.declared.kept.KeptAccount.{KeptAccount}
-use Rattle.ftd_machine.proofs.Adding.{same_name}
-use Rattle.ftd_machine.proofs.Members.{found_some, mapped_has}
+use Rattle.ftd_machine.proofs.Members.{found_some}
 use Rattle.ftd_entries.specs.Standing.{StandsFor, enrolled_row}
 use Rattle.ftd_entries.proofs.ListedRows.{passing_value}
 use Rattle.ftd_kept.specs.Kept.{AreToldAccounts, IsToldAccount, KnowsAccounts, kept_account}
@@ -61,7 +62,7 @@ module _ (rows : List KeptAccount) (t : Tables) (told : AreToldAccounts rows t) 
       let item = passing_value row_of NamesRise is_any_account (t Accounts) told.named
       told.are_named (enrolled_row e) row refl in
       let own : string_bytes item.0.name ≡ x.name =
-      ap (λ (r : AccountRow). r.name) (sym item.2) ∙ same_name e.name x.name found.2 in
+      ap (λ (r : AccountRow). r.name) (sym item.2) ∙ same_text e.name x.name found.2 in
       let as_told = paired_to (IsToldAccount t) told.named rows item.0 told.are_told item.1 in
       let name : as_told.0.name ≡ x.name = as_told.2.0 ∙ own in
       let account : as_told.0.account ≡ x.account =

@@ -2,11 +2,11 @@
 use Rattle.std.proofs.Common.{◌≡◌, ◌∙◌, sym, ap, subst, ℕ, ◌+◌, ◌≤◌, ◌&&◌, pos, Bool, true}
 use Rattle.std.proofs.Common.{List, map, Some, refl}
 use Rattle.std.specs.Prelude.{◌↔◌, filter, bytes_eq, int_le}
-use Rattle.std.proofs.lemmas.Bool.{leb-true, le-leb}
 use Rattle.ftd_days.specs.Calendar.{quarter_start, quarter_year}
 use Rattle.ftd_rules.specs.declared.run.PayRun.{PayRun}
 use Rattle.ftd_rules.specs.declared.run.Voidable.{Voidable}
 use Rattle.ftd_rules.specs.Lists.{Has}
+use Rattle.ftd_rules.proofs.Members.{has_mapped, mapped_has}
 use Rattle.ftd_schema.specs.Orders.{RunsRise}
 use Rattle.ftd_schema.specs.Rows.{RunRow}
 use Rattle.ftd_schema.specs.Standing.{Tables}
@@ -16,21 +16,18 @@ use Rattle.ftd_rows.specs.Cells.{day_number}
 use Rattle.ftd_rows.specs.Lists.{Lists}
 use Rattle.ftd_rows.specs.Rows.{run_row}
 use Rattle.ftd_rows.specs.declared.kept.NumberedRun.{NumberedRun}
-use Rattle.ftd_rows.proofs.Found.{both}
 use Rattle.ftd_store.specs.Kept.{IsNumberedRun}
 use Rattle.ftd_machine.specs.Kept.{IsRunIn}
 use Rattle.ftd_machine.specs.Sound.{IsSound}
 use Rattle.ftd_machine.specs.State.{State, Entry, entries_of, kept_at}
 use Rattle.ftd_machine.specs.declared.kept.KeptRun.{KeptRun}
 use Rattle.ftd_machine.proofs.Adding.{own_name}
-use Rattle.ftd_machine.proofs.Members.{has_mapped, mapped_has}
 use Rattle.ftd_entries.specs.Standing.{StandsFor, run_entry}
-use Rattle.ftd_entries.proofs.DayCells.{day_le}
 use Rattle.ftd_entries.proofs.Kept.{same_nat, run_is}
 use Rattle.ftd_entries.proofs.ListedRows.{value_passes, passing_value}
+use Rattle.ftd_entries.proofs.QuarterDays.{days_from, days_into, in_quarter, of_quarter}
 use Rattle.ftd_kept.specs.Kept.{kept_run}
 use Rattle.ftd_machine.proofs.Entered.{is_kept, of_kept}
-use Rattle.ftd_entries.proofs.QuarterDays.{in_quarter, of_quarter}
 
 -- the row of a run of the account
 abbrev row_of : List ℕ → NumberedRun → RunRow
@@ -39,27 +36,6 @@ row_of name x = run_row name (pos x.number) x.run.value x.run.voided
 -- a run with a payday between two days
 abbrev is_between : List ℕ → ℕ → ℕ → RunRow → Bool
 is_between name first last = is_run_between name (day_number first) (day_number last)
-
-pub days_from : (name : List ℕ) (first last payday : ℕ) (b : Bool)
-    → (b && (int_le (day_number first) (day_number payday)
-    && int_le (day_number payday) (day_number last))) ≡ true
-    → (b ≡ true) × (first ≤ payday) × (payday ≤ last)
-days_from name first last payday b e =
-    let parts = both b _ e in
-    let days = both (int_le (day_number first) (day_number payday))
-    (int_le (day_number payday) (day_number last)) parts.1 in (
-      parts.0,
-      leb-true first payday (sym (day_le first payday) ∙ days.0),
-      leb-true payday last (sym (day_le payday last) ∙ days.1),
-    )
-
-pub days_into : (first last payday : ℕ) → first ≤ payday → payday ≤ last
-    → (int_le (day_number first) (day_number payday)
-    && int_le (day_number payday) (day_number last)) ≡ true
-days_into first last payday low high =
-    ap (λ b. b && int_le (day_number payday) (day_number last))
-    (day_le first payday ∙ le-leb first payday low)
-    ∙ (day_le payday last ∙ le-leb payday last high)
 
 module _ (name : List ℕ) (quarter last : ℕ) (is_last : last + 1 ≡ quarter_start (quarter + 1))
     (early : quarter_year quarter ≤ 2098) (t : Tables) (s : State) (stands : StandsFor t s)
@@ -103,7 +79,8 @@ module _ (name : List ℕ) (quarter last : ℕ) (is_last : last + 1 ≡ quarter_
       ap (λ b. b && (int_le (day_number (quarter_start quarter)) (day_number x.run.payday)
       && int_le (day_number x.run.payday) (day_number last))) (own_name name)
       ∙ days_into (quarter_start quarter) last x.run.payday days.0 days.1 in
-      let item = passing_value (row_of name) RunsRise test (t Runs) found lists (row_of name y) there
+      let item = passing_value (row_of name) RunsRise test (t Runs) found lists (row_of name y)
+      there
       passes in
       let same : kept_run y ≡ kept_run item.0 = same_run y item.0 item.2 in
       (item.0, item.1, same)
@@ -132,5 +109,6 @@ module _ (name : List ℕ) (quarter last : ℕ) (is_last : last + 1 ≡ quarter_
         subst (IsRunIn (entries_of s name) quarter) (sym from.2) (run_in from.0 from.1))),
     (λ is.
         (let there = run_there x is in
-        subst (Has (map kept_run found)) (sym there.2) (mapped_has kept_run found there.0 there.1))),
+        subst (Has (map kept_run found)) (sym there.2)
+        (mapped_has kept_run found there.0 there.1))),
   )

@@ -5,6 +5,7 @@ use Rattle.ftd_days.specs.Calendar.{quarter_year, quarter_number}
 use Rattle.ftd_days.specs.declared.cents.Cents.{Cents}
 use Rattle.ftd_rules.specs.declared.Form.TheVariants.{F941, F943}
 use Rattle.ftd_rules.specs.Lists.{Has}
+use Rattle.ftd_rules.proofs.Members.{has_mapped, mapped_has}
 use Rattle.ftd_schema.specs.Orders.{QuartersRise, ReportedYearsRise}
 use Rattle.ftd_schema.specs.Rows.{ReportedQuarterRow, ReportedYearRow}
 use Rattle.ftd_schema.specs.Standing.{Tables}
@@ -20,7 +21,6 @@ use Rattle.ftd_machine.specs.State.{State, Entry, entries_of, kept_at}
 use Rattle.ftd_machine.specs.declared.kept.KeptTotal.{KeptTotal}
 use Rattle.ftd_machine.specs.declared.kept.KeptTotal.TheVariants.{OfQuarter, OfYear}
 use Rattle.ftd_machine.proofs.Adding.{own_name}
-use Rattle.ftd_machine.proofs.Members.{has_mapped, mapped_has}
 use Rattle.ftd_entries.specs.Standing.{StandsFor, quarter_entry, year_entry}
 use Rattle.ftd_entries.proofs.Kept.{same_nat, cents_is, quarter_is}
 use Rattle.ftd_entries.proofs.ListedRows.{value_passes, passing_value}

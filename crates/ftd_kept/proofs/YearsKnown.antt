@@ -4,10 +4,12 @@ use Rattle.std.proofs.Common.{◌≡◌, ◌∙◌, refl, sym, ap, subst, ℕ, �
 use Rattle.std.proofs.Common.{map, take, length, get_or, Some, Ok, Vec}
 use Rattle.std.specs.Prelude.{filter, option_map}
 use Rattle.ftd_days.specs.declared.cents.Cents.{Cents}
+use Rattle.ftd_days.proofs.Spelling.{same_text}
 use Rattle.ftd_rules.specs.declared.Form.{Form}
 use Rattle.ftd_rules.specs.declared.Form.TheVariants.{F941, F943}
 use Rattle.ftd_rules.specs.declared.YearLine.{YearLine}
 use Rattle.ftd_rules.specs.Lists.{Has}
+use Rattle.ftd_rules.proofs.Members.{has_mapped, mapped_has}
 use Rattle.ftd_schema.specs.Standing.{Tables}
 use Rattle.ftd_rows.specs.Lists.{Pairs}
 use Rattle.ftd_rows.specs.declared.kept.QuarterTotal.{QuarterTotal}
@@ -22,9 +24,8 @@ use Rattle.ftd_machine.specs.Sound.{AreDistinct, IsSound, place_of}
 use Rattle.ftd_machine.specs.State.{State, Entry, Entries, entries_of, is_of, kept_at, latest}
 use Rattle.ftd_machine.specs.declared.entries.Account.{Account}
 use Rattle.ftd_machine.specs.declared.kept.KeptYear.{KeptYear}
-use Rattle.ftd_machine.proofs.Adding.{same_name}
 use Rattle.ftd_machine.proofs.Entered.{is_kept}
-use Rattle.ftd_machine.proofs.Members.{has_filtered, has_mapped, mapped_has}
+use Rattle.ftd_machine.proofs.Members.{has_filtered}
 use Rattle.ftd_entries.specs.Standing.{StandsFor}
 use Rattle.ftd_entries.proofs.Figures.{kept_has}
 use Rattle.ftd_entries.proofs.Lines.{lines_known}
@@ -62,7 +63,7 @@ has_first name xs distinct key cents has =
     let e : Entry Cents = from.0 in
     let there = has_filtered (is_of name) xs e from.1 in
     let kept : kept_at e.key (filter (is_of name) xs) ≡ Some e.content =
-    is_kept name xs distinct e there.0 (same_name e.name name there.1) in
+    is_kept name xs distinct e there.0 (same_text e.name name there.1) in
     let at : key ≡ e.key = ap (λ (p : ℕ × Cents). p.0) from.2 in
     let amount : cents ≡ e.content = ap (λ (p : ℕ × Cents). p.1) from.2 in
     ap (λ k. kept_at k (filter (is_of name) xs)) at ∙ kept ∙ ap Some (sym amount)

@@ -1,13 +1,11 @@
 -- Rows of what is kept, as they are told, and what is known of them by what the tables have.
 use Rattle.std.specs.Prelude.{◌≡◌, ◌==◌, ◌&&◌, ◌||◌, ◌↔◌, ◌++◌, ℕ, nat_lt, Bool, true, false, List}
-use Rattle.std.specs.Prelude.{◌⊎◌, ◌≤◌, drop, zip, map, filter, string_bytes, Option, None, Some}
-use Rattle.std.specs.Prelude.{min, not}
-use Rattle.std.specs.List.{All, list_all}
+use Rattle.std.specs.Prelude.{◌⊎◌, ◌≤◌, map, filter, string_bytes, Some}
+use Rattle.std.specs.List.{All}
 use Rattle.std.specs.Ordering.{is_lt, nat_cmp}
 use Rattle.std.specs.Cmp.Lexicographic.{slice_cmp}
 use Rattle.ftd_rules.specs.declared.Form.{Form}
 use Rattle.ftd_rules.specs.declared.Form.TheVariants.{F941, F943}
-use Rattle.ftd_rules.specs.declared.Obligation.{Obligation}
 use Rattle.ftd_rules.specs.declared.YearLine.{YearLine}
 use Rattle.ftd_rules.specs.Lists.{Has}
 use Rattle.ftd_rules.specs.Lookback.{IsLookback, IsFirstMissing, IsYearLookback, IsYearMissing}
@@ -21,32 +19,25 @@ use Rattle.ftd_store.specs.Kept.{IsNamedAccount}
 use Rattle.ftd_days.specs.declared.cents.Cents.{Cents}
 use Rattle.ftd_rows.specs.declared.corrections.HolidayChange.{HolidayChange}
 use Rattle.ftd_rows.specs.declared.kept.NamedAccount.{NamedAccount}
-use Rattle.ftd_rows.specs.declared.kept.NumberedPayment.{NumberedPayment}
 use Rattle.ftd_rows.specs.declared.kept.NumberedRun.{NumberedRun}
 use Rattle.ftd_rows.specs.declared.kept.QuarterTotal.{QuarterTotal}
 use Rattle.ftd_rows.specs.declared.kept.YearTotal.{YearTotal}
 use Rattle.ftd_machine.specs.Agenda.{EachToLater}
-use Rattle.ftd_machine.specs.Kept.{IsAccountBefore, IsEnrolled, IsHeldBy, IsTotal, IsTotalBefore}
-use Rattle.ftd_machine.specs.Kept.{IsPaymentBefore, period_of, as_first_reported, line_of}
+use Rattle.ftd_machine.specs.Kept.{IsAccountBefore, IsEnrolled, IsTotal, IsTotalBefore}
+use Rattle.ftd_machine.specs.Kept.{period_of, as_first_reported, line_of}
 use Rattle.ftd_machine.specs.Kept.{IsAdded, IsDayBefore, kept_days}
-use Rattle.ftd_machine.specs.Explaining.{IsPaymentOf}
 use Rattle.ftd_machine.specs.History.{AreLinesOf, HasLookback}
 use Rattle.ftd_machine.specs.Sound.{IsSound}
 use Rattle.ftd_machine.specs.State.{State, Entries, entries_of, kept_at, calendar_at}
 use Rattle.ftd_machine.specs.declared.entries.Account.{Account}
 use Rattle.ftd_machine.specs.declared.kept.KeptAccount.{KeptAccount}
 use Rattle.ftd_machine.specs.declared.kept.KeptHoliday.{KeptHoliday}
-use Rattle.ftd_machine.specs.declared.kept.KeptPayment.{KeptPayment}
 use Rattle.ftd_machine.specs.declared.kept.KeptRun.{KeptRun}
 use Rattle.ftd_machine.specs.declared.kept.KeptTotal.{KeptTotal}
 use Rattle.ftd_machine.specs.declared.kept.KeptTotal.TheVariants.{OfQuarter, OfYear}
 use Rattle.ftd_machine.specs.declared.kept.KeptYear.{KeptYear}
 use Rattle.ftd_entries.specs.Known.{KnowsAccount, KnowsFigure, KnowsYearFigure}
 use Rattle.ftd_entries.specs.Standing.{StandsFor}
-
--- each stands so to the next
-abbrev pub are_in_order : {X : Type 0} → (X → X → Bool) → List X → Bool
-are_in_order is_before xs = list_all (λ (x, next). is_before x next) (zip xs (drop 1 xs))
 
 -- ---- accounts
 
@@ -206,48 +197,3 @@ abbrev pub is_run_before : KeptRun → KeptRun → Bool
 is_run_before a b =
     nat_lt a.run.payday b.run.payday
     || ((a.run.payday == b.run.payday) && nat_lt a.number b.number)
-
--- ---- payments
-
--- the earlier of two days, where there is the one
-abbrev pub earlier : Option ℕ → ℕ → ℕ
-earlier None other = other
-earlier (Some day) other = min day other
-
--- a payment that counts for this obligation, or for none
-abbrev pub kept_payment : NumberedPayment → Option ℕ → KeptPayment
-kept_payment row obligation = record {
-  number = row.number;
-  payment = row.payment.value;
-  voided = row.payment.voided;
-  obligation = obligation;
-}
-
--- the payment is told so, with the obligation that holds its day
-pub record IsKeptPayment (owed : List Obligation) (row : NumberedPayment) (x : KeptPayment)
-    : Type 0 where
-  pub number : x.number ≡ row.number
-  pub payment : x.payment ≡ row.payment.value
-  pub voided : x.voided ≡ row.payment.voided
-  pub obligation : IsHeldBy owed row.payment.value.for_day x.obligation
-
--- the payment is not void
-abbrev pub is_live_payment : NumberedPayment → Bool
-is_live_payment row = not row.payment.voided
-
--- a payment that counts for the obligation that begins on the day
-abbrev pub IsPaymentFor : ℕ → NumberedPayment → KeptPayment → Type 0
-IsPaymentFor first row x = x ≡ kept_payment row (Some first)
-
--- they are the payments that count for the obligation, by the day that they are for and number, in
--- each sound state for which the tables stand
-pub record KnowsPaymentsOf (name : List ℕ) (o : Obligation) (rows : List KeptPayment) (t : Tables)
-    : Type 0 where
-  pub in_order : EachToLater IsPaymentBefore rows
-  pub all : (s : State) → StandsFor t s → IsSound s → (x : KeptPayment)
-      → Has rows x ↔ IsPaymentOf (entries_of s name) o x
-
-abbrev pub is_payment_before : KeptPayment → KeptPayment → Bool
-is_payment_before a b =
-    nat_lt a.payment.for_day b.payment.for_day
-    || ((a.payment.for_day == b.payment.for_day) && nat_lt a.number b.number)

@@ -6,40 +6,23 @@ ghost use Rattle.ftd_machine.specs.declared.requests.Question.TheVariants as que
 ghost use Rattle.ftd_machine.specs.declared.requests.Request.TheVariants.{Question};
 ghost use Rattle.ftd_entries.specs.Words.{Serves};
 ghost use Rattle.ftd_kept.specs.Kept.{AreToldAccounts, IsInForce, KnowsAccounts, KnowsFirstTotals};
-ghost use Rattle.ftd_kept.specs.Kept.{KnowsPaymentsOf, KnowsTotals};
+ghost use Rattle.ftd_kept.specs.Kept.{KnowsTotals};
 
 use crate::holiday_rows::all_holidays;
 use crate::rows::{
-    add_account, add_total, are_accounts_in_order, told_for, told_payments, told_quarters,
-    told_runs, told_years,
+    add_account, add_total, are_accounts_in_order, told_quarters, told_runs, told_years,
 };
 use crate::year_rows::open_years;
-use ftd_days::{Day, Quarter};
+use ftd_days::Quarter;
 use ftd_entries::{figure, known, year_figure};
 use ftd_machine::{
-    Answer, Facts, Kept, KeptAccount, KeptAccounts, KeptHolidays, KeptPayment, KeptPayments,
-    KeptRows, KeptRuns, KeptTotal, KeptTotals, KeptYears, Refusal, Reply, holidays_check,
-    kept_in_quarter_check, kept_of_check,
+    Answer, Facts, KeptAccount, KeptAccounts, KeptHolidays, KeptRows, KeptRuns, KeptTotal,
+    KeptTotals, KeptYears, Refusal, Reply, holidays_check, kept_in_quarter_check, kept_of_check,
 };
-use ftd_rules::{Form, Obligation};
+use ftd_rules::Form;
 use ftd_store::{StoreFault, Tx};
 use sqlite::Alter;
 use std::alloc::Global;
-
-/// Tells what is kept, as far as it is asked for.
-pub fn kept<S: Alter>(tx: &mut Tx<'_, S>, alloc: Global, asked: &Kept) -> Result<Answer, StoreFault>
-    ensures call { Calls S.Store tx.old tx.new result
-        (Serves (Question (questions.Kept asked.now))) }
-{
-    match asked {
-        Kept::Accounts => accounts(tx, alloc),
-        Kept::Years { account } => years(tx, alloc, account.as_str()),
-        Kept::Reported { account } => reported(tx, alloc, account.as_str()),
-        Kept::Holidays { year } => holidays(tx, alloc, *year),
-        Kept::Runs { account, quarter } => runs(tx, alloc, account.as_str(), *quarter),
-        Kept::Payments { account, quarter } => payments(tx, alloc, account.as_str(), *quarter),
-    }
-}
 
 /// All accounts as they are in force, in the order of their rows. `Failed` also where one has no
 /// form.
@@ -78,7 +61,7 @@ pub fn all_accounts<S: Alter>(
 }
 
 /// Tells all accounts, by name.
-fn accounts<S: Alter>(tx: &mut Tx<'_, S>, alloc: Global) -> Result<Answer, StoreFault>
+pub fn accounts<S: Alter>(tx: &mut Tx<'_, S>, alloc: Global) -> Result<Answer, StoreFault>
     ensures call { Calls S.Store tx.old tx.new result
         (Serves (Question (questions.Kept kept.Accounts))) }
 {
@@ -87,7 +70,7 @@ fn accounts<S: Alter>(tx: &mut Tx<'_, S>, alloc: Global) -> Result<Answer, Store
 }
 
 /// Tells the open years of an account, by year.
-fn years<S: Alter>(tx: &mut Tx<'_, S>, alloc: Global, name: &str) -> Result<Answer, StoreFault>
+pub fn years<S: Alter>(tx: &mut Tx<'_, S>, alloc: Global, name: &str) -> Result<Answer, StoreFault>
     ensures call { Calls S.Store tx.old tx.new result
         (Serves (Question (questions.Kept (kept.Years name.now)))) }
 {
@@ -178,7 +161,11 @@ fn totals<S: Alter>(
 }
 
 /// Tells the totals that an account reported.
-fn reported<S: Alter>(tx: &mut Tx<'_, S>, alloc: Global, name: &str) -> Result<Answer, StoreFault>
+pub fn reported<S: Alter>(
+    tx: &mut Tx<'_, S>,
+    alloc: Global,
+    name: &str,
+) -> Result<Answer, StoreFault>
     ensures call { Calls S.Store tx.old tx.new result
         (Serves (Question (questions.Kept (kept.Reported name.now)))) }
 {
@@ -195,7 +182,11 @@ fn reported<S: Alter>(tx: &mut Tx<'_, S>, alloc: Global, name: &str) -> Result<A
 
 /// Tells the days of a year that were given or added as holidays: those that its calendar was given
 /// with, and then those that were added to it. `Failed` also where the latter do not rise.
-fn holidays<S: Alter>(tx: &mut Tx<'_, S>, alloc: Global, year: u32) -> Result<Answer, StoreFault>
+pub fn holidays<S: Alter>(
+    tx: &mut Tx<'_, S>,
+    alloc: Global,
+    year: u32,
+) -> Result<Answer, StoreFault>
     ensures call { Calls S.Store tx.old tx.new result
         (Serves (Question (questions.Kept (kept.Holidays year)))) }
 {
@@ -212,7 +203,7 @@ fn holidays<S: Alter>(tx: &mut Tx<'_, S>, alloc: Global, year: u32) -> Result<An
 
 /// Tells the runs of an account with a payday in the quarter. `Failed` also where they do not go on
 /// by payday and number.
-fn runs<S: Alter>(
+pub fn runs<S: Alter>(
     tx: &mut Tx<'_, S>,
     alloc: Global,
     name: &str,
@@ -228,49 +219,6 @@ fn runs<S: Alter>(
     }
     match told_runs(alloc, &found) {
         Ok(rows) => Ok(Ok(Reply::Told(Facts::Kept(KeptRows::Runs(KeptRuns::from_vec(rows)))))),
-        Err(fault) => tx.give_up(fault),
-    }
-}
-
-/// Tells the payments of an account for a day of the quarter. `Failed` also where they do not go on
-/// by that day and number.
-fn payments<S: Alter>(
-    tx: &mut Tx<'_, S>,
-    alloc: Global,
-    name: &str,
-    quarter: Quarter,
-) -> Result<Answer, StoreFault>
-    ensures call { Calls S.Store tx.old tx.new result
-        (Serves (Question (questions.Kept (kept.Payments name.now quarter)))) }
-{
-    let account = known(tx, alloc, name)?;
-    let found = tx.kept_payments(alloc, name, quarter.first(), quarter.last())?;
-    let owed = tx.obligations(alloc, name, Day::first_of_month(0), quarter.last())?;
-    if let Some(answer) = kept_in_quarter_check(name, quarter, account) {
-        return Ok(answer);
-    }
-    match told_payments(alloc, &found, &owed) {
-        Ok(rows) => Ok(Ok(Reply::Told(Facts::Kept(KeptRows::Payments(KeptPayments::from_vec(
-            rows,
-        )))))),
-        Err(fault) => tx.give_up(fault),
-    }
-}
-
-/// The payments that count for an obligation of the account: those for its days that are not void,
-/// by the day that they are for and number. `Failed` also where they do not go on so.
-pub fn obligation_payments<S: Alter>(
-    tx: &mut Tx<'_, S>,
-    alloc: Global,
-    name: &str,
-    obligation: &Obligation,
-) -> Result<Vec<KeptPayment>, StoreFault>
-    ensures call { Reads S.Store tx.old tx.new result
-        (λ rows. KnowsPaymentsOf name.now obligation.now rows.items) }
-{
-    let found = tx.kept_payments(alloc, name, obligation.first, obligation.last)?;
-    match told_for(alloc, &found, obligation.first) {
-        Ok(rows) => Ok(rows),
         Err(fault) => tx.give_up(fault),
     }
 }

@@ -4,6 +4,7 @@ use Rattle.std.proofs.Common.{◌++◌, Option, None, Some, Ok}
 use Rattle.std.specs.Prelude.{◌↔◌}
 use Rattle.ftd_days.specs.Calendar.{quarter_of}
 use Rattle.ftd_days.proofs.Business.{some_business}
+use Rattle.ftd_days.proofs.Spelling.{same_text}
 use Rattle.ftd_rules.specs.declared.Form.{Form}
 use Rattle.ftd_rules.specs.declared.Obligation.{Obligation}
 use Rattle.ftd_rules.specs.declared.YearLine.{YearLine}
@@ -14,8 +15,7 @@ use Rattle.ftd_rules.specs.declared.verdict.Verdict.TheVariants.{Short, Late}
 use Rattle.ftd_rules.specs.Lists.{Has}
 use Rattle.ftd_rules.specs.Returns.{month_after_ends}
 use Rattle.ftd_rules.proofs.Owed.{has_append, has_left, has_right}
-use Rattle.ftd_machine.specs.State.{State, Enrolled, entries_of, holidays, is_named}
-use Rattle.ftd_machine.specs.State.{account_of}
+use Rattle.ftd_machine.specs.State.{State, Enrolled, entries_of, holidays, is_named, account_of}
 use Rattle.ftd_machine.specs.History.{AreLinesOf, AreOwed}
 use Rattle.ftd_machine.specs.Asking.{IsDueRow}
 use Rattle.ftd_machine.specs.Checks.{Answer}
@@ -25,7 +25,6 @@ use Rattle.ftd_machine.specs.declared.entries.Account.{Account}
 use Rattle.ftd_machine.specs.declared.lists.AgendaRow.{AgendaRow}
 use Rattle.ftd_machine.specs.declared.facts.Facts.TheVariants.{Agenda}
 use Rattle.ftd_machine.specs.declared.replies.Reply.TheVariants.{Told}
-use Rattle.ftd_machine.proofs.Adding.{same_name}
 use Rattle.ftd_machine.proofs.Members.{enrolled_of, found_some}
 use Rattle.ftd_machine.proofs.Single.{IsOnce, owed_one}
 use Rattle.ftd_machine.proofs.Lined.{owed_some}
@@ -149,7 +148,7 @@ module _ (s : State) (as_of : ℕ) (once : (name : List ℕ) → IsOnce (entries
   named x h =
       let was = enrolled_of s x.account h.account h.enrolled in
       let found = found_some account_of (is_named x.account) s.accounts was.0 was.1 in
-      (found.0, found.1, sym (same_name found.0.name x.account found.2))
+      (found.0, found.1, sym (same_text found.0.name x.account found.2))
 
   pub agenda_some : (IsAsked : AgendaRow → Type 0) → ((x : AgendaRow) → Or (IsAsked x))
       → (answer : Answer) × IsAgenda s IsAsked as_of answer

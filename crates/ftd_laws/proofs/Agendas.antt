@@ -1,13 +1,14 @@
 -- What is due over all accounts against the due lists, and what is owed against what is due.
-use Rattle.std.proofs.Common.{◌≡◌, ◌∙◌, inl, inr, sym, subst, ℕ, ◌<◌, ◌≤◌, Bool, true, false}
-use Rattle.std.proofs.Common.{List, [], ◌∷◌, Option, None, Some, Ok}
+use Rattle.std.proofs.Common.{◌≡◌, ◌∙◌, inl, inr, sym, subst, ℕ, ◌<◌, ◌≤◌, Bool}
+use Rattle.std.proofs.Common.{List, [], ◌∷◌, Some, Ok}
 use Rattle.std.specs.Prelude.{◌↔◌}
+use Rattle.std.proofs.lemmas.Option.{same_Some}
 use Rattle.ftd_days.specs.Calendar.{quarter_of}
 use Rattle.ftd_rules.specs.declared.verdict.DueRow.{DueRow}
 use Rattle.ftd_rules.specs.Lists.{Has}
 use Rattle.ftd_machine.specs.State.{State, entries_of, holidays}
 use Rattle.ftd_machine.specs.Sound.{IsSound}
-use Rattle.ftd_machine.specs.Checks.{Answer, first_of, needs, finds}
+use Rattle.ftd_machine.specs.Checks.{Answer, first_of, needs}
 use Rattle.ftd_machine.specs.Asking.{IsDueRow, IsDueList}
 use Rattle.ftd_machine.specs.Agenda.{due_date_of, first_day_of, left_of, IsAgendaRow, IsAgenda}
 use Rattle.ftd_machine.specs.Agenda.{IsDueBetween, IsLeftBy, IsCutOf}
@@ -25,25 +26,7 @@ use Rattle.ftd_machine.specs.declared.requests.Request.TheVariants.{Question}
 use Rattle.ftd_machine.proofs.Deciding.{either}
 use Rattle.ftd_machine.proofs.Single.{owed_one}
 use Rattle.ftd_machine.proofs.Soundness.{sound_once}
-use Rattle.ftd_machine.proofs.AgendaOrder.{inside}
-
--- ---- checks that refuse, or pass
-
-record Refuses (P : List (Option Answer)) : Type 0 where
-  pub never : (r : Reply) → first_of P ≡ Some (Ok r) → ⊥
-
-refuses_none : Refuses []
-refuses_none = record { never = λ r e. absurd cc }
-
-refuses_needs : (holds : Bool) (refusal : Refusal) (Q : List (Option Answer)) → Refuses Q
-    → Refuses (needs holds refusal ∷ Q)
-refuses_needs true refusal Q q = record { never = λ r e. q.never r e }
-refuses_needs false refusal Q q = record { never = λ r e. absurd cc }
-
-refuses_finds : {X : Type 0} (o : Option X) (refusal : Refusal) (Q : List (Option Answer))
-    → Refuses Q → Refuses (finds o refusal ∷ Q)
-refuses_finds (Some x) refusal Q q = record { never = λ r e. q.never r e }
-refuses_finds None refusal Q q = record { never = λ r e. absurd cc }
+use Rattle.ftd_machine.proofs.Refusing.{Refuses, refuses_none, refuses_needs, refuses_finds}
 
 -- what a question is answered with a reply has passed the checks
 told_by : (s : State) (question : Questions) (r : Reply) (after : State)
@@ -97,7 +80,8 @@ agenda_cuts s after then from to as_of rows x account due sound asked enrolled l
       (λ has.
           (let h = (g.all x).0 (subst (λ xs. Has xs x) rows_are has) in
           let r : IsAgendaRow s as_of x = h.0 in
-          let same : r.account ≡ account = inside r.account account (sym r.enrolled ∙ enrolled) in
+          let same : r.account ≡ account = same_Some r.account account (sym r.enrolled ∙ enrolled)
+          in
           let owed : r.owed ≡ d.rows = owed_one (holidays s) own r.owed d.rows
           (sound_once s sound x.account) r.are_owed d.owed in
           let is_row : IsDueRow (holidays s) own d.rows quarter as_of x.row =

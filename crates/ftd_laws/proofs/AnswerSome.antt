@@ -1,6 +1,5 @@
 -- Each request has an answer, where each account has lines.
-use Rattle.std.proofs.Common.{◌≡◌, inl, inr, refl, ℕ, Bool, true}
-use Rattle.std.proofs.Common.{List, [], Option, None, Some, Ok, Err}
+use Rattle.std.proofs.Common.{◌≡◌, inl, inr, refl, ℕ, true, List, [], Option, None, Some, Ok, Err}
 use Rattle.std.specs.Prelude.{is_some}
 use Rattle.ftd_days.specs.Calendar.{year_start, quarter_start}
 use Rattle.ftd_rules.specs.declared.run.PayRun.{PayRun}
@@ -23,7 +22,8 @@ use Rattle.ftd_machine.specs.declared.requests.Request.{Request}
 use Rattle.ftd_machine.specs.declared.requests.Request.TheVariants.{Enrol, Calendar, AddHoliday}
 use Rattle.ftd_machine.specs.declared.requests.Request.TheVariants.{Report, ReportYear, OpenYear}
 use Rattle.ftd_machine.specs.declared.requests.Request.TheVariants.{Post, Void, Pay, VoidPay}
-use Rattle.ftd_machine.specs.declared.requests.Request.TheVariants.{CorrectReport, CorrectReportYear}
+use Rattle.ftd_machine.specs.declared.requests.Request.TheVariants.{CorrectReport}
+use Rattle.ftd_machine.specs.declared.requests.Request.TheVariants.{CorrectReportYear}
 use Rattle.ftd_machine.specs.declared.requests.Request.TheVariants.{ChangeHoliday, CorrectAccount}
 use Rattle.ftd_machine.specs.declared.requests.Request.TheVariants.{Question}
 use Rattle.ftd_machine.specs.Sound.{IsSound}

@@ -4,8 +4,8 @@
 -- 1900, a quarter that of quarters after the first of 1900, an amount its cents.
 use Rattle.std.proofs.Common.{◌≡◌, inl, inr, refl, sym, ap, subst, ℕ, ◌+◌, ◌<◌, ◌≤◌, arith}
 use Rattle.std.proofs.Common.{true, false, List, [], ◌∷◌, Ok, None}
-use Rattle.std.specs.Prelude.{codes, nat_lt, ◌||◌, if◌then◌else◌}
-use Rattle.std.proofs.lemmas.Bool.{false≢true, leb-true}
+use Rattle.std.specs.Prelude.{codes, ◌||◌, if◌then◌else◌}
+use Rattle.std.proofs.lemmas.Bool.{false≢true, leb-true, cases_lt}
 use Rattle.ftd_days.specs.Calendar.{month_of, month_from, month_start, year_start}
 use Rattle.ftd_days.specs.declared.cents.Cents.{Cents}
 use Rattle.ftd_rules.specs.Accounts.{is_account_name}
@@ -35,11 +35,11 @@ use Rattle.ftd_rules.specs.Private.Walk.{Divides, periods}
 use Rattle.ftd_rules.specs.Private.Years.{semiweekly_from}
 use Rattle.ftd_rules.proofs.Bridge.{period_is}
 use Rattle.ftd_rules.proofs.Covering.{covering_one}
-use Rattle.ftd_rules.proofs.Cuts.{lt_or_le}
 use Rattle.ftd_rules.proofs.Looking.{on_or_after_at, stops_at}
 use Rattle.ftd_rules.proofs.Schedules.{year_divides}
 use Rattle.ftd_rules.proofs.Stated.{due_stated, run_period, stops_stated, piece_owed}
 use Rattle.ftd_rules.proofs.Walk.{share_before, share_after}
+use Rattle.ftd_rules.proofs.Examples.{share_most}
 use Rattle.ftd_machine.specs.State.{State, nothing, entries_of}
 use Rattle.ftd_machine.specs.History.{HasLookback, AreLinesOf}
 use Rattle.ftd_machine.specs.Posting.{AreOnlyIn, Spans}
@@ -201,10 +201,6 @@ lines_voided = record {
 
 -- ---- with the run, 882.50 of 1 to 31 January, due on Thursday 15 February
 
-share_most : (a b : ℕ) (s : DaySum) → share a b s ≤ s.cents.0
-share_most a b s = elim (nat_lt s.day a || nat_lt b s.day) as
-    (λ t. (if t then 0 else s.cents.0) ≤ s.cents.0) [ true ↦ omega arith | false ↦ omega arith ]
-
 sums_after : AreLines (on_5_january ∷ []) years
 sums_after = are_lines (on_5_january ∷ [])
     (λ a b. let most = share_most a b on_5_january in omega arith)
@@ -261,10 +257,10 @@ covers_the_payday : (o : Obligation) → IsObligation F941 years (on_5_january �
 covers_the_payday o h =
     let amount : o.cents.0 ≡ 0 + share o.first o.last on_5_january = h.amount in
     let some = h.positive in
-    elim (lt_or_le 45_294 o.first) [
+    elim (cases_lt 45_294 o.first) [
       | inl early ↦
           absurd (let none = share_before on_5_january o.first o.last early in omega arith)
-      | inr from ↦ elim (lt_or_le o.last 45_294) [
+      | inr from ↦ elim (cases_lt o.last 45_294) [
         | inl late ↦
             absurd (let none = share_after on_5_january o.first o.last from late in omega arith)
         | inr to ↦ (from, to)
@@ -477,11 +473,11 @@ only_liable : (x : DaySum) → IsLiableDay (entries_of posted ash) 496 x → x �
 only_liable x h =
     let amount : x.cents.0 ≡ 0 + share x.day x.day on_5_january = h.1 in
     let some = h.2 in
-    elim (lt_or_le x.day 45_294) [
+    elim (cases_lt x.day 45_294) [
       | inl early ↦
           absurd
           (let none = share_after on_5_january x.day x.day (omega arith) early in omega arith)
-      | inr from ↦ elim (lt_or_le 45_294 x.day) [
+      | inr from ↦ elim (cases_lt 45_294 x.day) [
         | inl late ↦
             absurd (let none = share_before on_5_january x.day x.day late in omega arith)
         | inr to ↦

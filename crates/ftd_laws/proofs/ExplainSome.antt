@@ -2,11 +2,11 @@
 use Rattle.std.proofs.Common.{◌≡◌, ◌∙◌, ◌⊎◌, inl, inr, refl, sym, ap, subst, ℕ, ◌+◌, ◌-◌, ◌<◌, ◌≤◌}
 use Rattle.std.proofs.Common.{List, [], ◌∷◌, Option, None, Some, Ok, arith, Bool, true, false}
 use Rattle.std.specs.Prelude.{◌↔◌, zero, suc}
-use Rattle.std.proofs.lemmas.Bool.{true≢false}
+use Rattle.std.proofs.lemmas.Bool.{true≢false, cases_Bool, cases_lt}
 use Rattle.std.proofs.lemmas.Bool.Decides.{eqb_tells}
+use Rattle.std.proofs.lemmas.Option.{same_Some}
 use Rattle.ftd_days.specs.Business.{is_business}
 use Rattle.ftd_days.specs.Calendar.{weekday_of, quarter_of}
-use Rattle.ftd_days.specs.declared.cents.Cents.{Cents}
 use Rattle.ftd_days.proofs.Business.{some_business}
 use Rattle.ftd_rules.specs.declared.Obligation.{Obligation}
 use Rattle.ftd_rules.specs.declared.Rule.{Rule}
@@ -15,16 +15,15 @@ use Rattle.ftd_rules.specs.declared.YearLine.{YearLine}
 use Rattle.ftd_rules.specs.declared.payment.Payment.{Payment}
 use Rattle.ftd_rules.specs.declared.run.Voidable.{Voidable}
 use Rattle.ftd_rules.specs.Due.{fifteenth_after, IsDue}
-use Rattle.ftd_rules.specs.Laws.{Covers}
+use Rattle.ftd_rules.specs.Laws.{Covers, IsFirstCounted}
 use Rattle.ftd_rules.specs.Liability.{liability}
 use Rattle.ftd_rules.specs.Lists.{Has, KeysRise}
 use Rattle.ftd_rules.specs.Returns.{month_after_ends}
-use Rattle.ftd_rules.proofs.Cuts.{lt_or_le}
 use Rattle.ftd_machine.specs.State.{Entries, kept_at}
 use Rattle.ftd_machine.specs.History.{form_of, live_sums, AreLinesOf, AreOwed}
 use Rattle.ftd_machine.specs.Checks.{Answer}
 use Rattle.ftd_machine.specs.Asking.{IsStatus}
-use Rattle.ftd_machine.specs.Explaining.{IsPaydayOf, day_of_payday, IsCountedFrom, IsKindOfDay}
+use Rattle.ftd_machine.specs.Explaining.{IsPaydayOf, day_of_payday, IsKindOfDay}
 use Rattle.ftd_machine.specs.Explaining.{IsCountedDay, day_counted, IsPaymentOf, Explains}
 use Rattle.ftd_machine.specs.Explaining.{IsExplained, IsExplanation}
 use Rattle.ftd_machine.specs.Agenda.{EachToLater}
@@ -38,15 +37,14 @@ use Rattle.ftd_machine.specs.declared.explained.RunningSum.{RunningSum}
 use Rattle.ftd_machine.specs.declared.kept.KeptPayment.{KeptPayment}
 use Rattle.ftd_machine.specs.declared.facts.Facts.TheVariants.{Status, Explained}
 use Rattle.ftd_machine.specs.declared.replies.Reply.TheVariants.{Told}
-use Rattle.ftd_machine.proofs.AgendaOrder.{inside}
 use Rattle.ftd_machine.proofs.Counting.{no_business, kind_one, from_one}
 use Rattle.ftd_machine.proofs.Dated.{dated}
-use Rattle.ftd_machine.proofs.DueSome.{Or, both_or, le_or, like}
+use Rattle.ftd_machine.proofs.DueSome.{Or, both_or, like}
 use Rattle.ftd_machine.proofs.KeptOne.{day_paid_for, payment_number, two_then, two_total}
 use Rattle.ftd_machine.proofs.Lined.{owed_some}
-use Rattle.ftd_machine.proofs.ToldSome.{flag_or, status_on_line}
+use Rattle.ftd_machine.proofs.ToldSome.{status_on_line}
 use Rattle.ftd_laws.proofs.Choosing.{chosen, kept_some}
-use Rattle.ftd_laws.proofs.KeptSome.{all_in_order}
+use Rattle.ftd_laws.proofs.KeptSome.{all_in_order, holds_or}
 
 -- ---- rows of a stretch of days
 
@@ -128,7 +126,7 @@ module _ (own : Entries) (o : Obligation) where
 
   liable_at : (day : ℕ) → ((x : RunningSum) × (x.day ≡ day) × IsLiable x)
       ⊎ ((x : RunningSum) → x.day ≡ day → IsLiable x → ⊥)
-  liable_at day = elim (lt_or_le 0 (liability (live_sums own) day day)) [
+  liable_at day = elim (cases_lt 0 (liability (live_sums own) day day)) [
     | inl some ↦ inl (
       record {
         day = day;
@@ -167,7 +165,7 @@ module _ (holidays : List ℕ) where
     | inl saturday ↦ (Saturday, saturday.1)
     | inr not_saturday ↦ elim (eqb_tells (weekday_of day) 6) [
       | inl sunday ↦ (Sunday, sunday.1)
-      | inr not_sunday ↦ elim (flag_or (is_business holidays day)) [
+      | inr not_sunday ↦ elim (cases_Bool (is_business holidays day)) [
         | inl business ↦ (Business, business)
         | inr none ↦ (Holiday, no_business holidays day not_saturday.1 not_sunday.1 none)
       ]
@@ -190,7 +188,7 @@ module _ (holidays : List ℕ) where
 
   -- there is a first day that is counted
   from_some : (rule : Rule) (last due : ℕ) → IsDue holidays rule last due
-      → (from : ℕ) × IsCountedFrom rule last from
+      → (from : ℕ) × IsFirstCounted rule last from
   from_some Monthly last due is = (fifteenth_after last, refl)
   from_some Semiweekly last due is = (is.0 + 1, (is.0, is.1, refl))
   from_some NextDay last due is = (last + 1, refl)
@@ -220,7 +218,7 @@ payment_of_one own o x y g h same =
     let kept : record { value = x.payment; voided = false } ≡ record {
       value = y.payment;
       voided = false;
-    } = inside (record { value = x.payment; voided = false }) (record {
+    } = same_Some (record { value = x.payment; voided = false }) (record {
       value = y.payment;
       voided = false;
     }) (sym g.0 ∙ subst (λ k. kept_at k own.payments ≡ Some (record {
@@ -231,9 +229,6 @@ payment_of_one own o x y g h same =
     let voided : x.voided ≡ y.voided = g.2 ∙ sym h.2 in
     let obligation : x.obligation ≡ y.obligation = g.3 ∙ sym h.3 in
     rw (same, payment, voided, obligation) refl
-
-covers_or : (o : Obligation) (day : ℕ) → Or (Covers o day)
-covers_or o day = both_or (le_or o.first day) (le_or day o.last)
 
 flag_is : (b : Bool) → Or (b ≡ false)
 flag_is true = inr (λ e. true≢false e)
@@ -251,7 +246,7 @@ payments_some own o =
       obligation = Some o.first;
     }) own.payments in
     let its = chosen (λ (x : KeptPayment). (x.voided ≡ false) × Covers o x.payment.for_day)
-    (λ x. both_or (flag_is x.voided) (covers_or o x.payment.for_day)) made.0 in
+    (λ x. both_or (flag_is x.voided) (holds_or o x.payment.for_day)) made.0 in
     let are : (x : KeptPayment) → Has its.0 x ↔ IsPaymentOf own o x = λ x. (
       (λ has.
           (let h = (its.1 x).0 has in
@@ -291,7 +286,7 @@ covering_or : (owed : List Obligation) (day : ℕ)
     → ((o : Obligation) × Has owed o × Covers o day)
     ⊎ ((o : Obligation) → Has owed o → Covers o day → ⊥)
 covering_or [] day = inr (λ o has covers. has)
-covering_or (p ∷ owed) day = elim (covers_or p day) [
+covering_or (p ∷ owed) day = elim (holds_or p day) [
   | inl covers ↦ inl (p, inl refl, covers)
   | inr not ↦ elim (covering_or owed day) [
     | inl found ↦ inl (found.0, inr found.1, found.2)

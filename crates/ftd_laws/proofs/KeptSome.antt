@@ -4,8 +4,11 @@ use Rattle.std.proofs.Common.{List, [], ◌∷◌, Option, None, Some, arith}
 use Rattle.std.specs.Prelude.{◌↔◌}
 use Rattle.std.proofs.lemmas.Bool.Decides.{eqb_tells}
 use Rattle.std.specs.Prelude.{option_map, map}
+use Rattle.std.proofs.lemmas.Option.{same_Some}
+use Rattle.std.proofs.lemmas.Bool.{cases_lt}
 use Rattle.ftd_days.specs.Calendar.{year_of, quarter_of}
 use Rattle.ftd_days.specs.declared.cents.Cents.{Cents}
+use Rattle.ftd_days.proofs.Spelling.{same_text}
 use Rattle.ftd_rules.specs.declared.Form.{Form}
 use Rattle.ftd_rules.specs.declared.Form.TheVariants.{F941, F943}
 use Rattle.ftd_rules.specs.declared.Obligation.{Obligation}
@@ -14,7 +17,6 @@ use Rattle.ftd_rules.specs.declared.payment.Payment.{Payment}
 use Rattle.ftd_rules.specs.declared.run.PayRun.{PayRun}
 use Rattle.ftd_rules.specs.declared.run.Voidable.{Voidable}
 use Rattle.ftd_rules.specs.Lists.{Has}
-use Rattle.ftd_rules.proofs.Cuts.{lt_or_le}
 use Rattle.ftd_rules.specs.Laws.{Covers}
 use Rattle.ftd_machine.specs.State.{State, Enrolled, Entries, Entry, entries_of, holidays}
 use Rattle.ftd_machine.specs.State.{calendar_at, is_given, kept_at, account_of, is_named}
@@ -23,12 +25,11 @@ use Rattle.ftd_machine.specs.History.{form_of, AreLinesOf, HasLookback}
 use Rattle.ftd_machine.specs.Checks.{Answer, first_of}
 use Rattle.ftd_machine.specs.Agenda.{EachToLater}
 use Rattle.ftd_machine.specs.Limits.{is_between}
-use Rattle.ftd_machine.specs.Kept.{told_rows, IsEnrolled, IsAccountBefore, AreAccounts}
-use Rattle.ftd_machine.specs.Kept.{IsTotal, period_of, IsTotalBefore, AreTotals, IsAdded}
-use Rattle.ftd_machine.specs.Kept.{IsDayBefore, AreHolidays, IsRunIn, IsRunBefore, AreRuns}
-use Rattle.ftd_machine.specs.Kept.{IsHeldBy, IsPaymentIn, IsPaymentBefore, ArePayments}
-use Rattle.ftd_machine.specs.Kept.{kept_checks, TellsKept, as_first_reported, line_of, AreYears}
-use Rattle.ftd_machine.specs.Kept.{kept_days}
+use Rattle.ftd_machine.specs.Kept.{told_rows, IsEnrolled, IsAccountBefore, AreAccounts, IsTotal}
+use Rattle.ftd_machine.specs.Kept.{period_of, IsTotalBefore, AreTotals, IsAdded, IsDayBefore}
+use Rattle.ftd_machine.specs.Kept.{AreHolidays, IsRunIn, IsRunBefore, AreRuns, IsHeldBy}
+use Rattle.ftd_machine.specs.Kept.{IsPaymentIn, IsPaymentBefore, ArePayments, kept_checks}
+use Rattle.ftd_machine.specs.Kept.{TellsKept, as_first_reported, line_of, AreYears, kept_days}
 use Rattle.ftd_machine.specs.declared.kept.KeptAccount.{KeptAccount}
 use Rattle.ftd_machine.specs.declared.kept.KeptPayment.{KeptPayment}
 use Rattle.ftd_machine.specs.declared.kept.KeptRun.{KeptRun}
@@ -40,7 +41,6 @@ use Rattle.ftd_machine.specs.declared.replies.Refusal.TheVariants.{BadYear, Cale
 use Rattle.ftd_machine.specs.declared.requests.Kept.{Kept}
 use Rattle.ftd_machine.specs.declared.requests.Kept.TheVariants.{Accounts, Years, Reported}
 use Rattle.ftd_machine.specs.declared.requests.Kept.TheVariants.{Holidays, Runs, Payments}
-use Rattle.ftd_machine.proofs.Adding.{same_name}
 use Rattle.ftd_machine.proofs.Heads.{gives_needs, skip_needs}
 use Rattle.ftd_machine.proofs.Members.{enrolled_of, found_some, some_of}
 use Rattle.ftd_machine.proofs.Lined.{owed_some}
@@ -48,8 +48,7 @@ use Rattle.ftd_machine.proofs.Totals.{lookback_again}
 use Rattle.ftd_machine.proofs.DueSome.{Or, both_or, le_or}
 use Rattle.ftd_laws.proofs.Choosing.{chosen, made_some, kept_some}
 use Rattle.ftd_machine.proofs.Ordered.{ordered_some}
-use Rattle.ftd_machine.proofs.AgendaOrder.{inside, names_total, three}
-use Rattle.ftd_machine.proofs.AgendaOrder.{names_then}
+use Rattle.ftd_machine.proofs.AgendaOrder.{names_total, three, names_then}
 use Rattle.ftd_machine.proofs.KeptOne.{held_one, payday_of, run_number, day_paid_for}
 use Rattle.ftd_machine.proofs.KeptOne.{payment_number, two_then, two_total, account_one, run_one}
 use Rattle.ftd_machine.proofs.KeptOne.{payment_one}
@@ -96,7 +95,7 @@ accounts_some s =
       (λ is.
           (let was = enrolled_of s x.name x.account is in
           let found = found_some account_of (is_named x.name) s.accounts was.0 was.1 in
-          let named : x.name ≡ found.0.name = sym (same_name found.0.name x.name found.2) in
+          let named : x.name ≡ found.0.name = sym (same_text found.0.name x.name found.2) in
           (made.1 x).1 (
             found.0,
             found.1,
@@ -160,17 +159,17 @@ years_some own lines are =
 total_one : (form : Form) (own : Entries) (x y : KeptTotal) → period_of x ≡ period_of y
     → IsTotal form own x → IsTotal form own y → x ≡ y
 total_one F941 own (OfQuarter a c e) (OfQuarter b d f) same g h =
-    let cents : c ≡ d = inside c d
+    let cents : c ≡ d = same_Some c d
     (sym g.0 ∙ subst (λ k. figure_at k own.reported own.corrected ≡ Some d) (sym same) h.0) in
-    let first : e ≡ f = inside e f
+    let first : e ≡ f = same_Some e f
     (sym g.1 ∙ subst (λ k. kept_at k own.reported ≡ Some f) (sym same) h.1) in
     rw (same, cents, first) refl
 total_one F941 own (OfQuarter a c e) (OfYear b d f) same g h = absurd h
 total_one F941 own (OfYear a c e) y same g h = absurd g
 total_one F943 own (OfYear a c e) (OfYear b d f) same g h =
-    let cents : c ≡ d = inside c d (sym g.0
+    let cents : c ≡ d = same_Some c d (sym g.0
     ∙ subst (λ k. figure_at k own.reported_years own.corrected_years ≡ Some d) (sym same) h.0) in
-    let first : e ≡ f = inside e f
+    let first : e ≡ f = same_Some e f
     (sym g.1 ∙ subst (λ k. kept_at k own.reported_years ≡ Some f) (sym same) h.1) in
     rw (same, cents, first) refl
 total_one F943 own (OfYear a c e) (OfQuarter b d f) same g h = absurd h
@@ -191,7 +190,7 @@ force_is : (key : ℕ) (reported corrected : List (Entry Cents)) (cents first : 
     → figure_at key reported corrected ≡ Some cents → kept_at key reported ≡ Some first
     → cents ≡ in_force_of key corrected first
 force_is key reported corrected cents first force was =
-    inside cents (in_force_of key corrected first)
+    same_Some cents (in_force_of key corrected first)
     (sym force ∙ ap (option_map (in_force_of key corrected)) was)
 
 totals_are : (form : Form) (own : Entries)
@@ -310,7 +309,7 @@ runs_some own quarter =
 
 -- ---- payments
 
-holds_or : (o : Obligation) (day : ℕ) → Or (Covers o day)
+pub holds_or : (o : Obligation) (day : ℕ) → Or (Covers o day)
 holds_or o day = both_or (le_or o.first day) (le_or day o.last)
 
 held_more : (o : Obligation) (os : List Obligation) (day : ℕ) → Or (Covers o day)
@@ -349,7 +348,7 @@ held_more o os day (inl holds) None none = (
     ],
   ),
 )
-held_more o os day (inl holds) (Some first) held = elim (lt_or_le o.first first) [
+held_more o os day (inl holds) (Some first) held = elim (cases_lt o.first first) [
   | inl less ↦ (
     Some o.first,
     (

@@ -1,6 +1,6 @@
 -- Two states that agree on an account's entries answer the same to what names it.
 use Rattle.std.proofs.Common.{◌≡◌, ◌∙◌, inl, inr, refl, sym, ap, subst, ℕ, ◌+◌, length, List}
-use Rattle.std.proofs.Common.{[], ◌∷◌, ◌++◌, Bool, Option, None, Some, Ok}
+use Rattle.std.proofs.Common.{[], ◌∷◌, ◌++◌, Option, None, Some, Ok}
 use Rattle.std.specs.Option.{option_or}
 use Rattle.ftd_days.specs.Calendar.{year_of, year_start, quarter_start}
 use Rattle.ftd_days.specs.declared.cents.Cents.{Cents}
@@ -10,8 +10,7 @@ use Rattle.ftd_rules.specs.declared.run.PayRun.{PayRun}
 use Rattle.ftd_rules.specs.declared.payment.Payment.{Payment}
 use Rattle.ftd_rules.specs.declared.run.Voidable.{Voidable}
 use Rattle.ftd_machine.specs.State.{State, Entries, entries_of, kept_at, is_open, is_given}
-use Rattle.ftd_machine.specs.State.{account_in_force, all_at, numbered}
-use Rattle.ftd_machine.specs.State.{holidays}
+use Rattle.ftd_machine.specs.State.{account_in_force, all_at, numbered, holidays}
 use Rattle.ftd_machine.specs.History.{HasLookback, LacksFigure}
 use Rattle.ftd_machine.specs.Checks.{Answer, first_of, Decides}
 use Rattle.ftd_machine.specs.Requests.{enrol_checks, report_checks, report_year_checks}
@@ -28,7 +27,8 @@ use Rattle.ftd_machine.specs.declared.requests.Request.{Request}
 use Rattle.ftd_machine.specs.declared.requests.Request.TheVariants.{Enrol, Calendar, AddHoliday}
 use Rattle.ftd_machine.specs.declared.requests.Request.TheVariants.{Report, ReportYear, OpenYear}
 use Rattle.ftd_machine.specs.declared.requests.Request.TheVariants.{Post, Void, Pay, VoidPay}
-use Rattle.ftd_machine.specs.declared.requests.Request.TheVariants.{CorrectReport, CorrectReportYear}
+use Rattle.ftd_machine.specs.declared.requests.Request.TheVariants.{CorrectReport}
+use Rattle.ftd_machine.specs.declared.requests.Request.TheVariants.{CorrectReportYear}
 use Rattle.ftd_machine.specs.declared.requests.Request.TheVariants.{ChangeHoliday, CorrectAccount}
 use Rattle.ftd_machine.specs.declared.requests.Request.TheVariants.{Question}
 use Rattle.ftd_machine.proofs.Adding.{account_own, entry_own, voided_own, moved_own}
@@ -208,10 +208,12 @@ module _ (name : List ℕ) (s t : State) (agree : AgreeOn name s t) where
         let F : Entries → Entries =
         λ own. record own { corrected_years = with_entry own.corrected_years name key cents } in
         let after_s : entries_of
-        (record s { corrected_years = with_entry s.corrected_years name key cents }) name ≡ F own_s =
+        (record s { corrected_years = with_entry s.corrected_years name key cents }) name
+        ≡ F own_s =
         rw (entry_own s.corrected_years name key cents) refl in
         let after_t : entries_of
-        (record t { corrected_years = with_entry t.corrected_years name key cents }) name ≡ F own_t =
+        (record t { corrected_years = with_entry t.corrected_years name key cents }) name
+        ≡ F own_t =
         rw (entry_own t.corrected_years name key cents) refl in
         after_t ∙ ap F agree.own ∙ sym after_s;
     calendars = agree.calendars;

@@ -1,15 +1,14 @@
--- A pay run that is posted or voided, and a figure that is put right, has an answer, where the account
--- has lines.
+-- A pay run that is posted or voided, and a figure that is put right, has an answer, where the
+-- account has lines.
 use Rattle.std.proofs.Common.{◌≡◌, ◌⊎◌, inl, inr, refl, sym, ap, subst, ℕ, ◌≤◌}
 use Rattle.std.proofs.Common.{List, [], ◌∷◌, ◌++◌, length, arith, Ok}
-use Rattle.std.proofs.lemmas.Bool.Decides.{eqb_tells}
+use Rattle.std.proofs.lemmas.Bool.{cases_eq, cases_lt}
 use Rattle.ftd_rules.specs.declared.Rule.{Rule}
 use Rattle.ftd_rules.specs.declared.Rule.TheVariants.{Monthly, Semiweekly, NextDay}
 use Rattle.ftd_rules.specs.declared.YearLine.{YearLine}
 use Rattle.ftd_rules.specs.declared.Obligation.{Obligation}
 use Rattle.ftd_rules.specs.Lists.{Has}
 use Rattle.ftd_rules.specs.Obligations.{ByFirstDay}
-use Rattle.ftd_rules.proofs.Cuts.{lt_or_le}
 use Rattle.ftd_machine.specs.State.{Entries}
 use Rattle.ftd_machine.specs.History.{AreLinesOf}
 use Rattle.ftd_machine.specs.Checks.{Answer}
@@ -19,9 +18,6 @@ use Rattle.ftd_machine.proofs.Totals.{SameButRuns, SameButFigures}
 use Rattle.ftd_machine.proofs.Lined.{lines_after, lines_again, owed_some}
 
 -- ---- rows that differ
-
-nat_or : (a b : ℕ) → (a ≡ b) ⊎ (a ≡ b → ⊥)
-nat_or a b = elim (eqb_tells a b) [ inl same ↦ inl same.1 | inr apart ↦ inr apart.1 ]
 
 rule_or : (a b : Rule) → (a ≡ b) ⊎ (a ≡ b → ⊥)
 rule_or Monthly Monthly = inl refl
@@ -35,15 +31,15 @@ rule_or NextDay Semiweekly = inr (λ e. absurd cc)
 rule_or NextDay NextDay = inl refl
 
 row_or : (a b : Obligation) → (a ≡ b) ⊎ (a ≡ b → ⊥)
-row_or a b = elim (nat_or a.first b.first) [
+row_or a b = elim (cases_eq a.first b.first) [
   | inr apart ↦ inr (λ e. apart (ap (λ (o : Obligation). o.first) e))
-  | inl first ↦ elim (nat_or a.last b.last) [
+  | inl first ↦ elim (cases_eq a.last b.last) [
     | inr apart ↦ inr (λ e. apart (ap (λ (o : Obligation). o.last) e))
     | inl last ↦ elim (rule_or a.rule b.rule) [
       | inr apart ↦ inr (λ e. apart (ap (λ (o : Obligation). o.rule) e))
-      | inl rule ↦ elim (nat_or a.cents.0 b.cents.0) [
+      | inl rule ↦ elim (cases_eq a.cents.0 b.cents.0) [
         | inr apart ↦ inr (λ e. apart (ap (λ (o : Obligation). o.cents.0) e))
-        | inl cents ↦ elim (nat_or a.due b.due) [
+        | inl cents ↦ elim (cases_eq a.due b.due) [
           | inr apart ↦ inr (λ e. apart (ap (λ (o : Obligation). o.due) e))
           | inl due ↦ inl (rw (first, last, rule, cents, due) refl)
         ]
@@ -128,13 +124,13 @@ spans_some x (y ∷ rows) =
     let s = rest.2 in
     let low : (first : Obligation) × Has (x ∷ y ∷ rows) first × (first.first ≤ x.first)
     × (first.first ≤ rest.0) =
-    elim (lt_or_le x.first s.first.first) [
+    elim (cases_lt x.first s.first.first) [
       | inl less ↦ (let f = s.from_is in (x, inl refl, omega arith, omega arith))
       | inr more ↦ (let f = s.from_is in (s.first, inr s.has_first, omega arith, omega arith))
     ] in
     let high : (last : Obligation) × Has (x ∷ y ∷ rows) last × (x.last ≤ last.last)
     × (rest.1 ≤ last.last) =
-    elim (lt_or_le x.last s.last.last) [
+    elim (cases_lt x.last s.last.last) [
       | inl less ↦ (let f = s.to_is in (s.last, inr s.has_last, omega arith, omega arith))
       | inr more ↦ (let f = s.to_is in (x, inl refl, omega arith, omega arith))
     ] in (

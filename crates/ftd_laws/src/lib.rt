@@ -1,5 +1,5 @@
-//! The laws of the deposit machine: what follows from its definitions alone. Nothing that runs stands
-//! on them.
+//! The laws of the deposit machine: what follows from its definitions alone. Nothing that runs
+//! stands on them.
 #![tactic(auto)]
 
 mod machine;

@@ -270,7 +270,8 @@ fn write_head<W: Target>(account: &str, day: Day, target: &mut W) -> Result<(), 
     ensures ok { OnOk result
         (Appends (W.taken target.old) (W.taken target.new) (explanation_head account.now day)) }
     ensures err { OnErr result
-        (WritesPrefix (W.taken target.old) (W.taken target.new) (explanation_head account.now day)) }
+        (WritesPrefix (W.taken target.old) (W.taken target.new)
+        (explanation_head account.now day)) }
     ensures fault { OnErr result (W.failed target.new ≡ true) }
 {
     let day = day_bytes(day);
@@ -294,12 +295,12 @@ fn write_found<W: Target>(found: &Option<Explanation>, target: &mut W) -> Result
     }
 }
 
-/// Writes why the obligation of an account is so whose deposit period holds a day: a first line that
-/// says what was asked for; the obligation; the deposit schedule of its first day; its paydays, each
-/// with the liability of the obligation's days up to it; the days that are counted to its due date;
-/// when the return is due; and its payments. Where no obligation's deposit period holds the day, the
-/// second line is `none`. It takes no memory but what the target takes. Where the target fails, a
-/// prefix of the text was written, and it fails nowhere else.
+/// Writes why the obligation of an account is so whose deposit period holds a day: a first line
+/// that says what was asked for; the obligation; the deposit schedule of its first day; its
+/// paydays, each with the liability of the obligation's days up to it; the days that are counted to
+/// its due date; when the return is due; and its payments. Where no obligation's deposit period
+/// holds the day, the second line is `none`. It takes no memory but what the target takes. Where
+/// the target fails, a prefix of the text was written, and it fails nowhere else.
 #[tactic(auto, unfolding(crate::specs::Explanations::explanation_told))]
 pub fn write_explanation<W: Target>(
     account: &str,
@@ -320,9 +321,9 @@ pub fn write_explanation<W: Target>(
 }
 
 /// Writes why the obligation of an account is so whose deposit period holds a day, in a format: as
-/// text or as JSON. It has no other: in each of them nothing is written. It takes no memory but what
-/// the target takes. Where the target fails, a prefix of the text was written, and it fails nowhere
-/// else.
+/// text or as JSON. It has no other: in each of them nothing is written. It takes no memory but
+/// what the target takes. Where the target fails, a prefix of the text was written, and it fails
+/// nowhere else.
 pub fn write_explanation_as<W: Target>(
     format: Format,
     account: &str,

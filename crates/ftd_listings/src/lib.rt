@@ -12,7 +12,7 @@ mod records;
 
 pub use crate::explanation_objects::write_explanation_json;
 pub use crate::explanations::{write_explanation, write_explanation_as, write_schedule};
-pub use crate::lines::Columns;
+pub use crate::lines::{Columns, kind_bytes};
 pub use crate::listings::{write_kept, write_kept_as};
 pub use crate::objects::write_kept_json;
 pub use crate::records::write_kept_csv;

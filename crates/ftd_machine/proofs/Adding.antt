@@ -9,21 +9,18 @@ use Rattle.ftd_machine.specs.declared.entries.Account.{Account}
 use Rattle.ftd_machine.specs.declared.entries.Beginning.{Beginning}
 use Rattle.ftd_rules.specs.declared.run.Voidable.{Voidable}
 use Rattle.std.specs.Option.{option_or}
+use Rattle.ftd_days.proofs.Spelling.{same_text}
 use Rattle.ftd_machine.specs.State.{Enrolled, Entry, Move, is_named, account_of, is_of, is_move_of}
 use Rattle.ftd_machine.specs.State.{account_in_force, beginning_of, moves_of}
-use Rattle.ftd_machine.specs.History.{form_of}
 use Rattle.ftd_machine.specs.Step.{with_account, with_entry, with_move, with_voided, voided_if}
 
 -- ---- names
-
-pub same_name : (a b : List ℕ) → bytes_eq a b ≡ true → a ≡ b
-same_name a b e = (bytes_eq-Decides a b).0 e
 
 pub own_name : (a : List ℕ) → bytes_eq a a ≡ true
 own_name a = (bytes_eq-Decides a a).1 refl
 
 other_as : (a b : List ℕ) (same : Bool) → bytes_eq a b ≡ same → (a ≡ b → ⊥) → same ≡ false
-other_as a b true e other = absurd (other (same_name a b e))
+other_as a b true e other = absurd (other (same_text a b e))
 other_as a b false e other = refl
 
 pub other_name : (a b : List ℕ) → (a ≡ b → ⊥) → bytes_eq a b ≡ false
@@ -67,7 +64,7 @@ voided_head : {X : Type 0} (name : List ℕ) (key : ℕ) (account : List ℕ) (e
     → (name ≡ account → ⊥) → bytes_eq e.name account ≡ true → voided_if name key e ≡ e
 voided_head name key account e other own =
     let off : bytes_eq e.name name ≡ false =
-    other_name e.name name (λ is. other (sym is ∙ same_name e.name account own)) in
+    other_name e.name name (λ is. other (sym is ∙ same_text e.name account own)) in
     rw off refl
 
 voided_step : {X : Type 0} (name : List ℕ) (key : ℕ) (account : List ℕ) (e : Entry (Voidable X))
@@ -145,9 +142,3 @@ pub was_enrolled : (enrolled : Option Account) (moves : List Beginning)
     → is_some (account_in_force enrolled moves) ≡ true → is_some enrolled ≡ true
 was_enrolled None moves e = absurd cc
 was_enrolled (Some account) moves e = refl
-
--- whatever was put right, its form is the one with which it was enrolled
-pub same_form : (enrolled : Option Account) (moves : List Beginning)
-    → form_of (account_in_force enrolled moves) ≡ form_of enrolled
-same_form None moves = refl
-same_form (Some account) moves = refl

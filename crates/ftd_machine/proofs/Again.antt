@@ -2,7 +2,6 @@
 use Rattle.std.proofs.Common.{◌≡◌, refl, sym, subst, ℕ, ◌==◌, Bool, true, false, List, [], ◌∷◌}
 use Rattle.std.proofs.Common.{◌++◌, length, Option, None, Some}
 use Rattle.std.specs.Prelude.{nat_le}
-use Rattle.std.proofs.lemmas.Bool.{eq-eqb}
 use Rattle.ftd_days.specs.Calendar.{year_of}
 use Rattle.ftd_days.specs.Business.{is_holiday}
 use Rattle.ftd_days.specs.declared.cents.Cents.{Cents}
@@ -22,7 +21,8 @@ use Rattle.ftd_machine.specs.Requests.{enrol_checks, calendar_checks, add_holida
 use Rattle.ftd_machine.specs.Requests.{report_checks, report_year_checks, open_year_checks}
 use Rattle.ftd_machine.specs.Requests.{post_checks, void_checks, pay_checks, void_payment_checks}
 use Rattle.ftd_machine.specs.Requests.{correct_report_checks, correct_report_year_checks}
-use Rattle.ftd_machine.specs.Requests.{change_holiday_checks, correct_account_checks, same_beginning}
+use Rattle.ftd_machine.specs.Requests.{change_holiday_checks, correct_account_checks}
+use Rattle.ftd_machine.specs.Requests.{same_beginning}
 use Rattle.ftd_machine.specs.declared.replies.Refusal.{Refusal}
 use Rattle.ftd_machine.specs.declared.replies.Refusal.TheVariants.{UnknownAccount, AccountDiffers}
 use Rattle.ftd_machine.specs.declared.replies.Refusal.TheVariants.{CalendarDiffers, QuarterDiffers}
@@ -36,13 +36,10 @@ use Rattle.ftd_machine.proofs.Heads.{quiet_none, quiet_needs, quiet_finds, Turns
 use Rattle.ftd_machine.proofs.Heads.{turns_finds, turns_new, turns_done, firm_none, firm_needs}
 use Rattle.ftd_machine.proofs.Heads.{firm_finds, Stays, stays_needs, stays_finds, stays_new}
 use Rattle.ftd_machine.proofs.Heads.{stays_done}
-use Rattle.ftd_machine.proofs.Keeping.{IsStill}
+use Rattle.ftd_machine.proofs.Keeping.{IsStill, same_key}
 use Rattle.ftd_machine.proofs.Numbers.{numbered_next}
 
 -- ---- equal content
-
-same : (n : ℕ) → (n == n) ≡ true
-same n = eq-eqb n n refl
 
 flag_same : (b : Bool) → same_flag b b ≡ true
 flag_same true = refl
@@ -53,22 +50,25 @@ form_same F941 = refl
 form_same F943 = refl
 
 pub account_same : (account : Account) → same_account account account ≡ true
-account_same account = rw (same account.start, flag_same account.carried, form_same account.form)
+account_same account =
+    rw (same_key account.start, flag_same account.carried, form_same account.form)
     refl
 
 pub beginning_same : (b : Beginning) → same_beginning b b ≡ true
-beginning_same b = rw (same b.start, flag_same b.carried) refl
+beginning_same b = rw (same_key b.start, flag_same b.carried) refl
 
 pub amount_same : (cents : Cents) → same_amount cents cents ≡ true
-amount_same cents = same cents.0
+amount_same cents = same_key cents.0
 
 pub run_same : (run : PayRun) (voided : Bool)
     → same_run run (record { value = run; voided = voided }) ≡ true
-run_same run voided = rw (same run.payday, same run.fit.0, same run.ss.0, same run.medicare.0) refl
+run_same run voided =
+    rw (same_key run.payday, same_key run.fit.0, same_key run.ss.0, same_key run.medicare.0) refl
 
 pub payment_same : (payment : Payment) (voided : Bool)
     → same_payment payment (record { value = payment; voided = voided }) ≡ true
-payment_same payment voided = rw (same payment.paid, same payment.for_day, same payment.cents.0)
+payment_same payment voided =
+    rw (same_key payment.paid, same_key payment.for_day, same_key payment.cents.0)
     refl
 
 -- ---- the checks before and after
@@ -293,7 +293,12 @@ module _ (name : List ℕ) where
       (turns_needs _ _ _ _ _ (always _)
       (turns_finds account account UnknownAccount _ _ (λ a e. e)
       (turns_new o p (same_payment payment) PaymentDiffers _ _
-      (λ none rest. (record { value = payment; voided = false }, is none, payment_same payment false))
+      (λ none rest. (
+        record { value = payment; voided = false },
+        is none,
+        payment_same payment
+            false,
+      ))
       (quiet_needs _ _ _ (quiet_needs _ _ _ (quiet_needs _ _ [] quiet_none))))))))
 
   pub pay_stays : (number : ℕ) (payment : Payment) (account account' : Option Account)
@@ -510,7 +515,8 @@ pub change_stays : (day number : ℕ) (is_one : Bool) (calendar calendar' : Opti
     → ((x : Bool) → o ≡ Some x → p ≡ Some x)
     → Stays (change_holiday_checks day number is_one calendar added o count)
     (change_holiday_checks day number is_one calendar' added' p count')
-change_stays day number is_one calendar calendar' added added' o p count count' given holiday still =
+change_stays day number is_one calendar calendar' added added' o p count count' given holiday
+    still =
     stays_needs _ _ _ _ _ (always _)
     (stays_needs _ _ _ _ _ (always _)
     (stays_finds calendar calendar' (CalendarMissing (year_of day)) _ _ given

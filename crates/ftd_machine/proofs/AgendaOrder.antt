@@ -1,13 +1,14 @@
 -- The order of what is due over all accounts.
 use Rattle.std.proofs.Common.{◌≡◌, ◌∙◌, ◌⊎◌, inl, inr, refl, sym, ap, subst, ℕ, ◌<◌, List, [], ◌∷◌}
-use Rattle.std.proofs.Common.{Some, arith}
-use Rattle.std.specs.Prelude.{unwrap_or}
+use Rattle.std.proofs.Common.{arith}
 use Rattle.std.specs.Ordering.{nat_cmp, ordering_reverse}
 use Rattle.std.specs.declared.cmp.Ordering.{Ordering}
 use Rattle.std.specs.declared.cmp.Ordering.TheVariants.{Less, Equal, Greater}
 use Rattle.std.specs.Cmp.Lexicographic.{slice_cmp}
 use Rattle.std.proofs.lemmas.Cmp.{nat_list_cmp_total}
 use Rattle.std.specs.FinMap.{slice_cmp-IsAntisymmetric, nat_cmp-IsAntisymmetric}
+use Rattle.std.proofs.lemmas.Option.{same_Some}
+use Rattle.std.proofs.lemmas.Bool.{cases_lt}
 use Rattle.ftd_days.specs.Calendar.{quarter_of}
 use Rattle.ftd_days.proofs.Business.{on_or_after_one}
 use Rattle.ftd_rules.specs.declared.Form.{Form}
@@ -18,7 +19,6 @@ use Rattle.ftd_rules.specs.declared.verdict.Verdict.TheVariants.{Met, WithReturn
 use Rattle.ftd_rules.specs.declared.verdict.Verdict.TheVariants.{Short, Late}
 use Rattle.ftd_rules.specs.Lists.{Has}
 use Rattle.ftd_rules.specs.Obligations.{ByFirstDay}
-use Rattle.ftd_rules.proofs.Cuts.{lt_or_le}
 use Rattle.ftd_machine.specs.State.{State, Entries, entries_of, holidays}
 use Rattle.ftd_machine.specs.History.{AreOwed}
 use Rattle.ftd_machine.specs.Asking.{IsDueRow}
@@ -56,9 +56,9 @@ names_then a b c g h = nat_list_cmp_total.trans a b c g h
 -- ---- numbers
 
 pub three : (a b : ℕ) → (a < b) ⊎ ((a ≡ b) ⊎ (b < a))
-three a b = elim (lt_or_le a b) [
+three a b = elim (cases_lt a b) [
   | inl less ↦ inl less
-  | inr not ↦ elim (lt_or_le b a) [
+  | inr not ↦ elim (cases_lt b a) [
     | inl more ↦ inr (inr more)
     | inr also ↦ inr (inl (omega arith))
   ]
@@ -107,9 +107,6 @@ first_one (x ∷ os) by o p (inr later) (inl is) same =
     let e : p.first ≡ x.first = ap (λ (q : Obligation). q.first) is in omega arith)
 first_one (x ∷ os) by o p (inr a) (inr b) same = first_one os by.1 o p a b same
 
-pub inside : {X : Type 0} (x y : X) → Some x ≡ Some y → x ≡ y
-inside x y e = ap (λ o. unwrap_or o x) e
-
 day_one : (form : Form) (hs : List ℕ) (row : DueRow) (verdict : Verdict) (a b : ℕ)
     → IsDayFor form hs row verdict a → IsDayFor form hs row verdict b → a ≡ b
 day_one form hs row Met a b g h = g ∙ sym h
@@ -125,7 +122,7 @@ module _ (s : State) (as_of : ℕ) (once : (name : List ℕ) → IsOnce (entries
       → IsAgendaRow s as_of x → IsAgendaRow s as_of y → (x.form ≡ y.form) × (x.row ≡ y.row)
   same_row x y named first g h =
       let own : entries_of s x.account ≡ entries_of s y.account = ap (entries_of s) named in
-      let account : g.account ≡ h.account = inside g.account h.account
+      let account : g.account ≡ h.account = same_Some g.account h.account
       (sym g.enrolled ∙ ap (λ (e : Entries). e.account) own ∙ h.enrolled) in
       let there = subst (λ n. IsDueRow (holidays s) n h.owed (quarter_of (first_day_of y)) as_of
       y.row) (sym own) h.is_row in

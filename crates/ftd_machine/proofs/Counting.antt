@@ -6,7 +6,8 @@ use Rattle.ftd_days.specs.Business.{is_business, is_holiday}
 use Rattle.ftd_days.specs.Calendar.{weekday_of}
 use Rattle.ftd_rules.specs.declared.Rule.{Rule}
 use Rattle.ftd_rules.specs.declared.Rule.TheVariants.{Monthly, Semiweekly, NextDay}
-use Rattle.ftd_machine.specs.Explaining.{IsCountedFrom, IsKindOfDay}
+use Rattle.ftd_rules.specs.Laws.{IsFirstCounted}
+use Rattle.ftd_machine.specs.Explaining.{IsKindOfDay}
 use Rattle.ftd_machine.specs.declared.explained.DayKind.{DayKind}
 use Rattle.ftd_machine.specs.declared.explained.DayKind.TheVariants.{Business, Saturday, Sunday}
 use Rattle.ftd_machine.specs.declared.explained.DayKind.TheVariants.{Holiday}
@@ -62,10 +63,11 @@ module _ (holidays : List ℕ) (day : ℕ) where
 
 -- ---- the first day that is counted
 
-neither : (a b : ℕ) → (a < b → ⊥) → (b < a → ⊥) → a ≡ b
+pub neither : (a b : ℕ) → (a < b → ⊥) → (b < a → ⊥) → a ≡ b
 neither a b f g = omega arith
 
-pub from_one : (rule : Rule) (last a b : ℕ) → IsCountedFrom rule last a → IsCountedFrom rule last b
+pub from_one : (rule : Rule) (last a b : ℕ) → IsFirstCounted rule last a
+    → IsFirstCounted rule last b
     → a ≡ b
 from_one Monthly last a b g h = g ∙ sym h
 from_one Semiweekly last a b g h =

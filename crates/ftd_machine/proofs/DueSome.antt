@@ -1,9 +1,8 @@
 -- A due list exists, wherever the account has lines.
 use Rattle.std.proofs.Common.{◌≡◌, ◌∙◌, ◌⊎◌, inl, inr, refl, sym, ap, subst, ℕ, ◌+◌, ◌-◌, ◌%◌, ◌≤◌}
-use Rattle.std.proofs.Common.{◌<◌, Bool, true, false}
-use Rattle.std.proofs.Common.{List, [], ◌∷◌, arith, Option, None, Some, Ok}
+use Rattle.std.proofs.Common.{◌<◌, Bool, true, false, List, [], ◌∷◌, arith, Option, None, Some, Ok}
 use Rattle.std.specs.Prelude.{◌↔◌, min, IsTrue, IsSomeAnd}
-use Rattle.std.proofs.lemmas.Bool.{true≢false, false≢true}
+use Rattle.std.proofs.lemmas.Bool.{true≢false, false≢true, cases_Bool, cases_lt}
 use Rattle.std.proofs.lemmas.Bool.Decides.{eqb_tells}
 use Rattle.ftd_days.specs.Calendar.{quarter_of}
 use Rattle.ftd_days.specs.Business.{IsOnOrAfter}
@@ -25,7 +24,6 @@ use Rattle.ftd_rules.specs.Obligations.{ByFirstDay}
 use Rattle.ftd_rules.specs.Returns.{month_after_ends, IsFirstWednesdayOrFriday, IsEarlierMakeup}
 use Rattle.ftd_rules.specs.Returns.{IsMakeup}
 use Rattle.ftd_rules.specs.Verdicts.{IsTolerable, IsCase, place_of, IsVerdict}
-use Rattle.ftd_rules.proofs.Cuts.{lt_or_le}
 use Rattle.ftd_machine.specs.State.{Entries}
 use Rattle.ftd_machine.specs.History.{form_of, AreLinesOf}
 use Rattle.ftd_machine.specs.Checks.{Answer}
@@ -35,7 +33,7 @@ use Rattle.ftd_machine.specs.Asking.{first_of_row, IsDueList}
 use Rattle.ftd_machine.specs.declared.facts.Facts.TheVariants.{Due}
 use Rattle.ftd_machine.specs.declared.replies.Reply.TheVariants.{Told}
 use Rattle.ftd_machine.proofs.Lined.{owed_some}
-use Rattle.ftd_machine.proofs.ToldSome.{flag_or}
+use Rattle.ftd_machine.proofs.Counting.{neither}
 
 abbrev pub Or : Type 0 → Type 0
 Or P = P ⊎ (P → ⊥)
@@ -45,7 +43,7 @@ truth (inl p) = (true, ((λ h. p), (λ h. refl)))
 truth (inr n) = (false, ((λ h. absurd (false≢true h)), (λ p. absurd (n p))))
 
 pub le_or : (a b : ℕ) → Or (a ≤ b)
-le_or a b = elim (lt_or_le b a) [ inl less ↦ inr (λ h. omega arith) | inr is ↦ inl is ]
+le_or a b = elim (cases_lt b a) [ inl less ↦ inr (λ h. omega arith) | inr is ↦ inl is ]
 
 pub both_or : {P Q : Type 0} → Or P → Or Q → Or (P × Q)
 both_or (inl p) (inl q) = inl (p, q)
@@ -63,8 +61,8 @@ true_or false = inr (λ h. false≢true h)
 
 -- ---- makeup dates
 
-week_some : (day : ℕ) → (w : ℕ) × IsFirstWednesdayOrFriday day w
-week_some day = elim (lt_or_le (day % 7) 3) [
+pub week_some : (day : ℕ) → (w : ℕ) × IsFirstWednesdayOrFriday day w
+week_some day = elim (cases_lt (day % 7) 3) [
   | inl early ↦ (
     day + (2 - day % 7),
     record {
@@ -73,7 +71,7 @@ week_some day = elim (lt_or_le (day % 7) 3) [
       first = λ e l m h. elim h [ inl wednesday ↦ omega arith | inr friday ↦ omega arith ];
     },
   )
-  | inr late ↦ elim (lt_or_le (day % 7) 5) [
+  | inr late ↦ elim (cases_lt (day % 7) 5) [
     | inl middle ↦ (
       day + (4 - day % 7),
       record {
@@ -93,14 +91,12 @@ week_some day = elim (lt_or_le (day % 7) 3) [
   ]
 ]
 
-neither : (a b : ℕ) → (a < b → ⊥) → (b < a → ⊥) → a ≡ b
-neither a b f g = omega arith
-
-week_one : (day a b : ℕ) → IsFirstWednesdayOrFriday day a → IsFirstWednesdayOrFriday day b → a ≡ b
+pub week_one : (day a b : ℕ) → IsFirstWednesdayOrFriday day a → IsFirstWednesdayOrFriday day b
+    → a ≡ b
 week_one day a b g h = neither a b (λ l. h.first a g.not_before l g.holds)
     (λ l. g.first b h.not_before l h.holds)
 
-earlier_some : (form : Form) (holidays : List ℕ) (last due : ℕ)
+pub earlier_some : (form : Form) (holidays : List ℕ) (last due : ℕ)
     → (makeup : ℕ) × IsEarlierMakeup form holidays last due makeup
 earlier_some form holidays last due =
     let r = some_business holidays (month_after_ends form (quarter_of last)) in
@@ -116,7 +112,7 @@ earlier_some form holidays last due =
       },
     )
 
-earlier_one : (form : Form) (holidays : List ℕ) (last due a b : ℕ)
+pub earlier_one : (form : Form) (holidays : List ℕ) (last due a b : ℕ)
     → IsEarlierMakeup form holidays last due a → IsEarlierMakeup form holidays last due b → a ≡ b
 earlier_one form holidays last due a b g h =
     let r : g.return_due ≡ h.return_due =
@@ -126,14 +122,14 @@ earlier_one form holidays last due a b g h =
     on_or_after_one holidays (min h.return_due h.weekday) a b
     (subst (λ d. IsOnOrAfter holidays d a) from g.rolled) h.rolled
 
-makeup_some : (form : Form) (holidays : List ℕ) (r : Rule) (last due : ℕ)
+pub makeup_some : (form : Form) (holidays : List ℕ) (r : Rule) (last due : ℕ)
     → (makeup : ℕ) × IsMakeup form holidays r last due makeup
 makeup_some form holidays rule.Monthly last due =
     some_business holidays (month_after_ends form (quarter_of last))
 makeup_some form holidays rule.Semiweekly last due = earlier_some form holidays last due
 makeup_some form holidays rule.NextDay last due = earlier_some form holidays last due
 
-makeup_one : (form : Form) (holidays : List ℕ) (r : Rule) (last due a b : ℕ)
+pub makeup_one : (form : Form) (holidays : List ℕ) (r : Rule) (last due a b : ℕ)
     → IsMakeup form holidays r last due a → IsMakeup form holidays r last due b → a ≡ b
 makeup_one form holidays rule.Monthly last due a b g h = on_or_after_one holidays _ a b g h
 makeup_one form holidays rule.Semiweekly last due a b g h =
@@ -153,7 +149,7 @@ case_or MadeUp c = both_or (tolerable_or c) (le_or _ _)
 case_or Short c = both_or (tolerable_or c) (le_or _ _)
 case_or Late c = inl tt
 
-place_one : (a b : Verdict) → place_of a ≡ place_of b → a ≡ b
+pub place_one : (a b : Verdict) → place_of a ≡ place_of b → a ≡ b
 place_one Met Met e = refl
 place_one WithReturn WithReturn e = refl
 place_one Open Open e = refl
@@ -166,14 +162,14 @@ place_one a b e = absurd (omega arith)
 abbrev NoneBefore : Case → ℕ → Type 0
 NoneBefore c place = (o : Verdict) → place_of o < place → IsCase o c → ⊥
 
-nor_this : (c : Case) (v : Verdict) → NoneBefore c (place_of v) → (IsCase v c → ⊥)
+pub nor_this : (c : Case) (v : Verdict) → NoneBefore c (place_of v) → (IsCase v c → ⊥)
     → NoneBefore c (place_of v + 1)
-nor_this c v none not o before holds = elim (lt_or_le (place_of o) (place_of v)) [
+nor_this c v none not o before holds = elim (cases_lt (place_of o) (place_of v)) [
   | inl earlier ↦ none o earlier holds
   | inr here ↦ not (subst (λ w. IsCase w c) (place_one o v (omega arith)) holds)
 ]
 
-verdict_some : (c : Case) → (v : Verdict) × IsVerdict c v
+pub verdict_some : (c : Case) → (v : Verdict) × IsVerdict c v
 verdict_some c = elim (case_or Met c) [
   | inl is ↦ (Met, record { holds = is; first = before_met })
   | inr not ↦ let before_return = nor_this c Met before_met not in
@@ -199,7 +195,7 @@ verdict_some c = elim (case_or Met c) [
     before_met : NoneBefore c (place_of Met)
     before_met o before holds = absurd (omega arith)
 
-verdict_one : (c : Case) (a b : Verdict) → IsVerdict c a → IsVerdict c b → a ≡ b
+pub verdict_one : (c : Case) (a b : Verdict) → IsVerdict c a → IsVerdict c b → a ≡ b
 verdict_one c a b g h = place_one a b (neither (place_of a) (place_of b)
     (λ l. h.first a l g.holds) (λ l. g.first b l h.holds))
 
@@ -217,7 +213,7 @@ small_or own rows quarter =
     let form = form_of own.account in
     let n = return_period form quarter in
     let total : Cents = record { 0 = return_total own n } in
-    elim (flag_or (has_next_day form rows n)) [
+    elim (cases_Bool (has_next_day form rows n)) [
       | inl next ↦ inr (λ h. true≢false (sym next ∙ h.2.0))
       | inr none ↦ elim (le_or (return_total own n + 1) 250_000) [
         | inl small ↦ inl (total, refl, (none, inl (omega arith)))
@@ -233,7 +229,7 @@ small_or own rows quarter =
   where
     reported_or : (o : Option Cents) → Or (IsSomeAnd o (λ c. c.0 < 250_000))
     reported_or None = inr (λ h. h)
-    reported_or (Some c) = elim (lt_or_le c.0 250_000) [
+    reported_or (Some c) = elim (cases_lt c.0 250_000) [
       | inl less ↦ inl less
       | inr not ↦ inr (λ h. omega arith)
     ]

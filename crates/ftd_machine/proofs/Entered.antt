@@ -3,10 +3,11 @@ use Rattle.std.proofs.Common.{◌≡◌, ◌∙◌, inl, inr, refl, sym, ap, sub
 use Rattle.std.proofs.Common.{List, [], ◌∷◌, Some}
 use Rattle.std.specs.Prelude.{filter, bytes_eq, unwrap_or}
 use Rattle.std.proofs.lemmas.Bool.{cases_Bool, eqb-true}
+use Rattle.ftd_days.proofs.Spelling.{same_text}
 use Rattle.ftd_rules.specs.Lists.{Has}
 use Rattle.ftd_machine.specs.State.{Entry, is_of, has_key, content_of, kept_at}
 use Rattle.ftd_machine.specs.Sound.{AreDistinct, place_of}
-use Rattle.ftd_machine.proofs.Adding.{own_name, same_name}
+use Rattle.ftd_machine.proofs.Adding.{own_name}
 use Rattle.ftd_machine.proofs.Keeping.{same_key}
 use Rattle.ftd_machine.proofs.Members.{found_some, has_filtered}
 
@@ -34,7 +35,8 @@ module _ {X : Type 0} (name : List ℕ) where
         | inr other ↦ rw other rest
         | inl mine ↦ elim (cases_Bool (z.key == e.key)) [
           | inr apart ↦ rw (mine, apart) rest
-          | inl same ↦ absurd (distinct.0 e has (both_same (named ∙ sym (same_name z.name name mine))
+          | inl same ↦ absurd (distinct.0 e has
+              (both_same (named ∙ sym (same_text z.name name mine))
               (sym (eqb-true z.key e.key same))))
         ]
       ]
@@ -50,7 +52,7 @@ module _ {X : Type 0} (name : List ℕ) where
       let found = found_some content_of (has_key key) (own xs) content kept in
       let e = found.0 in
       let there = has_filtered (is_of name) xs e found.1 in
-      let named : e.name ≡ name = same_name e.name name there.1 in
+      let named : e.name ≡ name = same_text e.name name there.1 in
       let at : e.key ≡ key = eqb-true e.key key found.2 in
       let is : Some e.content ≡ Some content =
       sym (is_kept xs distinct e there.0 named) ∙ (ap (λ k. kept_at k (own xs)) at ∙ kept) in

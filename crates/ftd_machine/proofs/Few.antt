@@ -4,7 +4,7 @@ use Rattle.std.proofs.Common.{◌&&◌, Bool, true, false, cond, List, [], ◌�
 use Rattle.std.proofs.Common.{None, Some, arith, append_assoc, length-append}
 use Rattle.std.specs.Prelude.{find, option_map, nat_le, nat_lt, count_by}
 use Rattle.std.specs.List.{list_all}
-use Rattle.std.proofs.lemmas.Bool.{true≢false, eqb-true, leb-true, ltb-true}
+use Rattle.std.proofs.lemmas.Bool.{true≢false, eqb-true, leb-true, ltb-true, and_parts}
 use Rattle.std.proofs.lemmas.List.Sums.{sum_by-append, sum_by-cons, count_by-le-length}
 use Rattle.std.proofs.lemmas.List.Sums.{length-filter}
 use Rattle.ftd_days.specs.Calendar.{year_of}
@@ -16,8 +16,7 @@ use Rattle.ftd_machine.specs.State.{State, all_days, days_of, calendar_at, is_gi
 use Rattle.ftd_machine.specs.State.{holidays, is_in_force}
 use Rattle.ftd_machine.specs.Requests.{days_of_year}
 use Rattle.ftd_machine.specs.Sound.{AreDistinct, year_of_calendar}
-use Rattle.ftd_machine.proofs.Keeping.{same_key}
-use Rattle.ftd_machine.proofs.Keeping.{is_year}
+use Rattle.ftd_machine.proofs.Keeping.{same_key, is_year}
 
 abbrev lies_in : ℕ → ℕ → Bool
 lies_in year day = year_of day == year
@@ -51,31 +50,24 @@ other_year a b false e other = refl
 abbrev pub Fits : YearDays → Type 0
 Fits c = is_calendar c.year c.days ≡ true
 
-pub and_first : (a b : Bool) → (a && b) ≡ true → a ≡ true
-and_first true b e = refl
-and_first false b e = absurd cc
-
-pub and_second : (a b : Bool) → (a && b) ≡ true → b ≡ true
-and_second true b e = e
-and_second false b e = absurd cc
-
 each_passes : (test : ℕ → Bool) (xs : List ℕ) (d : ℕ) → list_all test xs ≡ true → Has xs d
     → test d ≡ true
 each_passes test [] d e has = absurd has
-each_passes test (x ∷ xs) d e (inl is) = ap test is ∙ and_first (test x) (list_all test xs) e
+each_passes test (x ∷ xs) d e (inl is) = ap test is ∙ (and_parts (test x) (list_all test xs) e).0
 each_passes test (x ∷ xs) d e (inr has) = each_passes test xs d
-    (and_second (test x) (list_all test xs) e) has
+    (and_parts (test x) (list_all test xs) e).1 has
 
 fits_short : (year : ℕ) (days : List ℕ) → is_calendar year days ≡ true → length days ≤ 60
 fits_short year days fits = leb-true (length days) 60
-    (and_first (nat_le (length days) 60) (list_all (lies_in year) days && are_rising days) fits)
+    (and_parts (nat_le (length days) 60) (list_all (lies_in year) days && are_rising days) fits).0
 
 fits_year : (year : ℕ) (days : List ℕ) (d : ℕ) → is_calendar year days ≡ true → Has days d
     → year_of d ≡ year
 fits_year year days d fits has =
     eqb-true (year_of d) year (each_passes (lies_in year) days d
-    (and_first (list_all (lies_in year) days) (are_rising days)
-    (and_second (nat_le (length days) 60) (list_all (lies_in year) days && are_rising days) fits))
+    (and_parts (list_all (lies_in year) days) (are_rising days)
+    (and_parts (nat_le (length days) 60) (list_all (lies_in year) days && are_rising days)
+    fits).1).0
     has)
 
 -- a calendar of another year has no day of the year

@@ -1,10 +1,9 @@
 -- The days of a year that are given or added as holidays are its calendar and those added to it.
-use Rattle.std.proofs.Common.{◌≡◌, ◌∙◌, ℕ, Bool, true, false, List, [], ◌∷◌, ◌++◌, None, Some, Option}
-use Rattle.std.proofs.Common.{inl, inr, refl, sym, ap, subst}
-use Rattle.std.specs.Prelude.{◌==◌, ◌||◌, ◌&&◌, filter, find, nat_le, option_map, is_some}
-use Rattle.std.specs.Prelude.{if◌then◌else◌}
+use Rattle.std.proofs.Common.{◌≡◌, ◌∙◌, ℕ, Bool, true, false, List, [], ◌∷◌, ◌++◌, None, Some}
+use Rattle.std.proofs.Common.{Option, inl, inr, refl, sym, ap}
+use Rattle.std.specs.Prelude.{◌==◌, ◌||◌, ◌&&◌, filter, find, nat_le, option_map, if◌then◌else◌}
 use Rattle.std.specs.List.{list_any, list_all}
-use Rattle.std.proofs.lemmas.Bool.{true≢false, cases_Bool, eqb-true}
+use Rattle.std.proofs.lemmas.Bool.{true≢false, cases_Bool, eqb-true, and_parts}
 use Rattle.std.proofs.lemmas.Grind.{flat_map-append}
 use Rattle.std.proofs.lemmas.List.{append-nil}
 use Rattle.std.proofs.lemmas.List.Concat.{flat_map-cons}
@@ -17,27 +16,13 @@ use Rattle.ftd_rules.specs.Lists.{Has}
 use Rattle.ftd_machine.specs.Limits.{are_rising}
 use Rattle.ftd_machine.specs.Requests.{days_of_year}
 use Rattle.std.proofs.lemmas.List.Sums.{AllPass-from_list_all}
+use Rattle.std.proofs.Math.Bool.{or-false}
 use Rattle.ftd_rules.proofs.Rising.{has_all}
+use Rattle.ftd_rules.proofs.Members.{filter_in, filter_out}
 use Rattle.ftd_machine.specs.Sound.{AreDistinct, year_of_calendar, IsSound}
 use Rattle.ftd_machine.specs.State.{State, days_of, calendar_at, added_in, all_days, is_given}
 use Rattle.ftd_machine.proofs.Keeping.{is_year}
 use Rattle.ftd_machine.proofs.Members.{found_none}
-
-filter_in : {X : Type 0} (test : X → Bool) (x : X) (xs : List X) → test x ≡ true
-    → filter test (x ∷ xs) ≡ x ∷ filter test xs
-filter_in test x xs is = rw is refl
-
-filter_out : {X : Type 0} (test : X → Bool) (x : X) (xs : List X) → test x ≡ false
-    → filter test (x ∷ xs) ≡ filter test xs
-filter_out test x xs off = rw off refl
-
-both : (a b : Bool) → (a && b) ≡ true → (a ≡ true) × (b ≡ true)
-both true b is = (refl, is)
-both false b is = absurd cc
-
-or_false : (b : Bool) → (b || false) ≡ b
-or_false true = refl
-or_false false = refl
 
 -- ---- the calendar of a year
 
@@ -92,7 +77,7 @@ in_calendar day (c ∷ cs) days apart filed found =
         let none = none_of day cs (λ g has. filed g (inr has))
         (λ g has is. apart.0 g has (is ∙ sym its)) in
         ap (λ b. is_holiday c.days day || b) none
-        ∙ (or_false (is_holiday c.days day) ∙ ap (λ ds. is_holiday ds day) same)
+        ∙ (or-false (is_holiday c.days day) ∙ ap (λ ds. is_holiday ds day) same)
     step false e found more =
         ap (λ b. b || is_holiday (holidays_of cs) day)
         (not_among day c.year c.days (filed c (inl refl)) (other (c.year == year_of day) e))
@@ -133,15 +118,17 @@ never_added day (d ∷ ds) none = ap (λ b. b || is_holiday ds day) (eq_not d da
 pub filed_of : (s : State) → IsSound s → AreFiled s.calendars
 filed_of s sound c has day in_days =
     let fits = (sound.are_calendars c has).1 in
-    let rest = (both (nat_le _ 60) (list_all (λ d. year_of d == c.year) c.days && are_rising c.days)
+    let rest = (and_parts (nat_le _ 60) (list_all (λ d. year_of d == c.year) c.days
+    && are_rising c.days)
     fits).1 in
-    let all = (both (list_all (λ d. year_of d == c.year) c.days) (are_rising c.days) rest).0 in
+    let all = (and_parts (list_all (λ d. year_of d == c.year) c.days) (are_rising c.days) rest).0 in
     eqb-true (year_of day) c.year (has_all (λ d. (year_of d == c.year) ≡ true) c.days
     (AllPass-from_list_all (λ d. year_of d == c.year) c.days all) day in_days)
 
--- ---- both
+-- ---- and_parts
 
-module _ (s : State) (apart : AreDistinct year_of_calendar s.calendars) (filed : AreFiled s.calendars)
+module _ (s : State) (apart : AreDistinct year_of_calendar s.calendars)
+    (filed : AreFiled s.calendars)
     (given : (day : ℕ) → Has s.added_days day → is_given s (year_of day) ≡ true) (day : ℕ) where
   by_calendar : (found : Option (List ℕ)) → calendar_at s (year_of day) ≡ found
       → is_holiday (all_days s) day
@@ -172,7 +159,7 @@ more_first false true true is = refl
 more_first false true false is = refl
 more_first false false c is = absurd cc
 
-more_last : (a b c : Bool) → (a || b) ≡ true → (a || (b || c)) ≡ true
+pub more_last : (a b c : Bool) → (a || b) ≡ true → (a || (b || c)) ≡ true
 more_last true b c is = refl
 more_last false true c is = refl
 more_last false false c is = absurd cc

@@ -1,11 +1,12 @@
 -- What is kept stays: no request takes an entry back.
 use Rattle.std.proofs.Common.{◌≡◌, ◌∙◌, refl, ap, subst, ℕ, ◌==◌, Bool, true, false, cond, List, []}
 use Rattle.std.proofs.Common.{◌∷◌, ◌++◌, filter, Option, None, Some, bytes_eq}
-use Rattle.std.specs.Prelude.{find, option_map, is_some, unwrap_or}
+use Rattle.std.specs.Prelude.{find, option_map, is_some}
 use Rattle.std.specs.Option.{option_or}
 use Rattle.std.proofs.lemmas.Bool.{eq-eqb}
 use Rattle.std.proofs.lemmas.List.Elements.{filter-append}
 use Rattle.std.proofs.lemmas.List.Folds.{find-append}
+use Rattle.std.proofs.lemmas.Option.{same_Some}
 use Rattle.ftd_days.specs.Holidays.{YearDays}
 use Rattle.ftd_rules.specs.declared.run.Voidable.{Voidable}
 use Rattle.ftd_machine.specs.State.{Entry, is_of, has_key, content_of, kept_at}
@@ -105,9 +106,6 @@ void_content : {X : Type 0} (under : Bool) (v : Voidable X) → IsStill v (cond 
 void_content true v = (refl, λ e. refl)
 void_content false v = (refl, λ e. e)
 
-inside : {X : Type 0} (x y : X) → Some x ≡ Some y → x ≡ y
-inside x y e = ap (λ o. unwrap_or o x) e
-
 found_still : {X : Type 0} (own : List ℕ) (number : ℕ) (e : Entry (Voidable X))
     (o p : Option (Entry (Voidable X))) (v : Voidable X) (found : Bool)
     → option_map content_of (cond found (Some e) o) ≡ Some v
@@ -119,7 +117,7 @@ found_still own number e o p v true is later =
     let w = (voided_if own number e).content in (
       w,
       refl,
-      subst (λ u. IsStill u w) (inside e.content v is)
+      subst (λ u. IsStill u w) (same_Some e.content v is)
           (void_content (is_under own number e) e.content),
     )
 found_still own number e o p v false is later = later is

@@ -1,7 +1,8 @@
 -- What is kept is told one answer.
 use Rattle.std.proofs.Common.{◌≡◌, ◌∙◌, ◌⊎◌, inl, inr, sym, ap, subst, ℕ, ◌<◌, ◌≤◌, List, arith}
 use Rattle.std.proofs.Common.{Option, None, Some, refl}
-use Rattle.std.specs.Prelude.{◌↔◌, ◌++◌, true, false, map, [], ◌∷◌}
+use Rattle.std.specs.Prelude.{◌↔◌, ◌++◌, map, [], ◌∷◌}
+use Rattle.std.proofs.lemmas.Option.{same_Some}
 use Rattle.ftd_rules.specs.declared.Obligation.{Obligation}
 use Rattle.ftd_rules.specs.declared.YearLine.{YearLine}
 use Rattle.ftd_rules.specs.Lists.{Has}
@@ -27,7 +28,7 @@ use Rattle.ftd_machine.specs.declared.requests.Kept.TheVariants.{Accounts, Years
 use Rattle.ftd_machine.specs.declared.requests.Kept.TheVariants.{Holidays, Runs, Payments}
 use Rattle.ftd_machine.proofs.Single.{IsOnce, lookback_one, lines_of_one, owed_one}
 use Rattle.ftd_machine.proofs.Ordered.{ordered_one}
-use Rattle.ftd_machine.proofs.AgendaOrder.{inside, names_once, three}
+use Rattle.ftd_machine.proofs.AgendaOrder.{names_once, three}
 
 -- lists in one order that have the same members
 pub listed_one : {X : Type 0} (R : X → X → Type 0) → ((x y : X) → R x y → R y x → ⊥)
@@ -104,7 +105,7 @@ held_one owed day (Some a) (Some b) g h =
 pub account_one : (s : State) (x y : KeptAccount) → x.name ≡ y.name → IsEnrolled s x
     → IsEnrolled s y → x ≡ y
 account_one s x y named g h =
-    let account : x.account ≡ y.account = inside x.account y.account
+    let account : x.account ≡ y.account = same_Some x.account y.account
     (sym g ∙ subst (λ n. (entries_of s n).account ≡ Some y.account) (sym named) h) in
     rw (named, account) refl
 
@@ -114,7 +115,7 @@ run_one own quarter x y g h same =
     let kept : record { value = x.run; voided = x.voided } ≡ record {
       value = y.run;
       voided = y.voided;
-    } = inside (record { value = x.run; voided = x.voided }) (record {
+    } = same_Some (record { value = x.run; voided = x.voided }) (record {
       value = y.run;
       voided = y.voided;
     }) (sym g.0 ∙ subst (λ k. kept_at k own.runs ≡ Some (record {
@@ -131,7 +132,7 @@ payment_one owed own quarter x y g h same =
     let kept : record { value = x.payment; voided = x.voided } ≡ record {
       value = y.payment;
       voided = y.voided;
-    } = inside (record { value = x.payment; voided = x.voided }) (record {
+    } = same_Some (record { value = x.payment; voided = x.voided }) (record {
       value = y.payment;
       voided = y.voided;
     }) (sym g.0 ∙ subst (λ k. kept_at k own.payments ≡ Some (record {
@@ -193,7 +194,7 @@ totals_one own a b g h =
 holidays_one : (s : State) (year : ℕ) (a b : Answer) → AreHolidays s year a → AreHolidays s year b
     → a ≡ b
 holidays_one s year a b g h =
-    let given : g.given ≡ h.given = inside g.given h.given (sym g.is_given ∙ h.is_given) in
+    let given : g.given ≡ h.given = same_Some g.given h.given (sym g.is_given ∙ h.is_given) in
     let added : g.added ≡ h.added = listed_one IsDayBefore (λ x y k l. omega arith) _ g.added
     h.added g.rising h.rising g.all h.all in
     g.told ∙ (ap (λ xs. told_rows (rows.Holidays (kept_days s xs g.added))) given

@@ -31,3 +31,4 @@ pub mod Brief
 pub mod Listed
 pub mod Entered
 pub mod InYear
+pub mod Refusing

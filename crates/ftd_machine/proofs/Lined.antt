@@ -2,8 +2,9 @@
 use Rattle.std.proofs.Common.{◌≡◌, ◌∙◌, inl, inr, refl, sym, ap, subst, ℕ, ◌+◌, ◌≤◌, Bool, true}
 use Rattle.std.proofs.Common.{false, List, [], ◌∷◌, map, arith, None}
 use Rattle.std.specs.Prelude.{nat_le}
-use Rattle.std.proofs.lemmas.Bool.{leb-true}
+use Rattle.std.proofs.lemmas.Bool.{leb-true, and_parts}
 use Rattle.ftd_days.specs.declared.cents.Cents.{Cents}
+use Rattle.ftd_days.proofs.Spelling.{same_text}
 use Rattle.ftd_rules.specs.declared.Kind.TheVariants as kind
 use Rattle.ftd_rules.specs.declared.YearLine.{YearLine}
 use Rattle.ftd_rules.specs.declared.Obligation.{Obligation}
@@ -13,20 +14,18 @@ use Rattle.ftd_rules.proofs.Opened.{lines_some}
 use Rattle.ftd_rules.proofs.Earlier.{counterpart}
 use Rattle.ftd_rules.proofs.Owing.{obligations_some}
 use Rattle.ftd_rules.proofs.Stated.{rows_stated}
+use Rattle.ftd_rules.proofs.Members.{has_mapped, mapped_has}
 use Rattle.ftd_machine.specs.Limits.{is_between}
 use Rattle.ftd_machine.specs.State.{State, Entries, Entry, entries_of, is_of}
 use Rattle.ftd_machine.specs.History.{form_of, is_carried, live_sums, HasLookback, AreCarried}
 use Rattle.ftd_machine.specs.History.{year_of_line, year_of_entry, AreLinesOf, AreOwed}
 use Rattle.ftd_machine.specs.Sound.{Follow, FollowFrom, IsSound}
-use Rattle.ftd_machine.proofs.Adding.{same_name}
-use Rattle.ftd_machine.proofs.Few.{and_first, and_second}
-use Rattle.ftd_machine.proofs.Members.{has_mapped, mapped_has, has_filtered}
-use Rattle.ftd_machine.proofs.Totals.{SameButRuns, lookback_still, SameButFigures}
-use Rattle.ftd_machine.proofs.Totals.{lookback_again}
+use Rattle.ftd_machine.proofs.Members.{has_filtered}
+use Rattle.ftd_machine.proofs.Totals.{SameButRuns, lookback_still, SameButFigures, lookback_again}
 
 -- ---- the same but for the openings and the turns
 
-years_same : (xs ys : List YearLine) → map basis_of xs ≡ map basis_of ys
+pub years_same : (xs ys : List YearLine) → map basis_of xs ≡ map basis_of ys
     → map year_of_line xs ≡ map year_of_line ys
 years_same [] [] e = refl
 years_same [] (y ∷ ys) e = absurd cc
@@ -80,10 +79,10 @@ lines_from own (e ∷ es) carried f =
       (refl, rest.3),
     )
 
-between_is : (year : ℕ) → is_between 2001 2098 year ≡ true → (2001 ≤ year) × (year ≤ 2098)
+pub between_is : (year : ℕ) → is_between 2001 2098 year ≡ true → (2001 ≤ year) × (year ≤ 2098)
 between_is year e = (
-  leb-true 2001 year (and_first (nat_le 2001 year) (nat_le year 2098) e),
-  leb-true year 2098 (and_second (nat_le 2001 year) (nat_le year 2098) e),
+  leb-true 2001 year (and_parts (nat_le 2001 year) (nat_le year 2098) e).0,
+  leb-true year 2098 (and_parts (nat_le 2001 year) (nat_le year 2098) e).1,
 )
 
 years_after : (year : ℕ) (lines : List YearLine) → year ≤ 2098
@@ -97,7 +96,7 @@ years_after year (line ∷ lines) top follow within =
           (years_after line.year lines (within line (inl refl)) follow.1 (λ l h. within l (inr h))),
     )
 
-open_years_of : (lines : List YearLine) → Follow (map year_of_line lines)
+pub open_years_of : (lines : List YearLine) → Follow (map year_of_line lines)
     → ((line : YearLine) → Has lines line → (2001 ≤ line.year) × (line.year ≤ 2098))
     → AreOpenYears lines
 open_years_of [] follow within = (2001, omega arith, omega arith)
@@ -111,7 +110,7 @@ lines_of_sound s name sound =
     let own = entries_of s name in
     let raw = lines_from own own.open_years (is_carried own.account) (λ e h.
     (let from = has_filtered (is_of name) s.open_years e h in
-    let same : e.name ≡ name = same_name e.name name from.1 in
+    let same : e.name ≡ name = same_text e.name name from.1 in
     let total = sound.totals e from.0 in
     (total.0, subst (λ n. HasLookback (entries_of s n) e.key total.0) same total.1))) in
     let within : (line : YearLine) → Has raw.0 line → (2001 ≤ line.year) × (line.year ≤ 2098) =

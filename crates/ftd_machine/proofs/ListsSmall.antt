@@ -2,13 +2,13 @@
 -- below the end.
 use Rattle.std.proofs.Common.{◌≡◌, inl, inr, ap, ℕ, ◌<◌, List, arith}
 use Rattle.std.specs.List.{sum_by}
+use Rattle.std.proofs.lemmas.Bool.{cases_lt}
 use Rattle.ftd_rules.specs.declared.Obligation.{Obligation}
 use Rattle.ftd_rules.specs.declared.verdict.DueRow.{DueRow}
 use Rattle.ftd_rules.specs.Lists.{Has}
 use Rattle.ftd_rules.specs.Liability.{cents_of}
 use Rattle.ftd_rules.specs.Verdicts.{amount_of}
 use Rattle.ftd_rules.specs.Private.Obligations.{IsOwedPiece}
-use Rattle.ftd_rules.proofs.Cuts.{lt_or_le}
 use Rattle.ftd_rules.proofs.Stated.{rows_owed}
 use Rattle.ftd_rules.proofs.Covering.{within_period, covering_one}
 use Rattle.ftd_machine.specs.Limits.{amounts_end}
@@ -39,7 +39,7 @@ module _ (s : State) (name : List ℕ) (sound : IsSound s) where
       → IsOwedPiece form lines sums (holidays s) row.obligation =
       λ row has. (pieces.all row.obligation).0 ((h.all row).0 has).owed in
       let apart : LieApart first_of_row last_of_row amount_of sums h.listed =
-      λ x y has_x has_y earlier. elim (lt_or_le x.obligation.last y.obligation.first) [
+      λ x y has_x has_y earlier. elim (cases_lt x.obligation.last y.obligation.first) [
         | inl less ↦ less
         | inr more ↦
             let w = within_period form lines sums (holidays s) y.obligation (piece y has_y) in

@@ -1,18 +1,18 @@
 -- Corrections under their numbers: one more has the next number, and those before keep theirs.
-use Rattle.std.proofs.Common.{◌≡◌, ◌∙◌, refl, sym, ap, subst, ℕ, zero, suc, ◌+◌, ◌-◌, ◌==◌, Bool, true}
+use Rattle.std.proofs.Common.{◌≡◌, ◌∙◌, refl, sym, ap, ℕ, zero, suc, ◌+◌, ◌-◌, ◌==◌, Bool, true}
 use Rattle.std.proofs.Common.{List, [], ◌∷◌, ◌++◌, length, filter, map, Option, None, Some, arith}
 use Rattle.std.specs.Prelude.{slice_get, option_map, unwrap_or}
 use Rattle.std.proofs.lemmas.List.{map-append}
 use Rattle.std.proofs.lemmas.Bool.{eqb-true}
 use Rattle.std.proofs.lemmas.List.Elements.{filter-append}
 use Rattle.ftd_machine.specs.State.{Entry, Move, DayChange, is_of, has_key, content_of, all_at}
-use Rattle.ftd_machine.specs.State.{numbered, is_move_of, beginning_of, moves_of, changes_of, is_on_day, latest}
-use Rattle.ftd_machine.specs.State.{says_holiday}
+use Rattle.ftd_machine.specs.State.{numbered, is_move_of, beginning_of, moves_of, changes_of}
+use Rattle.ftd_machine.specs.State.{is_on_day, latest, says_holiday}
 use Rattle.ftd_machine.specs.Checks.{first_of}
 use Rattle.ftd_machine.specs.Requests.{is_next}
 use Rattle.ftd_machine.specs.Step.{with_entry}
 use Rattle.ftd_machine.specs.declared.replies.Refusal.TheVariants.{NumberSkipped}
-use Rattle.ftd_machine.proofs.Adding.{entry_own, own_name}
+use Rattle.ftd_machine.proofs.Adding.{entry_own}
 use Rattle.ftd_machine.proofs.Heads.{gives_needs}
 use Rattle.ftd_machine.proofs.Keeping.{same_key}
 

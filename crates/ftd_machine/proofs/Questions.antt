@@ -1,19 +1,16 @@
 -- What each question's checks and answers have in common, one clause a question.
-use Rattle.std.proofs.Common.{◌≡◌, sym, ap, subst, [], Some, false}
-use Rattle.std.specs.Prelude.{unwrap_or}
+use Rattle.std.proofs.Common.{◌≡◌, sym, ap, subst, [], false}
 use Rattle.ftd_machine.specs.State.{State}
 use Rattle.ftd_machine.specs.Checks.{Answer}
 use Rattle.ftd_machine.specs.Laws.{is_change}
-use Rattle.ftd_machine.specs.Questions.{question_checks, question_of, Tells}
+use Rattle.ftd_machine.specs.Questions.{question_checks, Tells}
 use Rattle.ftd_machine.specs.Sound.{IsSound}
 use Rattle.ftd_machine.specs.declared.requests.Question.{Question}
 use Rattle.ftd_machine.specs.declared.requests.Question.TheVariants.{Status, Explain, DueList}
 use Rattle.ftd_machine.specs.declared.requests.Question.TheVariants.{ScheduleB, Agenda, Owed, Kept}
-use Rattle.ftd_machine.specs.declared.requests.Request.{Request}
 use Rattle.ftd_machine.specs.declared.requests.Request.TheVariants as request
 use Rattle.ftd_machine.proofs.Heads.{Quiet, quiet_none, quiet_needs, quiet_finds}
-use Rattle.ftd_machine.proofs.Brief.{AnswersBounded, AreBrief, brief_none, brief_needs}
-use Rattle.ftd_machine.proofs.Brief.{brief_finds}
+use Rattle.ftd_machine.proofs.Brief.{AnswersBounded, AreBrief, brief_none, brief_needs, brief_finds}
 use Rattle.ftd_machine.proofs.KeptChecks.{kept_quiet, kept_firm, kept_no_change}
 use Rattle.ftd_machine.proofs.KeptChecks.{kept_brief, kept_bounded}
 use Rattle.ftd_machine.proofs.ListsSmall.{due_list_small, days_small}
@@ -90,22 +87,3 @@ tells_bounded s (ScheduleB name quarter) answer sound told =
 tells_bounded s (Agenda from to as_of) answer sound told = subst AnswersBounded (sym told.told) tt
 tells_bounded s (Owed until as_of) answer sound told = subst AnswersBounded (sym told.told) tt
 tells_bounded s (Kept kept) answer sound told = kept_bounded s kept answer told
-
--- a request that is a question is this one
-pub question_is : (asked : Request) (question : Question) → question_of asked ≡ Some question
-    → asked ≡ request.Question question
-question_is (request.Question asked) question e = ap request.Question (ap (λ o. unwrap_or o asked) e)
-question_is (request.Enrol name start carried form) question e = absurd cc
-question_is (request.Calendar year days) question e = absurd cc
-question_is (request.AddHoliday day) question e = absurd cc
-question_is (request.Report name quarter cents) question e = absurd cc
-question_is (request.ReportYear name year cents) question e = absurd cc
-question_is (request.OpenYear name year) question e = absurd cc
-question_is (request.Post name number payday fit ss medicare) question e = absurd cc
-question_is (request.Void name number) question e = absurd cc
-question_is (request.Pay name number paid for_day cents) question e = absurd cc
-question_is (request.VoidPay name number) question e = absurd cc
-question_is (request.CorrectReport name quarter number cents) question e = absurd cc
-question_is (request.CorrectReportYear name year number cents) question e = absurd cc
-question_is (request.ChangeHoliday day number is_holiday) question e = absurd cc
-question_is (request.CorrectAccount name number start carried) question e = absurd cc

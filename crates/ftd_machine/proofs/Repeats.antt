@@ -4,7 +4,7 @@ use Rattle.std.proofs.Common.{true, false, List, [], ◌∷◌, ◌++◌, length
 use Rattle.std.proofs.Common.{Ok, arith, length-append}
 use Rattle.std.specs.Prelude.{is_some, unwrap_or}
 use Rattle.std.specs.List.{list_any}
-use Rattle.std.proofs.lemmas.Bool.{true≢false}
+use Rattle.std.proofs.lemmas.Bool.{true≢false, or_left, or_right}
 use Rattle.std.proofs.lemmas.List.Folds.{list_any-append}
 use Rattle.std.proofs.lemmas.List.Elements.{filter-append}
 use Rattle.ftd_days.specs.Calendar.{year_of}
@@ -37,7 +37,8 @@ use Rattle.ftd_machine.specs.declared.requests.Request.{Request}
 use Rattle.ftd_machine.specs.declared.requests.Request.TheVariants.{Enrol, Calendar, AddHoliday}
 use Rattle.ftd_machine.specs.declared.requests.Request.TheVariants.{Report, ReportYear, OpenYear}
 use Rattle.ftd_machine.specs.declared.requests.Request.TheVariants.{Post, Void, Pay, VoidPay}
-use Rattle.ftd_machine.specs.declared.requests.Request.TheVariants.{CorrectReport, CorrectReportYear}
+use Rattle.ftd_machine.specs.declared.requests.Request.TheVariants.{CorrectReport}
+use Rattle.ftd_machine.specs.declared.requests.Request.TheVariants.{CorrectReportYear}
 use Rattle.ftd_machine.specs.declared.requests.Request.TheVariants.{ChangeHoliday, CorrectAccount}
 use Rattle.ftd_machine.specs.declared.requests.Request.TheVariants.{Question}
 use Rattle.ftd_machine.proofs.Deciding.{either}
@@ -50,18 +51,17 @@ use Rattle.ftd_machine.proofs.Heads.{done_before, Quiet, quiet_none, quiet_needs
 use Rattle.ftd_machine.proofs.Heads.{Stays}
 use Rattle.ftd_machine.proofs.Questions.{question_quiet, question_firm, told_is}
 use Rattle.ftd_machine.proofs.Keeping.{found_append, found_last, is_year, same_key, kept_own}
-use Rattle.ftd_machine.proofs.Keeping.{kept_some}
-use Rattle.ftd_machine.proofs.Keeping.{Keeps, keeps_entry, KeepsVoidable, keeps_same, keeps_more}
-use Rattle.ftd_machine.proofs.Keeping.{keeps_voided, voided_kept}
-use Rattle.ftd_machine.proofs.Again.{StillThere, enrol_turns, enrol_stays}
-use Rattle.ftd_machine.proofs.Again.{report_turns, report_stays, correct_report_turns}
-use Rattle.ftd_machine.proofs.Again.{correct_report_stays, correct_report_year_turns}
-use Rattle.ftd_machine.proofs.Again.{correct_report_year_stays, correct_account_turns}
-use Rattle.ftd_machine.proofs.Again.{correct_account_stays, change_turns, change_stays}
-use Rattle.ftd_machine.proofs.Again.{report_year_turns, report_year_stays, open_turns, open_stays}
-use Rattle.ftd_machine.proofs.Again.{post_turns, post_stays, void_turns, void_stays, pay_turns}
-use Rattle.ftd_machine.proofs.Again.{pay_stays, void_payment_turns, void_payment_stays}
+use Rattle.ftd_machine.proofs.Keeping.{kept_some, Keeps, keeps_entry, KeepsVoidable, keeps_same}
+use Rattle.ftd_machine.proofs.Keeping.{keeps_more, keeps_voided, voided_kept}
+use Rattle.ftd_machine.proofs.Again.{StillThere, enrol_turns, enrol_stays, report_turns}
+use Rattle.ftd_machine.proofs.Again.{report_stays, correct_report_turns, correct_report_stays}
+use Rattle.ftd_machine.proofs.Again.{correct_report_year_turns, correct_report_year_stays}
+use Rattle.ftd_machine.proofs.Again.{correct_account_turns, correct_account_stays, change_turns}
+use Rattle.ftd_machine.proofs.Again.{change_stays, report_year_turns, report_year_stays, open_turns}
+use Rattle.ftd_machine.proofs.Again.{open_stays, post_turns, post_stays, void_turns, void_stays}
+use Rattle.ftd_machine.proofs.Again.{pay_turns, pay_stays, void_payment_turns, void_payment_stays}
 use Rattle.ftd_machine.proofs.Again.{calendar_turns, calendar_stays, holiday_turns, holiday_stays}
+use Rattle.ftd_machine.proofs.InYear.{more_last}
 
 -- the checks of a request in a state
 abbrev pub checks_of : State → Request → List (Option Answer)
@@ -114,40 +114,27 @@ pub record WasDone (s : State) (request : Request) : Type 0 where
 
 -- ---- holidays that stay
 
-or_more : (a b c : Bool) → (a || b) ≡ true → (a || (b || c)) ≡ true
-or_more true b c e = refl
-or_more false true c e = refl
-or_more false false c e = absurd cc
-
-or_first : (a b : Bool) → a ≡ true → (a || b) ≡ true
-or_first true b e = refl
-or_first false b e = absurd cc
-
-or_second : (a b : Bool) → b ≡ true → (a || b) ≡ true
-or_second true b e = refl
-or_second false b e = e
-
 abbrev is : ℕ → ℕ → Bool
 is day holiday = holiday == day
 
 holiday_more : (o : Option (List ℕ)) (added more : List ℕ) (day : ℕ)
     → is_holiday (days_of_year o added) day ≡ true → is_holiday (days_of_year o (added ++ more)) day
     ≡ true
-holiday_more None added more day e = list_any-append (is day) added more ∙ or_first _ _ e
+holiday_more None added more day e = list_any-append (is day) added more ∙ or_left _ _ e
 holiday_more (Some given) added more day e =
     list_any-append (is day) given (added ++ more) ∙ ap (λ b. list_any (is day) given || b)
     (list_any-append (is day) added more)
-    ∙ or_more (list_any (is day) given) (list_any (is day) added) (list_any (is day) more)
+    ∙ more_last (list_any (is day) given) (list_any (is day) added) (list_any (is day) more)
     (sym (list_any-append (is day) given added) ∙ e)
 
 holiday_last : (o : Option (List ℕ)) (added : List ℕ) (day : ℕ)
     → is_holiday (days_of_year o (added ++ day ∷ [])) day ≡ true
 holiday_last None added day = list_any-append (is day) added (day ∷ [])
-    ∙ or_second _ _ (or_first _ _ (same_key day))
+    ∙ or_right _ _ (or_left _ _ (same_key day))
 holiday_last (Some given) added day =
     list_any-append (is day) given (added ++ day ∷ [])
-    ∙ or_second _ _ (list_any-append (is day) added (day ∷ [])
-    ∙ or_second _ _ (or_first _ _ (same_key day)))
+    ∙ or_right _ _ (list_any-append (is day) added (day ∷ [])
+    ∙ or_right _ _ (or_left _ _ (same_key day)))
 
 holiday_given : (o p : Option (List ℕ)) (added : List ℕ) (day : ℕ)
     → ((x : List ℕ) → o ≡ Some x → p ≡ Some x)
@@ -155,14 +142,15 @@ holiday_given : (o p : Option (List ℕ)) (added : List ℕ) (day : ℕ)
 holiday_given (Some given) p added day still e = rw (still given refl) e
 holiday_given None None added day still e = e
 holiday_given None (Some given) added day still e = list_any-append (is day) given added
-    ∙ or_second _ _ e
+    ∙ or_right _ _ e
 
 -- ---- what is kept stays
 
 pub record Extends (s t : State) : Type 0 where
   pub enrolled : (name : List ℕ) (account : Account) → enrolled_in s name ≡ Some account
       → enrolled_in t name ≡ Some account
-  pub accounts : (name : List ℕ) → StillThere (entries_of s name).account (entries_of t name).account
+  pub accounts : (name : List ℕ) → StillThere (entries_of s name).account
+      (entries_of t name).account
   pub calendars : (year : ℕ) (days : List ℕ) → calendar_at s year ≡ Some days
       → calendar_at t year ≡ Some days
   pub holidays : (day : ℕ)
@@ -753,7 +741,8 @@ step_done s (CorrectAccount name number start carried) answer next step changes 
     (λ a is. (let b = moved_there here.enrolled here.moves there.moves a is in (b.0, b.1))))
     step changes
 step_done s (Question question) answer next step changes =
-    absurd (no_question s answer next (checks_of s (Question question)) _ (question_quiet s question)
+    absurd (no_question s answer next (checks_of s (Question question)) _
+    (question_quiet s question)
     (told_is s question answer) step changes)
 
 -- ---- each step keeps what was kept
@@ -828,7 +817,8 @@ step_extends s (ChangeHoliday day number is_holiday) answer next step =
     done_extends _ s answer next _ step
     (extends_changed s (record { day = day; is_holiday = is_holiday }))
 step_extends s (CorrectAccount name number start carried) answer next step =
-    done_extends _ s answer next _ step (extends_moved s name (record { start = start; carried = carried }))
+    done_extends _ s answer next _ step (extends_moved s name
+    (record { start = start; carried = carried }))
 step_extends s (Question question) answer next step =
     subst (Extends s) (sym (asked_leaves _ s answer next _ step)) (extends_same s)
 

@@ -1,8 +1,8 @@
 -- A state and a request have one answer.
 use Rattle.std.proofs.Common.{◌≡◌, ◌∙◌, ◌⊎◌, inl, inr, refl, sym, ap, subst, ℕ, ◌<◌, Bool, true}
 use Rattle.std.proofs.Common.{false, List, [], ◌∷◌, ◌++◌, map, length, Some, Ok, arith}
-use Rattle.std.specs.Prelude.{unwrap_or}
 use Rattle.std.proofs.lemmas.Bool.{true≢false}
+use Rattle.std.proofs.lemmas.Option.{same_Some}
 use Rattle.ftd_days.specs.declared.cents.Cents.{Cents}
 use Rattle.ftd_rules.specs.declared.Form.{Form}
 use Rattle.ftd_rules.specs.declared.Form.TheVariants.{F941, F943}
@@ -21,10 +21,9 @@ use Rattle.ftd_rules.proofs.Lines.{lines_one}
 use Rattle.ftd_rules.proofs.Schedules.{line_one}
 use Rattle.ftd_rules.proofs.Only.{rows_one, obligations_one}
 use Rattle.ftd_machine.specs.State.{Entry, Entries}
-use Rattle.ftd_machine.specs.History.{start_of, form_of, is_carried, live_sums}
-use Rattle.ftd_machine.specs.History.{figures, quarter_figures, year_figures}
-use Rattle.ftd_machine.specs.History.{IsLookbackOn, HasLookback, IsMissingOn, AreCarried}
-use Rattle.ftd_machine.specs.History.{year_of_line, AreLinesOf, AreOwed}
+use Rattle.ftd_machine.specs.History.{start_of, form_of, is_carried, live_sums, figures}
+use Rattle.ftd_machine.specs.History.{quarter_figures, year_figures, IsLookbackOn, HasLookback}
+use Rattle.ftd_machine.specs.History.{IsMissingOn, AreCarried, year_of_line, AreLinesOf, AreOwed}
 use Rattle.ftd_machine.specs.Checks.{Answer}
 use Rattle.ftd_machine.specs.Posting.{AreOnlyIn, Spans, Differ, IsPosted}
 use Rattle.ftd_machine.specs.Asking.{IsTurnBefore, HasNoTurnBefore, IsReason, IsStatus, IsDueRow}
@@ -35,6 +34,7 @@ use Rattle.ftd_machine.specs.declared.facts.Facts.TheVariants.{Status, Due, Days
 use Rattle.ftd_machine.specs.declared.replies.Reply.TheVariants.{Told, Posted}
 use Rattle.ftd_machine.specs.declared.replies.Refusal.{Refusal}
 use Rattle.ftd_machine.specs.declared.replies.Refusal.TheVariants.{QuarterMissing, YearMissing}
+use Rattle.ftd_machine.proofs.Counting.{neither}
 
 -- ---- a list by its members
 
@@ -94,12 +94,9 @@ lacks_none F941 own year refusal c missing h =
 lacks_none F943 own year refusal c missing h = year_none (year_figures own)
     (start_of own.account) year missing.0 c missing.1 h
 
-neither_less : (a b : ℕ) → (a < b → ⊥) → (b < a → ⊥) → a ≡ b
-neither_less a b f g = omega arith
-
 first_one : (reported : List (ℕ × Cents)) (start year q r : ℕ)
     → IsFirstMissing reported start year q → IsFirstMissing reported start year r → q ≡ r
-first_one reported start year q r h k = neither_less q r (λ less. k.2 q h.0 less h.1)
+first_one reported start year q r h k = neither q r (λ less. k.2 q h.0 less h.1)
     (λ less. h.2 r k.0 less k.1)
 
 pub lacks_one : (form : Form) (own : Entries) (year : ℕ) (refusal other : Refusal)
@@ -244,16 +241,13 @@ schedule_one own quarter a b g h =
     (λ x k. (h.all x).1 ((g.all x).0 k)) (λ x k. (g.all x).1 ((h.all x).0 k)) in
     g.told ∙ ap (λ xs. Ok (Told (Days xs))) listed ∙ sym h.told
 
-inside : {X : Type 0} (x y : X) → Some x ≡ Some y → x ≡ y
-inside x y e = ap (λ o. unwrap_or o x) e
-
 before_one : (year : ℕ) (lines : List YearLine) (line : YearLine) (turn other : ℕ)
     → YearsFrom year lines
     → IsTurnBefore lines line turn → IsTurnBefore lines line other → turn ≡ other
 before_one year lines line turn other from g h =
     let years : g.0.year ≡ h.0.year = let a = g.2 in let b = h.2 in omega arith in
     let same : g.0 ≡ h.0 = line_one year lines g.0 h.0 from g.1 h.1 years in
-    inside turn other (sym g.3 ∙ ap (λ (l : YearLine). l.turn) same ∙ h.3)
+    same_Some turn other (sym g.3 ∙ ap (λ (l : YearLine). l.turn) same ∙ h.3)
 
 turned_one : (year : ℕ) (lines : List YearLine) (line : YearLine) (turn other : ℕ)
     → YearsFrom year lines
@@ -265,7 +259,7 @@ turned_one year lines line turn other from (inl g) (inl h) =
     before_one year lines line turn other from g h
 turned_one year lines line turn other from (inl g) (inr h) = absurd (h.0 turn g)
 turned_one year lines line turn other from (inr g) (inl h) = absurd (g.0 other h)
-turned_one year lines line turn other from (inr g) (inr h) = inside turn other (sym g.2 ∙ h.2)
+turned_one year lines line turn other from (inr g) (inr h) = same_Some turn other (sym g.2 ∙ h.2)
 
 not_carried : (lines : List YearLine) (line : YearLine) (turn : ℕ) → HasNoTurnBefore lines line
     → line.carried ≡ true

@@ -1,10 +1,9 @@
 -- The sums of an account of a sound state are small.
-use Rattle.std.proofs.Common.{◌≡◌, ◌∙◌, inl, inr, sym, ap, subst, ℕ, ◌≤◌, ◌<◌, ◌*◌}
-use Rattle.std.proofs.Common.{◌&&◌, ◌||◌, Bool, true, false, cond, List, [], ◌∷◌, filter, length}
-use Rattle.std.proofs.Common.{refl, arith}
+use Rattle.std.proofs.Common.{◌≡◌, ◌∙◌, inl, inr, sym, ap, subst, ℕ, ◌≤◌, ◌<◌, ◌*◌, ◌&&◌, ◌||◌}
+use Rattle.std.proofs.Common.{Bool, true, false, cond, List, [], ◌∷◌, filter, length, refl, arith}
 use Rattle.std.specs.Prelude.{min, nat_lt}
 use Rattle.std.specs.List.{sum_by}
-use Rattle.std.proofs.lemmas.Bool.{leb-true}
+use Rattle.std.proofs.lemmas.Bool.{leb-true, and_parts}
 use Rattle.std.proofs.lemmas.List.{length-map}
 use Rattle.std.proofs.lemmas.List.Sums.{sum_by-le, count_by-le-length, length-filter}
 use Rattle.ftd_days.specs.declared.cents.Cents.{Cents}
@@ -19,15 +18,15 @@ use Rattle.ftd_rules.specs.Liability.{liability, share}
 use Rattle.ftd_rules.specs.Payments.{paid_by, counts_by}
 use Rattle.ftd_rules.specs.Lookback.{Counts}
 use Rattle.ftd_rules.proofs.Rising.{all_has}
+use Rattle.ftd_rules.proofs.Members.{has_mapped}
 use Rattle.ftd_machine.specs.Limits.{is_amount, are_amounts, most_entries, amounts_end}
 use Rattle.ftd_machine.specs.State.{State, Entry, entries_of, is_of, has_key, content_of, latest}
 use Rattle.ftd_machine.specs.State.{all_at}
-use Rattle.ftd_machine.specs.History.{form_of, figure_of, figures, quarter_figures, live, is_live, value_of}
-use Rattle.ftd_machine.specs.History.{liability_of, live_sums, live_payments, HasLookback}
+use Rattle.ftd_machine.specs.History.{form_of, figure_of, figures, quarter_figures, live, is_live}
+use Rattle.ftd_machine.specs.History.{value_of, liability_of, live_sums, live_payments, HasLookback}
 use Rattle.ftd_machine.specs.History.{IsLookbackOn}
 use Rattle.ftd_machine.specs.Sound.{IsSound}
-use Rattle.ftd_machine.proofs.Few.{and_first, and_second}
-use Rattle.ftd_machine.proofs.Members.{has_mapped, has_filtered}
+use Rattle.ftd_machine.proofs.Members.{has_filtered}
 
 -- ---- amounts
 
@@ -36,10 +35,10 @@ amount_le cents e = leb-true cents.0 99_999_999_999 e
 
 run_le : (run : PayRun) → are_amounts run ≡ true → (liability_of run).cents.0 ≤ 299_999_999_997
 run_le run e =
-    let rest = and_second (is_amount run.fit) (is_amount run.ss && is_amount run.medicare) e in
-    let fit = amount_le run.fit (and_first (is_amount run.fit) _ e) in
-    let ss = amount_le run.ss (and_first (is_amount run.ss) _ rest) in
-    let medicare = amount_le run.medicare (and_second (is_amount run.ss) _ rest) in
+    let rest = (and_parts (is_amount run.fit) (is_amount run.ss && is_amount run.medicare) e).1 in
+    let fit = amount_le run.fit (and_parts (is_amount run.fit) _ e).0 in
+    let ss = amount_le run.ss (and_parts (is_amount run.ss) _ rest).0 in
+    let medicare = amount_le run.medicare (and_parts (is_amount run.ss) _ rest).1 in
     omega arith
 
 if_le : (b : Bool) (n : ℕ) → cond b 0 n ≤ n

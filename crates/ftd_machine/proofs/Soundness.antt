@@ -1,15 +1,15 @@
 -- Each step leaves the state sound.
 use Rattle.std.proofs.Common.{◌≡◌, ◌∙◌, ◌⊎◌, inl, inr, refl, sym, ap, subst, ℕ, ◌+◌, ◌-◌, ◌≤◌, ◌<◌}
-use Rattle.std.proofs.Common.{◌==◌}
-use Rattle.std.proofs.Common.{◌||◌, ◌&&◌, Bool, true, false, cond, List, [], ◌∷◌, ◌++◌, map, filter}
-use Rattle.std.proofs.Common.{length, Option, None, Some, Ok, arith, bytes_eq}
+use Rattle.std.proofs.Common.{◌==◌, ◌||◌, ◌&&◌, Bool, true, false, cond, List, [], ◌∷◌, ◌++◌, map}
+use Rattle.std.proofs.Common.{filter, length, Option, None, Some, Ok, arith, bytes_eq}
 use Rattle.std.specs.Prelude.{find, option_map, is_some, nat_le, nat_lt}
-use Rattle.std.proofs.lemmas.Bool.{eqb-true, leb-true, ltb-true}
+use Rattle.std.proofs.lemmas.Bool.{eqb-true, leb-true, ltb-true, or_cases, and_parts}
 use Rattle.ftd_days.specs.Business.{is_holiday}
 use Rattle.ftd_days.specs.Holidays.{holidays_of}
 use Rattle.ftd_days.specs.Calendar.{year_of}
 use Rattle.ftd_days.specs.Holidays.{YearDays}
 use Rattle.ftd_days.specs.declared.cents.Cents.{Cents}
+use Rattle.ftd_days.proofs.Spelling.{same_text}
 use Rattle.ftd_rules.specs.Lists.{Has}
 use Rattle.ftd_rules.specs.Lookback.{AreReportedOnce}
 use Rattle.ftd_machine.specs.declared.entries.Account.{Account}
@@ -17,12 +17,13 @@ use Rattle.ftd_machine.specs.declared.entries.Beginning.{Beginning}
 use Rattle.ftd_rules.specs.declared.run.PayRun.{PayRun}
 use Rattle.ftd_rules.specs.declared.payment.Payment.{Payment}
 use Rattle.ftd_rules.specs.declared.run.Voidable.{Voidable}
+use Rattle.ftd_rules.proofs.Members.{has_last, has_mapped, has_kept}
 use Rattle.ftd_machine.specs.Limits.{is_between, is_calendar, is_amount, are_amounts}
 use Rattle.ftd_machine.specs.Limits.{is_number, most_entries}
 use Rattle.ftd_machine.specs.State.{State, nothing, Entry, entries_of, is_named, account_of, is_of}
 use Rattle.ftd_machine.specs.State.{has_key, content_of, kept_at, is_open, is_given, calendar_at}
-use Rattle.ftd_machine.specs.State.{all_days, days_of, added_in, DayChange, enrolled_in, moves_in, latest}
-use Rattle.ftd_machine.specs.State.{account_in_force, all_at}
+use Rattle.ftd_machine.specs.State.{all_days, days_of, added_in, DayChange, enrolled_in, moves_in}
+use Rattle.ftd_machine.specs.State.{latest, account_in_force, all_at}
 use Rattle.ftd_machine.specs.History.{figure_of, figures, year_of_entry, HasLookback}
 use Rattle.ftd_machine.specs.Requests.{days_of_year, is_unused}
 use Rattle.ftd_machine.specs.Checks.{Answer, first_of, Decides}
@@ -36,16 +37,17 @@ use Rattle.ftd_machine.specs.declared.requests.Request.{Request}
 use Rattle.ftd_machine.specs.declared.requests.Request.TheVariants.{Enrol, Calendar, AddHoliday}
 use Rattle.ftd_machine.specs.declared.requests.Request.TheVariants.{Report, ReportYear, OpenYear}
 use Rattle.ftd_machine.specs.declared.requests.Request.TheVariants.{Post, Void, Pay, VoidPay}
-use Rattle.ftd_machine.specs.declared.requests.Request.TheVariants.{CorrectReport, CorrectReportYear}
+use Rattle.ftd_machine.specs.declared.requests.Request.TheVariants.{CorrectReport}
+use Rattle.ftd_machine.specs.declared.requests.Request.TheVariants.{CorrectReportYear}
 use Rattle.ftd_machine.specs.declared.requests.Request.TheVariants.{ChangeHoliday, CorrectAccount}
 use Rattle.ftd_machine.specs.declared.requests.Request.TheVariants.{Question}
 use Rattle.ftd_machine.proofs.Deciding.{either}
 use Rattle.ftd_machine.proofs.InYear.{filed_of, in_year, still_given, still_added}
-use Rattle.ftd_machine.proofs.Members.{has_last, has_mapped, has_filtered, found_none, has_kept}
+use Rattle.ftd_machine.proofs.Members.{has_filtered, found_none}
 use Rattle.ftd_machine.proofs.Leaving.{asked_leaves}
 use Rattle.ftd_machine.proofs.Heads.{Gives, gives_finds, gives_needs, gives_done, gives_new}
 use Rattle.ftd_machine.proofs.Heads.{skip_needs, skip_finds, skip_new, skip_done}
-use Rattle.ftd_machine.proofs.Adding.{own_name, same_name, filter_more, was_enrolled}
+use Rattle.ftd_machine.proofs.Adding.{own_name, filter_more, was_enrolled}
 use Rattle.ftd_machine.proofs.Keeping.{found_append, same_key, keeps_entry}
 use Rattle.ftd_machine.proofs.Totals.{totals_still, totals_account, totals_reported}
 use Rattle.ftd_machine.proofs.Totals.{totals_reported_year, totals_open, totals_moved}
@@ -54,7 +56,7 @@ use Rattle.ftd_machine.proofs.Counted.{voided_count}
 use Rattle.ftd_machine.proofs.Keeping.{is_year}
 use Rattle.ftd_machine.proofs.Repeats.{checks_of, calendar_still, some_still}
 use Rattle.ftd_machine.proofs.Single.{IsOnce}
-use Rattle.ftd_machine.proofs.Few.{few_given, few_added, and_second}
+use Rattle.ftd_machine.proofs.Few.{few_given, few_added}
 
 -- ---- keys that differ
 
@@ -113,8 +115,8 @@ once_of xs corrected name apart quarter figure other h k =
     let b = has_mapped (figure_of corrected) (filter (is_of name) xs) (quarter, other) k in
     let c = has_filtered (is_of name) xs a.0 a.1 in
     let d = has_filtered (is_of name) xs b.0 b.1 in
-    let names : b.0.name ≡ a.0.name = same_name b.0.name name d.1
-    ∙ sym (same_name a.0.name name c.1) in
+    let names : b.0.name ≡ a.0.name = same_text b.0.name name d.1
+    ∙ sym (same_text a.0.name name c.1) in
     let keys : b.0.key ≡ a.0.key = sym (ap (λ (p : ℕ × Cents). p.0) b.2)
     ∙ ap (λ (p : ℕ × Cents). p.0) a.2 in
     let places : place_of b.0 ≡ place_of a.0 = rw (names, keys) refl in
@@ -368,16 +370,12 @@ none_of : {X : Type 0} (o : Option X) → is_some o ≡ false → o ≡ None
 none_of (Some x) e = absurd cc
 none_of None e = refl
 
-either_of : (a b : Bool) → (a || b) ≡ true → (a ≡ true) ⊎ (b ≡ true)
-either_of true b e = inl refl
-either_of false b e = inr e
-
-empty_of : {X : Type 0} (xs : List X) → (length xs == 0) ≡ true → xs ≡ []
+pub empty_of : {X : Type 0} (xs : List X) → (length xs == 0) ≡ true → xs ≡ []
 empty_of [] e = refl
 empty_of (x ∷ xs) e = absurd (let l : length (x ∷ xs) ≡ 0 = eqb-true (length (x ∷ xs)) 0 e in
     omega arith)
 
-mapped_last : {X Y : Type 0} (f : X → Y) (xs : List X) (x : X) → map f (xs ++ x ∷ []) ≡ map f xs
+pub mapped_last : {X Y : Type 0} (f : X → Y) (xs : List X) (x : X) → map f (xs ++ x ∷ []) ≡ map f xs
     ++ f x ∷ []
 mapped_last f [] x = refl
 mapped_last f (y ∷ xs) x = ap (λ ys. f y ∷ ys) (mapped_last f xs x)
@@ -398,11 +396,11 @@ turn_step : (s : State) (name : List ℕ) (year : ℕ) (other : List ℕ) (b : B
     ∷ []) (filter (is_of other) s.open_years)))
 turn_step s name year other false e at_least first fresh sound = sound.in_turn other
 turn_step s name year other true e at_least first fresh sound =
-    let same : name ≡ other = same_name name other e in
+    let same : name ≡ other = same_text name other e in
     let own = filter (is_of name) s.open_years in
     let new : Entry (Unit {0}) = record { name = name; key = year; content = tt } in
     let before : (map year_of_entry own ≡ []) ⊎ Has (map year_of_entry own) (year - 1) =
-    elim (either_of (length own == 0) (is_open (entries_of s name) (year - 1)) first) [
+    elim (or_cases (length own == 0) (is_open (entries_of s name) (year - 1)) first) [
       | inl none ↦ inl (ap (map year_of_entry) (empty_of own none))
       | inr there ↦ inr (open_has (year - 1) own there)
     ] in
@@ -999,7 +997,7 @@ step_sound s (Pay name number paid for_day cents) answer next step sound =
     (skip_finds _ _ _ _
     (skip_new _ _ _ _ _ (skip_needs _ _ _ _ (skip_needs _ _ _ _ (gives_needs _ _ [])))))))) in
     done_sound s answer next sound P _ step (λ e. sound_payment s name number payment (none.fact e)
-    (there.fact e) (and_second _ _ (fits.fact e)) (ltb-true _ _ (room.fact e)) sound)
+    (there.fact e) (and_parts _ _ (fits.fact e)).1 (ltb-true _ _ (room.fact e)) sound)
 step_sound s (VoidPay name number) answer next step sound =
     done_sound s answer next sound (checks_of s (VoidPay name number)) _ step
     (λ e. sound_void_payment s name number sound)
@@ -1032,9 +1030,9 @@ step_sound s (CorrectAccount name number start carried) answer next step sound =
     (skip_needs _ _ _ _ (skip_finds _ _ _ _ (skip_new _ _ _ _ _ (gives_needs _ _ _))))) in
     done_sound s answer next sound P _ step (λ e.
     (let opened : (length own.open_years == 0) ≡ true =
-    and_second (length own.reported_years == 0) (length own.open_years == 0)
-    (and_second (length own.reported == 0)
-    ((length own.reported_years == 0) && (length own.open_years == 0)) (unused.fact e)) in
+    (and_parts (length own.reported_years == 0) (length own.open_years == 0)
+    (and_parts (length own.reported == 0)
+    ((length own.reported_years == 0) && (length own.open_years == 0)) (unused.fact e)).1).1 in
     sound_moved s name (record { start = start; carried = carried })
     (empty_of own.open_years opened) sound))
 step_sound s (Question question) answer next step sound =

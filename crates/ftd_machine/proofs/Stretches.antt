@@ -4,10 +4,10 @@ use Rattle.std.proofs.Common.{◌≡◌, inl, inr, sym, subst, ℕ, ◌+◌, ◌
 use Rattle.std.proofs.Common.{refl, arith}
 use Rattle.std.specs.List.{sum_by}
 use Rattle.std.proofs.lemmas.List.Sums.{sum_by-cons}
+use Rattle.std.proofs.lemmas.Bool.{cases_lt}
 use Rattle.ftd_rules.specs.declared.DaySum.{DaySum}
 use Rattle.ftd_rules.specs.Lists.{Has, KeysRise}
 use Rattle.ftd_rules.specs.Liability.{liability}
-use Rattle.ftd_rules.proofs.Cuts.{lt_or_le}
 use Rattle.ftd_rules.proofs.Along.{liability_empty}
 use Rattle.ftd_rules.proofs.Adding.{liability_split}
 
@@ -15,9 +15,9 @@ use Rattle.ftd_rules.proofs.Adding.{liability_split}
 liability_from : (sums : List DaySum) (a b c : ℕ) → a ≤ b
     → liability sums b c ≤ liability sums a c
 liability_from sums a b c l =
-    elim (lt_or_le c b) [
+    elim (cases_lt c b) [
       | inl none ↦ (let e = liability_empty sums b c none in omega arith)
-      | inr some ↦ elim (lt_or_le a b) [
+      | inr some ↦ elim (cases_lt a b) [
         | inl more ↦
             let next : b - 1 + 1 ≡ b = omega arith in
             let split = rw next at (liability_split sums a (b - 1) c (omega arith) (omega arith)) in

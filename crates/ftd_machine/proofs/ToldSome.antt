@@ -3,7 +3,7 @@ use Rattle.std.proofs.Common.{◌≡◌, ◌∙◌, ◌⊎◌, inl, inr, refl, s
 use Rattle.std.proofs.Common.{Bool, true, false, cond}
 use Rattle.std.proofs.Common.{List, [], ◌∷◌, ◌++◌, map, arith, Option, None, Some, Ok}
 use Rattle.std.specs.Prelude.{◌↔◌, zero, suc, is_some, find, option_map, IsSome, IsSomeAnd}
-use Rattle.std.proofs.lemmas.Bool.{eqb-true, false≢true}
+use Rattle.std.proofs.lemmas.Bool.{eqb-true, false≢true, cases_Bool, cases_lt}
 use Rattle.std.proofs.lemmas.Bool.Decides.{eqb_tells}
 use Rattle.ftd_days.specs.Calendar.{year_of, quarter_of, quarter_start}
 use Rattle.ftd_days.specs.declared.cents.Cents.{Cents}
@@ -18,10 +18,11 @@ use Rattle.ftd_rules.specs.Liability.{liability}
 use Rattle.ftd_rules.specs.Lookback.{Counts, IsMissing, IsFirstMissing, IsLookback, lookback_first}
 use Rattle.ftd_rules.specs.Years.{HasStatusOn, IsSemiweeklyOn}
 use Rattle.ftd_rules.proofs.Schedules.{cases_turn}
-use Rattle.ftd_rules.proofs.Cuts.{lt_or_le}
 use Rattle.ftd_rules.proofs.Walk.{share_before}
 use Rattle.ftd_rules.proofs.Owed.{has_left, has_right}
-use Rattle.ftd_machine.proofs.Members.{has_last}
+use Rattle.ftd_rules.proofs.Members.{has_last}
+use Rattle.ftd_rules.proofs.Stated.{cases_kind}
+use Rattle.ftd_rules.proofs.Figures.{counts_not_missing}
 use Rattle.ftd_days.specs.Calendar.{year_start}
 use Rattle.ftd_machine.specs.State.{Entries, Entry, kept_at, content_of, has_key, is_open}
 use Rattle.ftd_machine.specs.History.{start_of, quarter_figures, year_figures, live_sums}
@@ -36,11 +37,6 @@ use Rattle.ftd_machine.specs.declared.facts.Facts.TheVariants.{Status, Days}
 use Rattle.ftd_machine.specs.declared.replies.Reply.TheVariants.{Told}
 use Rattle.ftd_machine.specs.declared.replies.Refusal.{Refusal}
 use Rattle.ftd_machine.specs.declared.replies.Refusal.TheVariants.{QuarterMissing, YearMissing}
-
--- a flag is set, or not
-pub flag_or : (b : Bool) → (b ≡ true) ⊎ (b ≡ false)
-flag_or true = inl refl
-flag_or false = inr refl
 
 -- ---- the lookback period: a total, or a figure that is missing
 
@@ -61,19 +57,13 @@ figure_or (x ∷ rest) key = elim (eqb_tells x.0 key) [
 
 counts_or : (reported : List (ℕ × Cents)) (start quarter : ℕ)
     → ((amount : Cents) × Counts reported start quarter amount) ⊎ IsMissing reported start quarter
-counts_or reported start quarter = elim (lt_or_le start (quarter_start (quarter + 1))) [
+counts_or reported start quarter = elim (cases_lt start (quarter_start (quarter + 1))) [
   | inr early ↦ inl (record { 0 = 0 }, inl (early, refl))
   | inl late ↦ elim (figure_or reported quarter) [
     | inl found ↦ inl (found.0, inr (late, found.1))
     | inr none ↦ inr (late, none)
   ]
 ]
-
-counted : (reported : List (ℕ × Cents)) (start quarter : ℕ) (amount : Cents)
-    → Counts reported start quarter amount → IsMissing reported start quarter → ⊥
-counted reported start quarter amount (inl early) missing =
-    let a = early.0 in let b = missing.0 in omega arith
-counted reported start quarter amount (inr late) missing = missing.1 amount late.1
 
 first_or : (reported : List (ℕ × Cents)) (start year : ℕ)
     → ((q : ℕ) × IsFirstMissing reported start year q)
@@ -104,7 +94,7 @@ first_or reported start year =
             inr (inl refl),
             gap,
             λ e h less m. elim h [
-              | inl is ↦ counted reported start b c0.0 c0.1 (at e b is m)
+              | inl is ↦ counts_not_missing reported start b c0.0 c0.1 (at e b is m)
               | inr (inl is) ↦ omega arith
               | inr (inr (inl is)) ↦ omega arith
               | inr (inr (inr (inl is))) ↦ omega arith
@@ -119,8 +109,9 @@ first_or reported start year =
               inr (inr (inl refl)),
               gap,
               λ e h less m. elim h [
-                | inl is ↦ counted reported start b c0.0 c0.1 (at e b is m)
-                | inr (inl is) ↦ counted reported start (b + 1) c1.0 c1.1 (at e (b + 1) is m)
+                | inl is ↦ counts_not_missing reported start b c0.0 c0.1 (at e b is m)
+                | inr (inl is) ↦ counts_not_missing reported start (b + 1) c1.0 c1.1
+                    (at e (b + 1) is m)
                 | inr (inr (inl is)) ↦ omega arith
                 | inr (inr (inr (inl is))) ↦ omega arith
                 | inr (inr (inr (inr none))) ↦ none
@@ -134,9 +125,10 @@ first_or reported start year =
                 inr (inr (inr (inl refl))),
                 gap,
                 λ e h less m. elim h [
-                  | inl is ↦ counted reported start b c0.0 c0.1 (at e b is m)
-                  | inr (inl is) ↦ counted reported start (b + 1) c1.0 c1.1 (at e (b + 1) is m)
-                  | inr (inr (inl is)) ↦ counted reported start (b + 2) c2.0 c2.1
+                  | inl is ↦ counts_not_missing reported start b c0.0 c0.1 (at e b is m)
+                  | inr (inl is) ↦ counts_not_missing reported start (b + 1) c1.0 c1.1
+                      (at e (b + 1) is m)
+                  | inr (inr (inl is)) ↦ counts_not_missing reported start (b + 2) c2.0 c2.1
                       (at e (b + 2) is m)
                   | inr (inr (inr (inl is))) ↦ omega arith
                   | inr (inr (inr (inr none))) ↦ none
@@ -166,7 +158,7 @@ total_or F941 own year = elim (first_or (quarter_figures own) (start_of own.acco
   | inl gap ↦ inl (QuarterMissing gap.0, (gap.0, gap.1, refl))
   | inr is ↦ inr (record { 0 = is.0 }, is.1)
 ]
-total_or F943 own year = elim (lt_or_le (start_of own.account) (year_start (year - 1))) [
+total_or F943 own year = elim (cases_lt (start_of own.account) (year_start (year - 1))) [
   | inr early ↦ inr (record { 0 = 0 }, inl (early, refl))
   | inl late ↦ elim (figure_or (year_figures own) (year - 2)) [
     | inl found ↦ inr (found.0, inr (late, found.1))
@@ -209,19 +201,15 @@ line_of_year own lines year h there =
 
 -- ---- the status and why
 
-kind_or : (k : Kind) → (k ≡ kind.Semiweekly) ⊎ (k ≡ kind.Monthly)
-kind_or kind.Monthly = inr refl
-kind_or kind.Semiweekly = inl refl
-
 status_or : (line : YearLine) (day : ℕ) → IsSemiweeklyOn line day ⊎ (IsSemiweeklyOn line day → ⊥)
-status_or line day = elim (kind_or line.opening) [
+status_or line day = elim (cases_kind line.opening) [
   | inl opens ↦ inl (inl opens)
   | inr monthly ↦ elim (cases_turn line.turn) [
     | inl none ↦ inr (λ h. elim h [
       | inl opens ↦ not_both line.opening opens monthly
       | inr turned ↦ turned_none line.turn none turned
     ])
-    | inr turn ↦ elim (lt_or_le turn.0 day) [
+    | inr turn ↦ elim (cases_lt turn.0 day) [
       | inl past ↦ inl (inr (rw (turn.1) past))
       | inr not ↦ inr (λ h. elim h [
         | inl opens ↦ not_both line.opening opens monthly
@@ -279,13 +267,13 @@ reason_some : (own : Entries) (lines : List YearLine) (line : YearLine) (day : �
     → (why : Reason) × IsReason lines line status why
 reason_some own lines line day kind.Monthly h has is = (reason.Lookback, tt)
 reason_some own lines line day kind.Semiweekly h has is =
-    elim (lt_or_le 5_000_000 line.lookback.0) [
+    elim (cases_lt 5_000_000 line.lookback.0) [
       | inl more ↦ (reason.Lookback, more)
       | inr small ↦ elim (before_or lines lines line (λ x k. k)) [
         | inl turn ↦ (reason.Turned turn.0, ((λ l. omega arith), inl turn.1))
         | inr none ↦
             let no_turn : HasNoTurnBefore lines line = λ turn b. none b.0 b.1 b.2 turn b.3 in
-            elim (flag_or line.carried) [
+            elim (cases_Bool line.carried) [
               | inl carried ↦ (reason.Carried, ((λ l. omega arith), no_turn, carried))
               | inr not ↦
                   let turn : (t : ℕ) × (line.turn ≡ Some t) = elim is [
@@ -373,7 +361,7 @@ days_below sums quarter (suc n) =
     ) in
     elim (eqb_tells (quarter_of n) quarter) [
       | inr apart ↦ without (λ h. apart.1 h.0)
-      | inl here ↦ elim (lt_or_le 0 (liability sums n n)) [
+      | inl here ↦ elim (cases_lt 0 (liability sums n n)) [
         | inr none ↦ without (λ h. let l = h.1 in omega arith)
         | inl some ↦
             let x : DaySum = record { day = n; cents = record { 0 = liability sums n n } } in (
@@ -440,7 +428,7 @@ schedule_some own quarter =
         all = λ x. (
           (λ h. (let k = (found.2 x).0 h in (k.1, k.2, k.3))),
           (λ h. (found.2 x).1 (
-            elim (lt_or_le x.day (top sums)) [
+            elim (cases_lt x.day (top sums)) [
               | inl early ↦ early
               | inr late ↦ absurd (let e = none_after sums x.day late in let f = h.1 in
                   let p = h.2 in omega arith)

@@ -1,7 +1,7 @@
 -- Each open year has its lookback total still: figures are added or put right, and none is taken
 -- back.
 use Rattle.std.proofs.Common.{◌≡◌, ◌∙◌, inl, inr, refl, sym, ap, subst, ℕ, ◌+◌, Bool, true, false}
-use Rattle.std.proofs.Common.{cond, List, [], ◌∷◌, ◌++◌, filter, Option, None, Some, bytes_eq}
+use Rattle.std.proofs.Common.{cond, List, [], ◌∷◌, ◌++◌, filter, bytes_eq}
 use Rattle.std.specs.Prelude.{is_some}
 use Rattle.ftd_days.specs.declared.cents.Cents.{Cents}
 use Rattle.ftd_rules.specs.declared.Form.{Form}
@@ -9,6 +9,7 @@ use Rattle.ftd_rules.specs.declared.Form.TheVariants.{F941, F943}
 use Rattle.ftd_rules.specs.Lists.{Has}
 use Rattle.ftd_rules.specs.Lookback.{Counts, lookback_first}
 use Rattle.ftd_rules.proofs.Owed.{has_left}
+use Rattle.ftd_rules.proofs.Members.{has_last, has_mapped, has_kept, mapped_has}
 use Rattle.ftd_machine.specs.declared.entries.Account.{Account}
 use Rattle.ftd_machine.specs.declared.entries.Beginning.{Beginning}
 use Rattle.ftd_machine.specs.State.{State, Entries, Entry, entries_of, is_of, is_named, account_of}
@@ -19,7 +20,7 @@ use Rattle.ftd_machine.specs.Step.{with_account, with_entry, with_move}
 use Rattle.ftd_machine.specs.Sound.{HasTotals}
 use Rattle.ftd_machine.proofs.Adding.{filter_more, moved_other, own_name, was_enrolled}
 use Rattle.ftd_machine.proofs.Keeping.{found_append}
-use Rattle.ftd_machine.proofs.Members.{has_kept, has_last, has_mapped, mapped_has, some_of}
+use Rattle.ftd_machine.proofs.Members.{some_of}
 
 -- the account stays, and what was reported stays so, whatever its figure is then
 pub record Grows (own after : Entries) : Type 0 where

@@ -3,13 +3,9 @@ use Rattle.std.specs.Prelude.{◌≡◌, ◌≤◌, ◌<◌, ◌↔◌, ℕ, ◌
 use Rattle.std.specs.Prelude.{None, Some, Ok}
 use Rattle.ftd_days.specs.Calendar.{quarter_of, weekday_of}
 use Rattle.ftd_days.specs.Business.{is_business, is_holiday}
-use Rattle.ftd_days.specs.Calendar.{IsClose}
 use Rattle.ftd_rules.specs.declared.Obligation.{Obligation}
-use Rattle.ftd_rules.specs.declared.Rule.{Rule}
-use Rattle.ftd_rules.specs.declared.Rule.TheVariants.{Monthly, Semiweekly, NextDay}
-use Rattle.ftd_rules.specs.Due.{fifteenth_after}
 use Rattle.ftd_rules.specs.Liability.{liability}
-use Rattle.ftd_rules.specs.Laws.{Covers}
+use Rattle.ftd_rules.specs.Laws.{Covers, IsFirstCounted}
 use Rattle.ftd_rules.specs.Lists.{Has, KeysRise}
 use Rattle.ftd_rules.specs.Returns.{IsReturnDue}
 use Rattle.ftd_machine.specs.State.{Entries, kept_at}
@@ -42,14 +38,6 @@ day_of_payday x = x.day
 
 -- ---- the days that are counted to its due date
 
--- the first day that is counted: of a monthly deposit the 15th of the next month; of a semiweekly
--- one the day after the close of its Wednesday to Friday or Saturday to Tuesday; of a next-day one
--- the day after
-abbrev pub IsCountedFrom : Rule → ℕ → ℕ → Type 0
-IsCountedFrom Monthly last from = from ≡ fifteenth_after last
-IsCountedFrom Semiweekly last from = (close : ℕ) × IsClose last close × (from ≡ close + 1)
-IsCountedFrom NextDay last from = from ≡ last + 1
-
 -- what the day is
 abbrev pub IsKindOfDay : List ℕ → ℕ → DayKind → Type 0
 IsKindOfDay holidays day Business = is_business holidays day ≡ true
@@ -60,7 +48,7 @@ IsKindOfDay holidays day Holiday = (weekday_of day < 5) × (is_holiday holidays 
 -- a day from the first that is counted to the due date, and what it is
 abbrev pub IsCountedDay : List ℕ → Obligation → CountedDay → Type 0
 IsCountedDay holidays o x =
-    (from : ℕ) × IsCountedFrom o.rule o.last from
+    (from : ℕ) × IsFirstCounted o.rule o.last from
     × (from ≤ x.day) × (x.day ≤ o.due) × IsKindOfDay holidays x.day x.kind
 
 abbrev pub day_counted : CountedDay → ℕ

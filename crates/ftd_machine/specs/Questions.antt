@@ -15,6 +15,7 @@ use Rattle.ftd_machine.specs.Explaining.{IsExplanation}
 use Rattle.ftd_machine.specs.Kept.{kept_checks, TellsKept, account_kept}
 use Rattle.ftd_machine.specs.declared.facts.Facts.{Facts}
 use Rattle.ftd_machine.specs.declared.facts.Facts.TheVariants as facts
+use Rattle.ftd_machine.specs.declared.requests.Kept.{Kept as KeptThings}
 use Rattle.ftd_machine.specs.declared.requests.Question.{Question}
 use Rattle.ftd_machine.specs.declared.requests.Question.TheVariants.{Status, Explain, DueList}
 use Rattle.ftd_machine.specs.declared.requests.Question.TheVariants.{ScheduleB, Agenda, Owed, Kept}
@@ -85,6 +86,10 @@ due_list_of (ScheduleB name quarter) = None
 due_list_of (Agenda from to as_of) = None
 due_list_of (Owed until as_of) = None
 due_list_of (Kept kept) = None
+
+-- the request that asks what is kept
+abbrev pub kept_asked : KeptThings → Request
+kept_asked kept = request.Question (Kept kept)
 
 -- the question that a request is, if it is one
 abbrev pub question_of : Request → Option Question

@@ -228,7 +228,8 @@ abbrev pub is_next : ℕ → ℕ → Option Answer
 is_next number count = needs (number == count + 1) (NumberSkipped count)
 
 -- CorrectReport: the name; a quarter of 1999 to 2098; the amount; the number; the account, on Form
--- 941; the quarter is reported; known, the correction was made before or differs; and the next number
+-- 941; the quarter is reported; known, the correction was made before or differs; and the next
+-- number
 abbrev pub correct_report_checks
     : List ℕ → ℕ → ℕ → Cents → Option Account → Option Cents → Option Cents → ℕ
     → List (Option Answer)
@@ -260,8 +261,8 @@ correct_report_year_checks name year number cents account reported known count =
     ∷ is_next number count
     ∷ []
 
--- ChangeHoliday: a day of 2001 to 2099; the number; the year's calendar; a day that was given or added
--- as a holiday; known, the change was made before or differs; and the next number
+-- ChangeHoliday: a day of 2001 to 2099; the number; the year's calendar; a day that was given or
+-- added as a holiday; known, the change was made before or differs; and the next number
 abbrev pub change_holiday_checks
     : ℕ → ℕ → Bool → Option (List ℕ) → List ℕ → Option Bool → ℕ → List (Option Answer)
 change_holiday_checks day number is_one calendar added known count =
@@ -284,8 +285,8 @@ abbrev pub same_beginning : Beginning → Beginning → Bool
 same_beginning beginning known =
     (known.start == beginning.start) && same_flag known.carried beginning.carried
 
--- CorrectAccount: the name; a first day not after 2098; the number; the account; known, the correction
--- was made before or differs; nothing rests on the account; and the next number
+-- CorrectAccount: the name; a first day not after 2098; the number; the account; known, the
+-- correction was made before or differs; nothing rests on the account; and the next number
 abbrev pub correct_account_checks
     : List ℕ → ℕ → Beginning → Option Account → Option Beginning → Bool → ℕ → List (Option Answer)
 correct_account_checks name number beginning account known unused count =
@@ -300,7 +301,8 @@ correct_account_checks name number beginning account known unused count =
 
 -- ---- questions
 
--- the schedule of a day, and why an obligation is so: the name; a day of 2001 to 2098; the account; and the open year
+-- the schedule of a day, and why an obligation is so: the name; a day of 2001 to 2098; the account;
+-- and the open year
 abbrev pub status_checks : List ℕ → ℕ → Option Account → Bool → List (Option Answer)
 status_checks name day account there =
     needs (is_account_name name) BadName

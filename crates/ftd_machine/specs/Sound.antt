@@ -10,8 +10,8 @@ use Rattle.ftd_rules.specs.declared.payment.Payment.{Payment}
 use Rattle.ftd_rules.specs.declared.run.Voidable.{Voidable}
 use Rattle.ftd_machine.specs.Limits.{is_between, is_calendar, is_amount, are_amounts}
 use Rattle.ftd_machine.specs.Limits.{is_number, most_entries}
-use Rattle.ftd_machine.specs.State.{DayChange, State, Enrolled, all_days, Entry, entries_of, is_of, is_open}
-use Rattle.ftd_machine.specs.State.{is_given}
+use Rattle.ftd_machine.specs.State.{DayChange, State, Enrolled, all_days, Entry, entries_of, is_of}
+use Rattle.ftd_machine.specs.State.{is_open, is_given}
 use Rattle.ftd_machine.specs.History.{year_of_entry, HasLookback}
 
 -- no two have the same key

@@ -34,8 +34,8 @@ pub record DayChange : Type 0 where
 
 -- the accounts; the calendars as they were first given, and the holidays added to them; the figures
 -- of quarters and of years that were reported; the years that are open; the runs and the payments;
--- and what was put right: figures of quarters and of years, days, and accounts, each in the order of
--- the numbers of its corrections
+-- and what was put right: figures of quarters and of years, days, and accounts, each in the order
+-- of the numbers of its corrections
 pub record State : Type 0 where
   pub accounts : List Enrolled
   pub calendars : List YearDays

@@ -10,7 +10,7 @@ use Rattle.ftd_rules.specs.declared.payment.Payment.{Payment}
 use Rattle.ftd_rules.specs.declared.run.Voidable.{Voidable}
 use Rattle.ftd_machine.specs.State.{State, Enrolled, Entries, Entry, holidays, calendar_at}
 use Rattle.ftd_machine.specs.State.{is_given, added_in, entries_of, is_of, has_key, kept_at}
-use Rattle.ftd_machine.specs.State.{is_open, all_at, changes_of, numbered, DayChange, Move}
+use Rattle.ftd_machine.specs.State.{is_open, all_at, changes_of, numbered, Move}
 use Rattle.ftd_machine.specs.History.{HasLookback, LacksFigure}
 use Rattle.ftd_machine.specs.Checks.{Answer, first_of, needs, Decides}
 use Rattle.ftd_machine.specs.Requests.{enrol_checks, calendar_checks, add_holiday_checks}
@@ -28,7 +28,8 @@ use Rattle.ftd_machine.specs.declared.requests.Request.{Request}
 use Rattle.ftd_machine.specs.declared.requests.Request.TheVariants.{Enrol, Calendar, AddHoliday}
 use Rattle.ftd_machine.specs.declared.requests.Request.TheVariants.{Report, ReportYear, OpenYear}
 use Rattle.ftd_machine.specs.declared.requests.Request.TheVariants.{Post, Void, Pay, VoidPay}
-use Rattle.ftd_machine.specs.declared.requests.Request.TheVariants.{CorrectReport, CorrectReportYear}
+use Rattle.ftd_machine.specs.declared.requests.Request.TheVariants.{CorrectReport}
+use Rattle.ftd_machine.specs.declared.requests.Request.TheVariants.{CorrectReportYear}
 use Rattle.ftd_machine.specs.declared.requests.Request.TheVariants.{ChangeHoliday, CorrectAccount}
 use Rattle.ftd_machine.specs.declared.requests.Request.TheVariants.{Question}
 

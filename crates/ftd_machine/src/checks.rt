@@ -489,8 +489,8 @@ pub fn kept_of_check(name: &str, account: Option<Account>) -> Option<Answer>
     None
 }
 
-/// The checks of an account and a quarter of which the runs or payments are asked for, where this is
-/// known of the account.
+/// The checks of an account and a quarter of which the runs or payments are asked for, where this
+/// is known of the account.
 pub fn kept_in_quarter_check(
     name: &str,
     quarter: Quarter,

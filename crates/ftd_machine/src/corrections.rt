@@ -1,5 +1,5 @@
-//! The checks of corrections, in the order in which they decide. Each function answers what the first
-//! check says that answers, or None where all pass. None takes memory.
+//! The checks of corrections, in the order in which they decide. Each function answers what the
+//! first check says that answers, or None where all pass. None takes memory.
 
 ghost use Rattle.std.specs.Prelude.{◌≡◌, ◌≤◌, option_copied};
 ghost use Rattle.ftd_machine.specs.Checks.{first_of};
@@ -39,7 +39,8 @@ pub fn correct_report_check(
     count: u32,
 ) -> Option<Answer>
     ensures { result
-        ≡ first_of (correct_report_checks name.now quarter number cents account reported known count) }
+        ≡ first_of (correct_report_checks name.now quarter number cents account reported known
+        count) }
 {
     if !is_account_name(name.as_bytes()) {
         return Some(Err(Refusal::BadName));
@@ -81,7 +82,8 @@ pub fn correct_report_year_check(
     count: u32,
 ) -> Option<Answer>
     ensures { result
-        ≡ first_of (correct_report_year_checks name.now year number cents account reported known count) }
+        ≡ first_of (correct_report_year_checks name.now year number cents account reported known
+        count) }
 {
     if !is_account_name(name.as_bytes()) {
         return Some(Err(Refusal::BadName));

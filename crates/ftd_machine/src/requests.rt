@@ -95,8 +95,8 @@ pub enum Request {
         number: u32,
         is_holiday: bool,
     },
-    /// The first day of an account, and whether it came in as semiweekly, are put right while nothing
-    /// rests on them: the first correction has number 1, the next one 2.
+    /// The first day of an account, and whether it came in as semiweekly, are put right while
+    /// nothing rests on them: the first correction has number 1, the next one 2.
     CorrectAccount {
         account: AccountName,
         number: u32,

@@ -1,7 +1,7 @@
 -- Bytes are cut into messages in one way.
 use Rattle.std.proofs.Common.{◌≡◌, ◌≤◌, ◌<◌, ◌+◌, ◌++◌, ◌⊎◌, inl, inr, ℕ, zero, suc, List, [], ◌∷◌}
-use Rattle.std.proofs.Common.{length, get_or, take, drop, Result, Ok, Err, IsTrue, refl, sym, ap, ◌∙◌, subst}
-use Rattle.std.proofs.Common.{arith, append_assoc, append-nil, length-append}
+use Rattle.std.proofs.Common.{length, get_or, take, drop, Result, Ok, Err, IsTrue, refl, sym, ap}
+use Rattle.std.proofs.Common.{◌∙◌, subst, arith, append_assoc, append-nil, length-append}
 use Rattle.std.specs.List.{flat_map}
 use Rattle.std.proofs.lemmas.List.{take_at, drop_at}
 use Rattle.std.proofs.lemmas.Str.{IsUtf8-from_ascii}
@@ -10,9 +10,8 @@ use Rattle.httparse.specs.Grammar.{RequestHead, IsRequestHead, IsField, ReadsReq
 use Rattle.httparse.specs.Grammar.{is_token_byte, is_uri_byte, lf, print_end, print_request}
 use Rattle.httparse.proofs.GrammarLemmas.{request_unique}
 use Rattle.ftd_messages.specs.Messages.{Message, IsHead, IsMessage, message_bytes, body_length}
-use Rattle.ftd_messages.specs.Messages.{AreMessages, MayBeCutOrRefused}
-use Rattle.ftd_messages.specs.Messages.{IsRefused, long, many, full, never, fault}
-use Rattle.ftd_messages.specs.Messages.{IsCut, in_head, in_body}
+use Rattle.ftd_messages.specs.Messages.{AreMessages, MayBeCutOrRefused, IsRefused, long, many, full}
+use Rattle.ftd_messages.specs.Messages.{never, fault, IsCut, in_head, in_body}
 use Rattle.ftd_messages.specs.declared.status.Status.{Status}
 use Rattle.ftd_messages.specs.declared.status.Status.TheVariants.{BadRequest}
 

@@ -5,6 +5,7 @@ use Rattle.std.specs.Prelude.{◌&&◌, if◌then◌else◌}
 use Rattle.std.specs.Char.{is_ascii_digit}
 use Rattle.std.specs.Str.{all_ascii_digits}
 use Rattle.std.proofs.lemmas.Bool.Decides.{nat_tests}
+use Rattle.std.proofs.lemmas.Bool.{and_right}
 use Rattle.ftd_days.specs.Digits.{AreDigits, number_of}
 use Rattle.ftd_messages.specs.Heads.{number_in}
 
@@ -14,10 +15,6 @@ if_so : (text : List ℕ) (b : Bool)
     → number_in text ≡ (if b then Some (number_of text) else None)
 unfolding number_in
 if_so text b e = ap (λ b. if b then Some (number_of text) else None) e
-
-and_false : (a b : Bool) → b ≡ false → (a && b) ≡ false
-and_false true b e = e
-and_false false b e = refl
 
 pub none_empty : (text : List ℕ) → length text ≡ 0 → number_in text ≡ None
 none_empty [] none = if_so [] false refl
@@ -29,11 +26,11 @@ none_long d ds long =
     if_so (d ∷ ds) false (rw e (grind (arith, nat_tests)))
 
 pub none_first : (d : ℕ) (ds : List ℕ) → is_ascii_digit d ≡ false → number_in (d ∷ ds) ≡ None
-none_first d ds e = if_so (d ∷ ds) false (and_false _ _ (ap (λ b. b && all_ascii_digits ds) e))
+none_first d ds e = if_so (d ∷ ds) false (and_right _ _ (ap (λ b. b && all_ascii_digits ds) e))
 
 pub none_others : (d : ℕ) (ds : List ℕ) → (AreDigits ds → ⊥) → number_in (d ∷ ds) ≡ None
 none_others d ds others = if_so (d ∷ ds) false
-    (and_false _ _ (and_false _ _ (not_digits (all_ascii_digits ds) others)))
+    (and_right _ _ (and_right _ _ (not_digits (all_ascii_digits ds) others)))
   where
     not_digits : (b : Bool) → (b ≡ true → ⊥) → b ≡ false
     not_digits true isnt = absurd (isnt refl)

@@ -4,11 +4,8 @@ use Rattle.std.proofs.Common.{length, take, drop, refl, ap, ◌∙◌, nat_lt}
 use Rattle.std.proofs.Common.{◌-◌, Some, None, arith, sym, take_all, drop-drop, length-drop}
 use Rattle.std.proofs.lemmas.Bool.Decides.{nat_tests}
 use Rattle.std.specs.List.{list_any, onto_first, slice_split, position, position_or_len}
+use Rattle.std.proofs.Math.Bool.{or-false}
 use Rattle.ftd_messages.specs.Fields.{is_between, is_word, lists}
-
-or_false : (b : Bool) → (b || false) ≡ b
-or_false true = refl
-or_false false = refl
 
 -- what stands behind the first word
 abbrev pub rest_of : (ℕ → Bool) → List ℕ → List (List ℕ)
@@ -73,7 +70,7 @@ lists_last word list none =
     ap (list_any (is_word word))
     (cut is_between list ∙ whole_by is_between list (position_or_len is_between list)
     (nat_lt (position_or_len is_between list) (length list)) refl none)
-    ∙ or_false (is_word word list)
+    ∙ or-false (is_word word list)
 
 -- the first word of a list is it
 pub lists_first : (word list first : List ℕ) (n : ℕ) → position is_between list ≡ Some n

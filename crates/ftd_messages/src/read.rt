@@ -36,9 +36,9 @@ pub enum ReadFault {
 }
 
 /// Reads until the next message stands whole at the front of the buffer, is refused, or can't come.
-/// Bytes read beyond it stay in the buffer. Where nothing of it is there yet, the peer is waited for.
-/// `Read` where the source has failed: the buffer has all that it gave. `Memory` where there is none
-/// for what it gave last, which is lost then.
+/// Bytes read beyond it stay in the buffer. Where nothing of it is there yet, the peer is waited
+/// for. `Read` where the source has failed: the buffer has all that it gave. `Memory` where there
+/// is none for what it gave last, which is lost then.
 pub fn next_message<R: Peer>(source: &mut R, buf: &mut Vec<u8>) -> Result<Next, ReadFault>
     ensures next { IfOk result
         (λ next. IsNext buf.new.items (R.left source.new) (R.idle source.new) next) }

@@ -1,7 +1,7 @@
 -- Figures that are corrected: what is answered, and the tables stand for the machine's next state.
 use Rattle.std.proofs.Common.{◌≡◌, ◌≢◌, ◌∙◌, ◌==◌, ◌≤◌, refl, sym, ap, subst, inl, inr, ℕ, ◌+◌, ◌-◌}
-use Rattle.std.proofs.Common.{Bool, true, false, List, [], ◌∷◌, ◌++◌, map, length, Option, Some, None}
-use Rattle.std.proofs.Common.{arith}
+use Rattle.std.proofs.Common.{Bool, true, false, List, [], ◌∷◌, ◌++◌, map, length, Option, Some}
+use Rattle.std.proofs.Common.{None, arith}
 use Rattle.std.specs.Prelude.{◌||◌, filter, is_some, if◌then◌else◌}
 use Rattle.std.specs.List.{list_any}
 use Rattle.std.proofs.lemmas.Bool.{eqb-true}
@@ -16,6 +16,7 @@ use Rattle.ftd_rules.specs.declared.YearLine.{YearLine}
 use Rattle.ftd_rules.specs.Lists.{Has}
 use Rattle.ftd_rules.specs.Lookback.{lookback_quarters, IsLookback}
 use Rattle.ftd_rules.proofs.Covering.{line_is}
+use Rattle.ftd_rules.proofs.Members.{has_mapped, mapped_has}
 use Rattle.ftd_schema.specs.declared.TableName.TheVariants.{Accounts, CorrectedAccounts}
 use Rattle.ftd_schema.specs.Orders.{AccountCorrectionsRise}
 use Rattle.ftd_schema.specs.Rows.{AccountRow, CorrectedAccountRow}
@@ -31,7 +32,8 @@ use Rattle.ftd_store.specs.Corrections.{IsAccountCorrection}
 use Rattle.ftd_store.specs.Finds.{FindsInForce}
 use Rattle.ftd_machine.specs.declared.entries.Account.{Account}
 use Rattle.ftd_machine.specs.declared.requests.Request.{Request}
-use Rattle.ftd_machine.specs.declared.requests.Request.TheVariants.{CorrectReport, CorrectReportYear}
+use Rattle.ftd_machine.specs.declared.requests.Request.TheVariants.{CorrectReport}
+use Rattle.ftd_machine.specs.declared.requests.Request.TheVariants.{CorrectReportYear}
 use Rattle.ftd_machine.specs.State.{State, Entry, entries_of, is_open, has_key}
 use Rattle.ftd_machine.specs.State.{content_of, kept_at, numbered, all_at, latest}
 use Rattle.ftd_machine.specs.History.{figure_of, figures, form_of, start_of, IsLookbackOn}
@@ -42,8 +44,8 @@ use Rattle.ftd_machine.specs.Step.{Step, with_entry}
 use Rattle.ftd_machine.specs.Sound.{IsSound}
 use Rattle.ftd_machine.proofs.Adding.{entry_own, entry_other}
 use Rattle.ftd_machine.proofs.Deciding.{decided, passed}
-use Rattle.ftd_machine.proofs.Heads.{Gives, gives_finds, gives_needs, skip_needs, skip_finds, skip_new}
-use Rattle.ftd_machine.proofs.Members.{has_mapped, mapped_has}
+use Rattle.ftd_machine.proofs.Heads.{Gives, gives_finds, gives_needs, skip_needs, skip_finds}
+use Rattle.ftd_machine.proofs.Heads.{skip_new}
 use Rattle.ftd_machine.proofs.Soundness.{sound_once}
 use Rattle.ftd_entries.specs.Opening.{is_line_of}
 use Rattle.ftd_entries.specs.Standing.{StandsFor, KeepsFigures, with_earlier, correction_entry}
@@ -194,7 +196,11 @@ module _ (name : List ℕ) (quarter number : ℕ) (cents : Cents) (year : ℕ)
           listed = l.listed;
           whole = l.whole;
           turns = l.turns;
-          first = (l.first.0, in_force_as name l.first.0 t (WithQuarter t) refl refl l.first.1, l.first.2);
+          first = (
+            l.first.0,
+            in_force_as name l.first.0 t (WithQuarter t) refl refl l.first.1,
+            l.first.2,
+          );
           others = l.others;
         };
         obligations = refl;
@@ -372,17 +378,23 @@ module _ (name : List ℕ) (reported_year number : ℕ) (cents : Cents) (countin
       let e = entry_of name reported_year cents in
       let row : year_correction_entry (s.corrected_years, e)
       ≡ year_correction_row name reported_year year_correction =
-      ap (λ n. year_correction_row name reported_year (record { number = n; cents = cents })) (sym is) in
+      ap (λ n. year_correction_row name reported_year (record { number = n; cents = cents }))
+      (sym is) in
       record {
         others = λ other apart. ap (λ cs. record (entries_of s other) { corrected_years = cs })
-            (entry_other s.corrected_years name reported_year cents other (λ same. apart (sym same)));
+            (entry_other s.corrected_years name reported_year cents other
+            (λ same. apart (sym same)));
         lookbacks = λ other total low apart has.
             year_kept_on second s (form_of (entries_of s name).account) other total low apart has;
         same_lines = λ lines l. record {
           listed = l.listed;
           whole = l.whole;
           turns = l.turns;
-          first = (l.first.0, in_force_as name l.first.0 t (WithYear t) refl refl l.first.1, l.first.2);
+          first = (
+            l.first.0,
+            in_force_as name l.first.0 t (WithYear t) refl refl l.first.1,
+            l.first.2,
+          );
           others = l.others;
         };
         obligations = refl;
@@ -415,12 +427,14 @@ module _ (name : List ℕ) (reported_year number : ℕ) (cents : Cents) (countin
   -- ---- the checks
 
   abbrev pub year_checks : KnownForFigure → Option Answer
-  year_checks known = first_of (correct_report_year_checks name reported_year number cents known.account
+  year_checks known = first_of (correct_report_year_checks name reported_year number cents
+      known.account
       known.reported known.known known.count)
 
   year_checks_are : (known : KnownForFigure) (t : Tables) (s : State) → StandsFor t s
       → KnowsForYear name reported_year number counting known t
-      → first_of (correct_report_year_checks name reported_year number cents (entries_of s name).account
+      → first_of (correct_report_year_checks name reported_year number cents
+      (entries_of s name).account
       (kept_at reported_year (entries_of s name).reported_years)
       (numbered number (all_at reported_year (entries_of s name).corrected_years))
       (length (all_at reported_year (entries_of s name).corrected_years))) ≡ year_checks known
@@ -439,10 +453,12 @@ module _ (name : List ℕ) (reported_year number : ℕ) (cents : Cents) (countin
       (year_checks_are known t s stands knows ∙ is)
 
   year_next_number : (account : Option Account) (reported known : Option Cents) (count : ℕ)
-      → first_of (correct_report_year_checks name reported_year number cents account reported known count)
+      → first_of (correct_report_year_checks name reported_year number cents account reported known
+      count)
       ≡ None → number ≡ count + 1
   year_next_number account reported known count is =
-      let P = correct_report_year_checks name reported_year number cents account reported known count in
+      let P = correct_report_year_checks name reported_year number cents account reported known
+      count in
       let next : Gives P ((number == count + 1) ≡ true) =
       skip_needs _ _ _ _ (skip_needs _ _ _ _ (skip_needs _ _ _ _ (skip_needs _ _ _ _
       (skip_finds _ _ _ _ (skip_needs _ _ _ _ (skip_finds _ _ _ _ (skip_new _ _ _ _ _
@@ -452,7 +468,8 @@ module _ (name : List ℕ) (reported_year number : ℕ) (cents : Cents) (countin
   pub year_account_known : (known : KnownForFigure) → year_checks known ≡ None
       → is_some known.account ≡ true
   year_account_known known is =
-      let P = correct_report_year_checks name reported_year number cents known.account known.reported
+      let P = correct_report_year_checks name reported_year number cents known.account
+      known.reported
       known.known known.count in
       let finds : Gives P (is_some known.account ≡ true) =
       skip_needs _ _ _ _ (skip_needs _ _ _ _ (skip_needs _ _ _ _ (skip_needs _ _ _ _
@@ -460,7 +477,8 @@ module _ (name : List ℕ) (reported_year number : ℕ) (cents : Cents) (countin
       finds.fact is
 
   -- all checks pass
-  pub year_done : counting ≡ reported_year + 2 → (known : KnownForFigure) (account : Account) (difference : Difference)
+  pub year_done : counting ≡ reported_year + 2
+      → (known : KnownForFigure) (account : Account) (difference : Difference)
       → year_checks known ≡ None → known.account ≡ Some account
       → (t u : Tables) (s : State) → StandsFor t s → IsSound s
       → KnowsForYear name reported_year number counting known t
@@ -472,7 +490,8 @@ module _ (name : List ℕ) (reported_year number : ℕ) (cents : Cents) (countin
       let next = year_next s in
       let pass = year_checks_are known t s stands knows ∙ is in
       let count = year_next_number own.account (kept_at reported_year own.reported_years)
-      (numbered number (all_at reported_year own.corrected_years)) (length (all_at reported_year own.corrected_years))
+      (numbered number (all_at reported_year own.corrected_years))
+      (length (all_at reported_year own.corrected_years))
       pass in
       let entered = year_entered second t s stands count in
       let first = year_start reported_year in

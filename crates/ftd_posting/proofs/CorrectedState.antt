@@ -1,5 +1,5 @@
--- A figure was corrected: the tables stand for the state with the correction, and it is told how the
--- account's obligations differ.
+-- A figure was corrected: the tables stand for the state with the correction, and it is told how
+-- the account's obligations differ.
 use Rattle.std.proofs.Common.{◌≡◌, ◌≢◌, ◌∙◌, ◌≤◌, ◌⊎◌, refl, sym, ap, subst, inl, inr, ℕ, ◌+◌, Bool}
 use Rattle.std.proofs.Common.{true, false, List, [], ◌∷◌, ◌++◌, map, Ok, Vec, Global, arith}
 use Rattle.std.specs.Prelude.{◌↔◌, filter, bytes_eq}
@@ -7,6 +7,7 @@ use Rattle.std.specs.List.Sorted.{IsPermutation}
 use Rattle.std.proofs.lemmas.Bool.{true≢false}
 use Rattle.ftd_days.specs.Calendar.{year_of, year_start}
 use Rattle.ftd_days.specs.declared.cents.Cents.{Cents}
+use Rattle.ftd_days.proofs.Spelling.{same_text}
 use Rattle.ftd_rules.specs.declared.DaySum.{DaySum}
 use Rattle.ftd_rules.specs.declared.Form.{Form}
 use Rattle.ftd_rules.specs.declared.Obligation.{Obligation}
@@ -37,7 +38,8 @@ use Rattle.ftd_machine.specs.History.{AreLinesOf, HasLookback}
 use Rattle.ftd_machine.specs.Posting.{IsPosted}
 use Rattle.ftd_machine.specs.Sound.{IsSound}
 use Rattle.ftd_machine.specs.declared.replies.Reply.TheVariants.{Posted}
-use Rattle.ftd_machine.proofs.Adding.{same_name, own_name}
+use Rattle.ftd_machine.proofs.Adding.{own_name}
+use Rattle.ftd_machine.proofs.Lined.{years_same}
 use Rattle.ftd_store.specs.Changes.{with_year}
 use Rattle.ftd_store.specs.Finds.{ListsYears}
 use Rattle.ftd_store.specs.Holidays.{HasHolidays}
@@ -52,7 +54,7 @@ use Rattle.ftd_repairs.proofs.Putting.{puts_one, years_put}
 use Rattle.ftd_repairs.proofs.SameSchedules.{owed_with, owed_without, reopening_of}
 use Rattle.ftd_posting.specs.Books.{AreHolidaysIn}
 use Rattle.ftd_posting.proofs.Booking.{first_of_year}
-use Rattle.ftd_posting.proofs.LinesAfter.{years_same, carried_same}
+use Rattle.ftd_posting.proofs.LinesAfter.{carried_same}
 use Rattle.ftd_posting.proofs.LiveRuns.{sums_listed}
 use Rattle.ftd_posting.proofs.Placed.{KeepsEntries, IsPlaced, placed_stands, placed_told}
 
@@ -117,7 +119,8 @@ module _ (t v : Tables) (s : State) (corrected corrected_years : List (Entry Cen
     pub lookbacks : (other : ℕ) (total : Cents) → 2001 ≤ other → other ≢ year
         → HasLookback own other total → HasLookback own_after other total
     pub kept : KeepsEntries v Next
-    pub same_lines : (lines : Vec YearLine Global) → ListsYears name lines v → ListsYears name lines t
+    pub same_lines : (lines : Vec YearLine Global) → ListsYears name lines v
+        → ListsYears name lines t
     pub obligations : v Obligations ≡ t Obligations
     pub years : v Years ≡ t Years
 
@@ -174,7 +177,7 @@ module _ (t v : Tables) (s : State) (corrected corrected_years : List (Entry Cen
       settled_each other = by_name (bytes_eq other name) refl
         where
           by_name : (b : Bool) → bytes_eq other name ≡ b → IsSettled v Next other
-          by_name true is = subst (IsSettled v Next) (sym (same_name other name is)) settled_own
+          by_name true is = subst (IsSettled v Next) (sym (same_text other name is)) settled_own
           by_name false is =
               settled_other other
               (λ same. true≢false (sym (own_name name) ∙ (ap (λ n. bytes_eq n name) (sym same)
@@ -385,7 +388,8 @@ module _ (t v : Tables) (s : State) (corrected corrected_years : List (Entry Cen
           first_of_year year (year_start year) (omega arith) (omega arith) refl in
           let Read : ℕ → Type 0 = λ y. HasHolidays v retotals.holidays y
           × HasHolidays v retotals.holidays (y + 1) in
-          let read : Read c.0.year = elim (one_or_other earlier later (with_total total line) c.0 c.1) [
+          let read : Read c.0.year =
+          elim (one_or_other earlier later (with_total total line) c.0 c.1) [
             | inl other ↦ retotals.read c.0
                 (subst (λ ls. Has ls c.0) (sym retotals.retotals.among.cut)
                 (other_has later line earlier c.0 other))

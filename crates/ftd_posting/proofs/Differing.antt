@@ -1,14 +1,13 @@
 -- How whole lists of obligations differ, of which a run of first days was replaced.
 use Rattle.std.proofs.Common.{◌⊎◌, ℕ, ◌<◌, ◌≤◌, ◌↔◌, inl, inr, List, ◌++◌, arith}
 use Rattle.std.specs.Prelude.{filter}
-use Rattle.std.proofs.lemmas.Bool.{lt-ltb, ltb-true}
+use Rattle.std.proofs.lemmas.Bool.{lt-ltb, ltb-true, cases_lt}
 use Rattle.ftd_rules.specs.declared.Obligation.{Obligation}
 use Rattle.ftd_rules.specs.Lists.{Has}
-use Rattle.ftd_rules.proofs.Cuts.{lt_or_le}
 use Rattle.ftd_rules.proofs.Owed.{has_append, has_left, has_right}
+use Rattle.ftd_rules.proofs.Members.{has_kept}
 use Rattle.ftd_machine.specs.Posting.{Differ}
 use Rattle.ftd_machine.proofs.Members.{has_filtered}
-use Rattle.ftd_store.proofs.Sifted.{keeps_has}
 use Rattle.ftd_repairs.specs.Replaced.{begins_before, begins_after, patched}
 
 -- the first day is one of the days, or it is not
@@ -24,9 +23,9 @@ module _ (from to : ℕ) (rows patch : List Obligation) where
 
   where_begins : (o : Obligation) → BeginsWithin from to o ⊎ BeginsElsewhere from to o
   where_begins o =
-      elim (lt_or_le o.first from) [
+      elim (cases_lt o.first from) [
         | inl before ↦ inr (inl before)
-        | inr l ↦ elim (lt_or_le to o.first) [ inl after ↦ inr (inr after) | inr m ↦ inl (l, m) ]
+        | inr l ↦ elim (cases_lt to o.first) [ inl after ↦ inr (inr after) | inr m ↦ inl (l, m) ]
       ]
 
   pub patch_has : (o : Obligation) → Has patch o → Has After o
@@ -37,11 +36,11 @@ module _ (from to : ℕ) (rows patch : List Obligation) where
   pub stays_has : (o : Obligation) → Has rows o → BeginsElsewhere from to o → Has After o
   stays_has o has (inl before) =
       has_left (filter (begins_before from) rows) (patch ++ filter (begins_after to) rows) o
-      (keeps_has (begins_before from) rows o has (lt-ltb o.first from before))
+      (has_kept (begins_before from) rows o has (lt-ltb o.first from before))
   stays_has o has (inr after) =
       has_right (filter (begins_before from) rows) (patch ++ filter (begins_after to) rows) o
       (has_right patch (filter (begins_after to) rows) o
-      (keeps_has (begins_after to) rows o has (lt-ltb to o.first after)))
+      (has_kept (begins_after to) rows o has (lt-ltb to o.first after)))
 
   pub has_after : (o : Obligation) → Has After o → Has patch o
       ⊎ (Has rows o × BeginsElsewhere from to o)

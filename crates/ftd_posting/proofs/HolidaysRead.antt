@@ -1,5 +1,6 @@
 -- The holidays that were read of some years are those that the state keeps of them.
 use Rattle.std.proofs.Common.{ℕ, ◌+◌, ◌≤◌, List, inl, inr, arith}
+use Rattle.std.proofs.lemmas.Bool.{cases_lt}
 use Rattle.ftd_days.specs.Calendar.{year_of, year_start}
 use Rattle.ftd_days.proofs.Months.{year_is, year_later}
 use Rattle.ftd_rules.specs.declared.Form.{Form}
@@ -10,7 +11,6 @@ use Rattle.ftd_rules.specs.Lists.{Has}
 use Rattle.ftd_rules.specs.Laws.{EqualHolidays}
 use Rattle.ftd_rules.specs.Obligations.{IsObligation}
 use Rattle.ftd_rules.specs.Years.{AreLines}
-use Rattle.ftd_rules.proofs.Cuts.{lt_or_le}
 use Rattle.ftd_rules.proofs.Covering.{within_period, line_is}
 use Rattle.ftd_rules.proofs.Near.{due_near}
 use Rattle.ftd_rules.proofs.Schedules.{year_facts, year_start-mono}
@@ -38,18 +38,19 @@ holidays_near s sound form lines sums read year o are read_of begins owed day fr
     let i0 = inside.0 in let i1 = inside.1 in let i2 = inside.2 in
     let p1 = is.period.1 in let p2 = is.period.2 in
     let its = year_is is.line.year o.last (omega arith) (omega arith) (omega arith) (omega arith) in
-    let near = due_near (holidays s) o.rule o.last o.due (few_in_force s sound.few) (omega arith) is.due in
+    let near = due_near (holidays s) o.rule o.last o.due (few_in_force s sound.few) (omega arith)
+    is.due in
     let near1 = near.1.0 in let in_days = near.1.1 in
     let low = year_later o.last day from (omega arith) in
     let high = year_later day o.due to in_days in
     let since : year ≤ is.line.year =
-    elim (lt_or_le is.line.year year) [
+    elim (cases_lt is.line.year year) [
       | inr some ↦ some
       | inl less ↦ absurd (let mono = year_start-mono (is.line.year + 1) year (omega arith) in
           omega arith)
     ] in
     let known = read_of is.line is.open_year since in
-    elim (lt_or_le (year_of day) (is.line.year + 1)) [
+    elim (cases_lt (year_of day) (is.line.year + 1)) [
       | inl same ↦ known.0 day (omega arith)
       | inr later ↦ known.1 day (omega arith)
     ]

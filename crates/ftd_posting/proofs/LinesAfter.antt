@@ -18,8 +18,9 @@ use Rattle.ftd_rows.specs.Lists.{Pairs}
 use Rattle.ftd_buckets.specs.Histories.{History}
 use Rattle.ftd_buckets.specs.Patches.{AreChanged}
 use Rattle.ftd_machine.specs.State.{Entry, Entries}
-use Rattle.ftd_machine.specs.History.{year_of_line, form_of, is_carried, live_sums, AreCarried}
+use Rattle.ftd_machine.specs.History.{form_of, is_carried, live_sums, AreCarried}
 use Rattle.ftd_machine.specs.History.{AreLinesOf, IsLookbackOn}
+use Rattle.ftd_machine.proofs.Lined.{years_same}
 use Rattle.ftd_repairs.specs.Rescheduled.{IsAfter, AreAfter, scheduled_as}
 
 -- ---- equal lines
@@ -67,7 +68,8 @@ lines_or_not x y e =
 -- ---- the lines after a change
 
 module _ (before after : History) (changed : List YearLine) (some : AreOpenYears before.lines)
-    (then : AreOpenYears after.lines) (same_years : map basis_of before.lines ≡ map basis_of after.lines)
+    (then : AreOpenYears after.lines) (same_years : map basis_of before.lines
+    ≡ map basis_of after.lines)
     (are : AreChanged before after changed) where
   -- a line of the history before, what was put for it, and the line of its year after
   one_after : (x y z : YearLine) → Has before.lines x → Has after.lines z → basis_of x ≡ basis_of z
@@ -114,17 +116,6 @@ module _ (before after : History) (changed : List YearLine) (some : AreOpenYears
       (λ x has. has) (λ z has. has)
 
 -- ---- the lines of an account after a change of its runs
-
-pub years_same : (xs ys : List YearLine) → map basis_of xs ≡ map basis_of ys
-    → map year_of_line xs ≡ map year_of_line ys
-years_same [] [] e = refl
-years_same [] (y ∷ ys) e = absurd cc
-years_same (x ∷ xs) [] e = absurd cc
-years_same (x ∷ xs) (y ∷ ys) e =
-    let first : ◌≡◌ {A = ℕ × ℕ × Bool} (basis_of x) (basis_of y) = cc in
-    let later : map basis_of xs ≡ map basis_of ys = cc in
-    let year : x.year ≡ y.year = ap (λ (z : ℕ × ℕ × Bool). z.0) first in
-    ap (λ n. n ∷ map year_of_line xs) year ∙ ap (λ ns. y.year ∷ ns) (years_same xs ys later)
 
 pub carried_same : (carried : Bool) (xs ys : List YearLine) → map basis_of xs ≡ map basis_of ys
     → AreCarried carried ys → AreCarried carried xs

@@ -15,6 +15,7 @@ use Rattle.ftd_rules.specs.Liability.{liability}
 use Rattle.ftd_rules.specs.Lists.{Has}
 use Rattle.ftd_rules.proofs.Adding.{runs_same}
 use Rattle.ftd_rules.proofs.Walk.{liability-cons}
+use Rattle.ftd_rules.proofs.Members.{filter_in, filter_out, kept_sum}
 use Rattle.ftd_schema.specs.Rows.{RunRow}
 use Rattle.ftd_schema.specs.Tests.{is_live_run_between}
 use Rattle.ftd_schema.specs.Orders.{RunsRise}
@@ -23,7 +24,6 @@ use Rattle.ftd_rows.specs.Lists.{Pairs}
 use Rattle.ftd_rows.specs.Rows.{run_row}
 use Rattle.ftd_rows.specs.DaySums.{owed_on, IsLiveRun, ListsDaySums}
 use Rattle.ftd_rows.proofs.DaySums.{owed_is}
-use Rattle.ftd_store.proofs.Sifted.{filter_in, filter_out}
 use Rattle.ftd_machine.specs.State.{Entry, is_of}
 use Rattle.ftd_machine.specs.History.{liability_of, live, is_live, value_of}
 use Rattle.ftd_machine.specs.Step.{with_entry, with_voided, voided_if, is_under, as_voided, taken}
@@ -163,19 +163,6 @@ listed_sum account day (row ∷ rows) (r ∷ runs) pairs =
 none_of : (b : Bool) → ◌≡◌ {A = ℕ} (cond b 0 0) 0
 none_of true = refl
 none_of false = refl
-
-and_none : (a b : Bool) → (a && (b && false)) ≡ false
-and_none true true = refl
-and_none true false = refl
-and_none false b = refl
-
-kept_sum : {X : Type 0} (p : X → Bool) (f : X → ℕ) (x : X) (xs : List X)
-    → sum_by f (filter p (x ∷ xs)) ≡ cond (p x) (f x) 0 + sum_by f (filter p xs)
-kept_sum p f x xs =
-    elim (cases_Bool (p x)) [
-      | inl kept ↦ rw kept (sum_by-cons f x (filter p xs))
-      | inr left ↦ rw left (omega arith)
-    ]
 
 -- what an entry's row adds to a day between the two is what the entry adds
 one_same : (account : List ℕ) (from to day : ℕ) (e : Entry (Voidable PayRun)) → from ≤ day

@@ -3,22 +3,22 @@ use Rattle.std.proofs.Common.{◌≡◌, ◌∙◌, refl, sym, ap, subst, ℕ, �
 use Rattle.std.proofs.Common.{[], ◌∷◌, ◌++◌, map, arith}
 use Rattle.std.specs.Prelude.{filter, nat_le}
 use Rattle.std.specs.List.Sorted.{IsPermutation}
-use Rattle.std.proofs.lemmas.Bool.{le-leb, leb-true}
+use Rattle.std.proofs.lemmas.Bool.{le-leb, leb-true, and_parts}
 use Rattle.std.proofs.lemmas.List.Elements.{filter-append}
 use Rattle.ftd_days.specs.Calendar.{last_day}
 use Rattle.ftd_rules.specs.declared.Form.{Form}
 use Rattle.ftd_rules.specs.declared.Obligation.{Obligation}
 use Rattle.ftd_rules.specs.Lists.{Has}
-use Rattle.ftd_rules.specs.Obligations.{ByFirstDay}
+use Rattle.ftd_rules.specs.Obligations.{ByFirstDay, begins_on}
 use Rattle.ftd_rules.proofs.Covering.{within_period}
 use Rattle.ftd_rules.proofs.Only.{rows_one}
 use Rattle.ftd_rules.proofs.Stated.{piece_owed}
+use Rattle.ftd_rules.proofs.Members.{filter_in, has_kept}
 use Rattle.ftd_schema.specs.declared.TableName.TheVariants.{Obligations}
 use Rattle.ftd_schema.specs.Standing.{Tables}
 use Rattle.ftd_schema.specs.Tests.{is_obligation_between}
 use Rattle.ftd_rows.specs.Cells.{day_number}
 use Rattle.ftd_rows.specs.Rows.{obligation_row}
-use Rattle.ftd_rows.proofs.Found.{both}
 use Rattle.ftd_buckets.specs.Histories.{History, IsHistory}
 use Rattle.ftd_buckets.specs.Patches.{IsOwed}
 use Rattle.ftd_machine.specs.History.{form_of, live_sums}
@@ -27,12 +27,12 @@ use Rattle.ftd_machine.specs.Sound.{IsSound}
 use Rattle.ftd_machine.proofs.Single.{owed_one}
 use Rattle.ftd_machine.proofs.Members.{has_filtered}
 use Rattle.ftd_machine.proofs.Soundness.{sound_once}
-use Rattle.ftd_store.proofs.Sifted.{filter_in, keeps_has, both_tests}
+use Rattle.ftd_store.proofs.Sifted.{both_tests}
 use Rattle.ftd_entries.specs.Standing.{StandsFor}
-use Rattle.ftd_repairs.specs.Replaced.{AreBetween, HasObligations, begins_before, begins_on}
+use Rattle.ftd_entries.proofs.OwedRows.{kept_by_first_day}
+use Rattle.ftd_repairs.specs.Replaced.{AreBetween, HasObligations, begins_before}
 use Rattle.ftd_repairs.specs.Replaced.{begins_after, patched}
 use Rattle.ftd_posting.specs.Books.{begins_since, AreOwedSince}
-use Rattle.ftd_posting.proofs.Patching.{kept_rise}
 use Rattle.ftd_posting.proofs.RightByAll.{last_is_day}
 use Rattle.ftd_posting.proofs.RowsPlaced.{filter_within, gone_are, rows_between}
 
@@ -59,9 +59,9 @@ owed_read name since rows t s stands read =
       all,
       (was.lines, was.are_lines, was.are_owed),
       rows_one rows (filter (begins_since since) all) read.by_first_day
-          (kept_rise (begins_since since) all was.are_owed.by_first_day)
+          (kept_by_first_day (begins_since since) all was.are_owed.by_first_day)
           (λ o has. (let k = (are o).0 has in
-          keeps_has (begins_since since) all o k.0 (le-leb since o.first k.1.0)))
+          has_kept (begins_since since) all o k.0 (le-leb since o.first k.1.0)))
           (λ o has.
           (let k = has_filtered (begins_since since) all o has in
           (are o).1 (
@@ -79,7 +79,7 @@ on_since : (since from to : ℕ) (rows : List Obligation) → since ≤ from →
     (filter (begins_since since) rows) ≡ filter (begins_on from to) rows
 on_since since from to rows low =
     filter_within (begins_on from to) (begins_since since)
-    (λ o on. (let k = both (nat_le from o.first) (nat_le o.first to) on in
+    (λ o on. (let k = and_parts (nat_le from o.first) (nat_le o.first to) on in
     let l = leb-true from o.first k.0 in le-leb since o.first (omega arith))) rows
 
 -- they are those of the tables
@@ -97,7 +97,7 @@ owed_between name since rows t s stands sound owed from to low =
     ∙ (ap (λ (os : List Obligation). filter p (filter (begins_since since) os)) all
     ∙ on_since since from to was.owed low)) in
     record {
-      by_first_day = subst ByFirstDay on (kept_rise p was.owed was.are_owed.by_first_day);
+      by_first_day = subst ByFirstDay on (kept_by_first_day p was.owed was.are_owed.by_first_day);
       are = subst (λ (os : List Obligation). IsPermutation
           (filter (is_obligation_between name (day_number from) (day_number to)) (t Obligations))
           (map (obligation_row name) os)) on

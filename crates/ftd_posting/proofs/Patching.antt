@@ -1,26 +1,16 @@
 -- Obligations of which a run of first days was replaced.
-use Rattle.std.proofs.Common.{◌⊎◌, ℕ, ◌+◌, ◌<◌, ◌≤◌, ◌↔◌, inl, inr, List, [], ◌∷◌, ◌++◌, Bool, refl}
-use Rattle.std.proofs.Common.{subst, sym, arith}
+use Rattle.std.proofs.Common.{◌⊎◌, ℕ, ◌+◌, ◌<◌, ◌≤◌, ◌↔◌, inl, inr, List, [], ◌∷◌, ◌++◌, refl}
+use Rattle.std.proofs.Common.{arith}
 use Rattle.std.specs.Prelude.{filter}
-use Rattle.std.proofs.lemmas.Bool.{cases_Bool, lt-ltb, ltb-true}
+use Rattle.std.proofs.lemmas.Bool.{lt-ltb, ltb-true, cases_lt}
+use Rattle.ftd_entries.proofs.OwedRows.{kept_by_first_day}
 use Rattle.ftd_rules.specs.declared.Obligation.{Obligation}
 use Rattle.ftd_rules.specs.Lists.{Has}
 use Rattle.ftd_rules.specs.Obligations.{ByFirstDay}
-use Rattle.ftd_rules.proofs.Cuts.{lt_or_le}
 use Rattle.ftd_rules.proofs.Owed.{has_append, has_left, has_right}
+use Rattle.ftd_rules.proofs.Members.{has_kept}
 use Rattle.ftd_machine.proofs.Members.{has_filtered}
-use Rattle.ftd_store.proofs.Sifted.{filter_in, filter_out, keeps_has}
 use Rattle.ftd_repairs.specs.Replaced.{begins_before, begins_after, patched}
-
-pub kept_rise : (p : Obligation → Bool) (rows : List Obligation) → ByFirstDay rows
-    → ByFirstDay (filter p rows)
-kept_rise p [] h = tt
-kept_rise p (x ∷ rows) h =
-    elim (cases_Bool (p x)) [
-      | inl kept ↦ subst ByFirstDay (sym (filter_in p x rows kept))
-          ((λ later has. h.0 later (has_filtered p rows later has).0), kept_rise p rows h.1)
-      | inr left ↦ subst ByFirstDay (sym (filter_out p x rows left)) (kept_rise p rows h.1)
-    ]
 
 join_rise : (xs ys : List Obligation) → ByFirstDay xs → ByFirstDay ys
     → ((x y : Obligation) → Has xs x → Has ys y → x.first < y.first) → ByFirstDay (xs ++ ys)
@@ -55,10 +45,10 @@ patched_are Before After from to rows patch some rise all h =
     λ o has. (let k = has_filtered (begins_after to) rows o has in
     (k.0, ltb-true to o.first k.1)) in
     let later : ByFirstDay (patch ++ back) =
-    join_rise patch back h.rise (kept_rise (begins_after to) rows rise)
+    join_rise patch back h.rise (kept_by_first_day (begins_after to) rows rise)
     (λ x y in_patch in_back. let a = ((h.all x).0 in_patch).2 in let b = (late y in_back).1 in
     omega arith) in (
-      join_rise front (patch ++ back) (kept_rise (begins_before from) rows rise) later
+      join_rise front (patch ++ back) (kept_by_first_day (begins_before from) rows rise) later
           (λ x y in_front in_later. let a = (early x in_front).1 in
           elim (has_append patch back y in_later) [
             | inl in_patch ↦ (let b = ((h.all y).0 in_patch).1 in omega arith)
@@ -72,13 +62,13 @@ patched_are Before After from to rows patch some rise all h =
             | inr in_back ↦ (let k = late o in_back in (h.elsewhere o (inr k.1)).0 ((all o).0 k.0))
           ]
         ]),
-        (λ owed. elim (lt_or_le o.first from) [
+        (λ owed. elim (cases_lt o.first from) [
           | inl before ↦ has_left front (patch ++ back) o
-              (keeps_has (begins_before from) rows o
+              (has_kept (begins_before from) rows o
               ((all o).1 ((h.elsewhere o (inl before)).1 owed)) (lt-ltb o.first from before))
-          | inr not_before ↦ has_right front (patch ++ back) o (elim (lt_or_le to o.first) [
+          | inr not_before ↦ has_right front (patch ++ back) o (elim (cases_lt to o.first) [
             | inl after ↦ has_right patch back o
-                (keeps_has (begins_after to) rows o ((all o).1 ((h.elsewhere o (inr after)).1 owed))
+                (has_kept (begins_after to) rows o ((all o).1 ((h.elsewhere o (inr after)).1 owed))
                 (lt-ltb to o.first after))
             | inr within ↦ has_left patch back o ((h.all o).1 (owed, not_before, omega arith))
           ])

@@ -8,6 +8,7 @@ use Rattle.std.proofs.lemmas.Bool.{true≢false}
 use Rattle.std.proofs.lemmas.List.Sorted.{IsPermutation-trans}
 use Rattle.ftd_days.specs.Calendar.{year_start}
 use Rattle.ftd_days.specs.declared.cents.Cents.{Cents}
+use Rattle.ftd_days.proofs.Spelling.{same_text}
 use Rattle.ftd_rules.specs.declared.Form.{Form}
 use Rattle.ftd_rules.specs.declared.Obligation.{Obligation}
 use Rattle.ftd_rules.specs.declared.YearLine.{YearLine}
@@ -36,7 +37,7 @@ use Rattle.ftd_machine.specs.History.{form_of, live_sums, AreLinesOf}
 use Rattle.ftd_machine.specs.Posting.{IsPosted}
 use Rattle.ftd_machine.specs.Sound.{IsSound}
 use Rattle.ftd_machine.specs.declared.replies.Reply.TheVariants.{Posted}
-use Rattle.ftd_machine.proofs.Adding.{same_name, own_name}
+use Rattle.ftd_machine.proofs.Adding.{own_name}
 use Rattle.ftd_store.proofs.Sifted.{sifted}
 use Rattle.ftd_entries.specs.Standing.{StandsFor, IsSettled, is_obligation_of, enrolled_row}
 use Rattle.ftd_entries.specs.Standing.{enrolled_form, quarter_entry, year_entry, calendar_entry}
@@ -98,8 +99,8 @@ module _ (old changed new : Tables) (s : State) (runs : List (Entry (Voidable Pa
   patch = repatches.patch
 
   -- of the histories before and after the patch is right, by holidays that were read of the years
-  -- from one on; and the rows that were patched are those of the state before, but for the account's
-  -- lines and for what was entered
+  -- from one on; and the rows that were patched are those of the state before, but for the
+  -- account's lines and for what was entered
   pub record IsPlaced : Type 0 where
     pub lines_are : lines ≡ before.lines
     pub years : AreOpenYears before.lines
@@ -220,7 +221,7 @@ module _ (old changed new : Tables) (s : State) (runs : List (Entry (Voidable Pa
     settled_each other = by_name (bytes_eq other name) refl
       where
         by_name : (b : Bool) → bytes_eq other name ≡ b → IsSettled new Next other
-        by_name true is = subst (IsSettled new Next) (sym (same_name other name is)) settled_own
+        by_name true is = subst (IsSettled new Next) (sym (same_text other name is)) settled_own
         by_name false is =
             settled_other other
             (λ same. true≢false (sym (own_name name) ∙ (ap (λ n. bytes_eq n name) (sym same) ∙ is)))

@@ -3,9 +3,10 @@
 use Rattle.std.proofs.Common.{◌≡◌, ◌∙◌, inl, inr, refl, sym, ap, subst, ℕ, ◌&&◌, pos, Bool, true}
 use Rattle.std.proofs.Common.{false, cond, List, [], ◌∷◌, ◌++◌, map, length, Option, None, Some, Ok}
 use Rattle.std.specs.Prelude.{bytes_eq, filter, find, option_map, is_some, if◌then◌else◌}
-use Rattle.std.proofs.lemmas.Bool.{true≢false, eqb-true}
+use Rattle.std.proofs.lemmas.Bool.{true≢false, eqb-true, and_parts}
 use Rattle.std.proofs.lemmas.List.{map-append}
 use Rattle.ftd_days.specs.Calendar.{year_of}
+use Rattle.ftd_days.proofs.Spelling.{same_text}
 use Rattle.ftd_rules.specs.declared.run.PayRun.{PayRun}
 use Rattle.ftd_rules.specs.declared.run.Voidable.{Voidable}
 use Rattle.ftd_rules.specs.Liability.{liability}
@@ -28,17 +29,17 @@ use Rattle.ftd_machine.specs.Requests.{post_checks, void_checks}
 use Rattle.ftd_machine.specs.Step.{Step, with_entry, with_voided, voided_if, is_under, as_voided}
 use Rattle.ftd_machine.specs.Step.{taken}
 use Rattle.ftd_machine.specs.Sound.{IsSound, AreDistinct, place_of}
-use Rattle.ftd_machine.proofs.Adding.{same_name, entry_own, entry_other, voided_own, voided_other}
+use Rattle.ftd_machine.proofs.Adding.{entry_own, entry_other, voided_own, voided_other}
 use Rattle.ftd_machine.proofs.Deciding.{decided, passed}
 use Rattle.ftd_machine.specs.Laws.{is_change}
 use Rattle.ftd_machine.proofs.Again.{post_turns, void_turns}
 use Rattle.ftd_machine.proofs.Heads.{IsNoChange, Gives, gives_finds, skip_needs, skip_finds}
 use Rattle.ftd_machine.proofs.Heads.{skip_done}
 use Rattle.ftd_machine.proofs.Members.{has_filtered}
-use Rattle.ftd_rows.proofs.Found.{both}
 use Rattle.ftd_entries.specs.Standing.{StandsFor, run_entry}
 use Rattle.ftd_entries.specs.Known.{KnowsAccount}
-use Rattle.ftd_entries.proofs.Kept.{same_number, kept_run, counted_runs}
+use Rattle.ftd_entries.proofs.Kept.{kept_run, counted_runs}
+use Rattle.ftd_entries.proofs.CalendarRows.{year_cell}
 use Rattle.ftd_repairs.specs.declared.Difference.{Difference}
 use Rattle.ftd_repairs.specs.Reposted.{IsReposted}
 use Rattle.ftd_posting.specs.declared.known_runs.KnownForPost.{KnownForPost}
@@ -153,7 +154,7 @@ module _ (name : List ℕ) (number : ℕ) (run : PayRun) (count : ℕ) where
 module _ (name : List ℕ) (number : ℕ) where
   test_is : (e : Entry (Voidable PayRun)) → is_run name (pos number) (run_entry e) ≡ is_under name
       number e
-  test_is e = ap (λ b. bytes_eq e.name name && b) (same_number e.key number)
+  test_is e = ap (λ b. bytes_eq e.name name && b) (year_cell e.key number)
 
   -- the row of an entry that is voided, is voided
   row_voided : (e : Entry (Voidable PayRun)) → changed (is_run name (pos number)) voided_run
@@ -182,9 +183,9 @@ module _ (name : List ℕ) (number : ℕ) where
   places : (e f : Entry (Voidable PayRun)) → is_under name number e ≡ true
       → is_under name number f ≡ true → place_of e ≡ place_of f
   places e f under other =
-      let a = both (is_of name e) (has_key number e) under in
-      let b = both (is_of name f) (has_key number f) other in
-      let names : e.name ≡ f.name = same_name e.name name a.0 ∙ sym (same_name f.name name b.0) in
+      let a = and_parts (is_of name e) (has_key number e) under in
+      let b = and_parts (is_of name f) (has_key number f) other in
+      let names : e.name ≡ f.name = same_text e.name name a.0 ∙ sym (same_text f.name name b.0) in
       let keys : e.key ≡ f.key = eqb-true e.key number a.1 ∙ sym (eqb-true f.key number b.1) in
       rw (names, keys) refl
 

@@ -46,8 +46,7 @@ use Rattle.ftd_repairs.specs.Reposted.{Repatches, IsReposted}
 use Rattle.ftd_posting.proofs.LiveRuns.{sums_listed}
 use Rattle.ftd_posting.specs.Books.{AreHolidaysIn}
 use Rattle.ftd_posting.proofs.LinesAfter.{lines_of_runs}
-use Rattle.ftd_posting.proofs.Placed.{IsPlaced}
-use Rattle.ftd_posting.proofs.Placed.{are_owed as owed_after, come_later as rows_later}
+use Rattle.ftd_posting.proofs.Placed.{IsPlaced, are_owed as owed_after, come_later as rows_later}
 use Rattle.ftd_posting.proofs.Placed.{lines_put as put_are, placed_stands as all_stands}
 use Rattle.ftd_posting.proofs.Placed.{placed_told as all_told}
 
@@ -157,7 +156,8 @@ module _ (old new : Tables) (s : State) (name : List ℕ) (day : ℕ) (rows : Li
         found_after.1 found_after.2
 
     abbrev Placed : Type 0
-    Placed = IsPlaced old (with_rows Runs rows old) new s runs s.corrected s.corrected_years name day
+    Placed = IsPlaced old (with_rows Runs rows old) new s runs s.corrected s.corrected_years name
+        day
         (year_of day) before after lines known IsRight difference stands sound repatches
 
     placed : Placed

@@ -5,29 +5,31 @@ use Rattle.std.proofs.Common.{append_assoc, append-nil, Bool, true, false, not, 
 use Rattle.std.proofs.Common.{◌∙◌, subst, arith}
 use Rattle.std.specs.Prelude.{filter, nat_le, bytes_eq, int_le}
 use Rattle.std.specs.List.Sorted.{IsPermutation}
-use Rattle.std.proofs.lemmas.Bool.{cases_Bool, lt-ltb, le-ltb, le-leb, lt-leb, leb-true}
+use Rattle.std.proofs.lemmas.Bool.{cases_Bool, lt-ltb, le-ltb, le-leb, lt-leb, leb-true, and_parts}
+use Rattle.std.proofs.lemmas.Bool.{cases_lt}
 use Rattle.std.proofs.lemmas.List.{map-append}
 use Rattle.std.proofs.lemmas.List.Elements.{filter-append}
 use Rattle.std.proofs.lemmas.List.Sorted.{IsPermutation-refl, IsPermutation-trans}
 use Rattle.std.proofs.lemmas.List.Sorted.{IsPermutation-sym, IsPermutation-cons}
 use Rattle.std.proofs.lemmas.List.Sorted.{IsPermutation-middle, IsPermutation-append_left}
 use Rattle.std.proofs.lemmas.List.Sorted.{IsPermutation-append_right, IsPermutation-append_comm}
+use Rattle.ftd_days.proofs.Spelling.{same_text}
 use Rattle.ftd_rules.specs.declared.Obligation.{Obligation}
 use Rattle.ftd_rules.specs.Lists.{Has}
-use Rattle.ftd_rules.proofs.Cuts.{lt_or_le}
 use Rattle.ftd_rules.proofs.Rising.{has_permuted}
+use Rattle.ftd_rules.proofs.Members.{has_mapped, mapped_has, filter_in, filter_out, has_kept}
+use Rattle.ftd_rules.specs.Obligations.{begins_on}
 use Rattle.ftd_schema.specs.Rows.{ObligationRow}
 use Rattle.ftd_schema.specs.Tests.{is_obligation_between}
 use Rattle.ftd_rows.specs.Cells.{day_number}
 use Rattle.ftd_rows.specs.Rows.{obligation_row}
-use Rattle.ftd_rows.proofs.Found.{both}
-use Rattle.ftd_store.proofs.Sifted.{filter_in, filter_out, keeps_has, both_tests, both_are, sifted}
-use Rattle.ftd_machine.proofs.Adding.{same_name, own_name, other_name}
-use Rattle.ftd_machine.proofs.Members.{has_mapped, has_filtered, mapped_has}
+use Rattle.ftd_store.proofs.Sifted.{both_tests, both_are, sifted}
+use Rattle.ftd_machine.proofs.Adding.{own_name, other_name}
+use Rattle.ftd_machine.proofs.Members.{has_filtered}
 use Rattle.ftd_entries.specs.Standing.{is_obligation_of}
 use Rattle.ftd_entries.proofs.OwedRows.{obligation_is}
 use Rattle.ftd_entries.proofs.DayCells.{day_le}
-use Rattle.ftd_repairs.specs.Replaced.{begins_before, begins_on, begins_after, patched}
+use Rattle.ftd_repairs.specs.Replaced.{begins_before, begins_after, patched}
 use Rattle.ftd_posting.proofs.Differing.{BeginsWithin}
 
 -- what passes a test is among what passes a wider one
@@ -71,7 +73,7 @@ module _ (account : List ℕ) (from to : ℕ) where
 
   goes_within : (o : Obligation) → goes (row o) ≡ true → BeginsWithin from to o
   goes_within o e =
-      let k = both (nat_le from o.first) (nat_le o.first to) (sym (goes_is o) ∙ e) in
+      let k = and_parts (nat_le from o.first) (nat_le o.first to) (sym (goes_is o) ∙ e) in
       (leb-true from o.first k.0, leb-true o.first to k.1)
 
   within_goes : (o : Obligation) → BeginsWithin from to o → goes (row o) ≡ true
@@ -113,7 +115,7 @@ module _ (account : List ℕ) (from to : ℕ) where
       let as_left : List ObligationRow = filter stays (map row (o ∷ os)) in
       let as_right : List ObligationRow = map row (filter (begins_before from) (o ∷ os)) ++ map row
       (filter (begins_after to) (o ∷ os)) in
-      elim (lt_or_le o.first from) [
+      elim (cases_lt o.first from) [
         | inl before ↦
             (let first : begins_before from o ≡ true = lt-ltb o.first from before in
             let not_last : begins_after to o ≡ false = le-ltb to o.first (omega arith) in
@@ -127,7 +129,7 @@ module _ (account : List ℕ) (from to : ℕ) where
             (let not_first : begins_before from o ≡ false = le-ltb o.first from not_before in
             let no_front = ap (λ l. map row l ++ map row (filter (begins_after to) (o ∷ os)))
             (filter_out (begins_before from) o os not_first) in
-            elim (lt_or_le to o.first) [
+            elim (cases_lt to o.first) [
               | inl after ↦
                   both_are as_left as_right (row o ∷ filter stays (map row os))
                   (front ++ (row o ∷ back))
@@ -188,7 +190,7 @@ module _ (account : List ℕ) (from to : ℕ) where
         (has_permuted (filter goes rows) (map row gone) went (row o) (mapped_has row gone o has)) in
         let mine = has_permuted (map row os) (filter own rows)
         (IsPermutation-sym (filter own rows) (map row os) had) (row o)
-        (keeps_has own rows (row o) there.0 (own_name account)) in
+        (has_kept own rows (row o) there.0 (own_name account)) in
         let its = has_mapped row os (row o) mine in
         (subst (Has os) (sym (obligation_is account o its.0 its.2)) its.1, goes_within o there.1))),
     (λ k.
@@ -196,7 +198,7 @@ module _ (account : List ℕ) (from to : ℕ) where
         (row o) (mapped_has row os o k.0)) in
         let went_too = has_permuted (map row gone) (filter goes rows)
         (IsPermutation-sym (filter goes rows) (map row gone) went) (row o)
-        (keeps_has goes rows (row o) mine.0 (within_goes o k.1)) in
+        (has_kept goes rows (row o) mine.0 (within_goes o k.1)) in
         let its = has_mapped row gone (row o) went_too in
         subst (Has gone) (sym (obligation_is account o its.0 its.2)) its.1)),
   )
@@ -216,7 +218,7 @@ module _ (account : List ℕ) (from to : ℕ) where
 
   goes_own : (r : ObligationRow) → goes r ≡ true → own r ≡ true
   goes_own r its =
-      (both (bytes_eq r.account account) (int_le (day_number from) r.first && int_le r.first
+      (and_parts (bytes_eq r.account account) (int_le (day_number from) r.first && int_le r.first
       (day_number to)) its).0
 
   pub rows_between : (rows : List ObligationRow) (os : List Obligation)
@@ -240,7 +242,7 @@ module _ (account : List ℕ) (from to : ℕ) where
       → is_obligation_of other r ≡ true → stays r ≡ true
   other_stays other apart r its =
       let off : bytes_eq r.account account ≡ false = other_name r.account account
-      (λ same. apart (sym (same_name r.account other its) ∙ same)) in
+      (λ same. apart (sym (same_text r.account other its) ∙ same)) in
       rw off refl
 
   others_stay : (other : List ℕ) → other ≢ account → (rows : List ObligationRow)

@@ -20,8 +20,8 @@ use Rattle.ftd_posting.specs.declared.figures.FigureEntry.TheVariants.{OfQuarter
 
 -- ---- what is known before
 
--- the corrections of a figure: the one of the number, and how many there are, in each state for which
--- the tables stand
+-- the corrections of a figure: the one of the number, and how many there are, in each state for
+-- which the tables stand
 pub record KnowsCorrected (number : ℕ) (before : KnownForFigure) (kept : State → List Cents)
     (t : Tables) : Type 0 where
   pub known : (s : State) → StandsFor t s → numbered number (kept s) ≡ before.known

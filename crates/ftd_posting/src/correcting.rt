@@ -73,8 +73,8 @@ fn known_for_report<S: Alter>(
     })
 }
 
-/// What is known before the year's figure is corrected under this number. `Failed` also where it has
-/// more corrections than a number can tell.
+/// What is known before the year's figure is corrected under this number. `Failed` also where it
+/// has more corrections than a number can tell.
 fn known_for_year<S: Alter>(
     tx: &mut Tx<'_, S>,
     alloc: Global,

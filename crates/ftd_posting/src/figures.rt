@@ -1,5 +1,5 @@
-//! The correction of a figure is entered, and what follows from it is followed: the lookback total of
-//! the year in whose lookback period the figure counts, and the years that open otherwise then.
+//! The correction of a figure is entered, and what follows from it is followed: the lookback total
+//! of the year in whose lookback period the figure counts, and the years that open otherwise then.
 
 ghost use Rattle.std.specs.Prelude.{◌≡◌};
 ghost use Rattle.ftd_rows.specs.Amounts.{IsStorable};

@@ -1,5 +1,5 @@
-//! Requests that post a pay run or void one, and those that correct a figure. Each is one function on a transaction, whose contract
-//! is the machine's step.
+//! Requests that post a pay run or void one, and those that correct a figure. Each is one function
+//! on a transaction, whose contract is the machine's step.
 #![tactic(auto)]
 
 mod books;

@@ -5,7 +5,6 @@ use Rattle.std.proofs.Common.{List, [], ◌∷◌, Option, Some, None, Ok, refl,
 use Rattle.std.specs.Prelude.{string_bytes}
 use Rattle.std.specs.List.Sorted.{IsPermutation}
 use Rattle.std.proofs.lemmas.List.Sorted.{IsPermutation-sym}
-use Rattle.ftd_days.specs.Calendar.{month_start}
 use Rattle.ftd_rules.specs.declared.Obligation.{Obligation}
 use Rattle.ftd_rules.specs.Lists.{Has}
 use Rattle.ftd_rules.proofs.Rising.{has_permuted}
@@ -33,11 +32,6 @@ use Rattle.ftd_entries.specs.Standing.{StandsFor}
 use Rattle.ftd_questions.specs.Agendas.{KnowsRow, KnowsRowsDue}
 use Rattle.ftd_questions.specs.Listing.{AreDue, IsOwedBefore, IsUnpaidBy}
 use Rattle.ftd_store.proofs.Items.{paired_from, paired_to}
-
--- the first of all days
-pub first_month : month_start 0 ≡ 0
-unfolding month_start
-first_month = refl
 
 -- ---- the order of the rows
 

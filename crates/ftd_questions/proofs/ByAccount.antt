@@ -4,18 +4,19 @@ use Rattle.std.proofs.Common.{zero, suc, true, false, List, [], ◌∷◌, lengt
 use Rattle.std.proofs.Common.{Option, Some, arith}
 use Rattle.std.specs.Prelude.{filter, nat_le, string_bytes}
 use Rattle.std.proofs.lemmas.List.{append-nil, append_assoc}
-use Rattle.std.proofs.lemmas.Bool.{leb-true, le-leb}
+use Rattle.std.proofs.lemmas.Bool.{leb-true, le-leb, and_parts}
+use Rattle.ftd_days.proofs.Spelling.{same_text}
 use Rattle.ftd_rules.specs.declared.Obligation.{Obligation}
 use Rattle.ftd_rules.specs.Lists.{Has}
 use Rattle.ftd_rules.specs.Obligations.{ByFirstDay}
 use Rattle.ftd_rules.proofs.Owed.{has_append, has_left, has_right}
+use Rattle.ftd_rules.proofs.Members.{has_mapped, mapped_has, has_kept}
 use Rattle.ftd_schema.specs.Standing.{Tables}
 use Rattle.ftd_rows.specs.Lists.{Pairs}
 use Rattle.ftd_rows.specs.declared.obligations.AccountObligation.{AccountObligation}
-use Rattle.ftd_rows.proofs.Found.{both}
 use Rattle.ftd_store.proofs.Items.{has_at, has_more, has_now, has_still, paired_from, paired_to}
+use Rattle.ftd_store.proofs.Items.{kept_pair, left_pair}
 use Rattle.ftd_store.proofs.Replaced.{all_taken}
-use Rattle.ftd_store.proofs.Sifted.{keeps_has}
 use Rattle.ftd_machine.specs.Agenda.{EachToLater, IsNameBefore}
 use Rattle.ftd_machine.specs.History.{year_of_entry, year_of_line}
 use Rattle.ftd_machine.specs.Kept.{IsAccountBefore}
@@ -23,15 +24,12 @@ use Rattle.ftd_machine.specs.Sound.{IsSound}
 use Rattle.ftd_machine.specs.State.{State, entries_of, is_of}
 use Rattle.ftd_machine.specs.declared.entries.Account.{Account}
 use Rattle.ftd_machine.specs.declared.kept.KeptAccount.{KeptAccount}
-use Rattle.ftd_machine.proofs.Adding.{same_name}
-use Rattle.ftd_machine.proofs.Members.{has_filtered, has_mapped, mapped_has, some_of}
+use Rattle.ftd_machine.proofs.Members.{has_filtered, some_of}
 use Rattle.ftd_entries.specs.Standing.{StandsFor}
 use Rattle.ftd_entries.proofs.OwedRows.{kept_by_first_day}
 use Rattle.ftd_kept.specs.Kept.{KnowsAccounts}
 use Rattle.ftd_questions.specs.Listing.{AddsDue, AreDue, AreOwn, HasOwed, IsOwedBefore, IsOwedBy}
-use Rattle.ftd_questions.specs.Listing.{IsUnpaidBy, KnowsDue, KnowsOwn}
-use Rattle.ftd_questions.specs.Listing.{is_due_on}
-use Rattle.ftd_kept.proofs.Items.{kept_pair, left_pair}
+use Rattle.ftd_questions.specs.Listing.{IsUnpaidBy, KnowsDue, KnowsOwn, is_due_on}
 use Rattle.ftd_questions.proofs.OwedDays.{piece}
 
 -- ---- orders
@@ -145,7 +143,7 @@ module _ (unpaid : Option ℕ) (from to : ℕ) (t : Tables) (s : State) (stands 
         let p = paired_from (IsOwedBy a.name) (filter (is_due_on from to) found) more x adds.1 has
         in
         let kept = has_filtered (is_due_on from to) found p.0 p.1 in
-        let days = both (nat_le from p.0.due) (nat_le p.0.due to) kept.1 in
+        let days = and_parts (nat_le from p.0.due) (nat_le p.0.due to) kept.1 in
         let until = leb-true p.0.due to days.1 in
         subst (λ o. (string_bytes x.account ≡ a.name) × Has (owed a.name) o × (from ≤ o.due)
         × (o.due ≤ to) × IsUnpaidBy unpaid s a.name o) (sym p.2.1) (
@@ -164,7 +162,7 @@ module _ (unpaid : Option ℕ) (from to : ℕ) (t : Tables) (s : State) (stands 
         let high : nat_le o.due to ≡ true = le-leb o.due to until in
         let its : is_due_on from to o ≡ true = rw (low, high) refl in
         paired_to (IsOwedBy a.name) (filter (is_due_on from to) found) more o adds.1
-        (keeps_has (is_due_on from to) found o (own.all o has since until is_unpaid) its)
+        (has_kept (is_due_on from to) found o (own.all o has since until is_unpaid) its)
 
     more_in_order : EachToLater IsOwedBefore more
     more_in_order = own_in_order a.name (filter (is_due_on from to) found) more adds.1
@@ -234,7 +232,7 @@ module _ (unpaid : Option ℕ) (from to : ℕ) (t : Tables) (s : State) (stands 
       (subst (λ ys. Has ys (year_of_line its.line)) settled.are_lines.years
       (mapped_has year_of_line settled.lines its.line its.open_year)) in
       let kept = has_filtered (is_of name) s.open_years year.0 year.1 in
-      let same : year.0.name ≡ name = same_name year.0.name name kept.1 in
+      let same : year.0.name ≡ name = same_text year.0.name name kept.1 in
       let there = some_of (entries_of s year.0.name).account (sound.enrolled year.0 kept.0) in
       (there.0, subst (λ n. (entries_of s n).account ≡ Some there.0) same there.1)
 

@@ -7,28 +7,13 @@ use Rattle.std.specs.declared.cmp.Ordering.{Ordering}
 use Rattle.std.specs.declared.cmp.Ordering.TheVariants.{Less, Equal, Greater}
 use Rattle.std.proofs.lemmas.Cmp.{nat_cmp_total}
 use Rattle.std.specs.List.Sorted.{IsNonDecreasingBy, IsStableByKey, ties}
-use Rattle.std.proofs.lemmas.Bool.{cases_Bool}
+use Rattle.std.proofs.lemmas.Bool.{cases_Bool, cases_lt}
+use Rattle.ftd_entries.proofs.DayChanges.{later_those}
 use Rattle.ftd_rules.specs.Lists.{KeysDoNotFall}
-use Rattle.ftd_rules.proofs.Cuts.{lt_or_le}
 use Rattle.ftd_rules.proofs.Rising.{next_do_not_fall}
-use Rattle.ftd_store.proofs.Sifted.{filter_in, filter_out, keeps_has}
+use Rattle.ftd_rules.proofs.Members.{filter_in, filter_out, has_kept}
 use Rattle.ftd_machine.specs.Agenda.{EachToLater, IsOwnBefore, ComesBefore, due_date_of}
 use Rattle.ftd_machine.specs.declared.lists.AgendaRow.{AgendaRow}
-use Rattle.ftd_machine.proofs.Members.{has_filtered}
-
--- what a test keeps stands in the same order
-pub kept_in_order : {X : Type 0} (S : X → X → Type 0) (p : X → Bool) (xs : List X)
-    → EachToLater S xs → EachToLater S (filter p xs)
-kept_in_order S p [] each = tt
-kept_in_order {X = X} S p (x ∷ xs) each =
-    let rest = kept_in_order S p xs each.1 in
-    elim (cases_Bool (p x)) [
-      | inl kept ↦ subst (EachToLater S) (sym (filter_in p x xs kept)) (
-        (λ later has. each.0 later (has_filtered p xs later has).0),
-        rest,
-      )
-      | inr left ↦ subst (EachToLater S) (sym (filter_out p x xs left)) rest
-    ]
 
 module _ {X : Type 0} (key : X → ℕ) (S : X → X → Type 0) (tie : X → X → Bool)
     (ties_so : (x y : X) → key x ≡ key y → tie x y ≡ true) where
@@ -38,14 +23,14 @@ module _ {X : Type 0} (key : X → ℕ) (S : X → X → Type 0) (tie : X → X 
       → EachToLater (λ x y. (key x < key y) ⊎ ((key x ≡ key y) × S x y)) ys
   then_by [] up each = tt
   then_by (y ∷ ys) up each = (
-    (λ later has. elim (lt_or_le (key y) (key later)) [
+    (λ later has. elim (cases_lt (key y) (key later)) [
       | inl less ↦ inl less
       | inr not ↦
           (let no_more = up.0 later has in
           let same : key y ≡ key later = omega arith in
           let own : EachToLater S (y ∷ filter (tie y) ys) =
           subst (EachToLater S) (filter_in (tie y) y ys (ties_so y y refl)) (each y) in
-          inr (same, own.0 later (keeps_has (tie y) ys later has (ties_so y later same))))
+          inr (same, own.0 later (has_kept (tie y) ys later has (ties_so y later same))))
     ]),
     then_by ys up.1 rest,
   )
@@ -83,4 +68,4 @@ rows_in_order xs ys up stable each =
     then_by due_date_of IsOwnBefore (ties is_less) ties_so ys
     (next_do_not_fall due_date_of ys (λ k d low. up k (k + 1) d (omega arith) low))
     (λ x. subst (EachToLater IsOwnBefore) (sym (stable x))
-    (kept_in_order IsOwnBefore (ties is_less x) xs each))
+    (later_those IsOwnBefore (ties is_less x) xs each))

@@ -1,13 +1,12 @@
 -- The rows by what was read of the quarter's return are the machine's due list.
-use Rattle.std.proofs.Common.{◌≡◌, ◌↔◌, ℕ, ◌+◌, ◌<◌, ◌≤◌, Bool, inl, inr, List, [], ◌∷◌, Vec}
+use Rattle.std.proofs.Common.{◌≡◌, ◌↔◌, ℕ, ◌+◌, ◌<◌, ◌≤◌, Bool, List, [], ◌∷◌, Vec}
 use Rattle.std.proofs.Common.{Global, Ok, refl, sym, ap, ◌∙◌, subst, arith}
 use Rattle.std.specs.Prelude.{IsTrue}
 use Rattle.std.proofs.lemmas.Bool.{eqb-true, eq-eqb}
-use Rattle.ftd_days.specs.Calendar.{year_of, year_start, quarter_of, quarter_year, quarter_start}
+use Rattle.ftd_days.specs.Calendar.{year_of, quarter_of, quarter_year, quarter_start}
 use Rattle.ftd_days.specs.Holidays.{YearDays, holidays_of}
 use Rattle.ftd_days.specs.declared.cents.Cents.{Cents}
 use Rattle.ftd_days.proofs.Business.{on_or_after_one}
-use Rattle.ftd_days.proofs.Months.{year_is}
 use Rattle.ftd_rules.specs.declared.Form.{Form}
 use Rattle.ftd_rules.specs.declared.Form.TheVariants.{F941, F943}
 use Rattle.ftd_rules.specs.declared.Obligation.{Obligation}
@@ -21,10 +20,10 @@ use Rattle.ftd_rules.specs.Payments.{paid_by}
 use Rattle.ftd_rules.specs.Periods.{return_period_of, return_period_first, return_period_end}
 use Rattle.ftd_rules.specs.Returns.{month_after_ends, IsReturnDue, IsMakeup, IsSmallQuarter}
 use Rattle.ftd_rules.specs.Verdicts.{IsVerdict}
-use Rattle.ftd_rules.proofs.Cuts.{lt_or_le}
 use Rattle.ftd_rules.proofs.DueDates.{due_later}
 use Rattle.ftd_rules.proofs.Near.{due_near}
 use Rattle.ftd_rules.proofs.Status.{return_period_is}
+use Rattle.ftd_rules.proofs.Members.{has_kept}
 use Rattle.ftd_schema.specs.Standing.{Tables}
 use Rattle.ftd_rows.specs.Lists.{Pairs}
 use Rattle.ftd_store.specs.Holidays.{HasYears}
@@ -38,20 +37,19 @@ use Rattle.ftd_machine.specs.declared.facts.Facts.TheVariants.{Due}
 use Rattle.ftd_machine.specs.declared.replies.Reply.TheVariants.{Told}
 use Rattle.ftd_machine.proofs.Few.{few_in_force}
 use Rattle.ftd_machine.proofs.Members.{has_filtered}
+use Rattle.ftd_machine.proofs.DueSome.{makeup_one, verdict_one}
 use Rattle.ftd_entries.specs.Standing.{StandsFor, IsSettled}
-use Rattle.ftd_entries.proofs.YearHolidays.{holiday_read}
 use Rattle.ftd_reasons.specs.Returns.{KnowsPeriod}
 use Rattle.ftd_questions.specs.DueRows.{begins_in, IsReturnBy, IsRowBy, KnowsReturnDue}
 use Rattle.ftd_questions.specs.Walks.{begun}
 use Rattle.ftd_reasons.specs.declared.return_periods.ReturnPeriod.{ReturnPeriod}
 use Rattle.ftd_questions.specs.declared.due_rows.QuarterReturn.{QuarterReturn}
-use Rattle.ftd_questions.proofs.OneVerdict.{same_test, verdict_one}
+use Rattle.ftd_questions.proofs.OneVerdict.{same_test}
 use Rattle.ftd_entries.proofs.OwedRows.{kept_by_first_day}
 use Rattle.ftd_reasons.proofs.YearsRead.{years_agree}
-use Rattle.ftd_reasons.proofs.ReturnDates.{AgreeIn, return_same, makeup_same, makeup_one}
+use Rattle.ftd_reasons.proofs.ReturnDates.{AgreeIn, return_same, makeup_same}
 use Rattle.ftd_questions.proofs.OwedDays.{quarter_begins, piece, period_days, some_days}
 use Rattle.ftd_store.proofs.Items.{paired_from, paired_to}
-use Rattle.ftd_store.proofs.Sifted.{keeps_has}
 
 -- rows of obligations by first day are so
 rows_rise : (R : Obligation → DueRow → Type 0) → ((o : Obligation) (row : DueRow) → R o row
@@ -149,7 +147,7 @@ module _ (name : List ℕ) (quarter as_of : ℕ) (given : List YearDays) (period
   -- an obligation that begins in the quarter is one of the list, and the reverse
   begun_has : (o : Obligation) → Has owed o → quarter_of o.first ≡ quarter
       → Has (begun stands name quarter) o
-  begun_has o has its = keeps_has (begins_in quarter) owed o has
+  begun_has o has its = has_kept (begins_in quarter) owed o has
       (eq-eqb (quarter_of o.first) quarter its)
 
   has_begun : (o : Obligation) → Has (begun stands name quarter) o → Has owed o

@@ -2,7 +2,7 @@
 use Rattle.std.proofs.Common.{◌≡◌, ℕ, ◌+◌, ◌≤◌, Bool, true, List, Option, None, Some, Ok, refl, sym}
 use Rattle.std.proofs.Common.{ap, ◌∙◌, subst}
 use Rattle.std.specs.Prelude.{filter, nat_le}
-use Rattle.std.proofs.lemmas.Bool.{leb-true}
+use Rattle.std.proofs.lemmas.Bool.{leb-true, and_parts}
 use Rattle.std.specs.List.{list_any}
 use Rattle.ftd_days.specs.Calendar.{quarter_year}
 use Rattle.ftd_days.specs.Holidays.{YearDays, holidays_of}
@@ -11,7 +11,6 @@ use Rattle.ftd_rules.specs.declared.Form.{Form}
 use Rattle.ftd_rules.specs.declared.verdict.DueRow.{DueRow}
 use Rattle.ftd_schema.specs.Standing.{Tables}
 use Rattle.ftd_rows.specs.Lists.{Pairs}
-use Rattle.ftd_rows.proofs.Found.{both}
 use Rattle.ftd_store.specs.Holidays.{HasYears}
 use Rattle.ftd_machine.specs.declared.entries.Account.{Account}
 use Rattle.ftd_machine.specs.declared.requests.Question.TheVariants.{DueList}
@@ -124,7 +123,8 @@ module _ (name : List ℕ) (quarter as_of : ℕ) (known : KnownForDue) where
       let within : Gives (due_list_checks name quarter as_of known.account known.is_open)
       (is_between 2001 2098 (quarter_year quarter) ≡ true) =
       skip_needs _ _ _ _ (gives_needs _ _ _) in
-      let parts = both (nat_le 2001 (quarter_year quarter)) (nat_le (quarter_year quarter) 2098)
+      let parts = and_parts (nat_le 2001 (quarter_year quarter))
+      (nat_le (quarter_year quarter) 2098)
       (within.fact is) in
       (leb-true 2001 (quarter_year quarter) parts.0, leb-true (quarter_year quarter) 2098 parts.1)
 

@@ -1,6 +1,6 @@
 -- What is due on a day or later begins in the year before that of the day, or later.
 use Rattle.std.proofs.Common.{ℕ, ◌+◌, ◌-◌, ◌*◌, ◌%◌, ◌<◌, ◌≤◌, inl, inr, List, subst, arith}
-use Rattle.std.proofs.lemmas.Bool.{lt-ltb, le-ltb}
+use Rattle.std.proofs.lemmas.Bool.{lt-ltb, le-ltb, cases_lt}
 use Rattle.ftd_days.specs.Calendar.{last_day, month_of, month_start, year_of, year_start}
 use Rattle.ftd_days.specs.Holidays.{AreFew}
 use Rattle.ftd_days.specs.Private.Intervals.{interval_close}
@@ -17,7 +17,6 @@ use Rattle.ftd_rules.specs.Private.Due.{IsDueBy}
 use Rattle.ftd_rules.specs.Private.Obligations.{IsOwedPiece}
 use Rattle.ftd_rules.specs.Years.{AreLines}
 use Rattle.ftd_rules.proofs.Covering.{line_is, within_period}
-use Rattle.ftd_rules.proofs.Cuts.{lt_or_le}
 use Rattle.ftd_rules.proofs.Schedules.{year_facts}
 
 -- a year from 1900 to 2198, and a day of it
@@ -36,7 +35,7 @@ module _ (holidays : List ℕ) (few : AreFew holidays) (year last : ℕ) (low : 
 
   closes : interval_close last ≤ last + 6
   closes =
-      elim (lt_or_le ((last + 5) % 7) 3) [
+      elim (cases_lt ((last + 5) % 7) 3) [
         | inl l ↦ rw (lt-ltb ((last + 5) % 7) 3 l) (omega arith)
         | inr m ↦ rw (le-ltb ((last + 5) % 7) 3 m) (omega arith)
       ]

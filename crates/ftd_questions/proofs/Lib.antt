@@ -7,7 +7,7 @@ mod FirstYears
 mod FoundRows
 mod DueTold
 mod Dropped
-mod RowsTold
+pub mod RowsTold
 mod Unreported
 mod Shown
 mod AgendaRows

@@ -1,21 +1,21 @@
 -- Whether an obligation that begins in a return period is a next-day one, by the period's quarters.
 use Rattle.std.proofs.Common.{◌≡◌, ◌↔◌, ℕ, ◌+◌, ◌-◌, ◌%◌, ◌<◌, ◌≤◌, ◌==◌, ◌&&◌, Bool, true, false}
-use Rattle.std.proofs.Common.{inl, inr, List, [], ◌∷◌, refl, sym, ap, ◌∙◌, arith}
+use Rattle.std.proofs.Common.{inl, inr, List, [], ◌∷◌, refl, sym, ◌∙◌, arith}
 use Rattle.std.specs.Prelude.{filter}
 use Rattle.std.specs.List.{list_any}
-use Rattle.std.proofs.lemmas.Bool.{cases_Bool, true≢false, eqb-true, eq-eqb}
+use Rattle.std.proofs.lemmas.Bool.{cases_Bool, true≢false, eqb-true, eq-eqb, and_parts}
+use Rattle.ftd_reasons.proofs.Searching.{some_pass}
+use Rattle.ftd_reasons.proofs.ExplainedKnown.{any_has}
 use Rattle.ftd_days.specs.Calendar.{quarter_of, quarter_year}
 use Rattle.ftd_rules.specs.declared.Form.{Form}
 use Rattle.ftd_rules.specs.declared.Form.TheVariants.{F941, F943}
 use Rattle.ftd_rules.specs.declared.Obligation.{Obligation}
-use Rattle.ftd_rules.specs.Lists.{Has}
 use Rattle.ftd_rules.specs.Periods.{return_period_of}
-use Rattle.ftd_rows.proofs.Found.{both}
+use Rattle.ftd_rules.proofs.Members.{has_kept}
 use Rattle.ftd_machine.specs.Asking.{return_period, has_next_day}
 use Rattle.ftd_machine.proofs.Members.{has_filtered}
 use Rattle.ftd_questions.specs.DueRows.{begins_in, is_next_day_row}
 use Rattle.ftd_questions.proofs.OwedDays.{quarter_begins}
-use Rattle.ftd_store.proofs.Sifted.{keeps_has}
 
 -- ---- the quarters of a return period
 
@@ -31,26 +31,6 @@ pub of_943 : (quarter day : ℕ) → quarter_year quarter ≤ 2098
 of_943 quarter day early = let its = quarter_begins quarter early in
     ((λ e. (omega arith, omega arith)), (λ h. let low = h.0 in let high = h.1 in omega arith))
 
--- ---- one of a list
-
-any_has : {X : Type 0} (p : X → Bool) (xs : List X) → list_any p xs ≡ true → (x : X) × Has xs x
-    × (p x ≡ true)
-any_has p [] some = absurd (true≢false (sym some))
-any_has p (x ∷ xs) some = elim (cases_Bool (p x)) [
-  | inl here ↦ (x, inl refl, here)
-  | inr other ↦ (let rest = any_has p xs (rw other at some) in (rest.0, inr rest.1, rest.2))
-]
-
-has_any : {X : Type 0} (p : X → Bool) (xs : List X) (x : X) → Has xs x → p x ≡ true
-    → list_any p xs ≡ true
-has_any p [] x has passes = absurd has
-has_any p (y ∷ xs) x (inl is) passes = let here : p y ≡ true = sym (ap p is) ∙ passes in
-    rw here refl
-has_any p (y ∷ xs) x (inr has) passes = elim (cases_Bool (p y)) [
-  | inl here ↦ rw here refl
-  | inr other ↦ rw other (has_any p xs x has passes)
-]
-
 -- ---- some obligations, and the quarters from the first to the end, which are those of a return
 -- period
 
@@ -64,13 +44,13 @@ module _ (form : Form) (number first end : ℕ) (owed : List Obligation) (same :
   pub some_begins : (quarter : ℕ) → first ≤ quarter → quarter < end → list_any is_next_day_row
       (filter (begins_in quarter) owed) ≡ true → has_next_day form owed number ≡ true
   some_begins quarter low high some =
-      let found = any_has is_next_day_row (filter (begins_in quarter) owed) some in
+      let found = some_pass is_next_day_row (filter (begins_in quarter) owed) some in
       let o : Obligation = found.0 in
       let its = has_filtered (begins_in quarter) owed o found.1 in
       let within : quarter_of o.first ≡ quarter = eqb-true (quarter_of o.first) quarter its.1 in
       let period : (return_period_of form o.first == number) ≡ true =
       eq-eqb (return_period_of form o.first) number ((same o.first).1 (omega arith, omega arith)) in
-      has_any counts owed o its.0 (rw (period, found.2) refl)
+      any_has counts owed o its.0 (rw (period, found.2) refl)
 
   -- none begins in any of them
   pub none_begins : ((quarter : ℕ) → first ≤ quarter → quarter < end → list_any is_next_day_row
@@ -78,13 +58,14 @@ module _ (form : Form) (number first end : ℕ) (owed : List Obligation) (same :
   none_begins none = elim (cases_Bool (has_next_day form owed number)) [
     | inr is ↦ is
     | inl some ↦
-        (let found = any_has counts owed some in
+        (let found = some_pass counts owed some in
         let o : Obligation = found.0 in
-        let tests = both (return_period_of form o.first == number) (is_next_day_row o) found.2 in
+        let tests = and_parts (return_period_of form o.first == number) (is_next_day_row o) found.2
+        in
         let days = (same o.first).0 (eqb-true (return_period_of form o.first) number tests.0) in
-        let has = keeps_has (begins_in (quarter_of o.first)) owed o found.1
+        let has = has_kept (begins_in (quarter_of o.first)) owed o found.1
         (eq-eqb (quarter_of o.first) (quarter_of o.first) refl) in
         absurd (true≢false
-        (sym (has_any is_next_day_row (filter (begins_in (quarter_of o.first)) owed) o has tests.1)
+        (sym (any_has is_next_day_row (filter (begins_in (quarter_of o.first)) owed) o has tests.1)
         ∙ none (quarter_of o.first) days.0 days.1)))
   ]

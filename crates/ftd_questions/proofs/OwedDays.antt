@@ -2,7 +2,7 @@
 use Rattle.std.proofs.Common.{◌≡◌, ℕ, ◌+◌, ◌-◌, ◌*◌, ◌<◌, ◌≤◌, ◌==◌, Bool, true, inl, inr, List, []}
 use Rattle.std.proofs.Common.{◌∷◌, refl, sym, ap, ◌∙◌, subst, arith}
 use Rattle.std.specs.Prelude.{filter, nat_le}
-use Rattle.std.proofs.lemmas.Bool.{cases_Bool, eqb-true, eq-eqb, leb-true, le-leb}
+use Rattle.std.proofs.lemmas.Bool.{cases_Bool, eqb-true, eq-eqb, leb-true, le-leb, and_parts}
 use Rattle.ftd_days.specs.Calendar.{last_day, month_start, quarter_of, quarter_year, quarter_start}
 use Rattle.ftd_days.proofs.Months.{month_start-mono, month_start-end, month_start_grows}
 use Rattle.ftd_rules.specs.declared.Form.{Form}
@@ -17,16 +17,15 @@ use Rattle.ftd_rules.proofs.Quarters.{one_quarter}
 use Rattle.ftd_rules.proofs.Stated.{piece_owed}
 use Rattle.ftd_rules.proofs.Status.{quarter_only, return_period_is, return_period_only}
 use Rattle.ftd_rules.proofs.Status.{return_period_grows}
+use Rattle.ftd_rules.proofs.Members.{filter_in, filter_out}
+use Rattle.ftd_rules.specs.Obligations.{begins_on}
 use Rattle.ftd_schema.specs.Standing.{Tables}
-use Rattle.ftd_rows.proofs.Found.{both}
 use Rattle.ftd_machine.specs.State.{State, entries_of, holidays}
 use Rattle.ftd_machine.specs.History.{form_of, live_sums}
 use Rattle.ftd_entries.specs.Standing.{StandsFor}
-use Rattle.ftd_entries.specs.Owed.{begins_on}
 use Rattle.ftd_questions.specs.DueRows.{begins_in}
 use Rattle.ftd_questions.specs.Walks.{begun}
 use Rattle.ftd_questions.proofs.OneVerdict.{same_test}
-use Rattle.ftd_store.proofs.Sifted.{filter_in, filter_out}
 
 -- the first day of a quarter lies in it
 pub quarter_begins : (quarter : ℕ) → quarter_year quarter ≤ 2098
@@ -93,7 +92,7 @@ module _ (name : List ℕ) (t : Tables) (s : State) (stands : StandsFor t s) whe
 
       it : begins_on first last o ≡ true → return_period_of its o.first ≡ number
       it k =
-          let days = both (nat_le first o.first) (nat_le o.first last) k in
+          let days = and_parts (nat_le first o.first) (nat_le o.first last) k in
           let low = leb-true first o.first days.0 in
           let high = leb-true o.first last days.1 in
           let grows = return_period_grows its number in

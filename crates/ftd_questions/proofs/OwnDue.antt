@@ -10,18 +10,18 @@ use Rattle.ftd_days.specs.Calendar.{year_of, year_start}
 use Rattle.ftd_rules.specs.declared.Obligation.{Obligation}
 use Rattle.ftd_rules.specs.declared.payment.Payment.{Payment}
 use Rattle.ftd_rules.specs.Lists.{Has}
-use Rattle.ftd_rules.specs.Obligations.{ByFirstDay}
+use Rattle.ftd_rules.specs.Obligations.{ByFirstDay, begins_on}
 use Rattle.ftd_rules.specs.Payments.{paid_by}
 use Rattle.ftd_rules.proofs.DueDates.{due_later}
+use Rattle.ftd_rules.proofs.Members.{has_kept}
 use Rattle.ftd_schema.specs.Standing.{Tables}
 use Rattle.ftd_store.proofs.Items.{taken}
-use Rattle.ftd_store.proofs.Sifted.{keeps_has}
 use Rattle.ftd_machine.specs.History.{form_of, live_sums}
 use Rattle.ftd_machine.specs.Sound.{IsSound}
 use Rattle.ftd_machine.specs.State.{State, entries_of, holidays}
 use Rattle.ftd_machine.proofs.Few.{few_in_force}
 use Rattle.ftd_machine.proofs.Members.{has_filtered}
-use Rattle.ftd_entries.specs.Owed.{begins_on, KnowsObligations}
+use Rattle.ftd_entries.specs.Owed.{KnowsObligations}
 use Rattle.ftd_entries.specs.Standing.{StandsFor}
 use Rattle.ftd_entries.proofs.OwedRows.{kept_by_first_day}
 use Rattle.ftd_questions.specs.Listing.{AreOwn, KnowsOwn, is_unpaid}
@@ -86,7 +86,7 @@ module _ (from to : ℕ) (name : List ℕ) (t : Tables) (s : State) (stands : St
 
     to_found : (o : Obligation) → Has owed o → from ≤ o.due → o.due ≤ to → Has found o
     to_found o has since until = subst (λ os. Has os o) (sym are_found)
-        (keeps_has begins owed o has (begins_due o has since until))
+        (has_kept begins owed o has (begins_due o has since until))
 
     in_order : ByFirstDay found
     in_order = subst ByFirstDay (sym are_found)
@@ -115,7 +115,7 @@ module _ (from to : ℕ) (name : List ℕ) (t : Tables) (s : State) (stands : St
           let after = due_after o has in
           let same = counts s stands o.first o.last as_of as_of (omega arith) (omega arith) in
           let less : paid_by payments o.first o.last as_of as_of < o.cents.0 = omega arith in
-          keeps_has (is_unpaid payments as_of) found o (to_found o has since until)
+          has_kept (is_unpaid payments as_of) found o (to_found o has since until)
           (lt-ltb (paid_by payments o.first o.last as_of as_of) o.cents.0 less);
     }
 

@@ -6,7 +6,7 @@ use Rattle.std.proofs.Common.{◌&&◌, refl, sym, ap, ◌∙◌, subst, arith}
 use Rattle.std.specs.Prelude.{filter, nat_le, int_le, bytes_eq}
 use Rattle.std.proofs.lemmas.Int.{ints}
 use Rattle.std.specs.List.Sorted.{IsPermutation}
-use Rattle.std.proofs.lemmas.Bool.{cases_Bool, true≢false, leb-true, le-leb}
+use Rattle.std.proofs.lemmas.Bool.{cases_Bool, true≢false, leb-true, le-leb, and_parts}
 use Rattle.std.proofs.lemmas.Bool.Decides.{eqb_tells}
 use Rattle.ftd_days.specs.Calendar.{last_day, month_of, month_start, quarter_of, quarter_start}
 use Rattle.ftd_days.specs.Calendar.{quarter_year, year_of}
@@ -30,7 +30,7 @@ use Rattle.ftd_store.specs.Finds.{IsObligation}
 use Rattle.ftd_store.specs.Frame.{Calls, Reads}
 use Rattle.ftd_store.specs.declared.tx.Tx.{Tx}
 use Rattle.ftd_store.proofs.Going.{goes_on}
-use Rattle.ftd_store.proofs.Sifted.{filter_in, filter_out, sifted}
+use Rattle.ftd_store.proofs.Sifted.{sifted}
 use Rattle.ftd_machine.specs.Asking.{return_period, first_of_row}
 use Rattle.ftd_machine.specs.Checks.{Answer, first_of, needs, finds}
 use Rattle.ftd_machine.specs.Requests.{due_list_checks}
@@ -39,16 +39,16 @@ use Rattle.ftd_machine.specs.declared.replies.Refusal.TheVariants.{BadName, BadY
 use Rattle.ftd_machine.specs.declared.replies.Refusal.TheVariants.{UnknownAccount, YearNotOpen}
 use Rattle.ftd_machine.specs.Limits.{is_between}
 use Rattle.ftd_rules.specs.Accounts.{is_account_name}
-use Rattle.ftd_machine.specs.declared.replies.Reply.{Reply}
+use Rattle.ftd_rules.proofs.Members.{filter_in, filter_out}
+use Rattle.ftd_rules.specs.Obligations.{begins_on}
 use Rattle.ftd_machine.specs.declared.facts.Facts.TheVariants.{Due}
 use Rattle.ftd_machine.specs.declared.replies.Reply.TheVariants.{Told}
 use Rattle.ftd_machine.specs.declared.requests.Question.{Question}
-use Rattle.ftd_machine.proofs.Few.{and_first, and_second}
 use Rattle.ftd_machine.proofs.Members.{has_filtered}
+use Rattle.ftd_machine.proofs.Refusing.{Refuses, refuses_none, refuses_needs, refuses_finds}
 use Rattle.ftd_entries.proofs.CalendarRows.{key_rises}
 use Rattle.ftd_entries.proofs.DayCells.{le_from, le_into}
 use Rattle.ftd_questions.specs.DueRows.{begins_in, IsRowBy}
-use Rattle.ftd_entries.specs.Owed.{begins_on}
 use Rattle.ftd_questions.specs.Shown.{row_shown, Shows, ShowsRows}
 use Rattle.ftd_questions.specs.declared.due.KnownForDue.{KnownForDue}
 use Rattle.ftd_questions.specs.declared.due_rows.QuarterReturn.{QuarterReturn}
@@ -163,14 +163,14 @@ module _ (name : List ℕ) (quarter : ℕ) where
       elim (cases_Bool (begins name starts ends r)) [
         | inr off ↦ off
         | inl on ↦ absurd (
-            let own = and_first (bytes_eq r.account name)
-            (int_le (day_number starts) r.first && int_le r.first (day_number ends)) on in
-            let days = and_second (bytes_eq r.account name)
-            (int_le (day_number starts) r.first && int_le r.first (day_number ends)) on in
+            let own = (and_parts (bytes_eq r.account name)
+            (int_le (day_number starts) r.first && int_le r.first (day_number ends)) on).0 in
+            let days = (and_parts (bytes_eq r.account name)
+            (int_le (day_number starts) r.first && int_le r.first (day_number ends)) on).1 in
             let from = le_from (day_number starts) r.first
-            (and_first (int_le (day_number starts) r.first) _ days) in
+            (and_parts (int_le (day_number starts) r.first) _ days).0 in
             let to = le_from r.first (day_number ends)
-            (and_second (int_le (day_number starts) r.first) _ days) in
+            (and_parts (int_le (day_number starts) r.first) _ days).1 in
             let a : int_le (day_number first) r.first ≡ true =
             le_into (day_number first) r.first (omega (arith, ints)) in
             let b : int_le r.first (day_number last) ≡ true =
@@ -200,9 +200,9 @@ module _ (name : List ℕ) (quarter : ℕ) where
               | inr off ↦ off ∙ sym apart.0
               | inl on ↦ absurd (
                   let low = leb-true starts o.first
-                  (and_first (nat_le starts o.first) (nat_le o.first ends) on) in
+                  (and_parts (nat_le starts o.first) (nat_le o.first ends) on).0 in
                   let high = leb-true o.first ends
-                  (and_second (nat_le starts o.first) (nat_le o.first ends) on) in
+                  (and_parts (nat_le starts o.first) (nat_le o.first ends) on).1 in
                   let e : 3 * (quarter + 1) ≡ 3 * quarter + 3 = omega arith in
                   let end : month_start (3 * (quarter + 1)) ≡ month_start (3 * quarter + 3) =
                   ap month_start e in
@@ -281,7 +281,7 @@ module _ (name : List ℕ) (quarter : ℕ) where
       let passes = sym (begins_is name first last o)
       ∙ (has_filtered F all (obligation_row name o) there).1 in
       let before = leb-true o.first last
-      (and_second (nat_le first o.first) (nat_le o.first last) passes) in
+      (and_parts (nat_le first o.first) (nat_le o.first last) passes).1 in
       omega arith) in
       let same : filter G read ≡ map (row_shown name) rows =
       rows_begin name starts ends found
@@ -312,22 +312,6 @@ module _ (name : List ℕ) (quarter : ℕ) where
       in_rows (p ∷ os) o (inr more) = inr (in_rows os o more)
 
 -- ---- checks that never answer with a reply
-
-pub record Refuses (P : List (Option Answer)) : Type 0 where
-  pub never : (reply : Reply) → first_of P ≡ Some (Ok reply) → ⊥
-
-refuses_none : Refuses []
-refuses_none = record { never = λ r e. absurd cc }
-
-refuses_needs : (holds : Bool) (refusal : Refusal) (Q : List (Option Answer)) → Refuses Q
-    → Refuses (needs holds refusal ∷ Q)
-refuses_needs true refusal Q q = record { never = λ r e. q.never r e }
-refuses_needs false refusal Q q = record { never = λ r e. absurd cc }
-
-refuses_finds : {X : Type 0} (o : Option X) (refusal : Refusal) (Q : List (Option Answer))
-    → Refuses Q → Refuses (finds o refusal ∷ Q)
-refuses_finds (Some x) refusal Q q = record { never = λ r e. q.never r e }
-refuses_finds None refusal Q q = record { never = λ r e. absurd cc }
 
 pub due_list_refuses : (name : List ℕ) (quarter as_of : ℕ) (known : KnownForDue)
     → Refuses (due_list_checks name quarter as_of known.account known.is_open)

@@ -1,7 +1,6 @@
 -- What a walk over an account's obligations leaves, and what it tells.
 use Rattle.std.proofs.Common.{◌≡◌, ℕ, ◌+◌, ◌-◌, List, [], ◌∷◌, ◌++◌, Option, Some, None, refl, sym}
-use Rattle.std.proofs.Common.{◌∙◌, subst, arith, inl, inr, Bool, true, false}
-use Rattle.std.proofs.Common.{Result, Ok, Err}
+use Rattle.std.proofs.Common.{◌∙◌, subst, arith, inl, inr, Bool, true, false, Result, Ok, Err}
 use Rattle.std.specs.Prelude.{IfOk}
 use Rattle.std.specs.List.{list_any}
 use Rattle.std.proofs.lemmas.Bool.{cases_Bool, true≢false}
@@ -75,10 +74,6 @@ pub settled_then : (a b : database.State) → HasCleanDisk b → Stays a b → I
 settled_then a b clean stays settled on =
     let left = stays.rows clean in
     left.now_is on ∙ settled (left.was_open on) ∙ sym (left.committed_is on)
-
--- a walk over rows that were begun, and what it leaves where it fails
-pub stays_if : (a b : database.State) → Stays a b → StaysIfSettled a b
-stays_if a b stays = record { rows = λ clean settled. stays.rows clean; crash = stays.crash }
 
 pub then_fails : (a b c : database.State) → Stays a b
     → (HasCleanDisk c → IsSettled b → LeavesRows b c) → CrashKeeps b c → StaysIfSettled a c

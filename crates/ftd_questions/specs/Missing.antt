@@ -27,7 +27,8 @@ abbrev pub is_unfound_from : ℕ → ℕ × Option Cents → Bool
 is_unfound_from first found = nat_le first found.0 && is_none found.1
 
 abbrev pub are_missing : ℕ → List (ℕ × Option Cents) → List ℕ
-are_missing first found = map (λ (it : ℕ × Option Cents). it.0) (filter (is_unfound_from first) found)
+are_missing first found = map (λ (it : ℕ × Option Cents). it.0)
+    (filter (is_unfound_from first) found)
 
 -- they are those of each state for which the tables stand
 abbrev pub KnowsMissing : {A : Type 0} → List ℕ → ℕ → ℕ → Vec ℕ A → Tables → Type 0

@@ -1,7 +1,7 @@
 //! Requests that ask: the deposit schedule of a day, what must be deposited for a quarter, its
-//! liability by day, and what is due over all accounts. Each is one function on a transaction, whose
-//! contract is the machine's step. A due list is also told row by row, on the store, and what a
-//! refusal can be mended by is read there.
+//! liability by day, and what is due over all accounts. Each is one function on a transaction,
+//! whose contract is the machine's step. A due list is also told row by row, on the store, and what
+//! a refusal can be mended by is read there.
 #![tactic(auto)]
 
 mod agenda_rows;

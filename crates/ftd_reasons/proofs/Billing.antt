@@ -2,10 +2,9 @@
 use Rattle.std.proofs.Common.{◌≡◌, ℕ, Bool, true, List, Option, None, Some, Ok, Vec, refl, ap, ◌∙◌}
 use Rattle.std.proofs.Common.{◌+◌}
 use Rattle.std.specs.Prelude.{nat_le}
-use Rattle.std.proofs.lemmas.Bool.{leb-true}
+use Rattle.std.proofs.lemmas.Bool.{leb-true, and_parts}
 use Rattle.ftd_days.specs.Calendar.{quarter_year, quarter_start}
 use Rattle.ftd_rules.specs.declared.DaySum.{DaySum}
-use Rattle.ftd_rows.proofs.Found.{both}
 use Rattle.ftd_schema.specs.Standing.{Tables}
 use Rattle.ftd_store.specs.Finds.{ListsLiability}
 use Rattle.ftd_machine.specs.declared.entries.Account.{Account}
@@ -61,7 +60,8 @@ module _ (name : List ℕ) (quarter : ℕ) where
         let within : Gives (schedule_b_checks name quarter known.0 known.1)
         (is_between 2001 2098 (quarter_year quarter) ≡ true) =
         skip_needs _ _ _ _ (gives_needs _ _ _) in
-        let early = leb-true (quarter_year quarter) 2098 (both (nat_le 2001 (quarter_year quarter))
+        let early = leb-true (quarter_year quarter) 2098
+        (and_parts (nat_le 2001 (quarter_year quarter))
         (nat_le (quarter_year quarter) 2098) (within.fact is)).1 in
         passed _ s (Ok (Told (Days sums.items))) s _ (checks_are t s stands knows.0 ∙ is) (
           refl,

@@ -1,15 +1,16 @@
 -- The days that are counted to a due date.
-use Rattle.std.proofs.Common.{◌≡◌, ◌∙◌, ℕ, ◌+◌, ◌-◌, ◌<◌, ◌≤◌, zero, suc, List, [], ◌∷◌, ◌++◌, inl, inr}
-use Rattle.std.proofs.Common.{refl, sym, ap, subst, arith}
+use Rattle.std.proofs.Common.{◌≡◌, ◌∙◌, ℕ, ◌+◌, ◌-◌, ◌<◌, ◌≤◌, zero, suc, List, [], ◌∷◌, ◌++◌, inl}
+use Rattle.std.proofs.Common.{inr, refl, sym, ap, subst, arith}
 use Rattle.std.specs.Prelude.{◌↔◌, ◌&&◌, not, nat_lt}
 use Rattle.std.proofs.lemmas.Bool.Decides.{eqb_tells}
 use Rattle.ftd_days.specs.Business.{is_holiday}
 use Rattle.ftd_days.specs.Calendar.{weekday_of}
 use Rattle.ftd_rules.specs.declared.Obligation.{Obligation}
 use Rattle.ftd_rules.specs.Lists.{Has, KeysRise}
+use Rattle.ftd_rules.specs.Laws.{IsFirstCounted}
 use Rattle.ftd_rows.specs.Lists.{Pairs}
 use Rattle.ftd_store.proofs.Items.{pairs_more, paired_from, paired_to}
-use Rattle.ftd_machine.specs.Explaining.{IsCountedFrom, IsKindOfDay, IsCountedDay, day_counted}
+use Rattle.ftd_machine.specs.Explaining.{IsKindOfDay, IsCountedDay, day_counted}
 use Rattle.ftd_machine.proofs.Counting.{from_one, kind_one}
 use Rattle.ftd_machine.specs.declared.explained.CountedDay.{CountedDay}
 use Rattle.ftd_machine.specs.declared.explained.DayKind.{DayKind}
@@ -82,7 +83,8 @@ same_kind read all day Holiday same is = (is.0, same ∙ is.1)
 
 -- ---- the days of an obligation
 
-module _ (read all : List ℕ) (o : Obligation) (from : ℕ) (is_from : IsCountedFrom o.rule o.last from)
+module _ (read all : List ℕ) (o : Obligation) (from : ℕ)
+    (is_from : IsFirstCounted o.rule o.last from)
     (same : (day : ℕ) → from ≤ day → day ≤ o.due → is_holiday all day ≡ is_holiday read day)
     (days : List CountedDay)
     (pairs : Pairs (IsCounted read) (days_from from (o.due + 1 - from)) days) where

@@ -1,10 +1,9 @@
 -- What is told of an obligation by what was read explains it.
 use Rattle.std.proofs.Common.{◌≡◌, ◌∙◌, ◌+◌, ◌<◌, ◌≤◌, ℕ, List, Option, None, Some, Ok, sym, ap}
-use Rattle.std.proofs.Common.{subst, refl}
-use Rattle.std.proofs.Common.{arith, Bool, true, false, [], ◌∷◌, inl, inr}
+use Rattle.std.proofs.Common.{subst, refl, arith, Bool, true, false, [], ◌∷◌, inl, inr}
 use Rattle.std.specs.Prelude.{MatchOption, nat_le, ◌||◌, ◌↔◌}
 use Rattle.std.specs.List.{list_any, find}
-use Rattle.std.proofs.lemmas.Bool.{le-leb, eq-eqb, leb-true}
+use Rattle.std.proofs.lemmas.Bool.{le-leb, eq-eqb, leb-true, and_parts}
 use Rattle.ftd_days.specs.Business.{is_holiday}
 use Rattle.ftd_days.specs.Calendar.{year_of, year_start, quarter_of, last_day}
 use Rattle.ftd_days.proofs.Months.{year_begins, year_ends, in_month, day_in_years}
@@ -20,14 +19,15 @@ use Rattle.ftd_rules.specs.Years.{HasStatusOn}
 use Rattle.ftd_rules.proofs.Near.{due_near}
 use Rattle.ftd_rules.proofs.Schedules.{year_start-mono}
 use Rattle.ftd_rules.proofs.Stated.{due_by}
-use Rattle.ftd_rows.proofs.Found.{both}
+use Rattle.ftd_rules.proofs.Members.{has_kept}
+use Rattle.ftd_rules.specs.Laws.{IsFirstCounted}
+use Rattle.ftd_rules.specs.Obligations.{begins_on}
 use Rattle.ftd_schema.specs.Standing.{Tables}
 use Rattle.ftd_store.specs.Holidays.{HasYears}
-use Rattle.ftd_store.proofs.Sifted.{keeps_has}
 use Rattle.ftd_machine.proofs.Few.{few_in_force}
 use Rattle.ftd_machine.specs.Asking.{IsStatus, IsReason}
 use Rattle.ftd_machine.specs.Agenda.{EachToLater}
-use Rattle.ftd_machine.specs.Explaining.{IsCountedFrom, Explains, IsPaydayOf, day_of_payday}
+use Rattle.ftd_machine.specs.Explaining.{Explains, IsPaydayOf, day_of_payday}
 use Rattle.ftd_machine.specs.Explaining.{IsPaymentOf}
 use Rattle.ftd_machine.specs.Kept.{IsPaymentBefore}
 use Rattle.ftd_machine.specs.History.{form_of, live_sums, AreLinesOf, AreOwed}
@@ -41,10 +41,10 @@ use Rattle.ftd_machine.specs.declared.replies.Reply.TheVariants.{Told}
 use Rattle.ftd_machine.proofs.Dated.{IsDated, dated}
 use Rattle.ftd_machine.proofs.Members.{has_filtered}
 use Rattle.ftd_entries.specs.Opening.{is_line_of}
-use Rattle.ftd_entries.specs.Owed.{begins_on, KnowsObligations}
+use Rattle.ftd_entries.specs.Owed.{KnowsObligations}
 use Rattle.ftd_entries.specs.Standing.{StandsFor}
-use Rattle.ftd_kept.specs.Kept.{KnowsPaymentsOf}
-use Rattle.ftd_kept.proofs.KeptPayments.{begun_by}
+use Rattle.ftd_reasons.specs.Payments.{KnowsPaymentsOf}
+use Rattle.ftd_reasons.proofs.PaymentsTold.{begun_by}
 use Rattle.ftd_reasons.specs.Explained.{KnowsPaydays, IsToldBy, KnowsExplanation, KnowsCovering}
 use Rattle.ftd_reasons.specs.Schedules.{AreScheduled}
 use Rattle.ftd_reasons.proofs.Counted.{counted_are, counted_rise}
@@ -52,7 +52,7 @@ use Rattle.ftd_reasons.proofs.ReturnDates.{AgreeIn, return_same}
 use Rattle.ftd_reasons.proofs.Searching.{found, not_found}
 use Rattle.ftd_reasons.proofs.YearsRead.{years_agree}
 
-any_has : {X : Type 0} (p : X → Bool) (xs : List X) (x : X) → Has xs x → p x ≡ true
+pub any_has : {X : Type 0} (p : X → Bool) (xs : List X) (x : X) → Has xs x → p x ≡ true
     → list_any p xs ≡ true
 any_has p [] x has e = absurd has
 any_has p (y ∷ xs) x (inl is) e = let same = ap p (sym is) ∙ e in rw same refl
@@ -64,7 +64,7 @@ any_has p (y ∷ xs) x (inr has) e =
     or_true false b e = e
 
 -- the first day that is counted comes after the last of the obligation
-after_last : (rule : Rule) (last from : ℕ) → last ≤ last_day → IsCountedFrom rule last from
+after_last : (rule : Rule) (last from : ℕ) → last ≤ last_day → IsFirstCounted rule last from
     → last < from
 after_last Monthly last from within is = let to = (in_month last within).1 in omega arith
 after_last Semiweekly last from within is =
@@ -120,7 +120,7 @@ module _ (name : List ℕ) (form : Form) (lines : List YearLine) (read : List �
 
   -- ---- the days that are counted
 
-  in_two_years : (from day : ℕ) → IsCountedFrom o.rule o.last from → from ≤ day → day ≤ o.due
+  in_two_years : (from day : ℕ) → IsFirstCounted o.rule o.last from → from ≤ day → day ≤ o.due
       → (year_start year ≤ day) × (day < year_start (year + 1 + 1))
   in_two_years from day is_from low high =
       let after = after_last o.rule o.last from last_within is_from in
@@ -215,12 +215,12 @@ pub covering_known : (name : List ℕ) (day : ℕ) (begun : List Obligation) (fo
     → (t : Tables) → KnowsObligations name 0 day begun t → KnowsCovering name day found t
 covering_known name day begun None none t known s stands = λ o has covers.
     (let first = covers.0 in
-    none o (subst (λ os. Has os o) (sym (known s stands)) (keeps_has (begins_on 0 day)
+    none o (subst (λ os. Has os o) (sym (known s stands)) (has_kept (begins_on 0 day)
     (stands.settled name).owed o has (begun_by day o covers.0))) covers.1)
 covering_known name day begun (Some o) is t known s stands =
     let its = has_filtered (begins_on 0 day) (stands.settled name).owed o
     (subst (λ os. Has os o) (known s stands) is.0) in
-    let days = both (nat_le 0 o.first) (nat_le o.first day) its.1 in
+    let days = and_parts (nat_le 0 o.first) (nat_le o.first day) its.1 in
     (its.0, (leb-true o.first day days.1, is.1))
 
 -- it does not end before the day

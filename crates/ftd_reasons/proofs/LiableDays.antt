@@ -5,7 +5,7 @@ use Rattle.std.proofs.Common.{subst, ◌∙◌, arith}
 use Rattle.std.specs.Prelude.{filter, bytes_eq, int_le}
 use Rattle.std.specs.Ordering.{int_eq}
 use Rattle.std.specs.List.{sum_by}
-use Rattle.std.proofs.lemmas.Bool.{cases_Bool, eqb-true}
+use Rattle.std.proofs.lemmas.Bool.{cases_Bool, eqb-true, and_parts, cases_lt}
 use Rattle.std.proofs.lemmas.Int.{ints}
 use Rattle.std.proofs.lemmas.List.Sums.{sum_by-cons}
 use Rattle.std.proofs.lemmas.List.Sorted.{sum_by-IsPermutation}
@@ -15,9 +15,8 @@ use Rattle.ftd_rules.specs.declared.run.PayRun.{PayRun}
 use Rattle.ftd_rules.specs.declared.run.Voidable.{Voidable}
 use Rattle.ftd_rules.specs.Liability.{share, liability}
 use Rattle.ftd_rules.specs.Lists.{Has, KeysRise}
-use Rattle.ftd_rules.proofs.Cuts.{lt_or_le}
 use Rattle.ftd_rules.proofs.Rising.{has_all}
-use Rattle.ftd_rows.proofs.Found.{both}
+use Rattle.ftd_rules.proofs.Members.{kept_sum}
 use Rattle.ftd_schema.specs.Rows.{RunRow}
 use Rattle.ftd_schema.specs.Standing.{Tables}
 use Rattle.ftd_schema.specs.Tests.{is_live_run_between}
@@ -34,7 +33,7 @@ use Rattle.ftd_entries.specs.Standing.{StandsFor, run_entry}
 use Rattle.ftd_entries.proofs.CalendarRows.{whole}
 use Rattle.ftd_entries.proofs.DayCells.{same_day}
 use Rattle.ftd_entries.proofs.QuarterDays.{in_quarter, of_quarter}
-use Rattle.ftd_reasons.proofs.KeptSums.{kept_sum, none_of, live_cell}
+use Rattle.ftd_reasons.proofs.KeptSums.{none_of, live_cell}
 use Rattle.ftd_reasons.proofs.Rising.{keys_rise, sum_of_its_day, sum_of_day}
 
 -- ---- days as cells
@@ -105,9 +104,9 @@ module _ (name : List ℕ) (from to day : ℕ) where
     | inl its ↦ elim (cases_Bool (Test (run_entry e))) [
       | inl passes ↦
           let same : e.content.value.payday ≡ day = eqb-true e.content.value.payday day its in
-          let a = both (bytes_eq e.name name) _ passes in
-          let b = both (int_le (day_number from) (day_number e.content.value.payday)) _ a.1 in
-          let c = both (int_le (day_number e.content.value.payday) (day_number to)) _ b.1 in
+          let a = and_parts (bytes_eq e.name name) _ passes in
+          let b = and_parts (int_le (day_number from) (day_number e.content.value.payday)) _ a.1 in
+          let c = and_parts (int_le (day_number e.content.value.payday) (day_number to)) _ b.1 in
           let low = cells_le from e.content.value.payday b.0 in
           let high = cells_le e.content.value.payday to c.0 in
           absurd (elim outside [ inl before ↦ omega arith | inr after ↦ omega arith ])
@@ -200,9 +199,9 @@ module _ {A : Type 0} (name : List ℕ) (from to : ℕ) (sums : Vec DaySum A) (t
       let some : 0 < x.cents.0 = has_all (λ (y : DaySum). 0 < y.cents.0) sums.items lists.positive x
       has in
       let its = sum_of_its_day sums.items rise x has in
-      elim (lt_or_le x.day from) [
+      elim (cases_lt x.day from) [
         | inl before ↦ absurd (let none = liable_out x.day (inl before) in omega arith)
-        | inr low ↦ elim (lt_or_le to x.day) [
+        | inr low ↦ elim (cases_lt to x.day) [
           | inl after ↦ absurd (let none = liable_out x.day (inr after) in omega arith)
           | inr high ↦ (low, high, sym its ∙ liable_in x.day low high, some)
         ]

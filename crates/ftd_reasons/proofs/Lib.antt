@@ -1,7 +1,7 @@
 mod Rising
 mod KeptSums
 pub mod LiableDays
-mod Searching
+pub mod Searching
 mod Scheduling
 mod Billing
 mod LiabilityRead
@@ -11,4 +11,7 @@ pub mod ReturnDates
 pub mod YearsRead
 mod Paydays
 mod Counted
-mod ExplainedKnown
+pub mod ExplainedKnown
+mod Held
+mod PaymentOrder
+mod PaymentsTold

@@ -4,13 +4,13 @@ use Rattle.std.proofs.Common.{Bool, true, false, ◌&&◌, Vec, refl, sym, ap, �
 use Rattle.std.proofs.Math.IntN.{◌+ℤ◌, -ℤ-+ℤ_cancel}
 use Rattle.std.specs.Prelude.{filter, min, bytes_eq, nat_lt}
 use Rattle.std.specs.List.{sum_by}
-use Rattle.std.proofs.lemmas.Bool.{cases_Bool, le-leb, lt-ltb}
+use Rattle.std.proofs.lemmas.Bool.{cases_Bool, le-leb, lt-ltb, cases_lt}
 use Rattle.std.proofs.lemmas.List.Sums.{sum_by-cons}
 use Rattle.std.proofs.lemmas.List.Sorted.{sum_by-IsPermutation}
 use Rattle.ftd_rules.specs.declared.payment.Payment.{Payment}
 use Rattle.ftd_rules.specs.declared.run.Voidable.{Voidable}
 use Rattle.ftd_rules.specs.Payments.{counts_by}
-use Rattle.ftd_rules.proofs.Cuts.{lt_or_le}
+use Rattle.ftd_rules.proofs.Members.{kept_sum}
 use Rattle.ftd_schema.specs.Rows.{PaymentRow}
 use Rattle.ftd_schema.specs.Standing.{Tables}
 use Rattle.ftd_schema.specs.Tests.{is_live_payment_between}
@@ -24,7 +24,7 @@ use Rattle.ftd_entries.specs.Standing.{payment_entry}
 use Rattle.ftd_entries.proofs.CalendarRows.{whole}
 use Rattle.ftd_reasons.specs.Returns.{KnowsPayments}
 use Rattle.ftd_entries.proofs.DayCells.{day_le}
-use Rattle.ftd_reasons.proofs.KeptSums.{kept_sum, none_of, live_cell}
+use Rattle.ftd_reasons.proofs.KeptSums.{none_of, live_cell}
 
 -- ---- one payment
 
@@ -90,9 +90,9 @@ module _ (name : List ℕ) (first last from to by : ℕ) (low : first ≤ from) 
       (counted (payment_entry e)) 0 ≡ own_count e
   one_entry e =
       let day : ℕ = e.content.value.for_day in
-      elim (lt_or_le day first) [
+      elim (cases_lt day first) [
         | inl before ↦ uncounted e (none_before e.content.value (omega arith))
-        | inr since ↦ elim (lt_or_le last day) [
+        | inr since ↦ elim (cases_lt last day) [
           | inl after ↦ uncounted e (none_after e.content.value (omega arith))
           | inr until ↦
               same_of (bytes_eq e.name name) _ _ _ (is_live e) (counted (payment_entry e))

@@ -1,21 +1,19 @@
 -- The dates of a return and of a makeup, by holidays that agree in the year and the next.
-use Rattle.std.proofs.Common.{◌≡◌, ℕ, ◌+◌, ◌-◌, ◌*◌, ◌<◌, ◌≤◌, true, not, ◌&&◌, List, inl, inr, sym}
+use Rattle.std.proofs.Common.{◌≡◌, ℕ, ◌+◌, ◌-◌, ◌*◌, ◌<◌, ◌≤◌, true, not, ◌&&◌, List, sym}
 use Rattle.std.proofs.Common.{ap, ◌∙◌, subst, arith}
 use Rattle.std.specs.Prelude.{min, nat_lt}
 use Rattle.ftd_days.specs.Business.{is_business, is_holiday, IsOnOrAfter}
 use Rattle.ftd_days.specs.Calendar.{last_day, year_of, year_start, quarter_of, quarter_year}
 use Rattle.ftd_days.specs.Calendar.{weekday_of}
 use Rattle.ftd_days.specs.Holidays.{AreFew}
-use Rattle.ftd_days.proofs.Business.{some_business, on_or_after_one}
+use Rattle.ftd_days.proofs.Business.{some_business}
 use Rattle.ftd_days.proofs.Months.{in_month, month_start-mono, month_start_grows, year_begins}
 use Rattle.ftd_days.proofs.Months.{year_ends}
 use Rattle.ftd_rules.specs.declared.Form.{Form}
 use Rattle.ftd_rules.specs.declared.Rule.{Rule}
 use Rattle.ftd_rules.specs.declared.Rule.TheVariants.{Monthly, Semiweekly, NextDay}
 use Rattle.ftd_rules.specs.Returns.{return_month, month_after_ends, IsReturnDue}
-use Rattle.ftd_rules.specs.Returns.{IsFirstWednesdayOrFriday, IsEarlierMakeup, IsMakeup}
-use Rattle.ftd_rules.specs.Due.{fifteenth_after}
-use Rattle.ftd_rules.proofs.Cuts.{lt_or_le}
+use Rattle.ftd_rules.specs.Returns.{IsEarlierMakeup, IsMakeup}
 use Rattle.ftd_rules.proofs.Near.{return_near}
 use Rattle.ftd_rules.proofs.ReturnDates.{rolled_before, return_month_is}
 use Rattle.ftd_rules.proofs.Schedules.{year_start-mono}
@@ -107,36 +105,3 @@ module _ (read all : List ℕ) (year : ℕ) (from_2001 : 2001 ≤ year) (to_2098
       earlier_same form last due makeup its within later due_within m
   makeup_same form NextDay last due makeup its within later due_within m =
       earlier_same form last due makeup its within later due_within m
-
--- ---- there is one of each
-
-pub weekday_one : (from d e : ℕ) → IsFirstWednesdayOrFriday from d → IsFirstWednesdayOrFriday from e
-    → d ≡ e
-weekday_one from d e g h =
-    elim (lt_or_le d e) [
-      | inl less ↦ absurd (h.first d g.not_before less g.holds)
-      | inr some ↦ elim (lt_or_le e d) [
-        | inl more ↦ absurd (g.first e h.not_before more h.holds)
-        | inr same ↦ omega arith
-      ]
-    ]
-
-earlier_one : (form : Form) (holidays : List ℕ) (last due d e : ℕ)
-    → IsEarlierMakeup form holidays last due d → IsEarlierMakeup form holidays last due e → d ≡ e
-earlier_one form holidays last due d e g h =
-    let of_return : g.return_due ≡ h.return_due = on_or_after_one holidays
-    (month_after_ends form (quarter_of last)) g.return_due h.return_due g.is_return h.is_return in
-    let weekday : g.weekday ≡ h.weekday = weekday_one (fifteenth_after due) g.weekday h.weekday
-    g.is_weekday h.is_weekday in
-    let other : IsOnOrAfter holidays (min g.return_due g.weekday) e =
-    subst (λ r. IsOnOrAfter holidays (min r g.weekday) e) (sym of_return)
-    (subst (λ w. IsOnOrAfter holidays (min h.return_due w) e) (sym weekday) h.rolled) in
-    on_or_after_one holidays (min g.return_due g.weekday) d e g.rolled other
-
--- there is one makeup date
-pub makeup_one : (form : Form) (holidays : List ℕ) (rule : Rule) (last due d e : ℕ)
-    → IsMakeup form holidays rule last due d → IsMakeup form holidays rule last due e → d ≡ e
-makeup_one form holidays Monthly last due d e g h = on_or_after_one holidays
-    (month_after_ends form (quarter_of last)) d e g h
-makeup_one form holidays Semiweekly last due d e g h = earlier_one form holidays last due d e g h
-makeup_one form holidays NextDay last due d e g h = earlier_one form holidays last due d e g h

@@ -1,11 +1,11 @@
 -- Day sums whose days rise.
 use Rattle.std.proofs.Common.{◌≡◌, ℕ, ◌+◌, ◌<◌, List, [], ◌∷◌, suc, inl, inr, refl, sym, subst}
 use Rattle.std.proofs.Common.{arith}
+use Rattle.std.proofs.lemmas.Bool.{cases_lt}
 use Rattle.ftd_tables.specs.Order.{EachToNext}
 use Rattle.ftd_rules.specs.declared.DaySum.{DaySum}
 use Rattle.ftd_rules.specs.Liability.{share, liability}
 use Rattle.ftd_rules.specs.Lists.{Has, KeysRise}
-use Rattle.ftd_rules.proofs.Cuts.{lt_or_le}
 use Rattle.ftd_rules.proofs.Walk.{liability-cons, share_before, share_after, share_in}
 use Rattle.ftd_machine.specs.Asking.{day_of_sum}
 
@@ -66,9 +66,9 @@ pub sum_of_day : (sums : List DaySum) (day : ℕ) → 0 < liability sums day day
     × Has sums x × (x.day ≡ day)
 sum_of_day [] day some = absurd (omega arith)
 sum_of_day (y ∷ sums) day some =
-    elim (lt_or_le y.day day) [
+    elim (cases_lt y.day day) [
       | inl before ↦ later (sum_of_day sums day) (share_before y day day before)
-      | inr from ↦ elim (lt_or_le day y.day) [
+      | inr from ↦ elim (cases_lt day y.day) [
         | inl after ↦ later (sum_of_day sums day) (share_after y day day from after)
         | inr to ↦ (y, inl refl, omega arith)
       ]

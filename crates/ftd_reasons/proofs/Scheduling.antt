@@ -5,7 +5,7 @@ use Rattle.std.specs.Prelude.{is_some, nat_lt, IsSome, IsSomeAnd, MatchOption}
 use Rattle.std.specs.Borrow.{Bor}
 use Rattle.std.specs.List.{list_any, find}
 use Rattle.std.specs.Option.{option_map}
-use Rattle.std.proofs.lemmas.Bool.{true≢false, eqb-true, eq-eqb, ltb-true, lt-ltb}
+use Rattle.std.proofs.lemmas.Bool.{true≢false, eqb-true, eq-eqb, ltb-true, lt-ltb, and_parts}
 use Rattle.ftd_days.specs.Calendar.{year_of}
 use Rattle.ftd_rules.specs.declared.Kind.{Kind}
 use Rattle.ftd_rules.specs.declared.Kind.TheVariants.{Monthly, Semiweekly}
@@ -13,7 +13,6 @@ use Rattle.ftd_rules.specs.declared.YearLine.{YearLine}
 use Rattle.ftd_rules.specs.Lists.{Has}
 use Rattle.ftd_rules.specs.Liability.{liability}
 use Rattle.ftd_rules.specs.Years.{HasSchedule, HasStatusOn}
-use Rattle.ftd_rows.proofs.Found.{both}
 use Rattle.ftd_schema.specs.Standing.{Tables}
 use Rattle.ftd_machine.specs.declared.entries.Account.{Account}
 use Rattle.ftd_machine.specs.declared.requests.Question.TheVariants.{Status}
@@ -59,8 +58,8 @@ module _ (lines : List YearLine) (line : YearLine) (year : ℕ) (same : line.yea
       → MatchOption b.turn (HasNoTurnBefore lines line) (IsTurnBefore lines line)
   turn_found b is =
       let its = found (turns_into year) lines b is in
-      let parts = both (nat_lt b.year year) ((year - b.year == 1) && is_some b.turn) its.1 in
-      let rest = both (year - b.year == 1) (is_some b.turn) parts.1 in
+      let parts = and_parts (nat_lt b.year year) ((year - b.year == 1) && is_some b.turn) its.1 in
+      let rest = and_parts (year - b.year == 1) (is_some b.turn) parts.1 in
       let less = ltb-true b.year year parts.0 in
       let one = eqb-true (year - b.year) 1 rest.0 in
       told b.turn refl rest.1 (omega arith) its.0
@@ -128,7 +127,8 @@ module _ (name : List ℕ) (day : ℕ) (account : Option Account) (lines : List 
   are : AreLinesOf own lines
   are = subst (AreLinesOf own) (sym lines_are) (stands.settled name).are_lines
 
-  pub checks_are : first_of (status_checks name day own.account (is_open own (year_of day))) ≡ first_of
+  pub checks_are : first_of (status_checks name day own.account (is_open own (year_of day)))
+      ≡ first_of
       (status_checks name day account there)
   checks_are =
       ap (λ a. first_of (status_checks name day a (is_open own (year_of day)))) account_is

@@ -7,12 +7,12 @@ use Rattle.ftd_rules.specs.declared.DaySum.{DaySum}
 use Rattle.ftd_rules.specs.declared.Form.{Form}
 use Rattle.ftd_rules.specs.declared.Obligation.{Obligation}
 use Rattle.ftd_rules.specs.declared.YearLine.{YearLine}
-use Rattle.ftd_rules.specs.Laws.{Covers}
+use Rattle.ftd_rules.specs.Laws.{Covers, IsFirstCounted}
 use Rattle.ftd_rules.specs.Lists.{Has, KeysRise}
 use Rattle.ftd_rules.specs.Returns.{IsReturnDue}
 use Rattle.ftd_rows.specs.Lists.{Pairs}
 use Rattle.ftd_schema.specs.Standing.{Tables}
-use Rattle.ftd_machine.specs.Explaining.{IsPaydayOf, day_of_payday, IsCountedFrom, IsKindOfDay}
+use Rattle.ftd_machine.specs.Explaining.{IsPaydayOf, day_of_payday, IsKindOfDay}
 use Rattle.ftd_machine.specs.Explaining.{Explains, IsExplained}
 use Rattle.ftd_machine.specs.History.{form_of}
 use Rattle.ftd_machine.specs.Sound.{IsSound}
@@ -69,7 +69,7 @@ IsCounted holidays day x = (x.day ≡ day) × IsKindOfDay holidays day x.kind
 -- they are told of the first day that is counted and of those after it to the due date
 abbrev pub AreCounted : List ℕ → Obligation → List CountedDay → Type 0
 AreCounted holidays o days =
-    (from : ℕ) × IsCountedFrom o.rule o.last from
+    (from : ℕ) × IsFirstCounted o.rule o.last from
     × Pairs (IsCounted holidays) (days_from from (o.due + 1 - from)) days
 
 -- ---- the explanation
@@ -86,8 +86,8 @@ pub record IsToldBy (form : Form) (lines : List YearLine) (holidays : List ℕ) 
   pub return_due : IsReturnDue form holidays (quarter_of o.first) e.return_due
   pub payments_are : e.payments ≡ payments
 
--- it explains the account's obligation, in each sound state for which the tables stand, and in which
--- the account has the form and the lines
+-- it explains the account's obligation, in each sound state for which the tables stand, and in
+-- which the account has the form and the lines
 abbrev pub KnowsExplanation : List ℕ → Form → List YearLine → Obligation → Explanation → Tables
     → Type 0
 KnowsExplanation name form lines o e t =

@@ -1,6 +1,7 @@
 pub mod Schedules
 pub mod Returns
 pub mod Explained
+pub mod Payments
 pub use Rattle.ftd_days.specs.Calendar
 pub use Rattle.ftd_entries.specs.Opening
 pub use Rattle.ftd_entries.specs.Standing
@@ -8,6 +9,7 @@ pub use Rattle.ftd_entries.specs.Words
 pub use Rattle.ftd_machine.specs.Asking
 pub use Rattle.ftd_machine.specs.Checks
 pub use Rattle.ftd_machine.specs.History
+pub use Rattle.ftd_machine.specs.Kept as MachineKept
 pub use Rattle.ftd_machine.specs.Sound
 pub use Rattle.ftd_machine.specs.State
 pub use Rattle.ftd_rows.specs.Lists

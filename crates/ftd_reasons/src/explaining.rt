@@ -5,18 +5,19 @@ ghost use Rattle.ftd_days.specs.Calendar.{year_of};
 ghost use Rattle.ftd_days.specs.Holidays.{holidays_of};
 ghost use Rattle.ftd_rules.specs.Lists.{Has};
 ghost use Rattle.ftd_store.specs.Frame.{Calls, Reads};
-ghost use Rattle.ftd_machine.specs.Explaining.{IsCountedFrom, IsKindOfDay};
+ghost use Rattle.ftd_machine.specs.Explaining.{IsKindOfDay};
 ghost use Rattle.ftd_machine.specs.declared.requests.Question.TheVariants.{Explain};
 ghost use Rattle.ftd_machine.specs.declared.requests.Request.TheVariants.{Question};
 ghost use Rattle.ftd_entries.specs.Words.{Serves};
 ghost use Rattle.ftd_reasons.specs.Explained.{AreCounted, AreRunning, IsToldBy, KnowsCovering};
 ghost use Rattle.ftd_reasons.specs.Explained.{KnowsExplained, KnowsExplanation, KnowsPaydays};
+ghost use Rattle.ftd_rules.specs.Laws.{IsFirstCounted};
 
+use crate::paid::obligation_payments;
 use crate::return_periods::AMOUNTS_END;
 use crate::schedules::schedule_on;
 use ftd_days::{Cents, Day, Holidays};
 use ftd_entries::{has_year, known};
-use ftd_kept::obligation_payments;
 use ftd_machine::{
     Answer, CountedDay, CountedDays, DayKind, Explanation, Facts, KeptPayment, KeptPayments,
     Refusal, Reply, RunningSum, RunningSums, status_check,
@@ -226,7 +227,7 @@ fn counted_days(
 /// The first day that is counted to the obligation's due date.
 fn first_counted(obligation: &Obligation) -> Day
     requires { year_of obligation.now.last ≤ 2098 }
-    ensures { IsCountedFrom obligation.now.rule obligation.now.last result }
+    ensures { IsFirstCounted obligation.now.rule obligation.now.last result }
 {
     let last = obligation.last;
     match obligation.rule {

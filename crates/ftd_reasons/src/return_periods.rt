@@ -2,11 +2,9 @@
 
 ghost use Rattle.std.specs.Prelude.{◌≡◌, ◌+◌, ◌<◌, ◌≤◌, IsTrue, IfOk, IfSome};
 ghost use Rattle.std.specs.List.{sum_by};
-ghost use Rattle.ftd_days.specs.Calendar.{quarter_year, quarter_start};
+ghost use Rattle.ftd_days.specs.Calendar.{quarter_year};
 ghost use Rattle.ftd_rules.specs.Liability.{cents_of};
 ghost use Rattle.ftd_rules.specs.Payments.{payment_cents};
-ghost use Rattle.ftd_rules.specs.Periods.{return_period_of, return_period_first};
-ghost use Rattle.ftd_rules.specs.Periods.{return_period_last};
 ghost use Rattle.ftd_store.specs.Frame.{Reads};
 ghost use Rattle.ftd_reasons.specs.Returns.{KnowsLiability, KnowsPayments, KnowsPreceding};
 ghost use Rattle.ftd_reasons.specs.Returns.{KnowsPeriod};

@@ -12,18 +12,6 @@ use Rattle.ftd_store.proofs.Items.{has_at, has_more, has_still, has_now}
 
 -- ---- by first day
 
--- a row that begins before the first of some
-pub rise_before : (o p : Obligation) (rows : List Obligation) → o.first < p.first
-    → ByFirstDay (p ∷ rows) → ByFirstDay (o ∷ p ∷ rows)
-rise_before o p rows less rise = (
-  (λ later has. elim has [
-    | inl here ↦ (let first : later.first ≡ p.first = ap (λ (z : Obligation). z.first) here in
-        omega arith)
-    | inr more ↦ (let after = rise.0 later more in omega arith)
-  ]),
-  rise,
-)
-
 -- one row, or none
 pub rise_single : (rows : List Obligation) → length rows < 2 → ByFirstDay rows
 rise_single [] few = tt
@@ -54,10 +42,6 @@ by_first_push (y ∷ rows) x h before = (
 )
 
 -- ---- those that are not among the others
-
-pub only_none : (others : List Obligation) → AreOnlyIn [] others []
-only_none others =
-    record { by_first_day = tt; all = λ o. ((λ never. absurd never), (λ never. absurd never.0)) }
 
 pub only_more : (rows others only : List Obligation) (i : ℕ) (x : Obligation) → ByFirstDay rows
     → i < length rows → x ≡ get_or rows i x → (Has others x → ⊥)

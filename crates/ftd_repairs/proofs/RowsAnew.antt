@@ -1,9 +1,9 @@
 -- The years that open otherwise, one after the other: their obligations and their lines.
 use Rattle.std.proofs.Common.{◌≡◌, ◌≢◌, ℕ, ◌+◌, ◌-◌, ◌<◌, ◌≤◌, ◌⊎◌, ◌↔◌, inl, inr, List, [], ◌∷◌}
-use Rattle.std.proofs.Common.{◌++◌}
-use Rattle.std.proofs.Common.{refl, sym, ap, ◌∙◌, subst, arith, Bool}
+use Rattle.std.proofs.Common.{◌++◌, refl, sym, ap, ◌∙◌, subst, arith, Bool}
 use Rattle.std.specs.Prelude.{IsTrue, is_some}
 use Rattle.std.specs.List.{All}
+use Rattle.std.proofs.lemmas.Bool.{cases_lt}
 use Rattle.ftd_days.specs.Business.{holidays_end}
 use Rattle.ftd_days.specs.Calendar.{year_start}
 use Rattle.ftd_rules.specs.declared.DaySum.{DaySum}
@@ -17,7 +17,6 @@ use Rattle.ftd_rules.specs.Lists.{Has}
 use Rattle.ftd_rules.specs.Years.{TurnedBefore, basis_of, year_last}
 use Rattle.ftd_rules.specs.Private.Years.{IsScheduled, OpensBy}
 use Rattle.ftd_rules.specs.Private.Walk.{due_date}
-use Rattle.ftd_rules.proofs.Cuts.{lt_or_le}
 use Rattle.ftd_rules.proofs.Lines.{line_equal}
 use Rattle.ftd_rules.proofs.Pieces.{IsYear}
 use Rattle.ftd_rules.proofs.Schedules.{line_one, schedule_iff, schedule_same, year_divides}
@@ -64,12 +63,12 @@ year_apart : (line : YearLine) (year next day : ℕ) → IsYear line → year_st
     → day ≤ year_last line.year → (day < year_start year) ⊎ (year_start next ≤ day)
     → (line.year < year) ⊎ (next ≤ line.year)
 year_apart line year next day y from to (inl before) =
-    elim (lt_or_le line.year year) [
+    elim (cases_lt line.year year) [
       | inl less ↦ inl less
       | inr more ↦ (let mono = year_start-mono year line.year more in absurd (omega arith))
     ]
 year_apart line year next day y from to (inr after) =
-    elim (lt_or_le line.year next) [
+    elim (cases_lt line.year next) [
       | inr more ↦ inr more
       | inl less ↦
           (let f = year_facts line.year y.0 y.1 in
@@ -253,7 +252,7 @@ module _ (form : Form) (year : ℕ) (holidays : List ℕ) (g h : History)
                   (known.rows.items ++ adds.added)) end rows);
               changed = rw adds.years (subst (λ n. AreChangedBefore g h (n + 1)
                   (known.years.items ++ (adds.new ∷ []))) of_year changed_new);
-              differ = λ o n its low high. elim (lt_or_le o.year next) [
+              differ = λ o n its low high. elim (cases_lt o.year next) [
                 | inl less ↦ anew.differ o n its low less
                 | inr more ↦
                     (let years = c.years in
@@ -334,7 +333,7 @@ module _ (form : Form) (year : ℕ) (holidays : List ℕ) (g h : History)
           from = from;
           some = omega arith;
           needed = λ old new is since ends. anew.differ old new is since
-              (elim (lt_or_le old.year next) [
+              (elim (cases_lt old.year next) [
                 | inl less ↦ less
                 | inr more ↦
                     (let y = year_before year g h c old is.is_old in

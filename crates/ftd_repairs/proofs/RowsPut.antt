@@ -4,7 +4,7 @@ use Rattle.std.proofs.Common.{false, not, ◌&&◌, refl, sym, ap, subst, arith}
 use Rattle.std.specs.Prelude.{filter, bytes_eq, int_le}
 use Rattle.std.specs.Ordering.{int_eq}
 use Rattle.std.specs.List.Sorted.{IsPermutation}
-use Rattle.std.proofs.lemmas.Bool.{cases_Bool, false≢true}
+use Rattle.std.proofs.lemmas.Bool.{cases_Bool, false≢true, and_parts}
 use Rattle.std.proofs.lemmas.Bool.Decides.{Decides-int_eq}
 use Rattle.std.proofs.lemmas.List.Sorted.{IsPermutation-refl, IsPermutation-cons, IsPermutation-sym}
 use Rattle.std.proofs.lemmas.List.Sorted.{IsPermutation-to_front, length_permutation}
@@ -16,7 +16,6 @@ use Rattle.ftd_schema.specs.Rows.{ObligationRow}
 use Rattle.ftd_schema.specs.Tests.{is_obligation, is_obligation_between, with_terms}
 use Rattle.ftd_rows.specs.Cells.{day_number}
 use Rattle.ftd_rows.specs.Rows.{obligation_row}
-use Rattle.ftd_rows.proofs.Found.{both}
 use Rattle.ftd_store.proofs.Same.{same_int}
 use Rattle.ftd_machine.proofs.Adding.{own_name}
 use Rattle.ftd_machine.proofs.Members.{has_filtered}
@@ -123,10 +122,10 @@ module _ (account : List ℕ) (was row : Obligation) (same : was.first ≡ row.f
         elim (cases_Bool (is_own r)) [
           | inr none ↦ none
           | inl own ↦
-              (let k = both (bytes_eq r.account account) (int_eq r.first new_row.first) own in
+              (let k = and_parts (bytes_eq r.account account) (int_eq r.first new_row.first) own in
               let first : r.first ≡ old_row.first = same_int r.first new_row.first k.1
               ∙ ap day_number (sym same) in
-              let low = both (bytes_eq account account)
+              let low = and_parts (bytes_eq account account)
               (int_le (day_number from) old_row.first && int_le old_row.first (day_number to)) on in
               let there : is_between r ≡ true = rw (k.0, first) low.1 in
               absurd (false≢true (sym off ∙ there)))

@@ -5,21 +5,22 @@ use Rattle.std.specs.Prelude.{filter, bytes_eq}
 use Rattle.std.specs.Ordering.{int_eq}
 use Rattle.std.specs.List.{list_any}
 use Rattle.std.specs.List.Sorted.{IsPermutation}
-use Rattle.std.proofs.lemmas.Bool.{cases_Bool, false≢true}
+use Rattle.std.proofs.lemmas.Bool.{cases_Bool, false≢true, and_parts}
 use Rattle.std.proofs.lemmas.Bool.Decides.{Decides-int_eq}
 use Rattle.std.proofs.lemmas.List.Sorted.{IsPermutation-map, list_any-IsPermutation}
+use Rattle.std.proofs.Math.Bool.{or-true}
+use Rattle.ftd_days.proofs.Spelling.{same_text}
 use Rattle.ftd_rules.specs.declared.YearLine.{YearLine}
 use Rattle.ftd_rules.specs.Lists.{Has}
 use Rattle.ftd_rules.specs.Years.{YearsFrom}
 use Rattle.ftd_rules.proofs.Schedules.{years_within}
+use Rattle.ftd_rules.proofs.Members.{filter_in, filter_out}
 use Rattle.ftd_tables.specs.Kept.{changed}
 use Rattle.ftd_schema.specs.Rows.{YearRow}
 use Rattle.ftd_schema.specs.Tests.{is_year, is_year_of}
 use Rattle.ftd_rows.specs.Rows.{year_row}
-use Rattle.ftd_rows.proofs.Found.{both, same_bytes}
 use Rattle.ftd_store.specs.Changes.{put_among}
 use Rattle.ftd_store.proofs.Same.{same_int}
-use Rattle.ftd_store.proofs.Sifted.{filter_in, filter_out}
 use Rattle.ftd_machine.proofs.Adding.{own_name, other_name}
 use Rattle.ftd_store.proofs.Items.{has_middle}
 
@@ -60,7 +61,8 @@ placed_own : (account : List ℕ) (line : YearLine) (r : YearRow)
     → is_year_of account (placed account line r) ≡ is_year_of account r
 placed_own account line r =
     elim (cases_Bool (is_year account (pos line.year) r)) [
-      | inl is ↦ (let a = both (bytes_eq r.account account) (int_eq r.year (pos line.year)) is in
+      | inl is ↦ (let a = and_parts (bytes_eq r.account account) (int_eq r.year (pos line.year)) is
+          in
           rw is (own_name account ∙ sym a.0))
       | inr is_not ↦ rw is_not refl
     ]
@@ -69,7 +71,7 @@ placed_other : (account other : List ℕ) (line : YearLine) (r : YearRow) → ot
     → is_year_of other r ≡ true → placed account line r ≡ r
 placed_other account other line r apart theirs =
     let not_own : bytes_eq r.account account ≡ false = other_name r.account account
-    (λ same. apart (sym (same_bytes r.account other theirs) ∙ same)) in
+    (λ same. apart (sym (same_text r.account other theirs) ∙ same)) in
     rw not_own refl
 
 placed_theirs : (account other : List ℕ) (line : YearLine) (r : YearRow) → other ≢ account
@@ -77,8 +79,8 @@ placed_theirs : (account other : List ℕ) (line : YearLine) (r : YearRow) → o
 placed_theirs account other line r apart =
     elim (cases_Bool (is_year account (pos line.year) r)) [
       | inl is ↦
-          (let a = both (bytes_eq r.account account) (int_eq r.year (pos line.year)) is in
-          let mine : r.account ≡ account = same_bytes r.account account a.0 in
+          (let a = and_parts (bytes_eq r.account account) (int_eq r.year (pos line.year)) is in
+          let mine : r.account ≡ account = same_text r.account account a.0 in
           rw is (other_name account other (λ same. apart (sym same))
           ∙ sym (other_name r.account other (λ same. apart (sym same ∙ mine)))))
       | inr is_not ↦ rw is_not refl
@@ -154,10 +156,6 @@ rows_put account line b first (x ∷ xs) ys same years =
 
 -- ---- that there is such a row
 
-or_true : (a : Bool) → (a || true) ≡ true
-or_true true = refl
-or_true false = refl
-
 among : (account : List ℕ) (line b : YearLine) (ls : List YearLine) → b.year ≡ line.year → Has ls b
     → list_any (λ (r : YearRow). int_eq r.year (pos line.year)) (map (year_row account) ls) ≡ true
 among account line b [] same has = absurd has
@@ -165,7 +163,7 @@ among account line b (l ∷ ls) same (inl is) =
     rw (int_is (pos l.year) (pos line.year)
     (ap pos (sym (ap (λ (z : YearLine). z.year) is) ∙ same))) refl
 among account line b (l ∷ ls) same (inr has) = rw (among account line b ls same has)
-    (or_true (int_eq (pos l.year) (pos line.year)))
+    (or-true (int_eq (pos l.year) (pos line.year)))
 
 none_among : (account : List ℕ) (year : ℤ) (rows : List YearRow)
     → filter (is_year account year) rows ≡ [] → list_any (λ (r : YearRow). int_eq r.year year)

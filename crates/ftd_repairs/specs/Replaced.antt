@@ -1,8 +1,8 @@
 -- How the rows of a patch differ from those that they replace.
-use Rattle.std.specs.Prelude.{ℕ, ◌≤◌, List, ◌++◌, Bool, ◌&&◌, nat_lt, nat_le, map, filter}
+use Rattle.std.specs.Prelude.{ℕ, ◌≤◌, List, ◌++◌, Bool, ◌&&◌, nat_lt, map, filter}
 use Rattle.std.specs.List.Sorted.{IsPermutation}
 use Rattle.ftd_rules.specs.declared.Obligation.{Obligation}
-use Rattle.ftd_rules.specs.Obligations.{ByFirstDay}
+use Rattle.ftd_rules.specs.Obligations.{ByFirstDay, begins_on}
 use Rattle.ftd_schema.specs.declared.TableName.TheVariants.{Obligations}
 use Rattle.ftd_schema.specs.Standing.{Tables}
 use Rattle.ftd_schema.specs.Tests.{is_obligation_between}
@@ -28,12 +28,9 @@ pub record ComparesRows (account : List ℕ) (day from to : ℕ) (rows : List Ob
   pub differ : ByFirstDay rows
       → Differ gone rows day difference.from difference.to difference.removed difference.added
 
--- the row begins before the days, on one of them, or after them
+-- the row begins before the days, or after them
 abbrev pub begins_before : ℕ → Obligation → Bool
 begins_before from o = nat_lt o.first from
-
-abbrev pub begins_on : ℕ → ℕ → Obligation → Bool
-begins_on from to o = nat_le from o.first && nat_le o.first to
 
 abbrev pub begins_after : ℕ → Obligation → Bool
 begins_after to o = nat_lt to o.first

@@ -2,7 +2,8 @@
 
 ghost use Rattle.std.specs.Prelude.{◌≡◌, filter, IfOk};
 ghost use Rattle.ftd_repairs.specs.Placing.{begins};
-ghost use Rattle.ftd_repairs.specs.Replaced.{begins_on, patched};
+ghost use Rattle.ftd_repairs.specs.Replaced.{patched};
+ghost use Rattle.ftd_rules.specs.Obligations.{begins_on};
 
 use ftd_buckets::Patch;
 use ftd_days::Day;

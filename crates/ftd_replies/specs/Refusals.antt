@@ -27,7 +27,8 @@ line_of verb number name named =
 -- `refused 17 QuarterMissing 2024Q2`
 unfoldable pub refusal_text : Refusal → List ℕ
 refusal_text refusal =
-    line_of (verb_text refusal) (number_of refusal) (name_text refusal) (named_text (named_by refusal))
+    line_of (verb_text refusal) (number_of refusal) (name_text refusal)
+    (named_text (named_by refusal))
 
 abbrev pub refusal_status : Refusal → ℕ
 refusal_status refusal = if is_failure refusal then 3 else 1

@@ -4,7 +4,8 @@ use Rattle.std.specs.List.{join_with_byte, concat}
 use Rattle.ftd_reports.proofs.LineFacts.{column, three}
 
 -- a column of two pieces
-pub two : (a s others end line : List ℕ) → others ++ end ≡ line → ((a ++ s) ++ (32 ∷ others)) ++ end ≡ a
+pub two : (a s others end line : List ℕ) → others ++ end ≡ line
+    → ((a ++ s) ++ (32 ∷ others)) ++ end ≡ a
     ++ (s ++ ((32 ∷ []) ++ line))
 two a s others end line e = column (a ++ s) others end line e ∙ append_assoc a s (32 ∷ line)
 

@@ -1,7 +1,6 @@
 -- The pieces of a line, joined.
-use Rattle.std.proofs.Common.{◌≡◌, ℕ, ◌+◌, ◌-◌, ◌/◌, ◌<◌, ◌≤◌, List, [], ◌∷◌, ◌++◌, length}
-use Rattle.std.proofs.Common.{drop, get_or, suc, add-one, drop-cons, refl, sym, ap, ◌∙◌, arith}
-use Rattle.std.proofs.Common.{append_assoc, length-append}
+use Rattle.std.proofs.Common.{◌≡◌, ℕ, ◌+◌, ◌-◌, ◌/◌, ◌<◌, ◌≤◌, List, [], ◌∷◌, ◌++◌, length, drop}
+use Rattle.std.proofs.Common.{get_or, refl, sym, ap, ◌∙◌, arith, append_assoc, length-append}
 use Rattle.std.specs.Prelude.{replicate}
 use Rattle.std.specs.List.{join_with_byte, concat, flat_map, sum_by}
 use Rattle.std.specs.Fmt.{decimal}
@@ -9,6 +8,7 @@ use Rattle.std.proofs.lemmas.List.{drop_all}
 use Rattle.std.proofs.lemmas.List.Sums.{sum_by-cons}
 use Rattle.ftd_days.specs.Digits.{two_digits}
 use Rattle.ftd_days.specs.Text.{point, cents_text}
+use Rattle.ftd_days.proofs.Wholes.{rest_of}
 use Rattle.ftd_reports.specs.Columns.{amount_in}
 
 -- spaces, dollars, and the point with the cents are an amount in its column
@@ -41,25 +41,19 @@ row_parts a b r s d c u m t e f v =
     (column b _ _ _
     (column r _ _ _ (three s d c _ _ _ (column u _ _ _ (column m _ _ _ (three t e f _ _ _ refl))))))
 
--- the rows from one on are it and those after it
-pub row_on : {X : Type 0} (rows : List X) (i : ℕ) (row : X) → i < length rows → row ≡ get_or rows i row
-    → drop i rows ≡ row ∷ drop (i + 1) rows
-row_on {X} rows i row h is = rw add-one (drop-cons rows i row h
-    ∙ ap (λ (z : X). z ∷ drop (suc i) rows) (sym is))
-
 -- so are their lines, and their amounts
 pub rows_at : {X : Type 0} (line : X → List ℕ) (rows : List X) (i : ℕ) (row : X) (last : List ℕ)
     → i < length rows → row ≡ get_or rows i row
     → flat_map line (drop i rows) ++ last ≡ line row ++ (flat_map line (drop (i + 1) rows) ++ last)
 rows_at {X} line rows i row last h is =
-    ap (λ (z : List X). flat_map line z ++ last) (row_on rows i row h is)
+    ap (λ (z : List X). flat_map line z ++ last) (rest_of rows i row h is)
     ∙ append_assoc (line row) (flat_map line (drop (i + 1) rows)) last
 
 pub amounts_at : {X : Type 0} (amount : X → ℕ) (rows : List X) (i : ℕ) (row : X) → i < length rows
     → row ≡ get_or rows i row
     → sum_by amount (drop i rows) ≡ amount row + sum_by amount (drop (i + 1) rows)
 amounts_at {X} amount rows i row h is =
-    ap (λ (z : List X). sum_by amount z) (row_on rows i row h is)
+    ap (λ (z : List X). sum_by amount z) (rest_of rows i row h is)
     ∙ sum_by-cons amount row (drop (i + 1) rows)
 
 -- after the last row the last line is left, of the whole total

@@ -7,7 +7,8 @@ ghost use Rattle.ftd_ports.specs.Writing.{WritesPrefix};
 ghost use Rattle.ftd_machine.specs.Agenda.{left_of};
 ghost use Rattle.ftd_reports.specs.Columns.{left_in};
 ghost use Rattle.ftd_reports.specs.Agendas.{agenda_head, owed_head, form_number, agenda_line};
-ghost use Rattle.ftd_reports.specs.Agendas.{owner_text, deposit_text, left_line, left_cents, lines_text};
+ghost use Rattle.ftd_reports.specs.Agendas.{owner_text, deposit_text, left_line, left_cents};
+ghost use Rattle.ftd_reports.specs.Agendas.{lines_text};
 ghost use Rattle.ftd_reports.specs.Agendas.{agenda_text, owed_text};
 
 use crate::values::{amount_column, day_bytes, rule_column, total_column, verdict_name};

@@ -1,11 +1,11 @@
 -- The routes that ask a question: their texts, their formats, and what they ask.
 use Rattle.std.specs.Prelude.{ℕ, List, [], ◌∷◌, Option, Some, codes}
 use Rattle.ftd_days.specs.Spelling.{day_of, spelled_quarter}
-use Rattle.ftd_machine.specs.declared.requests.Kept.{Kept}
 use Rattle.ftd_machine.specs.declared.requests.Kept.TheVariants as kept
 use Rattle.ftd_machine.specs.declared.requests.Question.TheVariants as question
 use Rattle.ftd_machine.specs.declared.requests.Request.{Request}
 use Rattle.ftd_machine.specs.declared.requests.Request.TheVariants as request
+use Rattle.ftd_machine.specs.Questions.{kept_asked}
 use Rattle.ftd_formats.specs.declared.formats.Format.{Format}
 use Rattle.ftd_formats.specs.declared.formats.Format.TheVariants as format
 use Rattle.ftd_formats.specs.declared.formats.ListFormat.TheVariants as list
@@ -112,10 +112,7 @@ owed_in target = do
   until ← day_of (part 3 target)
   Some (request.Question (question.Owed until as_of))
 
--- what is kept; the account of such a path is its third part
-abbrev pub kept_asked : Kept → Request
-kept_asked asked = request.Question (question.Kept asked)
-
+-- the account of a path that lists what is kept: its third part
 abbrev pub listed_account : List ℕ → List ℕ
 listed_account target = part 3 target
 

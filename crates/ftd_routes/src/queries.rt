@@ -4,8 +4,9 @@ ghost use Rattle.std.specs.Prelude.{◌≡◌, IfOk, Some};
 ghost use Rattle.ftd_machine.specs.declared.requests.Kept.TheVariants as kept;
 ghost use Rattle.ftd_routes.specs.Queries.{query_format, question_in, status_in, explain_in};
 ghost use Rattle.ftd_routes.specs.Queries.{due_list_in, schedule_b_in, agenda_in, owed_in};
-ghost use Rattle.ftd_routes.specs.Queries.{kept_asked, listed_account, holidays_in, runs_in};
+ghost use Rattle.ftd_routes.specs.Queries.{listed_account, holidays_in, runs_in};
 ghost use Rattle.ftd_routes.specs.Queries.{payments_in};
+ghost use Rattle.ftd_machine.specs.Questions.{kept_asked};
 
 use crate::path::part;
 use crate::route::Ask;

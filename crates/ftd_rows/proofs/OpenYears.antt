@@ -6,20 +6,17 @@ use Rattle.std.proofs.lemmas.Bool.{false≢true}
 use Rattle.ftd_rules.specs.declared.YearLine.{YearLine}
 use Rattle.ftd_rules.specs.Lists.{Has}
 use Rattle.ftd_rules.specs.Years.{AreOpenYears, YearsFrom, OnlyFirstCarried}
+use Rattle.ftd_rules.proofs.Schedules.{years_top}
 use Rattle.ftd_rows.specs.declared.accounts.Account.{Account}
 use Rattle.ftd_rows.specs.declared.years.StoredYear.{StoredYear}
 use Rattle.ftd_rows.specs.Years.{year_lines, is_carried, FirstCarriedAs}
 
 -- ---- the years of lines that go on one by one
 
-years_end : (year : ℕ) (lines : List YearLine) → YearsFrom year lines → year ≤ 2099
-years_end year [] h = h
-years_end year (line ∷ lines) h = let more = years_end (year + 1) lines h.1 in omega (arith, more)
-
 years_at : (year : ℕ) (lines : List YearLine) (i : ℕ) (d : YearLine) → YearsFrom year lines
     → i < length lines → ((get_or lines i d).year ≡ year + i) × (year + i ≤ 2098)
 years_at year [] i d h within = absurd (omega (arith, within))
-years_at year (line ∷ lines) zero d h within = let more = years_end (year + 1) lines h.1 in
+years_at year (line ∷ lines) zero d h within = let more = years_top (year + 1) lines h.1 in
     (omega (arith, h.0), omega (arith, more))
 years_at year (line ∷ lines) (suc i) d h within = let more = years_at (year + 1) lines i d h.1
     (omega (arith, within)) in (omega (arith, more.0), omega (arith, more.1))
@@ -36,7 +33,7 @@ open_years_at (line ∷ lines) first none some h =
     let is = some line lines refl in
     let same : first ≡ h.0 = is ∙ h.2.0 in
     let low = h.1 in
-    let end = years_end h.0 (line ∷ lines) h.2 in (
+    let end = years_top h.0 (line ∷ lines) h.2 in (
       omega (arith, same, low),
       omega (arith, same, end),
       (λ i d within. rw same (years_at h.0 (line ∷ lines) i d h.2 within)),

@@ -1,9 +1,10 @@
 -- What a holiday that is added does to due dates.
 use Rattle.std.proofs.Common.{◌≡◌, ◌≢◌, ℕ, zero, suc, ◌+◌, ◌-◌, ◌<◌, ◌≤◌, ◌↔◌, ◌⊎◌, inl, inr, List}
-use Rattle.std.proofs.Common.{Bool, true, false, not, ◌&&◌, ◌||◌, refl, sym, ap, ◌∙◌, arith}
+use Rattle.std.proofs.Common.{true, false, not, ◌&&◌, ◌||◌, refl, sym, ap, ◌∙◌, arith}
 use Rattle.std.specs.Prelude.{nat_lt}
 use Rattle.std.specs.List.{AllZip}
-use Rattle.std.proofs.lemmas.Bool.{false≢true, cases_Bool}
+use Rattle.std.proofs.lemmas.Bool.{false≢true, cases_Bool, cases_lt}
+use Rattle.std.proofs.Math.Bool.{or-false, or-true, and-false}
 use Rattle.ftd_days.specs.Calendar.{weekday_of, month_of, month_start, last_day}
 use Rattle.ftd_days.specs.Private.Intervals.{interval_close}
 use Rattle.ftd_days.specs.Business.{is_holiday, is_business, IsOnOrAfter, business_days, IsNthAfter}
@@ -19,38 +20,25 @@ use Rattle.ftd_rules.specs.declared.Obligation.{Obligation}
 use Rattle.ftd_rules.specs.Laws.{IsMovedBy}
 use Rattle.ftd_rules.specs.Private.Due.{IsDueBy, IsCountedBy}
 use Rattle.ftd_rules.specs.Private.Obligations.{IsOwedPiece, AreOwedPieces}
-use Rattle.ftd_rules.proofs.Cuts.{lt_or_le}
 use Rattle.ftd_rules.proofs.DueDates.{due_some}
 use Rattle.ftd_rules.proofs.Resting.{due_same, from_later, obligation_same}
 use Rattle.ftd_rules.proofs.Rising.{paired}
 use Rattle.ftd_rules.proofs.Stated.{counted_stated}
-
-or_false : (b : Bool) → (b || false) ≡ b
-or_false true = refl
-or_false false = refl
-
-or_true : (b : Bool) → (b || true) ≡ true
-or_true true = refl
-or_true false = refl
-
-and_false : (b : Bool) → (b && false) ≡ false
-and_false true = refl
-and_false false = refl
 
 -- another day is a business day as before, and the added one is none
 other_day : (before after : List ℕ) (added e : ℕ) → IsWithHoliday before added after → added ≢ e
     → is_business after e ≡ is_business before e
 other_day before after added e with n = ap (λ h. nat_lt (weekday_of e) 5 && not h)
     (with e ∙ (ap (λ z. is_holiday before e || z) (eq_not added e n)
-    ∙ or_false (is_holiday before e)))
+    ∙ or-false (is_holiday before e)))
 
 added_day : (before after : List ℕ) (added : ℕ) → IsWithHoliday before added after
     → is_business after added ≡ false
 added_day before after added with =
     ap (λ h. nat_lt (weekday_of added) 5 && not h)
     (with added ∙ (ap (λ z. is_holiday before added || z) (eq_same added added refl)
-    ∙ or_true (is_holiday before added)))
-    ∙ and_false (nat_lt (weekday_of added) 5)
+    ∙ or-true (is_holiday before added)))
+    ∙ and-false (nat_lt (weekday_of added) 5)
 
 -- the days from a to b are business days as before
 abbrev AreSame : List ℕ → List ℕ → ℕ → ℕ → Type 0
@@ -66,9 +54,9 @@ same_unless before after added a b with =
             ∙ (added_day before after added with ∙ (sym closed ∙ ap (is_business before) same))
         | inr n ↦ other_day before after added e with n
       ])
-      | inl opened ↦ elim (lt_or_le added a) [
+      | inl opened ↦ elim (cases_lt added a) [
         | inl early ↦ inr (λ e l m. other_day before after added e with (λ same. omega arith))
-        | inr from ↦ elim (lt_or_le b added) [
+        | inr from ↦ elim (cases_lt b added) [
           | inl late ↦ inr (λ e l m. other_day before after added e with (λ same. omega arith))
           | inr to ↦ inl (opened, from, to)
         ]
@@ -118,7 +106,7 @@ nth_as_before before after day n due same h =
       counts = count_as_before before after day (due - day) (λ e l m. same e l (omega arith))
           ∙ h.counts;
       least = λ e l is.
-          elim (lt_or_le e due) [
+          elim (cases_lt e due) [
             | inr late ↦ late
             | inl early ↦ h.least e l
                 (sym (count_as_before before after day (e - day) (λ d a b. same d a (omega arith)))
@@ -137,7 +125,7 @@ on_moves before after added day due new with h k = (
   ]),
   (λ counted e.
       let opened = counted.0 in let from = counted.1 in let to = counted.2 in
-      elim (lt_or_le added due) [
+      elim (cases_lt added due) [
         | inl early ↦ false≢true (sym (h.least added from early) ∙ opened)
         | inr late ↦
             let here : added ≡ new = omega arith in
@@ -186,7 +174,7 @@ due_stays before after added rule last due with within out h =
     (λ e l m. with e
     ∙ (ap (λ z. is_holiday before e || z)
     (eq_not added e (λ same. elim out [ inl early ↦ omega arith | inr late ↦ omega arith ]))
-    ∙ or_false (is_holiday before e)))
+    ∙ or-false (is_holiday before e)))
     (omega arith) h
 
 -- ---- whole lists

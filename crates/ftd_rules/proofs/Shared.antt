@@ -1,22 +1,18 @@
 -- The deposit period of a day in closed form, from any first semiweekly day, and the days that
 -- share it.
 use Rattle.ftd_rules.specs.declared.Form.{Form}
-use Rattle.std.proofs.Common.{◌≡◌, ℕ, ◌+◌, ◌≤◌, ◌↔◌, inl, inr, ◌∙◌, ap, arith}
+use Rattle.std.proofs.Common.{◌≡◌, ℕ, ◌+◌, ◌≤◌, ◌↔◌, inl, inr, ◌∙◌, arith}
 use Rattle.std.specs.Prelude.{nat_lt, MatchOption, if◌then◌else◌}
-use Rattle.std.proofs.lemmas.Bool.{lt-ltb, le-ltb}
-use Rattle.ftd_rules.specs.declared.Kind.{Kind}
+use Rattle.std.proofs.lemmas.Bool.{lt-ltb, le-ltb, cases_lt}
 use Rattle.ftd_rules.specs.declared.Kind.TheVariants as kind
-use Rattle.ftd_rules.specs.declared.Rule.TheVariants.{Monthly, Semiweekly}
+use Rattle.ftd_rules.specs.declared.Rule.TheVariants.{Monthly}
 use Rattle.ftd_rules.specs.declared.YearLine.{YearLine}
-use Rattle.ftd_rules.specs.Years.{year_last, MayBeOpen, IsDayOf, IsSemiweeklyFrom, HasStatusOn}
-use Rattle.ftd_rules.specs.Obligations.{rule_of}
+use Rattle.ftd_rules.specs.Years.{year_last, MayBeOpen, IsDayOf, IsSemiweeklyFrom}
 use Rattle.ftd_rules.specs.Periods.{SharePeriod}
 use Rattle.ftd_rules.specs.Private.Years.{semiweekly_from}
-use Rattle.ftd_rules.specs.Private.Periods.{rule_on}
 use Rattle.ftd_rules.specs.Private.Walk.{period_first, period_last}
-use Rattle.ftd_rules.proofs.Cuts.{lt_or_le}
 use Rattle.ftd_rules.proofs.Schedules.{cases_turn, from_none, from_turn, year_facts}
-use Rattle.ftd_rules.proofs.Stated.{semiweekly_is, status_is, share_run, run_shared}
+use Rattle.ftd_rules.proofs.Stated.{semiweekly_is, share_run, run_shared}
 use Rattle.ftd_rules.proofs.Status.{share_is}
 
 -- two first semiweekly days of a year tell its days apart in the same way
@@ -25,16 +21,16 @@ same_test : (line : YearLine) (from day : ℕ) → IsSemiweeklyFrom line from �
 same_test line from day is here =
     let its = is day here in
     let own = semiweekly_is line day here.0 here.1 in
-    elim (lt_or_le day from) [
+    elim (cases_lt day from) [
       | inl early ↦
           rw (lt-ltb day from early)
-          (elim (lt_or_le day (semiweekly_from line)) [
+          (elim (cases_lt day (semiweekly_from line)) [
             | inl before ↦ rw (lt-ltb day (semiweekly_from line) before)
             | inr after ↦ absurd (let late = its.0 (own.1 after) in omega arith)
           ])
       | inr late ↦
           rw (le-ltb day from late)
-          (elim (lt_or_le day (semiweekly_from line)) [
+          (elim (cases_lt day (semiweekly_from line)) [
             | inl before ↦ absurd (let after = own.0 (its.1 late) in omega arith)
             | inr after ↦ rw (le-ltb day (semiweekly_from line) after)
           ])
@@ -69,12 +65,3 @@ shared_is form line from day other year is here there =
       (λ h. (let run = rw (same, same_other) at (own.1 h) in
           run_shared form line day other here there run)),
     )
-
--- and the rule of its status
-pub ruled_is : (line : YearLine) (from day : ℕ) (status : Kind) → IsSemiweeklyFrom line from
-    → IsDayOf line day → HasStatusOn line day status → rule_on from day ≡ rule_of status
-ruled_is line from day status is here h =
-    let same = same_test line from day is here in
-    let rule : rule_on from day ≡ rule_on (semiweekly_from line) day =
-    ap (λ t. if t then Monthly else Semiweekly) same in
-    rule ∙ (status_is line day status here.0 here.1).0 h

@@ -4,7 +4,7 @@ use Rattle.ftd_rules.specs.declared.Form.{Form}
 use Rattle.std.proofs.Common.{◌≡◌, ℕ, ◌+◌, ◌<◌, ◌≤◌, ◌↔◌, ◌⊎◌, inl, inr, List, [], ◌∷◌, refl, sym}
 use Rattle.std.proofs.Common.{◌∙◌, subst, arith}
 use Rattle.std.specs.Prelude.{nat_lt, MatchBool}
-use Rattle.std.proofs.lemmas.Bool.{lt-ltb, le-ltb}
+use Rattle.std.proofs.lemmas.Bool.{lt-ltb, le-ltb, cases_lt}
 use Rattle.ftd_days.specs.Calendar.{month_of, year_start}
 use Rattle.ftd_days.specs.Private.Intervals.{interval_start, interval_close}
 use Rattle.ftd_days.specs.Business.{IsNthAfter}
@@ -32,29 +32,24 @@ use Rattle.ftd_rules.specs.Private.Years.{semiweekly_from}
 use Rattle.ftd_rules.specs.Private.Periods.{rule_on, ShareRun, IsStretch, HasRule}
 use Rattle.ftd_rules.specs.Private.Obligations.{IsOwedPiece, AreOwedPieces}
 use Rattle.ftd_rules.specs.Private.Lookback.{CountTogether}
-use Rattle.ftd_rules.proofs.Cuts.{lt_or_le}
 use Rattle.ftd_rules.proofs.Schedules.{cases_turn, from_semiweekly, from_turn, from_none}
+use Rattle.ftd_rules.proofs.Status.{rule_monthly, rule_semiweekly}
+use Rattle.ftd_rules.proofs.Cuts.{has_above}
 
 -- ---- stops
-
-has_from : (a b : ℕ) (stops : List ℕ) (s : ℕ) → Rise a b stops → Has stops s → a ≤ s
-has_from a b [] s h k = absurd k
-has_from a b (x ∷ stops) s h (inl e) = let h0 = h.0 in omega arith
-has_from a b (x ∷ stops) s h (inr k) = let h0 = h.0 in
-    let rest = has_from (x + 1) b stops s h.2 k in omega arith
 
 -- where the recursion begins to count is where the count begins
 count_is : (a b : ℕ) (stops : List ℕ) (t : ℕ) → Rise a b stops
     → IsCountStart a stops t (counted_from a stops t)
 count_is a b [] t h = inr ((λ s k l. k), refl)
 count_is a b (x ∷ stops) t h =
-    elim (lt_or_le x t) [
+    elim (cases_lt x t) [
       | inr past ↦
           rw (le-ltb x t past)
           (inr (
             (λ s k l. elim k [
               | inl e ↦ omega arith
-              | inr later ↦ (let from = has_from (x + 1) b stops s h.2 later in omega arith)
+              | inr later ↦ (let from = has_above (x + 1) b stops s h.2 later in omega arith)
             ]),
             refl,
           ))
@@ -70,7 +65,7 @@ count_is a b (x ∷ stops) t h =
                 latest = λ other k l.
                     elim k [
                       | inl e ↦
-                          (let from = has_from (x + 1) b stops found.0 h.2 found.1.is_stop in
+                          (let from = has_above (x + 1) b stops found.0 h.2 found.1.is_stop in
                           omega arith)
                       | inr later ↦ found.1.latest other later l
                     ];
@@ -123,7 +118,7 @@ stops_counted L a b stops h = record {
 
 -- ---- status
 
-cases_kind : (k : Kind) → (k ≡ kind.Semiweekly) ⊎ (k ≡ kind.Monthly)
+pub cases_kind : (k : Kind) → (k ≡ kind.Semiweekly) ⊎ (k ≡ kind.Monthly)
 cases_kind kind.Semiweekly = inl refl
 cases_kind kind.Monthly = inr refl
 
@@ -152,45 +147,39 @@ semiweekly_is line day l m = (
   ]),
 )
 
-rule_before : (from day : ℕ) → day < from → rule_on from day ≡ Monthly
-rule_before from day l = rw (lt-ltb day from l) refl
-
-rule_after : (from day : ℕ) → from ≤ day → rule_on from day ≡ Semiweekly
-rule_after from day l = rw (le-ltb day from l) refl
-
 pub status_is : (line : YearLine) (day : ℕ) (status : Kind) → year_start line.year ≤ day
     → day ≤ year_last line.year
     → HasStatusOn line day status ↔ (rule_on (semiweekly_from line) day ≡ rule_of status)
 status_is line day kind.Semiweekly l m =
     let is = semiweekly_is line day l m in (
-      (λ h. rule_after (semiweekly_from line) day (is.0 h)),
-      (λ h. elim (lt_or_le day (semiweekly_from line)) [
-        | inl early ↦ absurd (let k = rule_before (semiweekly_from line) day early in cc)
+      (λ h. rule_semiweekly (semiweekly_from line) day (is.0 h)),
+      (λ h. elim (cases_lt day (semiweekly_from line)) [
+        | inl early ↦ absurd (let k = rule_monthly (semiweekly_from line) day early in cc)
         | inr late ↦ is.1 late
       ]),
     )
 status_is line day kind.Monthly l m =
     let is = semiweekly_is line day l m in (
-      (λ h. elim (lt_or_le day (semiweekly_from line)) [
-        | inl early ↦ rule_before (semiweekly_from line) day early
+      (λ h. elim (cases_lt day (semiweekly_from line)) [
+        | inl early ↦ rule_monthly (semiweekly_from line) day early
         | inr late ↦ absurd (h (is.1 late))
       ]),
-      (λ h s. let k = rule_after (semiweekly_from line) day (is.0 s) in absurd cc),
+      (λ h s. let k = rule_semiweekly (semiweekly_from line) day (is.0 s) in absurd cc),
     )
 
 pub status_some : (line : YearLine) (day : ℕ) → year_start line.year ≤ day
     → day ≤ year_last line.year → (status : Kind) × HasStatusOn line day status
 status_some line day l m =
-    elim (lt_or_le day (semiweekly_from line)) [
+    elim (cases_lt day (semiweekly_from line)) [
       | inl early ↦ (
         kind.Monthly,
         (status_is line day kind.Monthly l m).1
-            (rule_before (semiweekly_from line) day early),
+            (rule_monthly (semiweekly_from line) day early),
       )
       | inr late ↦ (
         kind.Semiweekly,
         (status_is line day kind.Semiweekly l m).1
-            (rule_after (semiweekly_from line) day late),
+            (rule_semiweekly (semiweekly_from line) day late),
       )
     ]
 
@@ -208,7 +197,7 @@ run_is : (line : YearLine) (a b : ℕ) (status : Kind) → year_start line.year 
     → MatchBool (nat_lt a (semiweekly_from line)) (month_of b ≡ month_of a)
     (interval_start b ≡ interval_start a)
 run_is line a b kind.Monthly l m h same =
-    elim (lt_or_le a (semiweekly_from line)) [
+    elim (cases_lt a (semiweekly_from line)) [
       | inl early ↦ rw (lt-ltb a (semiweekly_from line) early) same
       | inr late ↦ absurd (h ((semiweekly_is line a l m).1 late))
     ]
@@ -230,9 +219,9 @@ share_run form line a b in_a in_b h = (
 pub run_shared : (form : Form) (line : YearLine) (a b : ℕ) → IsDayOf line a → IsDayOf line b
     → ShareRun form (semiweekly_from line) a b → SharePeriod form line a b
 run_shared form line a b in_a in_b h =
-    elim (lt_or_le a (semiweekly_from line)) [
+    elim (cases_lt a (semiweekly_from line)) [
       | inl early ↦
-          let its = rule_before (semiweekly_from line) a early in
+          let its = rule_monthly (semiweekly_from line) a early in
           record {
             return_period = h.0;
             status = kind.Monthly;
@@ -241,7 +230,7 @@ run_shared form line a b in_a in_b h =
             month_or_interval = (let k = lt-ltb a (semiweekly_from line) early in rw k at h.2);
           }
       | inr late ↦
-          let its = rule_after (semiweekly_from line) a late in
+          let its = rule_semiweekly (semiweekly_from line) a late in
           record {
             return_period = h.0;
             status = kind.Semiweekly;

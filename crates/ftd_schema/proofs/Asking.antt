@@ -8,16 +8,18 @@ use Rattle.ftd_schema.specs.declared.TableName.TheVariants.{Years, Runs, Payment
 use Rattle.ftd_schema.specs.declared.TableName.TheVariants.{CorrectedQuarters, CorrectedYears}
 use Rattle.ftd_schema.specs.declared.TableName.TheVariants.{ChangedHolidays, CorrectedAccounts}
 use Rattle.ftd_schema.specs.declared.texts.TheConstants.{LIST_METAS, READ_ACCOUNT, LIST_ACCOUNTS}
-use Rattle.ftd_schema.specs.declared.texts.TheConstants.{READ_FORM, READ_REPORTED, READ_REPORTED_YEAR}
-use Rattle.ftd_schema.specs.declared.texts.TheConstants.{READ_CALENDAR_YEAR, LIST_HOLIDAYS}
-use Rattle.ftd_schema.specs.declared.texts.TheConstants.{LIST_ADDED_HOLIDAYS, LIST_YEARS, READ_RUN}
-use Rattle.ftd_schema.specs.declared.texts.TheConstants.{LIST_RUNS, READ_PAYMENT, LIST_PAYMENTS}
-use Rattle.ftd_schema.specs.declared.texts.TheConstants.{LIST_OBLIGATIONS, LIST_DUE_OVER, COUNT_RUNS}
-use Rattle.ftd_schema.specs.declared.texts.TheConstants.{LIST_DUE_BETWEEN, LIST_ENROLLED, LIST_FORMS}
-use Rattle.ftd_schema.specs.declared.texts.TheConstants.{LIST_REPORTED, LIST_REPORTED_YEARS}
-use Rattle.ftd_schema.specs.declared.texts.TheConstants.{LIST_KEPT_RUNS, LIST_KEPT_PAYMENTS}
-use Rattle.ftd_schema.specs.declared.texts.TheConstants.{COUNT_PAYMENTS, LIST_CORRECTIONS}
-use Rattle.ftd_schema.specs.declared.texts.TheConstants.{LIST_CORRECTED, LIST_YEAR_CORRECTIONS}
+use Rattle.ftd_schema.specs.declared.texts.TheConstants.{READ_FORM, READ_REPORTED}
+use Rattle.ftd_schema.specs.declared.texts.TheConstants.{READ_REPORTED_YEAR, READ_CALENDAR_YEAR}
+use Rattle.ftd_schema.specs.declared.texts.TheConstants.{LIST_HOLIDAYS, LIST_ADDED_HOLIDAYS}
+use Rattle.ftd_schema.specs.declared.texts.TheConstants.{LIST_YEARS, READ_RUN, LIST_RUNS}
+use Rattle.ftd_schema.specs.declared.texts.TheConstants.{READ_PAYMENT, LIST_PAYMENTS}
+use Rattle.ftd_schema.specs.declared.texts.TheConstants.{LIST_OBLIGATIONS, LIST_DUE_OVER}
+use Rattle.ftd_schema.specs.declared.texts.TheConstants.{COUNT_RUNS, LIST_DUE_BETWEEN}
+use Rattle.ftd_schema.specs.declared.texts.TheConstants.{LIST_ENROLLED, LIST_FORMS, LIST_REPORTED}
+use Rattle.ftd_schema.specs.declared.texts.TheConstants.{LIST_REPORTED_YEARS, LIST_KEPT_RUNS}
+use Rattle.ftd_schema.specs.declared.texts.TheConstants.{LIST_KEPT_PAYMENTS, COUNT_PAYMENTS}
+use Rattle.ftd_schema.specs.declared.texts.TheConstants.{LIST_CORRECTIONS, LIST_CORRECTED}
+use Rattle.ftd_schema.specs.declared.texts.TheConstants.{LIST_YEAR_CORRECTIONS}
 use Rattle.ftd_schema.specs.declared.texts.TheConstants.{LIST_CORRECTED_YEARS}
 use Rattle.ftd_schema.specs.declared.texts.TheConstants.{LIST_ACCOUNT_CORRECTIONS}
 use Rattle.ftd_schema.specs.declared.texts.TheConstants.{LIST_CHANGED_HOLIDAYS}
@@ -625,8 +627,10 @@ lists_reported_years = record {
 }
 
 pub lists_kept_runs : Asks Runs LIST_KEPT_RUNS.now
-    (place (codes "run") 2 ∷ place (codes "payday") 3 ∷ place (codes "fit") 4 ∷ place (codes "ss") 5 ∷ place (codes "medicare") 6 ∷ place (codes "voided") 7 ∷ [])
-    (test_on (codes "account") 1 Is (Value 1) ∷ test_on (codes "payday") 3 IsAtLeast (Value 2) ∷ test_on (codes "payday") 3 IsAtMost (Value 3) ∷ [])
+    (place (codes "run") 2 ∷ place (codes "payday") 3 ∷ place (codes "fit") 4 ∷ place (codes "ss") 5
+    ∷ place (codes "medicare") 6 ∷ place (codes "voided") 7 ∷ [])
+    (test_on (codes "account") 1 Is (Value 1) ∷ test_on (codes "payday") 3 IsAtLeast (Value 2)
+    ∷ test_on (codes "payday") 3 IsAtMost (Value 3) ∷ [])
     (place (codes "payday") 3 ∷ place (codes "run") 2 ∷ [])
 unfolding everything
 lists_kept_runs = record {
@@ -653,8 +657,10 @@ lists_kept_runs = record {
 }
 
 pub lists_kept_payments : Asks Payments LIST_KEPT_PAYMENTS.now
-    (place (codes "payment") 2 ∷ place (codes "paid") 3 ∷ place (codes "for_day") 4 ∷ place (codes "cents") 5 ∷ place (codes "voided") 6 ∷ [])
-    (test_on (codes "account") 1 Is (Value 1) ∷ test_on (codes "for_day") 4 IsAtLeast (Value 2) ∷ test_on (codes "for_day") 4 IsAtMost (Value 3) ∷ [])
+    (place (codes "payment") 2 ∷ place (codes "paid") 3 ∷ place (codes "for_day") 4
+    ∷ place (codes "cents") 5 ∷ place (codes "voided") 6 ∷ [])
+    (test_on (codes "account") 1 Is (Value 1) ∷ test_on (codes "for_day") 4 IsAtLeast (Value 2)
+    ∷ test_on (codes "for_day") 4 IsAtMost (Value 3) ∷ [])
     (place (codes "for_day") 4 ∷ place (codes "payment") 2 ∷ [])
 unfolding everything
 lists_kept_payments = record {

@@ -6,8 +6,9 @@ use Rattle.sqlite_tied.specs.Compute.{everything}
 use Rattle.ftd_tables.proofs.Phrase.{Given, Whole}
 use Rattle.ftd_schema.specs.declared.TableName.TheVariants.{Metas, Years, Runs, Payments}
 use Rattle.ftd_schema.specs.declared.TableName.TheVariants.{Obligations}
-use Rattle.ftd_schema.specs.declared.texts.TheConstants.{SET_VERSION, SET_YEAR, VOID_RUN, VOID_PAYMENT}
-use Rattle.ftd_schema.specs.declared.texts.TheConstants.{SET_OBLIGATION, SET_DUE, REMOVE_OBLIGATIONS}
+use Rattle.ftd_schema.specs.declared.texts.TheConstants.{SET_VERSION, SET_YEAR, VOID_RUN}
+use Rattle.ftd_schema.specs.declared.texts.TheConstants.{VOID_PAYMENT, SET_OBLIGATION, SET_DUE}
+use Rattle.ftd_schema.specs.declared.texts.TheConstants.{REMOVE_OBLIGATIONS}
 use Rattle.ftd_schema.proofs.Shapes.{test_on, Value, Is, IsAtLeast, IsAtMost}
 use Rattle.ftd_schema.proofs.Writing.{Changes, Removes}
 

@@ -2,7 +2,7 @@
 use Rattle.std.proofs.Common.{◌≡◌, ◌⊎◌, inl, inr, ℕ, List, [], codes, Bool, true, false, not}
 use Rattle.std.proofs.Common.{IsTrue, refl, sym, ap, subst, ◌∙◌, Ok, Err, None, Result, length}
 use Rattle.std.proofs.Common.{arith}
-use Rattle.std.specs.Prelude.{MatchBool, IsSome, IfOk, OnOk, OnErr}
+use Rattle.std.specs.Prelude.{MatchBool, IsSome, OnOk, OnErr}
 use Rattle.std.proofs.lemmas.Bool.{false≢true}
 use Rattle.sqlite.specs.Order.{Row}
 use Rattle.sqlite.specs.Schema.{Schema}
@@ -14,10 +14,9 @@ use Rattle.sqlite.specs.declared.error.Error.TheVariants.{ExecuteReturnedResults
 use Rattle.sqlite_resolve.specs.declared.error.CompileError.{CompileError}
 use Rattle.sqlite_resolve.specs.declared.compiled.Compiled.{Compiled}
 use Rattle.sqlite.specs.Listing.{understood}
-use Rattle.sqlite.specs.State.{State, Executes, ExecutesInside, IsUnchanged, IsRolledBack}
-use Rattle.sqlite.specs.State.{KeepsCommit, RunsCommand, shows_rows, CommitsBy, IsNoStatement}
-use Rattle.sqlite.specs.State.{IsNotRun, ExecutesIn, IsMisplaced, MayChange, MayWrite, Survives}
-use Rattle.sqlite.specs.State.{Shows}
+use Rattle.sqlite.specs.State.{State, Executes, IsUnchanged, IsRolledBack, KeepsCommit, RunsCommand}
+use Rattle.sqlite.specs.State.{shows_rows, CommitsBy, IsNoStatement, IsNotRun, ExecutesIn}
+use Rattle.sqlite.specs.State.{IsMisplaced, MayChange, MayWrite, Survives, Shows}
 use Rattle.sqlite.specs.Calls.{IsWrite}
 use Rattle.sqlite.proofs.StateLemmas.{survives_then}
 use Rattle.ftd_schema.specs.States.{CrashKeeps, ShowsAgain}
@@ -257,13 +256,6 @@ keeps_left old new (inr h) = record { was_open = h.was_open; committed = λ on. 
 pub keeps_shown : (old new : State) → Shows old new new.now old.committed true → KeepsCommit old new
 keeps_shown old new h = record { was_open = λ on. h.was_open; committed = λ on. h.committed_is }
 
-pub keeps_then : (a b c : State) → KeepsCommit a b → KeepsCommit b c → KeepsCommit a c
-keeps_then a b c p q = record {
-  was_open = λ on. p.was_open (q.was_open on);
-  committed =
-      λ on. q.committed on ∙ p.committed (q.was_open on);
-}
-
 pub on_err : {A E P : Type 0} (r : Result A E) → P → OnErr r P
 on_err (Ok x) p = tt
 on_err (Err e) p = p
@@ -276,20 +268,7 @@ undone_all a b m e begun kept opened un settled =
     let back : m.committed ≡ a.committed = kept.committed opened ∙ begun.committed_is in
     (un.0 ∙ back ∙ sym settled, un.1 ∙ back)
 
-pub err_weaker : {A E P Q : Type 0} (r : Result A E) → (P → Q) → OnErr r P → OnErr r Q
-err_weaker (Ok x) f p = tt
-err_weaker (Err e) f p = f p
-
-pub ok_weaker : {A E P Q : Type 0} (r : Result A E) → (P → Q) → OnOk r P → OnOk r Q
-ok_weaker (Ok x) f p = f p
-ok_weaker (Err e) f p = tt
-
 -- ---- inside a transaction of the engine
-
-pub inside_leaves : (sql : List ℕ) (params : Row) (old new : State) (e : Error)
-    → ExecutesInside 0 sql params old new (Err e) → IsUnchanged old new ⊎ IsRolledBack old new
-inside_leaves sql params old new e (inl h) = h.1
-inside_leaves sql params old new e (inr h) = inl h.2
 
 pub on_ok : {A E P : Type 0} (r : Result A E) → P → OnOk r P
 on_ok (Ok x) p = p
@@ -302,26 +281,6 @@ pub shows_again : (old new : State) → IsTrue new.is_open
 shows_again old new opened settled (inl h) = (h.0.now_is, h.0.committed_is)
 shows_again old new opened settled (inr h) =
     let u = h.undone opened in (u.0 ∙ sym (settled (h.was_open opened)), u.1)
-
--- what is so of an answer by two facts
-pub if_ok_both : {A E : Type 0} (r : Result A E) (P Q : A → Type 0) → IfOk r P → IfOk r Q
-    → IfOk r (λ x. P x × Q x)
-if_ok_both (Ok x) P Q p q = (p, q)
-if_ok_both (Err e) P Q p q = tt
-
--- two readings, one after the other
-pub unchanged_then : (a b c : State) → IsUnchanged a b → IsUnchanged b c → IsUnchanged a c
-unchanged_then a b c p q = (
-  record {
-    was_open = p.0.was_open;
-    is_open = q.0.is_open;
-    now_is = q.0.now_is ∙ p.0.now_is;
-    committed_is = q.0.committed_is ∙ p.0.committed_is;
-    mode = q.0.mode ∙ p.0.mode;
-  },
-  record { changes = q.1.changes ∙ p.1.changes; last_rowid = q.1.last_rowid ∙ p.1.last_rowid },
-  q.2 ∙ p.2,
-)
 
 -- two steps, one after the other, of which neither commits
 pub crash_then : (a b c : State) → CrashKeeps a b → CrashKeeps b c → CrashKeeps a c

@@ -1,6 +1,6 @@
 -- A statement on rows inside a transaction leaves the last commit, and a reading changes nothing,
 -- in whatever schema.
-use Rattle.std.proofs.Common.{ℕ, List, sym, cond, subst, true, None, append-nil, ◌≡◌, Ok, Err, Bool}
+use Rattle.std.proofs.Common.{ℕ, List, sym, cond, subst, true, append-nil, ◌≡◌, Ok, Err, Bool}
 use Rattle.std.proofs.Common.{false, Option, Result}
 use Rattle.std.specs.Prelude.{IsTrue, MatchBool}
 use Rattle.sqlite.specs.Order.{Row}
@@ -17,13 +17,6 @@ use Rattle.sqlite.specs.Clock.{timed}
 use Rattle.ftd_tables.specs.TextKinds.{IsRowText, IsReadText}
 use Rattle.ftd_tables.proofs.Commits.{OnRows, on_rows}
 use Rattle.ftd_tables.proofs.Meaning.{select_plain}
-
--- a change inside a transaction is not committed
-pub stays_inside : (old new : State) (command : Command) (text : List ℕ) (params : Row) (count : ℕ)
-    → IsTrue old.in_transaction → Writes old new None command text params count
-    → Shows old new new.now old.committed true
-stays_inside old new command text params count busy w =
-    subst (λ b. Shows old new new.now (cond b old.committed new.now) b) busy w.shown
 
 -- a plain query changes nothing
 pub stays_read : (sql : List ℕ) (params : Row) (old new : State)

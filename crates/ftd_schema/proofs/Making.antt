@@ -18,7 +18,7 @@ use Rattle.sqlite_tied.specs.Compute.{everything}
 use Rattle.ftd_tables.specs.Places.{Holds, HasNoAction, IsUnnamed, KeepsTables}
 use Rattle.ftd_tables.specs.TextKinds.{IsReadAs}
 use Rattle.ftd_tables.proofs.Creating.{Defines, creates_any}
-use Rattle.ftd_tables.proofs.Grown.{Grown, grown_one, grown_then, grown_keeps, grown_self}
+use Rattle.ftd_tables.proofs.Grown.{Grown, grown_one, grown_then, grown_keeps}
 use Rattle.ftd_tables.proofs.Grown.{lacks_kept, starts, holds_on}
 use Rattle.ftd_schema.specs.declared.TableName.{TableName}
 use Rattle.ftd_schema.specs.declared.TableName.TheVariants.{Metas, Accounts, ReportedQuarters}
@@ -152,9 +152,6 @@ self_named CorrectedAccounts = refl
 pub record AreMade (names : List TableName) (old now : Database) : Type 0 where
   pub grown : Grown old now
   pub empty : AreEmpty names now
-
-pub none_made : (old : Database) → AreMade [] old old
-none_made old = record { grown = grown_self old; empty = λ k d low. absurd (omega (arith, low)) }
 
 -- one more
 pub one_made : (names : List TableName) (n : TableName) (old : Database) (a b : State) (count : ℕ)

@@ -32,25 +32,26 @@ use Rattle.ftd_schema.specs.Layout.{table_of}
 use Rattle.ftd_schema.specs.Rows.{RowOf, cells_of, MetaRow, AccountRow, YearRow, ObligationRow}
 use Rattle.ftd_schema.specs.Standing.{Tables, with_rows, Stands, Becomes}
 use Rattle.ftd_schema.specs.declared.texts.TheConstants.{LIST_METAS, READ_ACCOUNT, LIST_ACCOUNTS}
-use Rattle.ftd_schema.specs.declared.texts.TheConstants.{READ_FORM, READ_REPORTED, READ_REPORTED_YEAR}
-use Rattle.ftd_schema.specs.declared.texts.TheConstants.{READ_CALENDAR_YEAR, READ_RUN, READ_PAYMENT}
-use Rattle.ftd_schema.specs.declared.texts.TheConstants.{LIST_HOLIDAYS, LIST_ADDED_HOLIDAYS}
-use Rattle.ftd_schema.specs.declared.texts.TheConstants.{LIST_YEARS, LIST_RUNS, LIST_PAYMENTS}
-use Rattle.ftd_schema.specs.declared.texts.TheConstants.{LIST_OBLIGATIONS, LIST_DUE_OVER, COUNT_RUNS}
-use Rattle.ftd_schema.specs.declared.texts.TheConstants.{LIST_DUE_BETWEEN, LIST_ENROLLED, LIST_FORMS}
-use Rattle.ftd_schema.specs.declared.texts.TheConstants.{LIST_REPORTED, LIST_REPORTED_YEARS}
-use Rattle.ftd_schema.specs.declared.texts.TheConstants.{LIST_KEPT_RUNS, LIST_KEPT_PAYMENTS}
-use Rattle.ftd_schema.specs.declared.texts.TheConstants.{COUNT_PAYMENTS, SET_VERSION, SET_YEAR}
-use Rattle.ftd_schema.specs.declared.texts.TheConstants.{VOID_RUN, VOID_PAYMENT, SET_OBLIGATION}
-use Rattle.ftd_schema.specs.declared.texts.TheConstants.{SET_DUE, REMOVE_OBLIGATIONS}
-use Rattle.ftd_schema.specs.declared.texts.TheConstants.{LIST_CORRECTIONS, LIST_CORRECTED}
-use Rattle.ftd_schema.specs.declared.texts.TheConstants.{LIST_YEAR_CORRECTIONS}
+use Rattle.ftd_schema.specs.declared.texts.TheConstants.{READ_FORM, READ_REPORTED}
+use Rattle.ftd_schema.specs.declared.texts.TheConstants.{READ_REPORTED_YEAR, READ_CALENDAR_YEAR}
+use Rattle.ftd_schema.specs.declared.texts.TheConstants.{READ_RUN, READ_PAYMENT, LIST_HOLIDAYS}
+use Rattle.ftd_schema.specs.declared.texts.TheConstants.{LIST_ADDED_HOLIDAYS, LIST_YEARS, LIST_RUNS}
+use Rattle.ftd_schema.specs.declared.texts.TheConstants.{LIST_PAYMENTS, LIST_OBLIGATIONS}
+use Rattle.ftd_schema.specs.declared.texts.TheConstants.{LIST_DUE_OVER, COUNT_RUNS}
+use Rattle.ftd_schema.specs.declared.texts.TheConstants.{LIST_DUE_BETWEEN, LIST_ENROLLED}
+use Rattle.ftd_schema.specs.declared.texts.TheConstants.{LIST_FORMS, LIST_REPORTED}
+use Rattle.ftd_schema.specs.declared.texts.TheConstants.{LIST_REPORTED_YEARS, LIST_KEPT_RUNS}
+use Rattle.ftd_schema.specs.declared.texts.TheConstants.{LIST_KEPT_PAYMENTS, COUNT_PAYMENTS}
+use Rattle.ftd_schema.specs.declared.texts.TheConstants.{SET_VERSION, SET_YEAR, VOID_RUN}
+use Rattle.ftd_schema.specs.declared.texts.TheConstants.{VOID_PAYMENT, SET_OBLIGATION, SET_DUE}
+use Rattle.ftd_schema.specs.declared.texts.TheConstants.{REMOVE_OBLIGATIONS, LIST_CORRECTIONS}
+use Rattle.ftd_schema.specs.declared.texts.TheConstants.{LIST_CORRECTED, LIST_YEAR_CORRECTIONS}
 use Rattle.ftd_schema.specs.declared.texts.TheConstants.{LIST_CORRECTED_YEARS}
 use Rattle.ftd_schema.specs.declared.texts.TheConstants.{LIST_ACCOUNT_CORRECTIONS}
 use Rattle.ftd_schema.specs.declared.texts.TheConstants.{LIST_CHANGED_HOLIDAYS}
-use Rattle.ftd_schema.specs.Given.{name_given, number_given, key_given, pair_given}
-use Rattle.ftd_schema.specs.Given.{days_given}
-use Rattle.ftd_schema.specs.Answers.{meta_shown, account_shown, name_shown, form_shown, reported_shown}
+use Rattle.ftd_schema.specs.Given.{name_given, number_given, key_given, pair_given, days_given}
+use Rattle.ftd_schema.specs.Answers.{meta_shown, account_shown, name_shown, form_shown}
+use Rattle.ftd_schema.specs.Answers.{reported_shown}
 use Rattle.ftd_schema.specs.Answers.{reported_year_shown, calendar_year_shown, holiday_shown}
 use Rattle.ftd_schema.specs.Answers.{year_shown, run_shown, live_run_shown, payment_shown}
 use Rattle.ftd_schema.specs.Answers.{live_payment_shown, obligation_shown, account_obligation_shown}
@@ -58,10 +59,10 @@ use Rattle.ftd_schema.specs.Tests.{is_tag, is_account, is_form_of, is_reported, 
 use Rattle.ftd_schema.specs.Tests.{is_calendar_year, is_holiday_of, is_year, is_year_of, is_run}
 use Rattle.ftd_schema.specs.Tests.{is_run_of, is_live_run_between, is_payment, is_payment_of}
 use Rattle.ftd_schema.specs.Tests.{is_live_payment_between, is_obligation_between, is_obligation}
-use Rattle.ftd_schema.specs.Tests.{is_due_over, voided_run, voided_payment, with_figures, with_terms}
-use Rattle.ftd_schema.specs.Tests.{is_due_between, with_due, with_version}
-use Rattle.ftd_schema.specs.Orders.{HolidaysRise, YearsRise, RunsRise, PaymentsRise, ObligationsRise}
-use Rattle.ftd_schema.specs.Orders.{AccountsRise}
+use Rattle.ftd_schema.specs.Tests.{is_due_over, voided_run, voided_payment, with_figures}
+use Rattle.ftd_schema.specs.Tests.{with_terms, is_due_between, with_due, with_version}
+use Rattle.ftd_schema.specs.Orders.{HolidaysRise, YearsRise, RunsRise, PaymentsRise}
+use Rattle.ftd_schema.specs.Orders.{ObligationsRise, AccountsRise}
 use Rattle.ftd_tables.proofs.Passing.{whole_is, below_is, at_least_is, at_most_is, one_rises}
 use Rattle.ftd_tables.proofs.Passing.{two_rise, three_rise, text_then_number}
 use Rattle.ftd_schema.proofs.Reading.{shows, lists, counts}

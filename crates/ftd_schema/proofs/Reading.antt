@@ -5,8 +5,8 @@ use Rattle.std.specs.Prelude.{filter, min, ⊤}
 use Rattle.std.specs.Ordering.{is_lt}
 use Rattle.std.specs.List.Sorted.{IsPermutation}
 use Rattle.std.proofs.lemmas.List.Sorted.{IsPermutation-map}
-use Rattle.ftd_schema.proofs.Shapes.{Place, Test, where_of, shown_of, order_of, filters_of, project_of}
-use Rattle.ftd_schema.proofs.Shapes.{outs_of, keys_of, draft_of, count_out, count_draft}
+use Rattle.ftd_schema.proofs.Shapes.{Place, Test, where_of, shown_of, order_of, filters_of}
+use Rattle.ftd_schema.proofs.Shapes.{project_of, outs_of, keys_of, draft_of, count_out, count_draft}
 use Rattle.sqlite.specs.declared.types.Value.TheVariants.{Null, Int}
 use Rattle.sqlite.specs.Order.{Row}
 use Rattle.sqlite.specs.Schema.{Schema}

@@ -6,6 +6,7 @@
 pub mod texts;
 
 ghost use Rattle.std.specs.Prelude.{◌≡◌};
+ghost use Rattle.ftd_schema.specs.Making.{add_of};
 ghost use Rattle.ftd_schema.specs.Names.{name_of, is_taken, has_any};
 
 use sqlite_schema::schema::Schema;
@@ -53,6 +54,30 @@ impl TableName {
             TableName::CorrectedYears => b"corrected_year",
             TableName::ChangedHolidays => b"changed_holiday",
             TableName::CorrectedAccounts => b"corrected_account",
+        }
+    }
+
+    /// The statement that adds a row to it.
+    pub fn adding(self) -> &'static str
+        ensures { result.now ≡ add_of self }
+    {
+        match self {
+            TableName::Metas => texts::ADD_META,
+            TableName::Accounts => texts::ADD_ACCOUNT,
+            TableName::ReportedQuarters => texts::ADD_REPORTED,
+            TableName::CalendarYears => texts::ADD_CALENDAR_YEAR,
+            TableName::Holidays => texts::ADD_HOLIDAY,
+            TableName::Years => texts::ADD_YEAR,
+            TableName::Runs => texts::ADD_RUN,
+            TableName::Payments => texts::ADD_PAYMENT,
+            TableName::Obligations => texts::ADD_OBLIGATION,
+            TableName::Forms => texts::ADD_FORM,
+            TableName::ReportedYears => texts::ADD_REPORTED_YEAR,
+            TableName::AddedHolidays => texts::ADD_ADDED_HOLIDAY,
+            TableName::CorrectedQuarters => texts::ADD_CORRECTED,
+            TableName::CorrectedYears => texts::ADD_CORRECTED_YEAR,
+            TableName::ChangedHolidays => texts::ADD_CHANGED_HOLIDAY,
+            TableName::CorrectedAccounts => texts::ADD_CORRECTED_ACCOUNT,
         }
     }
 }

@@ -53,10 +53,12 @@ pub const ADD_REPORTED_YEAR: &str =
 
 /// The corrections of the total that an account reported for a quarter, by number.
 pub const LIST_CORRECTIONS: &str =
-    "SELECT number, cents FROM corrected WHERE account = ?1 AND cal_year = ?2 AND quarter = ?3 ORDER BY number";
+    "SELECT number, cents FROM corrected WHERE account = ?1 AND cal_year = ?2 AND quarter = ?3 \
+     ORDER BY number";
 /// The corrections of all the totals that an account reported for quarters, by quarter and number.
 pub const LIST_CORRECTED: &str =
-    "SELECT cal_year, quarter, number, cents FROM corrected WHERE account = ?1 ORDER BY cal_year, quarter, number";
+    "SELECT cal_year, quarter, number, cents FROM corrected WHERE account = ?1 \
+     ORDER BY cal_year, quarter, number";
 /// Adds a correction of the total of a quarter.
 pub const ADD_CORRECTED: &str =
     "INSERT INTO corrected (account, cal_year, quarter, number, cents) VALUES (?1, ?2, ?3, ?4, ?5)";
@@ -65,7 +67,8 @@ pub const LIST_YEAR_CORRECTIONS: &str =
     "SELECT number, cents FROM corrected_year WHERE account = ?1 AND cal_year = ?2 ORDER BY number";
 /// The corrections of all the totals that an account reported for years, by year and number.
 pub const LIST_CORRECTED_YEARS: &str =
-    "SELECT cal_year, number, cents FROM corrected_year WHERE account = ?1 ORDER BY cal_year, number";
+    "SELECT cal_year, number, cents FROM corrected_year WHERE account = ?1 \
+     ORDER BY cal_year, number";
 /// Adds a correction of the total of a year.
 pub const ADD_CORRECTED_YEAR: &str =
     "INSERT INTO corrected_year (account, cal_year, number, cents) VALUES (?1, ?2, ?3, ?4)";
@@ -116,18 +119,18 @@ pub const SET_YEAR: &str =
 pub const READ_RUN: &str =
     "SELECT payday, fit, ss, medicare, voided FROM run WHERE account = ?1 AND run = ?2";
 /// Adds a run.
-pub const ADD_RUN: &str =
-    "INSERT INTO run (account, run, payday, fit, ss, medicare, voided) VALUES (?1, ?2, ?3, ?4, ?5, ?6, ?7)";
+pub const ADD_RUN: &str = "INSERT INTO run (account, run, payday, fit, ss, medicare, voided) \
+     VALUES (?1, ?2, ?3, ?4, ?5, ?6, ?7)";
 /// Marks the run of an account and a number as void.
 pub const VOID_RUN: &str = "UPDATE run SET voided = 1 WHERE account = ?1 AND run = ?2";
 /// How many runs an account has, void ones too.
 pub const COUNT_RUNS: &str = "SELECT COUNT(*) FROM run WHERE account = ?1";
 /// The live runs of an account with a payday between two days, by payday and number.
-pub const LIST_RUNS: &str =
-    "SELECT payday, fit, ss, medicare FROM run WHERE account = ?1 AND payday >= ?2 AND payday <= ?3 AND voided = 0 ORDER BY payday, run";
+pub const LIST_RUNS: &str = "SELECT payday, fit, ss, medicare FROM run \
+     WHERE account = ?1 AND payday >= ?2 AND payday <= ?3 AND voided = 0 ORDER BY payday, run";
 /// The runs of an account with a payday between two days, void ones too, by payday and number.
-pub const LIST_KEPT_RUNS: &str =
-    "SELECT run, payday, fit, ss, medicare, voided FROM run WHERE account = ?1 AND payday >= ?2 AND payday <= ?3 ORDER BY payday, run";
+pub const LIST_KEPT_RUNS: &str = "SELECT run, payday, fit, ss, medicare, voided FROM run \
+     WHERE account = ?1 AND payday >= ?2 AND payday <= ?3 ORDER BY payday, run";
 
 // ---- payment
 
@@ -136,39 +139,43 @@ pub const READ_PAYMENT: &str =
     "SELECT paid, for_day, cents, voided FROM payment WHERE account = ?1 AND payment = ?2";
 /// Adds a payment.
 pub const ADD_PAYMENT: &str =
-    "INSERT INTO payment (account, payment, paid, for_day, cents, voided) VALUES (?1, ?2, ?3, ?4, ?5, ?6)";
+    "INSERT INTO payment (account, payment, paid, for_day, cents, voided) \
+     VALUES (?1, ?2, ?3, ?4, ?5, ?6)";
 /// Marks the payment of an account and a number as void.
 pub const VOID_PAYMENT: &str = "UPDATE payment SET voided = 1 WHERE account = ?1 AND payment = ?2";
 /// How many payments an account has, void ones too.
 pub const COUNT_PAYMENTS: &str = "SELECT COUNT(*) FROM payment WHERE account = ?1";
 /// The live payments of an account for days between two, by that day and number.
-pub const LIST_PAYMENTS: &str =
-    "SELECT for_day, paid, cents FROM payment WHERE account = ?1 AND for_day >= ?2 AND for_day <= ?3 AND voided = 0 ORDER BY for_day, payment";
+pub const LIST_PAYMENTS: &str = "SELECT for_day, paid, cents FROM payment \
+     WHERE account = ?1 AND for_day >= ?2 AND for_day <= ?3 AND voided = 0 \
+     ORDER BY for_day, payment";
 /// The payments of an account for days between two, void ones too, by that day and number.
-pub const LIST_KEPT_PAYMENTS: &str =
-    "SELECT payment, paid, for_day, cents, voided FROM payment WHERE account = ?1 AND for_day >= ?2 AND for_day <= ?3 ORDER BY for_day, payment";
+pub const LIST_KEPT_PAYMENTS: &str = "SELECT payment, paid, for_day, cents, voided FROM payment \
+     WHERE account = ?1 AND for_day >= ?2 AND for_day <= ?3 ORDER BY for_day, payment";
 
 // ---- bucket: the obligations
 
 /// The obligations of an account with a first day between two days, by first day.
-pub const LIST_OBLIGATIONS: &str =
-    "SELECT first_day, last_day, rule, cents, due FROM bucket WHERE account = ?1 AND first_day >= ?2 AND first_day <= ?3 ORDER BY first_day";
+pub const LIST_OBLIGATIONS: &str = "SELECT first_day, last_day, rule, cents, due FROM bucket \
+     WHERE account = ?1 AND first_day >= ?2 AND first_day <= ?3 ORDER BY first_day";
 /// Adds an obligation.
 pub const ADD_OBLIGATION: &str =
-    "INSERT INTO bucket (account, first_day, last_day, rule, cents, due) VALUES (?1, ?2, ?3, ?4, ?5, ?6)";
+    "INSERT INTO bucket (account, first_day, last_day, rule, cents, due) \
+     VALUES (?1, ?2, ?3, ?4, ?5, ?6)";
 /// Takes out the obligations of an account with a first day between two days.
 pub const REMOVE_OBLIGATIONS: &str =
     "DELETE FROM bucket WHERE account = ?1 AND first_day >= ?2 AND first_day <= ?3";
 /// The obligations of all accounts that begin before a day and are due on it or later, by account
 /// and first day.
-pub const LIST_DUE_OVER: &str =
-    "SELECT account, first_day, last_day, rule, cents, due FROM bucket WHERE first_day < ?1 AND due >= ?1 ORDER BY account, first_day";
+pub const LIST_DUE_OVER: &str = "SELECT account, first_day, last_day, rule, cents, due FROM bucket \
+     WHERE first_day < ?1 AND due >= ?1 ORDER BY account, first_day";
 /// The obligations of all accounts that are due between two days, by account and first day.
 pub const LIST_DUE_BETWEEN: &str =
-    "SELECT account, first_day, last_day, rule, cents, due FROM bucket WHERE due >= ?1 AND due <= ?2 ORDER BY account, first_day";
+    "SELECT account, first_day, last_day, rule, cents, due FROM bucket \
+     WHERE due >= ?1 AND due <= ?2 ORDER BY account, first_day";
 /// Gives the obligation of an account and a first day its other cells anew, given as its row is.
-pub const SET_OBLIGATION: &str =
-    "UPDATE bucket SET last_day = ?3, rule = ?4, cents = ?5, due = ?6 WHERE account = ?1 AND first_day = ?2";
+pub const SET_OBLIGATION: &str = "UPDATE bucket SET last_day = ?3, rule = ?4, cents = ?5, due = ?6 \
+     WHERE account = ?1 AND first_day = ?2";
 /// Gives the obligation of an account (?1) and a first day (?2) another due date (?3).
 pub const SET_DUE: &str = "UPDATE bucket SET due = ?3 WHERE account = ?1 AND first_day = ?2";
 
@@ -179,49 +186,70 @@ pub const CREATE_METAS: &str =
     "CREATE TABLE ftd_meta (tag TEXT NOT NULL PRIMARY KEY, version INTEGER NOT NULL) STRICT";
 /// Makes `account`.
 pub const CREATE_ACCOUNTS: &str =
-    "CREATE TABLE account (name TEXT NOT NULL PRIMARY KEY, start INTEGER NOT NULL, carried INTEGER NOT NULL) STRICT";
+    "CREATE TABLE account (name TEXT NOT NULL PRIMARY KEY, start INTEGER NOT NULL, \
+     carried INTEGER NOT NULL) STRICT";
 /// Makes `reported`.
 pub const CREATE_REPORTED_QUARTERS: &str =
-    "CREATE TABLE reported (account TEXT NOT NULL REFERENCES account(name), cal_year INTEGER NOT NULL, quarter INTEGER NOT NULL, cents INTEGER NOT NULL, PRIMARY KEY (account, cal_year, quarter)) STRICT";
+    "CREATE TABLE reported (account TEXT NOT NULL REFERENCES account(name), \
+     cal_year INTEGER NOT NULL, quarter INTEGER NOT NULL, cents INTEGER NOT NULL, \
+     PRIMARY KEY (account, cal_year, quarter)) STRICT";
 /// Makes `calendar_year`.
 pub const CREATE_CALENDAR_YEARS: &str =
     "CREATE TABLE calendar_year (cal_year INT NOT NULL PRIMARY KEY) STRICT";
 /// Makes `holiday`.
-pub const CREATE_HOLIDAYS: &str =
-    "CREATE TABLE holiday (day INT NOT NULL PRIMARY KEY, cal_year INTEGER NOT NULL REFERENCES calendar_year(cal_year)) STRICT";
+pub const CREATE_HOLIDAYS: &str = "CREATE TABLE holiday (day INT NOT NULL PRIMARY KEY, \
+     cal_year INTEGER NOT NULL REFERENCES calendar_year(cal_year)) STRICT";
 /// Makes `year`.
-pub const CREATE_YEARS: &str =
-    "CREATE TABLE year (account TEXT NOT NULL REFERENCES account(name), cal_year INTEGER NOT NULL, lookback INTEGER NOT NULL, opening INTEGER NOT NULL, turn INTEGER, PRIMARY KEY (account, cal_year)) STRICT";
+pub const CREATE_YEARS: &str = "CREATE TABLE year (account TEXT NOT NULL REFERENCES account(name), \
+     cal_year INTEGER NOT NULL, lookback INTEGER NOT NULL, opening INTEGER NOT NULL, \
+     turn INTEGER, PRIMARY KEY (account, cal_year)) STRICT";
 /// Makes `run`.
 pub const CREATE_RUNS: &str =
-    "CREATE TABLE run (account TEXT NOT NULL REFERENCES account(name), run INTEGER NOT NULL, payday INTEGER NOT NULL, fit INTEGER NOT NULL, ss INTEGER NOT NULL, medicare INTEGER NOT NULL, voided INTEGER NOT NULL, PRIMARY KEY (account, run)) STRICT";
+    "CREATE TABLE run (account TEXT NOT NULL REFERENCES account(name), run INTEGER NOT NULL, \
+     payday INTEGER NOT NULL, fit INTEGER NOT NULL, ss INTEGER NOT NULL, \
+     medicare INTEGER NOT NULL, voided INTEGER NOT NULL, PRIMARY KEY (account, run)) STRICT";
 /// Makes `payment`.
 pub const CREATE_PAYMENTS: &str =
-    "CREATE TABLE payment (account TEXT NOT NULL REFERENCES account(name), payment INTEGER NOT NULL, paid INTEGER NOT NULL, for_day INTEGER NOT NULL, cents INTEGER NOT NULL, voided INTEGER NOT NULL, PRIMARY KEY (account, payment)) STRICT";
+    "CREATE TABLE payment (account TEXT NOT NULL REFERENCES account(name), \
+     payment INTEGER NOT NULL, paid INTEGER NOT NULL, for_day INTEGER NOT NULL, \
+     cents INTEGER NOT NULL, voided INTEGER NOT NULL, PRIMARY KEY (account, payment)) STRICT";
 /// Makes `bucket`.
 pub const CREATE_OBLIGATIONS: &str =
-    "CREATE TABLE bucket (account TEXT NOT NULL REFERENCES account(name), first_day INTEGER NOT NULL, last_day INTEGER NOT NULL, rule INTEGER NOT NULL, cents INTEGER NOT NULL, due INTEGER NOT NULL, PRIMARY KEY (account, first_day)) STRICT";
+    "CREATE TABLE bucket (account TEXT NOT NULL REFERENCES account(name), \
+     first_day INTEGER NOT NULL, last_day INTEGER NOT NULL, rule INTEGER NOT NULL, \
+     cents INTEGER NOT NULL, due INTEGER NOT NULL, PRIMARY KEY (account, first_day)) STRICT";
 /// Makes `account_form`.
 pub const CREATE_FORMS: &str =
-    "CREATE TABLE account_form (account TEXT NOT NULL PRIMARY KEY REFERENCES account(name), form INTEGER NOT NULL) STRICT";
+    "CREATE TABLE account_form (account TEXT NOT NULL PRIMARY KEY REFERENCES account(name), \
+     form INTEGER NOT NULL) STRICT";
 /// Makes `reported_year`.
 pub const CREATE_REPORTED_YEARS: &str =
-    "CREATE TABLE reported_year (account TEXT NOT NULL REFERENCES account(name), cal_year INTEGER NOT NULL, cents INTEGER NOT NULL, PRIMARY KEY (account, cal_year)) STRICT";
+    "CREATE TABLE reported_year (account TEXT NOT NULL REFERENCES account(name), \
+     cal_year INTEGER NOT NULL, cents INTEGER NOT NULL, PRIMARY KEY (account, cal_year)) STRICT";
 /// Makes `added_holiday`.
-pub const CREATE_ADDED_HOLIDAYS: &str =
-    "CREATE TABLE added_holiday (day INT NOT NULL PRIMARY KEY, cal_year INTEGER NOT NULL REFERENCES calendar_year(cal_year)) STRICT";
+pub const CREATE_ADDED_HOLIDAYS: &str = "CREATE TABLE added_holiday (day INT NOT NULL PRIMARY KEY, \
+     cal_year INTEGER NOT NULL REFERENCES calendar_year(cal_year)) STRICT";
 /// Makes `corrected`.
 pub const CREATE_CORRECTED_QUARTERS: &str =
-    "CREATE TABLE corrected (account TEXT NOT NULL REFERENCES account(name), cal_year INTEGER NOT NULL, quarter INTEGER NOT NULL, number INTEGER NOT NULL, cents INTEGER NOT NULL, PRIMARY KEY (account, cal_year, quarter, number)) STRICT";
+    "CREATE TABLE corrected (account TEXT NOT NULL REFERENCES account(name), \
+     cal_year INTEGER NOT NULL, quarter INTEGER NOT NULL, number INTEGER NOT NULL, \
+     cents INTEGER NOT NULL, PRIMARY KEY (account, cal_year, quarter, number)) STRICT";
 /// Makes `corrected_year`.
 pub const CREATE_CORRECTED_YEARS: &str =
-    "CREATE TABLE corrected_year (account TEXT NOT NULL REFERENCES account(name), cal_year INTEGER NOT NULL, number INTEGER NOT NULL, cents INTEGER NOT NULL, PRIMARY KEY (account, cal_year, number)) STRICT";
+    "CREATE TABLE corrected_year (account TEXT NOT NULL REFERENCES account(name), \
+     cal_year INTEGER NOT NULL, number INTEGER NOT NULL, cents INTEGER NOT NULL, \
+     PRIMARY KEY (account, cal_year, number)) STRICT";
 /// Makes `changed_holiday`.
 pub const CREATE_CHANGED_HOLIDAYS: &str =
-    "CREATE TABLE changed_holiday (day INTEGER NOT NULL, number INTEGER NOT NULL, is_holiday INTEGER NOT NULL, cal_year INTEGER NOT NULL REFERENCES calendar_year(cal_year), PRIMARY KEY (day, number)) STRICT";
+    "CREATE TABLE changed_holiday (day INTEGER NOT NULL, number INTEGER NOT NULL, \
+     is_holiday INTEGER NOT NULL, \
+     cal_year INTEGER NOT NULL REFERENCES calendar_year(cal_year), \
+     PRIMARY KEY (day, number)) STRICT";
 /// Makes `corrected_account`.
 pub const CREATE_CORRECTED_ACCOUNTS: &str =
-    "CREATE TABLE corrected_account (account TEXT NOT NULL REFERENCES account(name), number INTEGER NOT NULL, start INTEGER NOT NULL, carried INTEGER NOT NULL, PRIMARY KEY (account, number)) STRICT";
+    "CREATE TABLE corrected_account (account TEXT NOT NULL REFERENCES account(name), \
+     number INTEGER NOT NULL, start INTEGER NOT NULL, carried INTEGER NOT NULL, \
+     PRIMARY KEY (account, number)) STRICT";
 
 // ---- the indexes by day
 

@@ -4,7 +4,7 @@ use Rattle.std.proofs.Common.{None, Some, cond, refl, sym, subst, ◌∙◌, sli
 use Rattle.std.proofs.Common.{◌<◌, arith}
 use Rattle.std.specs.Prelude.{◌||◌, is_some}
 use Rattle.std.specs.List.{position_from}
-use Rattle.std.proofs.lemmas.Bool.{false≢true}
+use Rattle.std.proofs.lemmas.Bool.{false≢true, or_parts}
 use Rattle.std.proofs.lemmas.List.Folds.{list_any_at}
 use Rattle.sqlite.specs.Schema.{Schema}
 use Rattle.sqlite.specs.Table.{Table}
@@ -46,12 +46,8 @@ other_name s n name t at none place e =
     let yes : same_name t.name (name_of n) ≡ true = rw e (self_named n) in
     false≢true (sym no ∙ yes)
 
-left_false : (a b : Bool) → (a || b) ≡ false → (a ≡ false) × (b ≡ false)
-left_false true b h = absurd cc
-left_false false b h = (refl, h)
-
 unnamed : (s : Schema) (name : List ℕ) → is_taken s name ≡ false → table_named s name ≡ None
-unnamed s name h = go (table_named s name) refl (left_false (is_some (table_named s name)) _ h).0
+unnamed s name h = go (table_named s name) refl (or_parts (is_some (table_named s name)) _ h).0
   where
     go : (o : Option ℕ) → table_named s name ≡ o → is_some o ≡ false → table_named s name ≡ None
     go None is e = is

@@ -1,10 +1,8 @@
 -- What is read of ftd_meta tells what its rows are.
-use Rattle.std.proofs.Common.{◌≡◌, ◌≤◌, inl, inr, ℕ, ℤ, pos, negsuc, nat_abs, arith, length}
-use Rattle.std.proofs.Common.{Bool, false, true}
-use Rattle.std.proofs.Common.{List, [], ◌∷◌, codes, map, refl, sym, ap, subst}
+use Rattle.std.proofs.Common.{◌≡◌, ◌≤◌, inl, inr, ℕ, ℤ, pos, negsuc, nat_abs, arith, length, Bool}
+use Rattle.std.proofs.Common.{true, List, [], ◌∷◌, codes, map, refl, sym, ap, subst}
 use Rattle.std.specs.Int.{FitsUnsignedBits}
 use Rattle.std.proofs.lemmas.Int.{ints}
-use Rattle.std.specs.Prelude.{not}
 use Rattle.std.specs.List.Sorted.{IsPermutation}
 use Rattle.std.proofs.lemmas.List.Sorted.{IsPermutation-sym}
 use Rattle.sqlite.specs.Order.{Row}
@@ -28,10 +26,6 @@ use Rattle.ftd_schema.proofs.Meanings.{shows_metas}
 use Rattle.ftd_setup.specs.Versions.{is_tagged, ReadsVersion}
 
 -- ---- the cells of the tag
-
-pub not_not : (b : Bool) → not b ≡ false → b ≡ true
-not_not true h = refl
-not_not false h = absurd cc
 
 pub whole_number : (z : ℤ) (n : ℕ) → FitsUnsignedBits 64 z → n ≡ nat_abs z → z ≡ pos n
 whole_number (pos m) n fits h = ap pos (sym h)

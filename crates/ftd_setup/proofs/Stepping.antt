@@ -4,9 +4,10 @@ use Rattle.std.specs.Prelude.{Result, IfOk, OnOk}
 use Rattle.sqlite.specs.Store as store
 use Rattle.sqlite.specs.State.{State}
 use Rattle.sqlite.specs.declared.transaction.Transaction.{Transaction}
+use Rattle.sqlite.proofs.InsideLemmas.{keeps_then}
 use Rattle.ftd_rows.specs.declared.faults.StoreFault.{StoreFault}
 use Rattle.ftd_schema.specs.States.{CrashKeeps, within}
-use Rattle.ftd_schema.proofs.Controls.{keeps_self, keeps_then, crash_then}
+use Rattle.ftd_schema.proofs.Controls.{keeps_self, crash_then}
 use Rattle.ftd_setup.specs.Steps.{Steps}
 
 -- a crash now finds what it finds now

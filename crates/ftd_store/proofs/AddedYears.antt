@@ -9,6 +9,7 @@ use Rattle.std.proofs.lemmas.Bool.Decides.{nat_tests}
 use Rattle.std.proofs.lemmas.Grind.{flat_map-append}
 use Rattle.std.proofs.lemmas.List.Elements.{All-head, All-tail}
 use Rattle.std.proofs.lemmas.List.Folds.{list_any-append}
+use Rattle.std.proofs.Math.Bool.{or-false}
 use Rattle.ftd_days.specs.Business.{is_holiday}
 use Rattle.ftd_days.specs.Calendar.{year_of}
 use Rattle.ftd_days.specs.Holidays.{YearDays, holidays_of}
@@ -19,10 +20,6 @@ use Rattle.ftd_store.specs.Holidays.{HasHolidays, HasYears, AddsYear, is_holiday
 use Rattle.ftd_store.proofs.Items.{taken}
 
 -- ---- days that are added to a list
-
-pub or_false : (a : Bool) → (a || false) ≡ a
-or_false true = refl
-or_false false = refl
 
 or_more : (a b c d : Bool) → ((a || (b || c)) || d) ≡ (a || (b || (c || d)))
 or_more true b c d = refl
@@ -52,7 +49,7 @@ day_added old given added i x day so_far now some is had more =
     let last : is_holiday (take (i + 1) added) day ≡ (is_holiday (take i added) day || (x == day)) =
     ap (λ (hs : List ℕ). is_holiday hs day) (taken added i x some is)
     ∙ (list_any-append p (take i added) (x ∷ []) ∙ ap (λ b. is_holiday (take i added) day || b)
-    (or_false (x == day))) in
+    (or-false (x == day))) in
     more ∙ (ap (λ b. b || (x == day)) had
     ∙ (or_more (is_holiday old day) (is_holiday given day) (is_holiday (take i added) day)
     (x == day) ∙ ap (λ b. is_holiday old day || (is_holiday given day || b)) (sym last)))
@@ -119,7 +116,8 @@ one_more_read first year old new t so_far adds = record {
       (let before = so_far.none_yet day (omega arith) in
       let here = adds.elsewhere day (λ same. absurd (omega arith)) in
       adds.same day
-      ∙ (ap (λ b. b || is_holiday_in adds.given.items adds.added.items adds.changes.items day) before
+      ∙ (ap (λ b. b || is_holiday_in adds.given.items adds.added.items adds.changes.items day)
+      before
       ∙ here));
   had = λ earlier low high. elim (cases_last earlier year (omega arith)) [
     | inl before ↦
@@ -134,7 +132,7 @@ one_more_read first year old new t so_far adds = record {
           same = λ day in_year.
               (let here = adds.elsewhere day (λ same. absurd (omega arith)) in
               adds.same day ∙ (ap (λ b. is_holiday old day || b) here
-              ∙ (or_false (is_holiday old day) ∙ k.same day in_year)));
+              ∙ (or-false (is_holiday old day) ∙ k.same day in_year)));
         })
     | inr last ↦ subst (λ y. HasHolidays t new y) (sym last) (record {
       given = adds.given;

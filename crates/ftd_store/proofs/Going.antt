@@ -5,12 +5,13 @@ use Rattle.std.proofs.Common.{refl, false, ◌≡◌, Result, Ok, Err, sym, subs
 use Rattle.std.proofs.lemmas.Bool.{false≢true}
 use Rattle.sqlite.specs.Store as store
 use Rattle.sqlite.specs.State.{State, KeepsCommit, HasCleanDisk}
+use Rattle.sqlite.proofs.InsideLemmas.{keeps_then}
 use Rattle.ftd_schema.specs.States.{CrashKeeps}
 use Rattle.ftd_rows.specs.declared.faults.StoreFault.{StoreFault}
 use Rattle.ftd_store.specs.declared.tx.Tx.{Tx}
 use Rattle.ftd_store.specs.Seen.{seen, shown}
 use Rattle.ftd_store.specs.Frame.{HasFailed, Frame, Calls, Writes}
-use Rattle.ftd_schema.proofs.Controls.{keeps_then, crash_then}
+use Rattle.ftd_schema.proofs.Controls.{crash_then}
 use Rattle.ftd_schema.specs.declared.TableName.{TableName}
 use Rattle.ftd_schema.specs.Standing.{Tables}
 use Rattle.ftd_schema.proofs.OneOfAll.{stands_same, foreign_then}

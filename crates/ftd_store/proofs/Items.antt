@@ -1,7 +1,9 @@
 -- The items of a list as far as a loop has come.
 use Rattle.std.proofs.Common.{◌≡◌, ◌⊎◌, ℕ, zero, suc, ◌+◌, ◌<◌, inl, inr, List, [], ◌∷◌, ◌++◌, take}
-use Rattle.std.proofs.Common.{length, get_or, refl, sym, ap, subst, ◌∙◌, arith}
-use Rattle.std.proofs.lemmas.List.{take_more}
+use Rattle.std.proofs.Common.{length, get_or, refl, sym, ap, subst, ◌∙◌, arith, Bool, true, false}
+use Rattle.std.specs.Prelude.{filter}
+use Rattle.std.proofs.lemmas.List.{take_more, append-nil}
+use Rattle.std.proofs.lemmas.List.Elements.{filter-append}
 use Rattle.ftd_rules.specs.Lists.{Has}
 use Rattle.ftd_rules.proofs.Owed.{has_append, has_left, has_right}
 use Rattle.ftd_rows.specs.Lists.{Pairs}
@@ -18,6 +20,27 @@ pairs_more R [] [] x y h r = (r, tt)
 pairs_more R [] (b ∷ ys) x y h r = absurd h
 pairs_more R (a ∷ xs) [] x y h r = absurd h
 pairs_more R (a ∷ xs) (b ∷ ys) x y h r = (h.0, pairs_more R xs ys x y h.1 r)
+
+-- as far as a loop has come that goes by the items which a test keeps: one pair more, or none
+module _ {X Y : Type 0} (R : X → Y → Type 0) (p : X → Bool) (xs : List X) (ys : List Y) (i : ℕ)
+    (x : X) (some : i < length xs) (is : x ≡ get_or xs i x)
+    (so_far : Pairs R (filter p (take i xs)) ys) where
+  more : filter p (take (i + 1) xs) ≡ filter p (take i xs) ++ filter p (x ∷ [])
+  more = ap (filter p) (taken xs i x some is) ∙ filter-append p (take i xs) (x ∷ [])
+
+  pub kept_pair : (y : Y) → p x ≡ true → R x y → Pairs R (filter p (take (i + 1) xs)) (ys ++ y ∷ [])
+  kept_pair y kept r =
+      let one : filter p (x ∷ []) ≡ x ∷ [] = rw kept refl in
+      subst (λ (l : List X). Pairs R l (ys ++ y ∷ []))
+      (sym (more ∙ ap (λ (l : List X). filter p (take i xs) ++ l) one))
+      (pairs_more R (filter p (take i xs)) ys x y so_far r)
+
+  pub left_pair : p x ≡ false → Pairs R (filter p (take (i + 1) xs)) ys
+  left_pair left =
+      let none : filter p (x ∷ []) ≡ [] = rw left refl in
+      subst (λ (l : List X). Pairs R l ys)
+      (sym (more ∙ (ap (λ (l : List X). filter p (take i xs) ++ l) none
+      ∙ append-nil (filter p (take i xs))))) so_far
 
 -- pairs have as many items on either side
 pub pairs_length : {X Y : Type 0} (R : X → Y → Type 0) (xs : List X) (ys : List Y) → Pairs R xs ys

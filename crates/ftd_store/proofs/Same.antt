@@ -3,6 +3,7 @@ use Rattle.std.proofs.Common.{◌≡◌, ℕ, ℤ, pos, List, true, refl}
 use Rattle.std.specs.Prelude.{bytes_eq, int_le, ◌&&◌, string_bytes}
 use Rattle.std.specs.Ordering.{int_eq}
 use Rattle.std.proofs.lemmas.Bool.Decides.{Decides-int_eq}
+use Rattle.std.proofs.lemmas.Bool.{and_parts}
 use Rattle.ftd_schema.specs.Rows.{AccountRow, FormRow, ReportedQuarterRow, ReportedYearRow}
 use Rattle.ftd_schema.specs.Rows.{CalendarYearRow, HolidayRow, RunRow, PaymentRow, ObligationRow}
 use Rattle.ftd_schema.specs.Answers.{account_shown, form_shown, reported_shown, reported_year_shown}
@@ -14,6 +15,7 @@ use Rattle.ftd_schema.specs.Tests.{is_calendar_year, is_holiday_of, is_run, is_l
 use Rattle.ftd_schema.specs.Tests.{is_payment, is_live_payment_between, is_obligation_between}
 use Rattle.ftd_days.specs.Calendar.{quarter_year, quarter_number}
 use Rattle.ftd_days.specs.declared.cents.Cents.{Cents}
+use Rattle.ftd_days.proofs.Spelling.{same_text}
 use Rattle.ftd_rules.specs.declared.Form.{Form}
 use Rattle.ftd_rules.specs.declared.Obligation.{Obligation}
 use Rattle.ftd_rows.specs.declared.accounts.Account.{Account}
@@ -29,7 +31,6 @@ use Rattle.ftd_rows.specs.Rows.{account_row, form_row, reported_row, reported_ye
 use Rattle.ftd_rows.specs.Rows.{calendar_year_row, run_row, payment_row}
 use Rattle.ftd_rows.specs.DaySums.{IsLiveRun}
 use Rattle.ftd_store.specs.Finds.{IsHoliday, IsLivePayment, IsObligation, IsAccountObligation}
-use Rattle.ftd_rows.proofs.Found.{both, same_bytes}
 
 pub same_int : (a b : ℤ) → int_eq a b ≡ true → a ≡ b
 same_int a b h = (Decides-int_eq a b).0 h
@@ -39,7 +40,7 @@ same_int a b h = (Decides-int_eq a b).0 h
 pub account_is : (name : List ℕ) (x : AccountRow) (a : Account) → is_account name x ≡ true
     → account_shown x ≡ account_cells a → x ≡ account_row name a
 account_is name x a passes h =
-    let who = same_bytes x.name name passes in
+    let who = same_text x.name name passes in
     let start : x.start ≡ day_number a.start = cc in
     let carried : x.carried ≡ flag_number a.carried = cc in
     rw (who, start, carried) refl
@@ -47,7 +48,7 @@ account_is name x a passes h =
 pub form_is : (account : List ℕ) (x : FormRow) (form : Form) → is_form_of account x ≡ true
     → form_shown x ≡ form_cells form → x ≡ form_row account form
 form_is account x form passes h =
-    let who = same_bytes x.account account passes in
+    let who = same_text x.account account passes in
     let which : x.form ≡ form_number form = cc in
     rw (who, which) refl
 
@@ -56,12 +57,12 @@ pub reported_is : (account : List ℕ) (quarter : ℕ) (x : ReportedQuarterRow) 
     → reported_shown x ≡ cents_cells cents
     → x ≡ reported_row account quarter cents
 reported_is account quarter x cents passes h =
-    let a = both (bytes_eq x.account account)
+    let a = and_parts (bytes_eq x.account account)
     (int_eq x.year (pos (quarter_year quarter)) && int_eq x.quarter (pos (quarter_number quarter)))
     passes in
-    let b = both (int_eq x.year (pos (quarter_year quarter)))
+    let b = and_parts (int_eq x.year (pos (quarter_year quarter)))
     (int_eq x.quarter (pos (quarter_number quarter))) a.1 in
-    let who = same_bytes x.account account a.0 in
+    let who = same_text x.account account a.0 in
     let year = same_int x.year (pos (quarter_year quarter)) b.0 in
     let part = same_int x.quarter (pos (quarter_number quarter)) b.1 in
     let amount : x.cents ≡ pos cents.0 = cc in
@@ -71,8 +72,8 @@ pub reported_year_is : (account : List ℕ) (year : ℕ) (x : ReportedYearRow) (
     → is_reported_year account (pos year) x ≡ true → reported_year_shown x ≡ cents_cells cents
     → x ≡ reported_year_row account year cents
 reported_year_is account year x cents passes h =
-    let a = both (bytes_eq x.account account) (int_eq x.year (pos year)) passes in
-    let who = same_bytes x.account account a.0 in
+    let a = and_parts (bytes_eq x.account account) (int_eq x.year (pos year)) passes in
+    let who = same_text x.account account a.0 in
     let which = same_int x.year (pos year) a.1 in
     let amount : x.cents ≡ pos cents.0 = cc in
     rw (who, which, amount) refl
@@ -96,8 +97,8 @@ pub run_is : (account : List ℕ) (number : ℕ) (x : RunRow) (r : Voidable PayR
     → is_run account (pos number) x ≡ true → run_shown x ≡ stored_run_cells r
     → x ≡ run_row account (pos number) r.value r.voided
 run_is account number x r passes h =
-    let a = both (bytes_eq x.account account) (int_eq x.number (pos number)) passes in
-    let who = same_bytes x.account account a.0 in
+    let a = and_parts (bytes_eq x.account account) (int_eq x.number (pos number)) passes in
+    let who = same_text x.account account a.0 in
     let which = same_int x.number (pos number) a.1 in
     let payday : x.payday ≡ day_number r.value.payday = cc in
     let fit : x.fit ≡ pos r.value.fit.0 = cc in
@@ -110,11 +111,11 @@ pub live_run_is : (account : List ℕ) (from to : ℤ) (x : RunRow) (r : PayRun)
     → is_live_run_between account from to x ≡ true → live_run_shown x ≡ pay_run_cells r
     → IsLiveRun account x r
 live_run_is account from to x r passes h =
-    let a = both (bytes_eq x.account account)
+    let a = and_parts (bytes_eq x.account account)
     (int_le from x.payday && (int_le x.payday to && int_eq x.voided (pos 0))) passes in
-    let b = both (int_le from x.payday) (int_le x.payday to && int_eq x.voided (pos 0)) a.1 in
-    let d = both (int_le x.payday to) (int_eq x.voided (pos 0)) b.1 in
-    let who = same_bytes x.account account a.0 in
+    let b = and_parts (int_le from x.payday) (int_le x.payday to && int_eq x.voided (pos 0)) a.1 in
+    let d = and_parts (int_le x.payday to) (int_eq x.voided (pos 0)) b.1 in
+    let who = same_text x.account account a.0 in
     let live = same_int x.voided (pos 0) d.1 in
     let payday : x.payday ≡ day_number r.payday = cc in
     let fit : x.fit ≡ pos r.fit.0 = cc in
@@ -128,8 +129,8 @@ pub payment_is : (account : List ℕ) (number : ℕ) (x : PaymentRow) (p : Voida
     → is_payment account (pos number) x ≡ true → payment_shown x ≡ stored_payment_cells p
     → x ≡ payment_row account (pos number) p.value p.voided
 payment_is account number x p passes h =
-    let a = both (bytes_eq x.account account) (int_eq x.number (pos number)) passes in
-    let who = same_bytes x.account account a.0 in
+    let a = and_parts (bytes_eq x.account account) (int_eq x.number (pos number)) passes in
+    let who = same_text x.account account a.0 in
     let which = same_int x.number (pos number) a.1 in
     let paid : x.paid ≡ day_number p.value.paid = cc in
     let for_day : x.for_day ≡ day_number p.value.for_day = cc in
@@ -141,11 +142,12 @@ pub live_payment_is : (account : List ℕ) (from to : ℤ) (x : PaymentRow) (p :
     → is_live_payment_between account from to x ≡ true → live_payment_shown x ≡ payment_cells p
     → IsLivePayment account x p
 live_payment_is account from to x p passes h =
-    let a = both (bytes_eq x.account account)
+    let a = and_parts (bytes_eq x.account account)
     (int_le from x.for_day && (int_le x.for_day to && int_eq x.voided (pos 0))) passes in
-    let b = both (int_le from x.for_day) (int_le x.for_day to && int_eq x.voided (pos 0)) a.1 in
-    let d = both (int_le x.for_day to) (int_eq x.voided (pos 0)) b.1 in
-    let who = same_bytes x.account account a.0 in
+    let b = and_parts (int_le from x.for_day) (int_le x.for_day to && int_eq x.voided (pos 0)) a.1
+    in
+    let d = and_parts (int_le x.for_day to) (int_eq x.voided (pos 0)) b.1 in
+    let who = same_text x.account account a.0 in
     let live = same_int x.voided (pos 0) d.1 in
     let paid : x.paid ≡ day_number p.paid = cc in
     let for_day : x.for_day ≡ day_number p.for_day = cc in
@@ -158,8 +160,9 @@ pub obligation_is : (account : List ℕ) (from to : ℤ) (x : ObligationRow) (o 
     → is_obligation_between account from to x ≡ true → obligation_shown x ≡ obligation_cells o
     → IsObligation account x o
 obligation_is account from to x o passes h =
-    let a = both (bytes_eq x.account account) (int_le from x.first && int_le x.first to) passes in
-    let who = same_bytes x.account account a.0 in
+    let a = and_parts (bytes_eq x.account account) (int_le from x.first && int_le x.first to) passes
+    in
+    let who = same_text x.account account a.0 in
     let first : x.first ≡ day_number o.first = cc in
     let last : x.last ≡ day_number o.last = cc in
     let rule : x.rule ≡ rule_number o.rule = cc in

@@ -1,7 +1,9 @@
 -- The row that a listed value stands for.
 use Rattle.std.proofs.Common.{◌≡◌, ℕ, ℤ, pos, ◌&&◌, true, List, refl}
 use Rattle.std.specs.Prelude.{bytes_eq, int_le, string_bytes}
+use Rattle.std.proofs.lemmas.Bool.{and_parts}
 use Rattle.ftd_days.specs.Calendar.{quarter_year, quarter_number}
+use Rattle.ftd_days.proofs.Spelling.{same_text}
 use Rattle.ftd_schema.specs.Answers.{enrolled_shown, account_form_shown, quarter_total_shown}
 use Rattle.ftd_schema.specs.Answers.{year_total_shown, kept_run_shown, kept_payment_shown}
 use Rattle.ftd_schema.specs.Rows.{AccountRow, FormRow, ReportedQuarterRow, ReportedYearRow, RunRow}
@@ -17,7 +19,6 @@ use Rattle.ftd_rows.specs.declared.kept.NumberedPayment.{NumberedPayment}
 use Rattle.ftd_rows.specs.declared.kept.NumberedRun.{NumberedRun}
 use Rattle.ftd_rows.specs.declared.kept.QuarterTotal.{QuarterTotal}
 use Rattle.ftd_rows.specs.declared.kept.YearTotal.{YearTotal}
-use Rattle.ftd_rows.proofs.Found.{both, same_bytes}
 use Rattle.ftd_store.specs.Kept.{IsNamedAccount, IsNamedForm, IsQuarterTotal, IsYearTotal}
 use Rattle.ftd_store.specs.Kept.{IsNumberedRun, IsNumberedPayment}
 
@@ -40,7 +41,7 @@ pub quarter_total_is : (account : List ℕ) (x : ReportedQuarterRow) (q : Quarte
     → is_reported_of account x ≡ true → quarter_total_shown x ≡ quarter_total_cells q
     → IsQuarterTotal account x q
 quarter_total_is account x q passes h =
-    let who = same_bytes x.account account passes in
+    let who = same_text x.account account passes in
     let year : x.year ≡ pos (quarter_year q.quarter) = cc in
     let quarter : x.quarter ≡ pos (quarter_number q.quarter) = cc in
     let cents : x.cents ≡ pos q.cents.0 = cc in
@@ -50,7 +51,7 @@ pub year_total_is : (account : List ℕ) (x : ReportedYearRow) (y : YearTotal)
     → is_reported_year_of account x ≡ true → year_total_shown x ≡ year_total_cells y
     → IsYearTotal account x y
 year_total_is account x y passes h =
-    let who = same_bytes x.account account passes in
+    let who = same_text x.account account passes in
     let year : x.year ≡ pos y.year = cc in
     let cents : x.cents ≡ pos y.cents.0 = cc in
     rw (who, year, cents) refl
@@ -59,8 +60,9 @@ pub numbered_run_is : (account : List ℕ) (from to : ℤ) (x : RunRow) (r : Num
     → is_run_between account from to x ≡ true → kept_run_shown x ≡ numbered_run_cells r
     → IsNumberedRun account x r
 numbered_run_is account from to x r passes h =
-    let a = both (bytes_eq x.account account) (int_le from x.payday && int_le x.payday to) passes in
-    let who = same_bytes x.account account a.0 in
+    let a = and_parts (bytes_eq x.account account) (int_le from x.payday && int_le x.payday to)
+    passes in
+    let who = same_text x.account account a.0 in
     let number : x.number ≡ pos r.number = cc in
     let payday : x.payday ≡ day_number r.run.value.payday = cc in
     let fit : x.fit ≡ pos r.run.value.fit.0 = cc in
@@ -73,9 +75,9 @@ pub numbered_payment_is : (account : List ℕ) (from to : ℤ) (x : PaymentRow) 
     → is_payment_between account from to x ≡ true
     → kept_payment_shown x ≡ numbered_payment_cells p → IsNumberedPayment account x p
 numbered_payment_is account from to x p passes h =
-    let a = both (bytes_eq x.account account) (int_le from x.for_day && int_le x.for_day to)
+    let a = and_parts (bytes_eq x.account account) (int_le from x.for_day && int_le x.for_day to)
     passes in
-    let who = same_bytes x.account account a.0 in
+    let who = same_text x.account account a.0 in
     let number : x.number ≡ pos p.number = cc in
     let paid : x.paid ≡ day_number p.payment.value.paid = cc in
     let for_day : x.for_day ≡ day_number p.payment.value.for_day = cc in

@@ -1,5 +1,5 @@
 -- Lists in another order, of which some items are kept.
-use Rattle.std.proofs.Common.{◌≡◌, ℕ, zero, suc, ◌<◌, List, [], ◌∷◌, Bool, true, false, inl, inr}
+use Rattle.std.proofs.Common.{◌≡◌, ℕ, zero, suc, ◌<◌, List, [], ◌∷◌, Bool, inl, inr}
 use Rattle.std.proofs.Common.{refl, sym, ap, ◌∙◌, subst, arith, length, get_or, set, swap}
 use Rattle.std.specs.Prelude.{filter}
 use Rattle.std.specs.List.Sorted.{IsPermutation}
@@ -7,30 +7,9 @@ use Rattle.std.proofs.lemmas.Bool.{cases_Bool}
 use Rattle.std.proofs.lemmas.List.Sorted.{IsPermutation-refl, IsPermutation-trans}
 use Rattle.std.proofs.lemmas.List.Sorted.{IsPermutation-cons, IsPermutation-middle}
 use Rattle.std.proofs.lemmas.List.Sorted.{IsPermutation-keeps}
-use Rattle.ftd_rules.specs.Lists.{Has}
+use Rattle.ftd_rules.proofs.Members.{filter_in, filter_out}
 
 -- ---- what a test keeps
-
-pub filter_in : {X : Type 0} (p : X → Bool) (x : X) (xs : List X) → p x ≡ true
-    → filter p (x ∷ xs) ≡ x ∷ filter p xs
-filter_in p x xs passes = rw passes refl
-
-pub filter_out : {X : Type 0} (p : X → Bool) (x : X) (xs : List X) → p x ≡ false
-    → filter p (x ∷ xs) ≡ filter p xs
-filter_out p x xs fails = rw fails refl
-
-pub keeps_has : {X : Type 0} (p : X → Bool) (xs : List X) (x : X) → Has xs x → p x ≡ true
-    → Has (filter p xs) x
-keeps_has p [] x has passes = absurd has
-keeps_has {X = X} p (y ∷ xs) x (inl is) passes = subst (λ (ys : List X). Has ys x)
-    (sym (filter_in p y xs (sym (ap p is) ∙ passes))) (inl is)
-keeps_has {X = X} p (y ∷ xs) x (inr has) passes =
-    elim (cases_Bool (p y)) [
-      | inl kept ↦ subst (λ (ys : List X). Has ys x) (sym (filter_in p y xs kept))
-          (inr (keeps_has p xs x has passes))
-      | inr left ↦ subst (λ (ys : List X). Has ys x) (sym (filter_out p y xs left))
-          (keeps_has p xs x has passes)
-    ]
 
 -- one test after another is the other after the one
 pub both_tests : {X : Type 0} (p q : X → Bool) (xs : List X) → filter p (filter q xs) ≡ filter q

@@ -1,10 +1,11 @@
 -- The day sums of the runs that a reading lists.
 use Rattle.std.proofs.Common.{◌≡◌, ◌<◌, ◌≤◌, ◌+◌, ℕ, pos, List, [], ◌∷◌, length, get_or, inl, inr}
-use Rattle.std.proofs.Common.{zero, suc, false, refl, ap, arith}
+use Rattle.std.proofs.Common.{zero, suc, false, ap, arith}
 use Rattle.std.specs.List.{sum_by}
 use Rattle.std.specs.List.Sorted.{IsNonDecreasingBy}
 use Rattle.std.proofs.lemmas.Int.{ints}
 use Rattle.std.proofs.lemmas.List.Sorted.{IsNonDecreasingBy-from_all_adjacent}
+use Rattle.ftd_store.proofs.Items.{pairs_length}
 use Rattle.ftd_tables.specs.Order.{EachToNext}
 use Rattle.ftd_schema.specs.Rows.{RunRow}
 use Rattle.ftd_schema.specs.Orders.{RunsRise}
@@ -24,13 +25,6 @@ at R (x ∷ xs) [] pairs k e d low = absurd pairs
 at R (x ∷ xs) (y ∷ ys) pairs zero e d low = pairs.0
 at R (x ∷ xs) (y ∷ ys) pairs (suc k) e d low = at R xs ys pairs.1 k e d (omega (arith, low))
 
-same_length : {X Y : Type 0} (R : X → Y → Type 0) (xs : List X) (ys : List Y) → Pairs R xs ys
-    → length xs ≡ length ys
-same_length R [] [] pairs = refl
-same_length R [] (y ∷ ys) pairs = absurd pairs
-same_length R (x ∷ xs) [] pairs = absurd pairs
-same_length R (x ∷ xs) (y ∷ ys) pairs = ap suc (same_length R xs ys pairs.1)
-
 -- the runs of rows that rise have paydays that rise
 paydays_rise : (account : List ℕ) (xs : List RunRow) (runs : List PayRun)
     → Pairs (IsLiveRun account) xs runs → EachToNext RunsRise xs
@@ -38,7 +32,7 @@ paydays_rise : (account : List ℕ) (xs : List RunRow) (runs : List PayRun)
 paydays_rise account xs runs pairs rise =
     IsNonDecreasingBy-from_all_adjacent (λ (r : PayRun). r.payday) runs (λ k d low.
     let e : RunRow = run_row account (pos 0) d false in
-    let long = same_length (IsLiveRun account) xs runs pairs in
+    let long = pairs_length (IsLiveRun account) xs runs pairs in
     let one = at (IsLiveRun account) xs runs pairs k e d (omega (arith, low)) in
     let next = at (IsLiveRun account) xs runs pairs (k + 1) e d low in
     no_later (get_or xs k e) (get_or xs (k + 1) e) (get_or runs k d) (get_or runs (k + 1) d)

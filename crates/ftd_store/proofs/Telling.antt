@@ -12,12 +12,12 @@ use Rattle.ftd_tables.specs.Kept.{changed}
 use Rattle.ftd_schema.specs.declared.TableName.{TableName}
 use Rattle.ftd_schema.specs.Rows.{RowOf}
 use Rattle.ftd_schema.specs.Standing.{Tables, Stands, with_rows}
-use Rattle.ftd_schema.proofs.Controls.{unchanged_then}
 use Rattle.ftd_schema.proofs.Meanings as meaning
 use Rattle.ftd_rows.specs.declared.faults.StoreFault.{StoreFault}
 use Rattle.ftd_rows.specs.Cells.{count_cells}
 use Rattle.ftd_tables.proofs.Counting.{greatest_count}
 use Rattle.sqlite.specs.declared.types.Value.TheVariants.{Int}
+use Rattle.sqlite.proofs.Callers.{unchanged_then}
 use Rattle.ftd_rows.specs.Reading.{rows_of}
 use Rattle.ftd_rows.specs.Lists.{Lists}
 use Rattle.ftd_rows.proofs.Found.{only_shown}

@@ -72,7 +72,8 @@ module _ {S : Type 0} (g : store.Ghosts S) where
   pub turns_then : {A B C : Type 0} (old mid new : Tx S) (x : A) (y : B) (z : C) (First : A → Tables
       → Tables → Type 0) (Second : B → Tables → Tables → Type 0) (Both : C → Tables → Tables
       → Type 0)
-      → ((t u v : Tables) → First x t u → Second y u v → Both z t v) → Rewrites g old mid (Ok x) First
+      → ((t u v : Tables) → First x t u → Second y u v → Both z t v)
+      → Rewrites g old mid (Ok x) First
       → Rewrites g mid new (Ok y) Second → Rewrites g old new (Ok z) Both
   turns_then old mid new x y z First Second Both tells p q = record {
     frame = then_goes g old mid new x y z p.frame q.frame;

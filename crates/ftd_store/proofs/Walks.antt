@@ -1,7 +1,7 @@
 -- What a reading shows whose rows are given one at a time.
 use Rattle.std.proofs.Common.{◌≡◌, ℕ, ℤ, List, [], ◌∷◌, ◌++◌, map, Option, None, Some, Result, Ok}
 use Rattle.std.proofs.Common.{Err, inl, inr, refl, sym, ap, subst, ◌∙◌}
-use Rattle.std.specs.Prelude.{filter, IsSome, IfOk, OnErr}
+use Rattle.std.specs.Prelude.{filter, IsSome, OnErr}
 use Rattle.sqlite.specs.Store as store
 use Rattle.sqlite.specs.Effect.{Database}
 use Rattle.sqlite.specs.Order.{Row}
@@ -75,11 +75,6 @@ first_listed account from to s same listed t stands begins =
     first_shown ObligationsRise (IsObligation account) (is_obligation_between account from to)
     obligation_shown obligation_cells (obligation_is account from to) (t Obligations) read.0 listed
     whole.0 read.1 read.3 read.2
-
-pub if_ok : {A E : Type 0} (r : Result A E) (P Q : A → Type 0) → ((x : A) → P x → Q x) → IfOk r P
-    → IfOk r Q
-if_ok (Ok x) P Q so h = so x h
-if_ok (Err e) P Q so h = tt
 
 -- ---- a reading that is under way
 

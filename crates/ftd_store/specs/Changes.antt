@@ -11,7 +11,8 @@ use Rattle.ftd_schema.specs.declared.TableName.TheVariants.{ChangedHolidays, Cor
 use Rattle.ftd_schema.specs.Rows.{RowOf, YearRow}
 use Rattle.ftd_schema.specs.Standing.{Tables, with_rows}
 use Rattle.ftd_schema.specs.Tests.{is_run, voided_run, is_payment, voided_payment}
-use Rattle.ftd_schema.specs.Tests.{is_obligation_between, is_obligation, with_terms, with_due, is_year}
+use Rattle.ftd_schema.specs.Tests.{is_obligation_between, is_obligation, with_terms, with_due}
+use Rattle.ftd_schema.specs.Tests.{is_year}
 use Rattle.ftd_days.specs.Calendar.{year_of}
 use Rattle.ftd_days.specs.declared.cents.Cents.{Cents}
 use Rattle.ftd_rules.specs.declared.Form.{Form}

@@ -14,8 +14,8 @@ use Rattle.ftd_schema.specs.Tests.{is_calendar_year, is_holiday_of, is_year_of, 
 use Rattle.ftd_schema.specs.Tests.{is_live_run_between, is_payment, is_payment_of}
 use Rattle.ftd_schema.specs.Tests.{is_live_payment_between, is_obligation_between, is_due_over}
 use Rattle.ftd_schema.specs.Tests.{is_due_between, is_account_correction_of}
-use Rattle.ftd_schema.specs.Orders.{HolidaysRise, YearsRise, RunsRise, PaymentsRise, ObligationsRise}
-use Rattle.ftd_schema.specs.Orders.{AccountsRise, AccountCorrectionsRise}
+use Rattle.ftd_schema.specs.Orders.{HolidaysRise, YearsRise, RunsRise, PaymentsRise}
+use Rattle.ftd_schema.specs.Orders.{ObligationsRise, AccountsRise, AccountCorrectionsRise}
 use Rattle.ftd_days.specs.Calendar.{quarter_year, quarter_number}
 use Rattle.ftd_days.specs.declared.cents.Cents.{Cents}
 use Rattle.ftd_rules.specs.declared.DaySum.{DaySum}
@@ -45,8 +45,8 @@ use Rattle.ftd_store.specs.Corrections.{IsAccountCorrection}
 abbrev pub FindsAccount : List ℕ → Option Account → Tables → Type 0
 FindsAccount name found t = filter (is_account name) (t Accounts) ≡ rows_of (account_row name) found
 
--- the account as its last correction has it, or as it was enrolled where there is none; None where it
--- was not enrolled
+-- the account as its last correction has it, or as it was enrolled where there is none; None where
+-- it was not enrolled
 pub record FindsInForce (name : List ℕ) (found : Option Account) (t : Tables) : Type 0 where
   pub enrolled : Option Account
   pub is_enrolled : FindsAccount name enrolled t

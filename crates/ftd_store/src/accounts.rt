@@ -7,7 +7,7 @@ ghost use Rattle.ftd_store.specs.Frame.{Reads, Writes};
 use crate::tx::Tx;
 use ftd_rows::{Account, StoreFault, StoredDay, StoredFlag, StoredForm, as_corrected};
 use ftd_rules::Form;
-use ftd_schema::texts;
+use ftd_schema::{TableName, texts};
 use sqlite::{Alter, params};
 use std::alloc::Global;
 
@@ -39,7 +39,7 @@ impl<'store, S: Alter> Tx<'store, S> {
     {
         let start = StoredDay(account.start);
         let carried = StoredFlag(account.carried);
-        self.add(texts::ADD_ACCOUNT, params![name, start, carried])
+        self.add(TableName::Accounts, params![name, start, carried])
     }
 
     /// The form of the account, or None where it has none.
@@ -53,6 +53,6 @@ impl<'store, S: Alter> Tx<'store, S> {
     pub fn add_form(&mut self, account: &str, form: Form) -> Result<(), StoreFault>
         ensures call { Writes S.Store self.old self.new result (with_form account.now form) }
     {
-        self.add(texts::ADD_FORM, params![account, StoredForm(form)])
+        self.add(TableName::Forms, params![account, StoredForm(form)])
     }
 }

@@ -9,7 +9,7 @@ ghost use Rattle.ftd_store.specs.Frame.{Reads, Writes};
 use crate::tx::Tx;
 use ftd_days::Day;
 use ftd_rows::{StoreFault, StoredDay};
-use ftd_schema::texts;
+use ftd_schema::{TableName, texts};
 use sqlite::{Alter, params};
 use std::alloc::Global;
 
@@ -38,14 +38,14 @@ impl<'store, S: Alter> Tx<'store, S> {
         ensures call { Writes S.Store self.old self.new result (adding CalendarYears
             (calendar_year_row year)) }
     {
-        self.add(texts::ADD_CALENDAR_YEAR, params![year])
+        self.add(TableName::CalendarYears, params![year])
     }
 
     fn add_holiday(&mut self, year: u32, day: Day) -> Result<(), StoreFault>
         ensures call { Writes S.Store self.old self.new result (adding Holidays
             (holiday_row year day)) }
     {
-        self.add(texts::ADD_HOLIDAY, params![StoredDay(day), year])
+        self.add(TableName::Holidays, params![StoredDay(day), year])
     }
 
     /// Gives the year's calendar: the year itself, and its holidays. `Failed` where the year or one
@@ -73,6 +73,6 @@ impl<'store, S: Alter> Tx<'store, S> {
         ensures call { Writes S.Store self.old self.new result (with_added_holiday day) }
     {
         let year = day.year();
-        self.add(texts::ADD_ADDED_HOLIDAY, params![StoredDay(day), year])
+        self.add(TableName::AddedHolidays, params![StoredDay(day), year])
     }
 }

@@ -14,7 +14,7 @@ use ftd_rows::{
     AccountCorrection, Correction, HolidayChange, QuarterCorrection, StoreFault, StoredCents,
     StoredDay, StoredFlag, YearCorrection,
 };
-use ftd_schema::texts;
+use ftd_schema::{TableName, texts};
 use sqlite::{Alter, params};
 use std::alloc::Global;
 
@@ -64,7 +64,7 @@ impl<'store, S: Alter> Tx<'store, S> {
             cents: correction.cents,
         };
         self.add(
-            texts::ADD_CORRECTED,
+            TableName::CorrectedQuarters,
             params![account, year, part, correction.number, cents],
         )
     }
@@ -109,7 +109,7 @@ impl<'store, S: Alter> Tx<'store, S> {
             cents: correction.cents,
         };
         self.add(
-            texts::ADD_CORRECTED_YEAR,
+            TableName::CorrectedYears,
             params![account, year, correction.number, cents],
         )
     }
@@ -143,7 +143,7 @@ impl<'store, S: Alter> Tx<'store, S> {
         let start = StoredDay(corrected.start);
         let carried = StoredFlag(corrected.carried);
         self.add(
-            texts::ADD_CORRECTED_ACCOUNT,
+            TableName::CorrectedAccounts,
             params![account, number, start, carried],
         )
     }
@@ -168,7 +168,7 @@ impl<'store, S: Alter> Tx<'store, S> {
         let day = StoredDay(change.day);
         let is_holiday = StoredFlag(change.is_holiday);
         self.add(
-            texts::ADD_CHANGED_HOLIDAY,
+            TableName::ChangedHolidays,
             params![day, change.number, is_holiday, year],
         )
     }

@@ -15,7 +15,7 @@ use crate::tx::Tx;
 use ftd_days::Day;
 use ftd_rows::{AccountObligation, StoreFault, StoredCents, StoredDay, StoredRule};
 use ftd_rules::Obligation;
-use ftd_schema::texts;
+use ftd_schema::{TableName, texts};
 use sqlite::{Alter, params};
 use std::alloc::Global;
 
@@ -60,7 +60,7 @@ impl<'store, S: Alter> Tx<'store, S> {
         };
         let due = StoredDay(obligation.due);
         self.add(
-            texts::ADD_OBLIGATION,
+            TableName::Obligations,
             params![account, first, last, rule, cents, due],
         )
     }

@@ -12,7 +12,7 @@ use crate::tx::Tx;
 use ftd_days::Day;
 use ftd_rows::{StoreFault, StoredCents, StoredDay, StoredFlag};
 use ftd_rules::{Payment, Voidable};
-use ftd_schema::texts;
+use ftd_schema::{TableName, texts};
 use sqlite::{Alter, params};
 use std::alloc::Global;
 
@@ -54,7 +54,7 @@ impl<'store, S: Alter> Tx<'store, S> {
         };
         let voided = StoredFlag(false);
         self.add(
-            texts::ADD_PAYMENT,
+            TableName::Payments,
             params![account, number, paid, for_day, cents, voided],
         )
     }

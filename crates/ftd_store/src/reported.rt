@@ -8,7 +8,7 @@ ghost use Rattle.ftd_store.specs.Frame.{Reads, Writes};
 use crate::tx::Tx;
 use ftd_days::{Cents, Quarter};
 use ftd_rows::{StoreFault, StoredCents};
-use ftd_schema::texts;
+use ftd_schema::{TableName, texts};
 use sqlite::{Alter, params};
 
 impl<'store, S: Alter> Tx<'store, S> {
@@ -36,7 +36,7 @@ impl<'store, S: Alter> Tx<'store, S> {
         let year = quarter.year();
         let number = u32::from(quarter.number());
         self.add(
-            texts::ADD_REPORTED,
+            TableName::ReportedQuarters,
             params![account, year, number, StoredCents { cents }],
         )
     }
@@ -60,7 +60,7 @@ impl<'store, S: Alter> Tx<'store, S> {
             (with_reported_year account.now year cents) }
     {
         self.add(
-            texts::ADD_REPORTED_YEAR,
+            TableName::ReportedYears,
             params![account, year, StoredCents { cents }],
         )
     }

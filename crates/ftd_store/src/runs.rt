@@ -12,7 +12,7 @@ use crate::tx::Tx;
 use ftd_days::Day;
 use ftd_rows::{StoreFault, StoredCents, StoredDay, StoredFlag, sums_of};
 use ftd_rules::{DaySum, PayRun, Voidable};
-use ftd_schema::texts;
+use ftd_schema::{TableName, texts};
 use sqlite::{Alter, params};
 use std::alloc::Global;
 
@@ -49,7 +49,7 @@ impl<'store, S: Alter> Tx<'store, S> {
         };
         let voided = StoredFlag(false);
         self.add(
-            texts::ADD_RUN,
+            TableName::Runs,
             params![account, number, payday, fit, ss, medicare, voided],
         )
     }

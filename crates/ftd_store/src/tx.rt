@@ -5,10 +5,8 @@ ghost use Rattle.std.specs.Prelude.{◌∷◌, IsTrue, IfOk, OnOk, OnErr, Err, O
 ghost use Rattle.sqlite.specs.State.{HasCleanDisk, Survives, Shows, Executes};
 ghost use Rattle.sqlite.specs.Values.{bound};
 ghost use Rattle.ftd_tables.specs.TextKinds.{IsRowText, IsReadText};
-ghost use Rattle.ftd_schema.specs.declared.TableName.{TableName};
 ghost use Rattle.ftd_schema.specs.Rows.{RowOf, cells_of};
 ghost use Rattle.ftd_schema.specs.States.{CrashKeeps};
-ghost use Rattle.ftd_schema.specs.Making.{add_of};
 ghost use Rattle.ftd_rows.specs.Cells.{count_cells};
 ghost use Rattle.ftd_rows.specs.Reading.{rows_of};
 ghost use Rattle.ftd_store.specs.Seen.{seen, shown};
@@ -18,6 +16,7 @@ ghost use Rattle.ftd_store.specs.Changes.{adding};
 
 use crate::store::Store;
 use ftd_rows::{FromRow, StoreFault, all, only};
+use ftd_schema::TableName;
 use sqlite::types::ValueRef;
 use sqlite::{Alter, Row};
 use std::alloc::Global;
@@ -150,14 +149,16 @@ impl<'store, S: Alter> Tx<'store, S> {
         }
     }
 
-    // adds the row whose cells are given to the table that the text is for
-    pub(crate) fn add(&mut self, sql: &str, params: &[ValueRef<'_>]) -> Result<(), StoreFault>
-        requires of_table { (table : TableName) × (sql.now ≡ add_of table) }
-        ensures call { (table : TableName) (row : RowOf table) → sql.now ≡ add_of table
-            → bound params.now ≡ cells_of table row
+    // adds the row whose cells are given to the table
+    pub(crate) fn add(
+        &mut self,
+        table: TableName,
+        params: &[ValueRef<'_>],
+    ) -> Result<(), StoreFault>
+        ensures call { (row : RowOf table) → bound params.now ≡ cells_of table row
             → Writes S.Store self.old self.new result (adding table row) }
     {
-        self.change(sql, params)?;
+        self.change(table.adding(), params)?;
         Ok(())
     }
 

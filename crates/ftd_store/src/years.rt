@@ -8,7 +8,7 @@ ghost use Rattle.ftd_store.specs.Frame.{Reads, Writes};
 use crate::tx::Tx;
 use ftd_rows::{StoreFault, StoredCents, StoredSchedule, StoredYear, open_years, stored_turn};
 use ftd_rules::YearLine;
-use ftd_schema::texts;
+use ftd_schema::{TableName, texts};
 use sqlite::{Alter, params};
 use std::alloc::Global;
 
@@ -44,6 +44,6 @@ impl<'store, S: Alter> Tx<'store, S> {
         if self.change_any(texts::SET_YEAR, cells)? {
             return Ok(());
         }
-        self.add(texts::ADD_YEAR, cells)
+        self.add(TableName::Years, cells)
     }
 }

@@ -49,16 +49,6 @@ grown_then a b c g h = record {
 pub grown_keeps : (a b : Database) → Grown a b → KeepsTables a b
 grown_keeps a b g = λ name t at place. (g.places name t at place, g.rows name t at place)
 
-pub grown_self : (a : Database) → Grown a a
-grown_self a = record {
-  places = λ name t at place. place;
-  rows = λ name t at place. refl;
-  spared = λ tree low s. s;
-  next = omega arith;
-  unnamed = λ name u. u;
-  counted = λ none. none;
-}
-
 unnamed_kept : (s : Schema) (t : Table) (name : List ℕ) → AllByRecursion HasNoAction t.references
     → IsUnnamed s name → IsUnnamed (created s t) name
 unnamed_kept s t name none h =

@@ -120,10 +120,6 @@ pub text_is : (a b : List ℕ) → is_true (binary (Compare Eq Binary) (Text a) 
 unfolding binary
 text_is a b = ap (λ c. is_true (from_truth (Some c))) (same_text a b) ∙ truth_is (bytes_eq a b)
 
-pub and_true : (b : Bool) → (b && true) ≡ b
-and_true true = refl
-and_true false = refl
-
 -- ---- the casts of STRICT columns
 
 either : (b : Bool) (x : Value) → cond b x x ≡ x

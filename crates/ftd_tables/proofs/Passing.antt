@@ -19,8 +19,9 @@ use Rattle.std.specs.Cmp.{int_ranked}
 use Rattle.std.specs.Cmp.Lexicographic.{slice_cmp}
 use Rattle.std.specs.FinMap.{slice_cmp-IsAntisymmetric, nat_cmp-IsAntisymmetric}
 use Rattle.std.proofs.lemmas.Cmp.{nat_list_cmp_total}
+use Rattle.std.proofs.Math.Bool.{and-true}
 use Rattle.sqlite.specs.Order.{value_cmp}
-use Rattle.ftd_tables.proofs.KeptLemmas.{truth_is, and_true}
+use Rattle.ftd_tables.proofs.KeptLemmas.{truth_is}
 
 from_is : (m n : ℤ) → is_ge (int_cmp m n) ≡ int_le n m
 from_is (pos m) (pos n) = grind (arith, nat_tests)
@@ -68,18 +69,18 @@ le_if (negsuc m) (negsuc n) h = grind (arith, nat_tests, ints)
 
 -- tests joined by AND
 pub one_passes : (a x : Bool) → a ≡ x → (a && true) ≡ x
-one_passes a x e = and_true a ∙ e
+one_passes a x e = and-true a ∙ e
 
 pub two_pass : (a b x y : Bool) → a ≡ x → b ≡ y → (a && (b && true)) ≡ (x && y)
-two_pass a b x y e f = rw (e, f, and_true y) refl
+two_pass a b x y e f = rw (e, f, and-true y) refl
 
 pub three_pass : (a b c x y z : Bool) → a ≡ x → b ≡ y → c ≡ z
     → (a && (b && (c && true))) ≡ (x && (y && z))
-three_pass a b c x y z e f g = rw (e, f, g, and_true z) refl
+three_pass a b c x y z e f g = rw (e, f, g, and-true z) refl
 
 pub four_pass : (a b c d x y z w : Bool) → a ≡ x → b ≡ y → c ≡ z → d ≡ w
     → (a && (b && (c && (d && true)))) ≡ (x && (y && (z && w)))
-four_pass a b c d x y z w e f g h = rw (e, f, g, h, and_true w) refl
+four_pass a b c d x y z w e f g h = rw (e, f, g, h, and-true w) refl
 
 -- ---- what an order says of two rows that follow one another
 

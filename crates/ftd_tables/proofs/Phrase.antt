@@ -3,6 +3,7 @@ use Rattle.std.proofs.Common.{◌≡◌, ℕ, zero, suc, List, [], ◌∷◌, co
 use Rattle.std.proofs.Common.{refl, sym, ap, cond, ◌∙◌, Bool, true, false, slice_get}
 use Rattle.std.specs.Prelude.{is_some, ◌&&◌, option_and_then, option_map, unwrap_or, if◌then◌else◌}
 use Rattle.std.specs.Prelude.{◌==◌}
+use Rattle.std.proofs.lemmas.Bool.{and_parts}
 use Rattle.sqlite.specs.Schema.{Schema}
 use Rattle.sqlite.specs.Table.{Table}
 use Rattle.sqlite.specs.Term.{Term, lit, col, op1, op2, case}
@@ -105,14 +106,6 @@ bind_same {A = A} {B = B} p q f g same each st = ap (λ r. and_then r (λ x. f x
 
 abbrev pub Alike : {A : Type 0} → Lowering A → Lowering A → Type 0
 Alike p q = (st : State) → p st ≡ q st
-
-pub and_left : (a b : Bool) → (a && b) ≡ true → a ≡ true
-and_left true b h = refl
-and_left false b h = h
-
-pub and_right : (a b : Bool) → (a && b) ≡ true → b ≡ true
-and_right true b h = h
-and_right false b h = absurd cc
 
 module _ (s : Schema) (at : ℕ) (t : Table) (listed : slice_get s.tables at ≡ Some t) (name : Name)
     (shown : List Output) (may : Bool) where
@@ -222,8 +215,8 @@ module _ (s : Schema) (at : ℕ) (t : Table) (listed : slice_get s.tables at ≡
   lower_same (suc d) (Two op a b) known =
       let cx = here s at name shown may in
       let dx = here (alone t) 0 name shown may in
-      let left = lower_same d a (and_left (knows t a) (knows t b) known) in
-      let right = lower_same d b (and_right (knows t a) (knows t b) known) in
+      let left = lower_same d a (and_parts (knows t a) (knows t b) known).0 in
+      let right = lower_same d b (and_parts (knows t a) (knows t b) known).1 in
       let f = λ (y : Phrase). lower_to d cx (say y) in
       let g = λ (y : Phrase). lower_to d dx (say y) in
       let done = λ (k : Context) (x : Term) (p : Carried) (y : Term) (q : Carried). combine k

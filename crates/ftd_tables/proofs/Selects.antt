@@ -2,6 +2,7 @@
 use Rattle.std.proofs.Common.{◌≡◌, ℕ, List, [], ◌∷◌, ◌++◌, map, Option, Some, None, Ok, refl, ap}
 use Rattle.std.proofs.Common.{◌∙◌, Bool, true, false, slice_get, length, negsuc}
 use Rattle.std.specs.Prelude.{not, is_some, ◌&&◌, ◌==◌}
+use Rattle.std.proofs.lemmas.Bool.{and_parts}
 use Rattle.sqlite.specs.Schema.{Schema}
 use Rattle.sqlite.specs.Table.{Table}
 use Rattle.sqlite.specs.Command.TheVariants.{Select}
@@ -47,7 +48,7 @@ use Rattle.ftd_tables.proofs.Meaning.{IsAccepted, Means, means, program_is}
 use Rattle.sqlite_tied.specs.Compute.{everything}
 use Rattle.ftd_tables.proofs.Opened.{opened_ast, opened_select, opened_query}
 use Rattle.ftd_tables.proofs.Phrase.{Phrase, Column, Given, Whole, Rows, Two, say, knows, here}
-use Rattle.ftd_tables.proofs.Phrase.{alone, Alike, bind_same, lower_same, and_left, and_right}
+use Rattle.ftd_tables.proofs.Phrase.{alone, Alike, bind_same, lower_same}
 
 -- a column of the result with no alias: the expression and its text
 abbrev pub show : Phrase × List ℕ → Shown
@@ -271,8 +272,8 @@ module _ (s : Schema) (at : ℕ) (t : Table) (listed : slice_get s.tables at ≡
       (shown lower dx (bound 0 name ∷ []) done (show x))
       (λ longer. outputs_from lower cx (bound at name ∷ []) longer (map show more))
       (λ longer. outputs_from lower dx (bound 0 name ∷ []) longer (map show more))
-      (shown_same done x (and_left (knows t x.0) (all_known t more) known))
-      (λ longer. outputs_from_same longer more (and_right (knows t x.0) (all_known t more) known))
+      (shown_same done x (and_parts (knows t x.0) (all_known t more) known).0)
+      (λ longer. outputs_from_same longer more (and_parts (knows t x.0) (all_known t more) known).1)
 
   outputs_same : (columns : List (Phrase × Name)) → all_known t columns ≡ true → (st : State)
       → outputs lower (here s at name [] true) (bound at name ∷ []) (map show columns) st
@@ -311,8 +312,8 @@ module _ (s : Schema) (at : ℕ) (t : Table) (listed : slice_get s.tables at ≡
         bind_same (Order.sort lower cx outs done (sort x)) (Order.sort lower dx outs done (sort x))
         (λ longer. sorts_from lower cx outs longer (map sort more))
         (λ longer. sorts_from lower dx outs longer (map sort more))
-        (sort_same done x (and_left (knows t x.0) (all_known t more) known))
-        (λ longer. sorts_from_same longer more (and_right (knows t x.0) (all_known t more) known))
+        (sort_same done x (and_parts (knows t x.0) (all_known t more) known).0)
+        (λ longer. sorts_from_same longer more (and_parts (knows t x.0) (all_known t more) known).1)
 
     sorts_same : (order : List (Phrase × Bool)) → all_known t order ≡ true → (st : State)
         → sorts lower (here s at name outs may) outs (map sort order) st ≡ sorts lower

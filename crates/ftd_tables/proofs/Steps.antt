@@ -1,9 +1,9 @@
 -- What one INSERT, UPDATE or DELETE does to the trees, for any table with no counter, whose rows no
 -- foreign key acts on.
-use Rattle.std.proofs.Common.{◌≡◌, ◌⊎◌, inl, inr, ℕ, List, [], ◌∷◌, map, slice_get, Bool, true}
-use Rattle.std.proofs.Common.{false, cond, Some, None, Option, Ok, Err, Result, refl, sym, ap}
+use Rattle.std.proofs.Common.{◌≡◌, ◌⊎◌, inl, inr, ℕ, List, [], ◌∷◌, map, slice_get}
+use Rattle.std.proofs.Common.{cond, Some, None, Option, Ok, Err, Result, refl, sym, ap}
 use Rattle.std.proofs.Common.{subst, ◌∙◌, length, append-nil, ◌≢◌, arith, drop, unwrap_or}
-use Rattle.std.specs.Prelude.{flat_map, ◌/◌, ◌&&◌, ◌==◌}
+use Rattle.std.specs.Prelude.{◌/◌, ◌&&◌, ◌==◌}
 use Rattle.std.specs.List.{filter_map}
 use Rattle.sqlite.specs.Order.{Row}
 use Rattle.sqlite.specs.Term.{Term}
@@ -16,11 +16,9 @@ use Rattle.sqlite.specs.Program.{overlay}
 use Rattle.sqlite.specs.declared.types.Value.TheVariants.{Null}
 use Rattle.sqlite.specs.Cast.{cast_row}
 use Rattle.sqlite_rules.specs.Calls.{ids_of}
-use Rattle.sqlite_schema.specs.Rules.{parent_key}
-use Rattle.sqlite_rules.specs.Action.{pairs, deed_for}
-use Rattle.std.proofs.lemmas.Bool.{ne_eqb}
 use Rattle.std.proofs.lemmas.List.{length-map}
 use Rattle.std.specs.List.{AllByRecursion}
+use Rattle.std.proofs.Math.Bool.{and-false}
 use Rattle.sqlite.specs.Edit.{Edit, edit_of, Applies, taken_by, numbered, id_in}
 use Rattle.sqlite.specs.Rowids.TheVariants.{Chosen, Given}
 use Rattle.sqlite.specs.Tree.{Trees, put_row, rowid, without_rowid}
@@ -38,10 +36,6 @@ use Rattle.sqlite_schema.specs.declared.schema.Column.{Column}
 use Rattle.sqlite.proofs.Callers.{one_step}
 use Rattle.ftd_tables.specs.Tables.{a_table}
 use Rattle.sqlite_trees.proofs.ListLemmas.{flat_map_none}
-
-and_false : (b : Bool) → (b && false) ≡ false
-and_false true = refl
-and_false false = refl
 
 pub went : {B E R : Type 0} {b : B} {Stops : E → Type 0}
     → ((stop : E) × Stops stop × (Ok b ≡ Err stop)) ⊎ R → R
@@ -66,7 +60,7 @@ no_moves depth tree child ref (Some deed) (Some key) =
       order = key.2;
       deed = deed;
       moves = [];
-    })) None) (and_false (key.0 == tree))
+    })) None) (and-false (key.0 == tree))
 
 none_at : {X Y : Type 0} (f : X → Option Y) → ((x : X) → f x ≡ None) → (xs : List X)
     → filter_map f xs ≡ []
@@ -118,32 +112,6 @@ inserted old new at width name columns key references tree terms text params cou
     )
 
 -- ---- rows that are taken out or changed
-
-not_here : (tree : ℕ) (child : Table) (ref : Reference) (moves : List (Row × Row))
-    (deed : Option Deed) (key : Option ParentKey)
-    → ((k : ParentKey) → key ≡ Some k → k.0 ≢ tree) → work_by 0 tree moves child ref deed key ≡ None
-not_here tree child ref moves None key away = refl
-not_here tree child ref moves (Some deed) None away = refl
-not_here tree child ref moves (Some deed) (Some key) away =
-    rw (ne_eqb key.0 tree (away key refl)) refl
-
-pub quiet_others : (schema : Schema) (tree : ℕ) (olds news : List Row) (tables : List Table)
-    → AllByRecursion
-    (λ t. AllByRecursion (λ r. (k : ParentKey) → parent_key schema.tables r ≡ Some k → k.0 ≢ tree)
-    t.references) tables
-    → flat_map (λ (child : Table). filter_map (work_for schema Enforced 0 tree olds news child)
-    child.references) tables ≡ []
-quiet_others schema tree olds news [] h = refl
-quiet_others schema tree olds news (t ∷ more) h =
-    rw (each t.references h.0, quiet_others schema tree olds news more h.1) refl
-  where
-    each : (refs : List Reference)
-        → AllByRecursion (λ r. (k : ParentKey) → parent_key schema.tables r ≡ Some k → k.0 ≢ tree)
-        refs → filter_map (work_for schema Enforced 0 tree olds news t) refs ≡ []
-    each [] none = refl
-    each (r ∷ refs) none =
-        rw (not_here tree t r (pairs olds news) (deed_for Enforced (length news == 0) r)
-        (parent_key schema.tables r) none.0) (each refs none.1)
 
 pub deleted : (old new : State) (at : ℕ) (name : List ℕ) (columns : List Column) (key : List ℕ)
     (references : List Reference) (tree : ℕ) (q : Query) (text : List ℕ) (params : Row) (count : ℕ)

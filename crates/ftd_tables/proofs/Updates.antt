@@ -1,6 +1,7 @@
 -- What an UPDATE means, wherever the table stands.
 use Rattle.std.proofs.Common.{◌≡◌, ℕ, List, [], ◌∷◌, ◌++◌, ◌∙◌, map, Option, Some, None, Ok, Err}
 use Rattle.std.proofs.Common.{refl, ap, true, false, slice_get}
+use Rattle.std.proofs.lemmas.Bool.{and_parts}
 use Rattle.sqlite.specs.Schema.{Schema}
 use Rattle.sqlite.specs.Table.{Table}
 use Rattle.sqlite.specs.Command.TheVariants.{Update}
@@ -20,7 +21,6 @@ use Rattle.sqlite_resolve.specs.Compile.{timed, returning, shows, command, updat
 use Rattle.sqlite_resolve.specs.Program.{program}
 use Rattle.ftd_tables.specs.Places.{IsAt}
 use Rattle.ftd_tables.proofs.Phrase.{Phrase, say, knows, here, alone, Alike, bind_same, lower_same}
-use Rattle.ftd_tables.proofs.Phrase.{and_left, and_right}
 use Rattle.ftd_tables.specs.TextKinds.{IsReadAs}
 use Rattle.ftd_tables.proofs.Meaning.{IsAccepted, Means, means, program_is}
 use Rattle.ftd_tables.proofs.Selects.{all_known}
@@ -50,8 +50,9 @@ module _ (s : Schema) (at : ℕ) (t : Table) (listed : slice_get s.tables at ≡
       (λ p. (lower dx (say x.0) >>= next dx p) st)
       (λ p. bind_same (lower cx (say x.0)) (lower dx (say x.0)) (next cx p) (next dx p)
       (lower_same s at t listed t.name [] false 700 x.0
-      (and_left (knows t x.0) (all_known t more) known))
-      (λ v. sets_same (p, done.1 ++ v ∷ []) more (and_right (knows t x.0) (all_known t more) known))
+      (and_parts (knows t x.0) (all_known t more) known).0)
+      (λ v. sets_same (p, done.1 ++ v ∷ []) more
+      (and_parts (knows t x.0) (all_known t more) known).1)
       st)
 
   assigned_same : (all : List (Phrase × Name)) → all_known t all ≡ true → (st : State)

@@ -5,11 +5,11 @@ use Rattle.clap.specs.Words.{Row, Text}
 use Rattle.ftd_csv.specs.declared.sheets.Sheet.{Sheet}
 use Rattle.ftd_csv.specs.declared.sheets.Sheet.TheVariants as sheets
 use Rattle.ftd_days.specs.Calendar.{last_day}
-use Rattle.ftd_machine.specs.declared.requests.Kept.{Kept}
 use Rattle.ftd_machine.specs.declared.requests.Kept.TheVariants as kept
 use Rattle.ftd_machine.specs.declared.requests.Question.TheVariants as question
 use Rattle.ftd_machine.specs.declared.requests.Request.{Request}
 use Rattle.ftd_machine.specs.declared.requests.Request.TheVariants as request
+use Rattle.ftd_machine.specs.Questions.{kept_asked}
 use Rattle.ftd_formats.specs.declared.formats.Format.{Format}
 use Rattle.ftd_formats.specs.declared.formats.Format.TheVariants as formats
 use Rattle.ftd_formats.specs.declared.formats.ListFormat.TheVariants as list_formats
@@ -184,10 +184,6 @@ schedule_b_of rows =
     then_with (text_in word.Account rows) (λ account.
     then_with (quarter_in word.Quarter rows) (λ quarter.
     Ok (request.Question (question.ScheduleB account quarter))))
-
--- what is kept
-abbrev pub kept_asked : Kept → Request
-kept_asked asked = request.Question (question.Kept asked)
 
 unfoldable pub years_of : List Row → Result Request WordFault
 years_of rows =

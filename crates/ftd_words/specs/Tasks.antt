@@ -8,13 +8,15 @@ use Rattle.clap.specs.Words.{IsAmong, Kinds, Row, Text, fault_of, subcommand_of}
 use Rattle.clap.specs.declared.error.ErrorKind.{ErrorKind}
 use Rattle.clap.specs.declared.error.ErrorKind.TheVariants as kind
 use Rattle.ftd_words.specs.Apps.{ftd_app}
-use Rattle.ftd_words.specs.Asking.{Wanted, ask, ask_next, import, plain, serve, wanted_of}
+use Rattle.ftd_words.specs.Asking.{Wanted, ask, ask_next, import, plain, serve, then_with}
+use Rattle.ftd_words.specs.Asking.{wanted_of}
 use Rattle.ftd_words.specs.Escapes.{escaped, escaped_word}
 use Rattle.ftd_commands.specs.Table.{all_names, name_text}
-use Rattle.ftd_words.specs.Values.{bad_value}
+use Rattle.ftd_words.specs.Values.{bad_value, text_in, whole_in}
 use Rattle.ftd_words.specs.declared.fault.WordFault.{WordFault}
 use Rattle.ftd_words.specs.declared.fault.WordFault.TheVariants as values
 use Rattle.ftd_commands.specs.declared.table.Name.{Name}
+use Rattle.ftd_commands.specs.declared.table.Word.TheVariants as word
 use Rattle.ftd_words.specs.declared.tasks.CliFault.{CliFault}
 use Rattle.ftd_words.specs.declared.tasks.CliFault.TheVariants as fault
 use Rattle.ftd_words.specs.declared.tasks.Job.{Job}
@@ -59,6 +61,13 @@ job_view db wait (job.Import sheet file is_trial) =
     import db wait sheet is_trial (string_bytes file)
 job_view db wait (job.Ask format request) = ask db wait format request
 job_view db wait (job.AskNext request) = ask_next db wait request
+
+-- the job, with the desk in the database
+abbrev pub in_database : List Row → Job → Result Wanted WordFault
+in_database rows asked =
+    then_with (text_in word.Db rows) (λ db.
+    then_with (whole_in word.Wait rows) (λ wait.
+    Ok (job_view db wait asked)))
 
 abbrev pub task_view : Task → Wanted
 task_view (task.Plain asked) = plain asked.account asked.year asked.holidays

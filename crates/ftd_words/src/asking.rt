@@ -1,21 +1,22 @@
-//! What a subcommand asks, with its values. Each function reads them in their order, and answers the
-//! first word that has none of its kind.
+//! What a subcommand asks, with its values. Each function reads them in their order, and answers
+//! the first word that has none of its kind.
 
 ghost use Rattle.std.specs.Prelude.{◌≡◌};
 ghost use Rattle.clap.specs.Words.{found_of, rows_of};
 ghost use Rattle.ftd_words.specs.Asking.{Tells, TellsAs, account_in, add_holiday_of, agenda_of};
 ghost use Rattle.ftd_words.specs.Asking.{asked, asked_as, asked_next, calendar_of};
 ghost use Rattle.ftd_words.specs.Asking.{change_holiday_of, correct_account_of, correct_report_of};
-ghost use Rattle.ftd_words.specs.Asking.{correct_report_year_of, due_of, enrol_of, kept_asked};
+ghost use Rattle.ftd_words.specs.Asking.{correct_report_year_of, due_of, enrol_of};
 ghost use Rattle.ftd_words.specs.Asking.{explain_of, explained, formatted, holidays_of, import_of};
 ghost use Rattle.ftd_words.specs.Asking.{listed, numbered, open_year_of, owed_of, pay_of};
 ghost use Rattle.ftd_words.specs.Asking.{payments_of};
 ghost use Rattle.ftd_words.specs.Asking.{plain_of, post_of, report_of, report_year_of, reported_of};
 ghost use Rattle.ftd_words.specs.Asking.{runs_of, schedule_b_of, serve_of, status_of, void_of};
 ghost use Rattle.ftd_words.specs.Asking.{void_pay_of, wanted_of, week_after, year_in, years_of};
-ghost use Rattle.ftd_words.specs.Tasks.{task_view};
+ghost use Rattle.ftd_words.specs.Tasks.{task_view, in_database};
 ghost use Rattle.ftd_machine.specs.declared.requests.Kept.TheVariants.{Accounts};
 ghost use Rattle.ftd_words.specs.Values.{text_in};
+ghost use Rattle.ftd_machine.specs.Questions.{kept_asked};
 
 use crate::fault::WordFault;
 use crate::reading::{
@@ -450,6 +451,15 @@ fn import(alloc: Global, sheet: Sheet, inner: &ArgMatches<'_>) -> Result<Task, W
     }))
 }
 
+/// The job, with the desk in the database.
+fn in_database(alloc: Global, inner: &ArgMatches<'_>, job: Job) -> Result<Task, WordFault>
+    ensures { TellsAs task_view result (in_database (rows_of (found_of inner.now)) job) }
+{
+    let db = owned_text(alloc, inner, Word::Db)?;
+    let wait = whole_at(inner, Word::Wait)?;
+    Ok(Task::Local(LocalTask { db, wait, job }))
+}
+
 /// The request, to the desk in the database, whose reply is told in a format.
 fn local_as(
     alloc: Global,
@@ -459,13 +469,7 @@ fn local_as(
 ) -> Result<Task, WordFault>
     ensures { TellsAs task_view result (asked_as (rows_of (found_of inner.now)) format request) }
 {
-    let db = owned_text(alloc, inner, Word::Db)?;
-    let wait = whole_at(inner, Word::Wait)?;
-    Ok(Task::Local(LocalTask {
-        db,
-        wait,
-        job: Job::Ask { format, request },
-    }))
+    in_database(alloc, inner, Job::Ask { format, request })
 }
 
 /// The request, to the desk in the database, whose reply is told as text.
@@ -479,13 +483,7 @@ fn local(alloc: Global, inner: &ArgMatches<'_>, request: Request) -> Result<Task
 fn local_next(alloc: Global, inner: &ArgMatches<'_>, request: Request) -> Result<Task, WordFault>
     ensures { TellsAs task_view result (asked_next (rows_of (found_of inner.now)) request) }
 {
-    let db = owned_text(alloc, inner, Word::Db)?;
-    let wait = whole_at(inner, Word::Wait)?;
-    Ok(Task::Local(LocalTask {
-        db,
-        wait,
-        job: Job::AskNext { request },
-    }))
+    in_database(alloc, inner, Job::AskNext { request })
 }
 
 /// The correction, to the desk in the database, under the number that is given, or else under the

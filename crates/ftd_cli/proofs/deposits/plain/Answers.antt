@@ -43,14 +43,17 @@ deposits-requires-clause-few c = sums_few c.in_ok-runs.runs.entries c.deref.resu
 
 pub deposits-requires-clause-in_year : goal.deposits-requires-clause-in_year
 deposits-requires-clause-in_year c =
-    sums_in_year c.args.account.now c.args.year (record_rows c.args.csv.now) c.in_ok-runs.runs.entries
-    c.deref.result.now (rw (runs_first Runs c.args.csv.now _ c.in_ok-records.ensures) at c.in_ok-runs.ensures.1)
+    sums_in_year c.args.account.now c.args.year (record_rows c.args.csv.now)
+    c.in_ok-runs.runs.entries
+    c.deref.result.now (rw (runs_first Runs c.args.csv.now _ c.in_ok-records.ensures)
+    at c.in_ok-runs.ensures.1)
     (c.deref.ensures.value ∙ c.in_ok-sums.ensures)
 
 pub deposits-requires-clause-small : goal.deposits-requires-clause-small
 deposits-requires-clause-small c =
     sums_small c.args.account.now c.args.year (record_rows c.args.csv.now) c.in_ok-runs.runs.entries
-    c.deref.result.now (rw (runs_first Runs c.args.csv.now _ c.in_ok-records.ensures) at c.in_ok-runs.ensures.1)
+    c.deref.result.now (rw (runs_first Runs c.args.csv.now _ c.in_ok-records.ensures)
+    at c.in_ok-runs.ensures.1)
     (c.deref.ensures.value ∙ c.in_ok-sums.ensures)
 
 pub returns : goal.returns

@@ -1,12 +1,12 @@
-use Rattle.std.proofs.Common.{◌∙◌, refl, sym, ap}
-use Rattle.ftd_machine.specs.declared.requests.Request.TheVariants.{Post}
-use Rattle.ftd_rules.specs.declared.run.PayRun.{PayRun}
+use Rattle.std.proofs.Common.{refl}
 use Rattle.ftd_posting.specs.Repaired.{Repairs}
 use Rattle.ftd_desk.proofs.Counting.{entry_counted}
-use Rattle.ftd_desk.proofs.Repairing.{entry_repairs, call_repairs, pays_no_run, post_repairs}
-use Rattle.ftd_desk.proofs.Repairing.{answer_repairs, others_add_none, others_on_none}
-use Rattle.ftd_desk.proofs.Repairing.{repair_adds_none, repair_on_run}
+use Rattle.ftd_desk.proofs.Repairing.{entry_repairs, answer_repairs, one_is_added, others_add_none}
+use Rattle.ftd_desk.proofs.Repairing.{others_on_none, repair_adds_none, repair_on_run}
 use Rattle.ftd_desk.proofs.requests.serve.Goals as goal
+
+pub serve_counted-requires : goal.serve_counted-requires
+serve_counted-requires g c = record { adds = one_is_added c.args.request.now c.in-Post.is }
 
 pub serve_entry-requires-clause-adds_none : goal.serve_entry-requires-clause-adds_none
 serve_entry-requires-clause-adds_none g c = others_add_none c.args.request.now c.in-Enrol.is
@@ -25,27 +25,6 @@ returns-in_ok-answer-in-Enrol-clause-repairs g c =
     let answer = c.in_ok-answer-in-Enrol in
     entry_repairs g.S.Store c.args.tx.now c.serve_entry.new.tx answer.answer _ c.args.request.now
     (others_on_none c.args.request.now c.in-Enrol.is) answer.ensures.call
-
-pub returns-in-Post-clause-repairs : goal.returns-in-Post-clause-repairs
-returns-in-Post-clause-repairs g c =
-    let name = c.as_str.result.now in
-    let run : PayRun = record {
-      payday = c.in-Post.payday;
-      fit = c.in-Post.fit;
-      ss = c.in-Post.ss;
-      medicare = c.in-Post.medicare;
-    } in
-    post_repairs g.S.Store c.args.tx.now c.serve_post.new.tx c.serve_post.result
-    c.args.request.now name c.in-Post.number run
-    (c.in-Post.is
-    ∙ ap (λ n. Post n c.in-Post.number run.payday run.fit run.ss run.medicare)
-    (sym c.as_str.ensures))
-    (rw c.run_of-run.ensures at c.serve_post.ensures.repairs)
-
-pub returns-in-Pay-clause-repairs : goal.returns-in-Pay-clause-repairs
-returns-in-Pay-clause-repairs g c =
-    call_repairs g.S.Store c.args.tx.now c.serve_pay.new.tx c.serve_pay.result c.args.request.now
-    (pays_no_run _ _ _ _ _ _ c.in-Pay.is) c.serve_pay.ensures.call
 
 pub serve_repair-requires-clause-adds_none : goal.serve_repair-requires-clause-adds_none
 serve_repair-requires-clause-adds_none g c = repair_adds_none c.args.request.now c.in-Void.is

@@ -1,26 +1,20 @@
 use Rattle.ftd_formats.specs.Calendars.{event_owner}
 use Rattle.ftd_formats.proofs.calendars.write_event_owner.Goals as goal
 
-pub returns-clause-ok : goal.returns-clause-ok
+pub returns : goal.returns
 unfolding event_owner
-returns-clause-ok g c = rw (
-  c.as_bytes.ensures.value,
-  c.as_bytes-2.ensures.value,
-  c.as_str-account.ensures,
-  c.plain_day-as_of.ensures,
-  c.plain_day-due.ensures,
-  c.day_bytes-first.ensures,
-  c.form_bytes-form.ensures,
-) at c.write_pieces.ensures.ok
-
-pub returns-clause-err : goal.returns-clause-err
-unfolding event_owner
-returns-clause-err g c = rw (
-  c.as_bytes.ensures.value,
-  c.as_bytes-2.ensures.value,
-  c.as_str-account.ensures,
-  c.plain_day-as_of.ensures,
-  c.plain_day-due.ensures,
-  c.day_bytes-first.ensures,
-  c.form_bytes-form.ensures,
-) at c.write_pieces.ensures.err
+returns g c =
+    let told = rw (
+      c.as_bytes.ensures.value,
+      c.as_bytes-2.ensures.value,
+      c.as_str-account.ensures,
+      c.plain_day-as_of.ensures,
+      c.plain_day-due.ensures,
+      c.day_bytes-first.ensures,
+      c.form_bytes-form.ensures,
+    ) at c.write_pieces.ensures in
+    record {
+      ok = told.ok;
+      err = told.err;
+      fault = told.fault;
+    }

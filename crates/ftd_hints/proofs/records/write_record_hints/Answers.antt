@@ -20,5 +20,6 @@ returns-in-Err-BadHeader g c =
 pub returns-in-Err-TooLong : goal.returns-in-Err-TooLong
 returns-in-Err-TooLong g c =
     let fails = rw c.in-Err-TooLong.field-0-is at c.in-Err-TooLong.ensures in
-    let none = no_hints c.args.sheet c.args.most c.args.text.now (λ has. omega (arith, has.0, fails)) in
+    let none = no_hints c.args.sheet c.args.most c.args.text.now
+    (λ has. omega (arith, has.0, fails)) in
     record { ok = rw none (Appends-nil _); err = tt; fault = λ e. cc }

@@ -1,6 +1,7 @@
 use Rattle.std.proofs.Common.{rules, ◌≡◌, true}
+use Rattle.ftd_rules.specs.Lists.{are_in_order}
 use Rattle.ftd_store.proofs.Telling.{reads_on}
-use Rattle.ftd_kept.specs.Kept.{AreToldAccounts, KnowsAccounts, are_in_order, is_account_before}
+use Rattle.ftd_kept.specs.Kept.{AreToldAccounts, KnowsAccounts, is_account_before}
 use Rattle.ftd_kept.proofs.KeptEnrolled.{knows_accounts}
 use Rattle.ftd_kept.proofs.KeptOrder.{accounts_in_order}
 use Rattle.ftd_kept.proofs.lists.all_accounts.Goals as goal

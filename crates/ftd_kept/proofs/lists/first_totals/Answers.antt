@@ -25,7 +25,8 @@ returns-in-Ok g c =
                 let is = sym w.told-is ∙ c.in-Ok.is in
                 let told = subst
                 (λ r. IfOk r (λ (xs : Vec KeptTotal Global).
-                xs.items ≡ map kept_quarter w.deref.result.now)) is w.told_quarters-told.ensures.told in
+                xs.items ≡ map kept_quarter w.deref.result.now)) is
+                w.told_quarters-told.ensures.told in
                 let rise = subst
                 (λ r. IfOk r (λ (xs : Vec KeptTotal Global). EachToLater IsTotalBefore xs.items)) is
                 w.told_quarters-told.ensures.in_order in

@@ -13,8 +13,8 @@ use Rattle.ftd_machine.specs.declared.requests.Request.TheVariants.{Question}
 use Rattle.ftd_machine.proofs.Deciding.{decided, passed}
 use Rattle.ftd_entries.proofs.CalendarRows.{calendar_known, days_found}
 use Rattle.ftd_entries.proofs.Serving.{served_looked}
+use Rattle.ftd_entries.proofs.KnownYears.{mapped_some}
 use Rattle.ftd_kept.specs.Kept.{KnowsHolidays}
-use Rattle.ftd_kept.proofs.KeptAdded.{still_some}
 use Rattle.ftd_kept.proofs.lists.holidays.Goals as goal
 
 pub returns-in-Some : goal.returns-in-Some
@@ -30,7 +30,7 @@ returns-in-Some g c =
           (λ t s stands sound finds. decided _ s c.in-Some.answer _
           (ap (λ b. first_of (holidays_checks year b))
           (ap is_some (calendar_known year given t s stands sound finds)
-          ∙ still_some days_found given) ∙ is));
+          ∙ mapped_some days_found given) ∙ is));
     }
 
 pub returns : goal.returns
@@ -59,7 +59,7 @@ returns g c =
           known ∙ ap (option_map days_found) c.in-Some-given.is in
           passed _ s answer s _
           (ap (λ b. first_of (holidays_checks year b))
-          (ap is_some known ∙ still_some days_found given) ∙ is) (
+          (ap is_some known ∙ mapped_some days_found given) ∙ is) (
             refl,
             record {
               given = days.items;

@@ -15,7 +15,7 @@ use Rattle.ftd_entries.specs.Known.{KnowsAccount}
 use Rattle.ftd_entries.proofs.Serving.{served_looked}
 use Rattle.ftd_kept.specs.Kept.{kept_run}
 use Rattle.ftd_kept.proofs.KeptRuns.{runs_are}
-use Rattle.ftd_kept.proofs.KeptYears.{early_quarter}
+use Rattle.ftd_entries.proofs.QuarterDays.{early_quarter}
 use Rattle.ftd_kept.proofs.lists.runs.Goals as goal
 
 pub returns-in-Some : goal.returns-in-Some
@@ -67,7 +67,8 @@ returns-in-Ok g c =
                   (sym (told.told ∙ ap (map kept_run) c.deref.ensures.value))
                   (runs_are name quarter c.last.result c.last.ensures early t s stands sound
                   found.items
-                  (subst (λ d. ListsKeptRuns name d c.last.result found t) c.first.ensures knows.1) x);
+                  (subst (λ d. ListsKeptRuns name d c.last.result found t) c.first.ensures knows.1)
+                  x);
               told = ap (λ xs. told_rows (rows.Runs xs)) c.from_vec.ensures;
             },
           ));

@@ -11,5 +11,6 @@ returns-in_err-write_table-clause-err g c = on_err c.from_residual.result
 pub returns-clause-err : goal.returns-clause-err
 unfolding days_text
 returns-clause-err g c = last_broken c.write_table-2.result _ _ _ _ _
-    (goes_on _ _ _ _ _ _ _ (begins _ _) refl (rw c.as_slice.ensures at c.in_ok-write_table.ensures.ok))
+    (goes_on _ _ _ _ _ _ _ (begins _ _) refl (rw c.as_slice.ensures
+    at c.in_ok-write_table.ensures.ok))
     (rw c.as_slice-2.ensures at c.write_table-2.ensures.err)

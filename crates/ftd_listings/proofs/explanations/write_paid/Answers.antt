@@ -1,5 +1,6 @@
 use Rattle.std.proofs.Common.{refl}
-use Rattle.ftd_ports.proofs.WritingFacts.{begins, goes_on, prefix_more, last_piece, last_broken, on_err}
+use Rattle.ftd_ports.proofs.WritingFacts.{begins, goes_on, prefix_more, last_piece, last_broken}
+use Rattle.ftd_ports.proofs.WritingFacts.{on_err}
 use Rattle.ftd_listings.specs.Explanations.{paid_text}
 use Rattle.ftd_listings.proofs.explanations.write_paid.Goals as goal
 

@@ -2,22 +2,17 @@ use Rattle.ftd_listings.specs.Listings.{enrolled_text}
 use Rattle.ftd_listings.proofs.LineParts.{enrolled_parts}
 use Rattle.ftd_listings.proofs.lines.write_enrolled.Goals as goal
 
-pub returns-clause-ok : goal.returns-clause-ok
+pub returns : goal.returns
 unfolding enrolled_text
-returns-clause-ok g c =
+returns g c =
     let whole = enrolled_parts c.form_bytes-form.result c.day_bytes-start.result
     c.carried_end.result.now in
     let line = rw (c.form_bytes-form.ensures, c.day_bytes-start.ensures, c.carried_end.ensures) at
     whole in
-    rw line (rw (c.form_bytes-form.ensures, c.day_bytes-start.ensures, c.carried_end.ensures) at
-    c.write_pieces.ensures.ok)
-
-pub returns-clause-err : goal.returns-clause-err
-unfolding enrolled_text
-returns-clause-err g c =
-    let whole = enrolled_parts c.form_bytes-form.result c.day_bytes-start.result
-    c.carried_end.result.now in
-    let line = rw (c.form_bytes-form.ensures, c.day_bytes-start.ensures, c.carried_end.ensures) at
-    whole in
-    rw line (rw (c.form_bytes-form.ensures, c.day_bytes-start.ensures, c.carried_end.ensures) at
-    c.write_pieces.ensures.err)
+    let told = rw (c.form_bytes-form.ensures, c.day_bytes-start.ensures, c.carried_end.ensures)
+    at c.write_pieces.ensures in
+    record {
+      ok = rw line told.ok;
+      err = rw line told.err;
+      fault = told.fault;
+    }

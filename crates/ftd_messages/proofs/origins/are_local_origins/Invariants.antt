@@ -9,7 +9,8 @@ use Rattle.ftd_messages.proofs.origins.are_local_origins.Given as goal
 abbrev pub invariant-loop-origin : goal.invariant-loop-origin
 invariant-loop-origin l = record {
   within : All (IsHeaderWithin (length l.buf)) l.rest;
-  same : list_all is_local_origin (values_of (codes "origin") (map (header_bytes l.buf) l.fn.headers))
+  same : list_all is_local_origin (values_of (codes "origin")
+      (map (header_bytes l.buf) l.fn.headers))
       ≡ list_all is_local_origin (values_of (codes "origin") (map (header_bytes l.buf) l.rest));
 }
 

@@ -9,7 +9,8 @@ use Rattle.ftd_messages.proofs.origins.are_own_sites.Given as goal
 abbrev pub invariant-loop-site : goal.invariant-loop-site
 invariant-loop-site l = record {
   within : All (IsHeaderWithin (length l.buf)) l.rest;
-  same : list_all is_own_site (values_of (codes "sec-fetch-site") (map (header_bytes l.buf) l.fn.headers))
+  same : list_all is_own_site (values_of (codes "sec-fetch-site")
+      (map (header_bytes l.buf) l.fn.headers))
       ≡ list_all is_own_site (values_of (codes "sec-fetch-site") (map (header_bytes l.buf) l.rest));
 }
 

@@ -44,7 +44,8 @@ returns-clause-call g c =
     (EntersFigure name account before.is_open (quarter_start quarter) year entry)
     c.in_ok-before.ensures.call (rw c.first-first.ensures at c.in_ok-difference.ensures.call)
     (λ t u s stands sound knows enters. quarter_done name quarter number cents year
-    c.year_counting-year.ensures before account difference (search rules) c.unwrap-account.ensures t u s stands
+    c.year_counting-year.ensures before account difference (search rules) c.unwrap-account.ensures t
+    u s stands
     sound knows enters) in
     subst (λ (r : Answer). Calls g.S.Store c.args.tx.now c.enter_and_follow.new.tx (Ok r)
     (Serves (CorrectReport name quarter number cents))) (ap Ok (sym c.told.ensures)) served

@@ -45,7 +45,8 @@ returns-clause-call g c =
     (KnowsForYear name year number counting)
     (EntersFigure name account before.is_open (year_start year) counting entry)
     c.in_ok-before.ensures.call (rw first at c.in_ok-difference.ensures.call)
-    (λ t u s stands sound knows enters. year_done name year number cents counting is before account difference (search rules) c.unwrap-account.ensures t u s stands
+    (λ t u s stands sound knows enters. year_done name year number cents counting is before account
+    difference (search rules) c.unwrap-account.ensures t u s stands
     sound knows enters) in
     subst (λ (r : Answer). Calls g.S.Store c.args.tx.now c.enter_and_follow.new.tx (Ok r)
     (Serves (CorrectReportYear name year number cents))) (ap Ok (sym c.told.ensures)) served

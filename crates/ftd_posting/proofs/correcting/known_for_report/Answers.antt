@@ -32,7 +32,8 @@ returns-in_default g c =
     (Both (Both (KnowsAccount name) (FindsReported name key)) (KnowsYear name year))
     (ListsCorrections name key) three c.in_ok-corrections.ensures.call in
     record {
-      call = gave_up_after g.S.Store c.args.tx.now c.corrections.new.self c.give_up.new.self _ c.give_up.result _
+      call = gave_up_after g.S.Store c.args.tx.now c.corrections.new.self c.give_up.new.self _
+          c.give_up.result _
           four.frame c.give_up.ensures.frame c.give_up.ensures.fails;
     }
 

@@ -20,7 +20,8 @@ returns-in_default g c =
     let key = c.args.reported_year in
     let year = c.args.year in
     let two = both_read g.S.Store c.args.tx.now c.known.new.tx c.reported_year.new.self
-    c.in_ok-account.account c.in_ok-reported.reported (KnowsAccount name) (FindsReportedYear name key)
+    c.in_ok-account.account c.in_ok-reported.reported (KnowsAccount name)
+    (FindsReportedYear name key)
     c.in_ok-account.ensures.call c.in_ok-reported.ensures.call in
     let three = both_read g.S.Store c.args.tx.now c.reported_year.new.self c.is_open.new.tx
     (c.in_ok-account.account, c.in_ok-reported.reported) c.in_ok-is_open.is_open
@@ -32,7 +33,8 @@ returns-in_default g c =
     (Both (Both (KnowsAccount name) (FindsReportedYear name key)) (KnowsYear name year))
     (ListsYearCorrections name key) three c.in_ok-corrections.ensures.call in
     record {
-      call = gave_up_after g.S.Store c.args.tx.now c.year_corrections.new.self c.give_up.new.self _ c.give_up.result _
+      call = gave_up_after g.S.Store c.args.tx.now c.year_corrections.new.self c.give_up.new.self _
+          c.give_up.result _
           four.frame c.give_up.ensures.frame c.give_up.ensures.fails;
     }
 
@@ -52,7 +54,8 @@ returns g c =
     c.in_ok-reported.ensures.call in
     let three = both_read g.S.Store c.args.tx.now c.reported_year.new.self c.is_open.new.tx
     (c.in_ok-account.account, c.in_ok-reported.reported) c.in_ok-is_open.is_open
-    (Both Named (FindsReportedYear name key)) (KnowsYear name year) two c.in_ok-is_open.ensures.call in
+    (Both Named (FindsReportedYear name key)) (KnowsYear name year) two c.in_ok-is_open.ensures.call
+    in
     let count : length corrections.items ≡ c.in-Ok.count = search rules in
     record {
       call = then_reads g.S.Store c.args.tx.now c.is_open.new.tx c.year_corrections.new.self

@@ -1,20 +1,17 @@
 use Rattle.ftd_program.specs.Plain.{record_line}
 use Rattle.ftd_program.proofs.deposits.write_record.Goals as goal
 
-pub returns-clause-ok : goal.returns-clause-ok
+pub returns : goal.returns
 unfolding record_line
-returns-clause-ok g c = rw (
-  c.as_bytes-number.ensures.value,
-  c.format.ensures.text,
-  c.as_bytes-field.ensures.value,
-  c.format-2.ensures.text,
-) at c.write_pieces.ensures.ok
-
-pub returns-clause-err : goal.returns-clause-err
-unfolding record_line
-returns-clause-err g c = rw (
-  c.as_bytes-number.ensures.value,
-  c.format.ensures.text,
-  c.as_bytes-field.ensures.value,
-  c.format-2.ensures.text,
-) at c.write_pieces.ensures.err
+returns g c =
+    let told = rw (
+      c.as_bytes-number.ensures.value,
+      c.format.ensures.text,
+      c.as_bytes-field.ensures.value,
+      c.format-2.ensures.text,
+    ) at c.write_pieces.ensures in
+    record {
+      ok = told.ok;
+      err = told.err;
+      fault = told.fault;
+    }

@@ -1,4 +1,5 @@
 use Rattle.std.proofs.Common.{◌≡◌, ◌∙◌, Ok, Some, refl, rules, sym}
+use Rattle.ftd_days.proofs.Months.{month_start-zero}
 use Rattle.ftd_store.proofs.Turning.{gave_up_after}
 use Rattle.ftd_machine.specs.declared.requests.Question.TheVariants.{Owed}
 use Rattle.ftd_machine.specs.declared.requests.Request.TheVariants.{Question}
@@ -6,7 +7,7 @@ use Rattle.ftd_machine.specs.declared.facts.Facts.TheVariants.{Agenda}
 use Rattle.ftd_machine.specs.declared.replies.Reply.TheVariants.{Told}
 use Rattle.ftd_entries.proofs.Serving.{served_looked}
 use Rattle.ftd_questions.specs.Agendas.{KnowsRowsDue}
-use Rattle.ftd_questions.proofs.AgendaTold.{first_month, owed_answered, owed_refused}
+use Rattle.ftd_questions.proofs.AgendaTold.{owed_answered, owed_refused}
 use Rattle.ftd_questions.proofs.agendas.owed.Goals as goal
 
 pub returns-in-Some : goal.returns-in-Some
@@ -27,7 +28,7 @@ returns-in-Ok g c =
     let as_of = c.args.as_of in
     let rows = c.in_ok-rows.rows in
     let first : c.first_of_month-from.result ≡ 0 =
-    c.first_of_month-from.ensures.value ∙ first_month in
+    c.first_of_month-from.ensures.value ∙ month_start-zero in
     record {
       call = served_looked g.S.Store (Question (Owed until as_of)) c.args.tx.now
           c.rows_due.new.tx rows (Ok (Told (Agenda c.from_vec.result)))

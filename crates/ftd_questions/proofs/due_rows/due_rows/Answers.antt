@@ -1,8 +1,8 @@
 use Rattle.std.proofs.Common.{◌≡◌, ◌<◌, ◌∙◌, ℕ, List, true, false, length, sym}
+use Rattle.ftd_store.proofs.Items.{kept_pair, left_pair}
 use Rattle.ftd_rules.specs.declared.Obligation.{Obligation}
 use Rattle.ftd_rules.specs.declared.verdict.DueRow.{DueRow}
 use Rattle.ftd_questions.specs.DueRows.{IsRowBy, begins_in}
-use Rattle.ftd_kept.proofs.Items.{kept_pair, left_pair}
 use Rattle.ftd_questions.proofs.due_rows.due_rows.Goals as goal
 use Rattle.ftd_questions.proofs.due_rows.due_rows.Goals.{then-begins_in+in-Some+in_ok-push-in-Some}
 use Rattle.ftd_questions.proofs.due_rows.due_rows.Goals.{else-begins_in}

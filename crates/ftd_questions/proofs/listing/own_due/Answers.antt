@@ -1,5 +1,6 @@
 use Rattle.std.proofs.Common.{◌≡◌, ◌∙◌, subst}
 use Rattle.std.specs.Prelude.{filter}
+use Rattle.ftd_days.proofs.Months.{month_start-zero}
 use Rattle.ftd_store.specs.Finds.{ListsObligations}
 use Rattle.ftd_store.proofs.Going.{then_goes}
 use Rattle.ftd_store.proofs.Telling.{reads_on, then_reads}
@@ -7,7 +8,6 @@ use Rattle.ftd_store.proofs.Turning.{gave_up_after}
 use Rattle.ftd_entries.proofs.OwedRows.{obligations_known}
 use Rattle.ftd_questions.specs.Listing.{KnowsOwn, is_unpaid}
 use Rattle.ftd_reasons.specs.Returns.{KnowsPayments}
-use Rattle.ftd_questions.proofs.AgendaTold.{first_month}
 use Rattle.ftd_questions.proofs.OwnDue.{own_read, own_unpaid}
 use Rattle.ftd_questions.proofs.listing.own_due.Goals as goal
 
@@ -48,7 +48,7 @@ returns-in-Ok g c =
           (λ xs. KnowsOwn c.args.unpaid.now from to name xs.items)
           (λ t lists counts. own_unpaid c.args.unpaid.now from to name first zeroth as_of
           found.items left.items payments.items t c.in-Some.is c.year_before.ensures
-          (c.first_of_month.ensures.value ∙ first_month) left_is
+          (c.first_of_month.ensures.value ∙ month_start-zero) left_is
           (obligations_known name first to found t lists) counts)
           c.in_ok-owed.ensures.call c.in_ok-payments.ensures.call;
     }

@@ -1,9 +1,9 @@
 use Rattle.std.proofs.Common.{◌≡◌, ◌<◌, ◌≤◌, false, inl, inr, sym, ◌∙◌, subst, arith}
 use Rattle.std.specs.List.{list_any}
+use Rattle.std.proofs.lemmas.Bool.{cases_lt}
 use Rattle.sqlite.specs.Held.{Held, state}
 use Rattle.ftd_store.specs.Seen.{seen}
 use Rattle.ftd_machine.specs.Asking.{return_period}
-use Rattle.ftd_rules.proofs.Cuts.{lt_or_le}
 use Rattle.ftd_questions.specs.DueRows.{is_next_day_row}
 use Rattle.ftd_questions.specs.Walks.{Stays, StandIfOpen, begun}
 use Rattle.sqlite.specs.State.{HasCleanDisk}
@@ -22,7 +22,7 @@ loop-quarters-preserved g c =
     record {
       stays = stays_then _ mid new c.loop-quarters.invariant.stays step;
       none = λ clean t stands s stands_for quarter low high.
-          elim (lt_or_le quarter c.loop-quarters.quarters) [
+          elim (cases_lt quarter c.loop-quarters.quarters) [
             | inl earlier ↦ c.loop-quarters.invariant.none (before clean) t stands s stands_for
                 quarter low earlier
             | inr here ↦

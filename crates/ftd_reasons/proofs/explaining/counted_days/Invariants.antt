@@ -1,13 +1,13 @@
 use Rattle.std.proofs.Common.{◌≡◌, ◌⊎◌, ◌≤◌, ◌-◌, ◌+◌, ℕ}
+use Rattle.ftd_rules.specs.Laws.{IsFirstCounted}
 use Rattle.ftd_days.specs.Holidays.{holidays_of}
 use Rattle.ftd_rows.specs.Lists.{Pairs}
-use Rattle.ftd_machine.specs.Explaining.{IsCountedFrom}
 use Rattle.ftd_reasons.specs.Explained.{IsCounted, days_from}
 use Rattle.ftd_reasons.proofs.explaining.counted_days.Given as goal
 
 abbrev pub invariant-loop-day : goal.invariant-loop-day
 invariant-loop-day l =
-    (from : ℕ) × IsCountedFrom l.obligation.rule l.obligation.last from × (from ≤ l.day)
+    (from : ℕ) × IsFirstCounted l.obligation.rule l.obligation.last from × (from ≤ l.day)
     × ((l.day ≡ from) ⊎ (l.day ≤ l.obligation.due + 1))
     × Pairs (IsCounted (holidays_of l.holidays)) (days_from from (l.day - from)) l.days.items
 

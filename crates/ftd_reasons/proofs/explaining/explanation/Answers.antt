@@ -2,7 +2,7 @@ use Rattle.std.proofs.Common.{◌+◌, subst}
 use Rattle.ftd_days.specs.Holidays.{holidays_of}
 use Rattle.ftd_store.specs.Holidays.{HasYears}
 use Rattle.ftd_store.proofs.Telling.{then_reads}
-use Rattle.ftd_kept.specs.Kept.{KnowsPaymentsOf}
+use Rattle.ftd_reasons.specs.Payments.{KnowsPaymentsOf}
 use Rattle.ftd_reasons.specs.Explained.{KnowsPaydays, KnowsExplanation}
 use Rattle.ftd_reasons.proofs.ExplainedKnown.{told_known}
 use Rattle.ftd_reasons.proofs.explaining.explanation.Goals as goal
@@ -18,14 +18,16 @@ returns-in-Ok g c =
     let payments = c.in_ok-payments.payments in
     let given = c.in_ok-holidays.holidays in
     let explanation = c.in-Ok.explanation in
-    let two = then_reads g.S.Store c.args.tx.now c.paydays.new.tx c.obligation_payments.new.tx paydays
+    let two = then_reads g.S.Store c.args.tx.now c.paydays.new.tx c.obligation_payments.new.tx
+    paydays
     payments payments (λ rows. KnowsPaydays name o rows.items)
     (λ rows. KnowsPaymentsOf name o rows.items)
     (λ rows t. KnowsPaydays name o paydays.items t × KnowsPaymentsOf name o rows.items t)
     (λ t first second. (first, second)) c.in_ok-paydays.ensures.call
     c.in_ok-payments.ensures.call in
     record {
-      call = then_reads g.S.Store c.args.tx.now c.obligation_payments.new.tx c.holidays.new.self payments
+      call = then_reads g.S.Store c.args.tx.now c.obligation_payments.new.tx c.holidays.new.self
+          payments
           given explanation
           (λ rows t. KnowsPaydays name o paydays.items t × KnowsPaymentsOf name o rows.items t)
           (λ read. HasYears year (year + 1) (holidays_of read))

@@ -13,6 +13,7 @@ returns c = λ some scheduled. (let its : Has c.args.lines.now c.in_ok-line.line
       open_year = its.0;
       of_day = its.1 ∙ c.year.ensures;
       has_status = c.kind_on-kind.ensures;
-      is_why = c.reason-reason.ensures c.args.day scheduled.0 (scheduled.1 c.in_ok-line.line.now its.0)
+      is_why = c.reason-reason.ensures c.args.day scheduled.0
+          (scheduled.1 c.in_ok-line.line.now its.0)
           c.kind_on-kind.ensures;
     })

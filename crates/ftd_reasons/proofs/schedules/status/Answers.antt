@@ -33,7 +33,8 @@ returns-in-Some g c =
     (status_checks name day account (list_any (is_line_of (year_of day)) lines.items))
     ≡ Some c.in-Some.answer = search rules in
     record {
-      call = served_looked g.S.Store (Question (Status name day)) c.args.tx.now c.years.new.self account
+      call = served_looked g.S.Store (Question (Status name day)) c.args.tx.now c.years.new.self
+          account
           c.in-Some.answer (λ a. fact) read
           (λ t s stands sound knows. (let told = knows s stands in
           status_decided name day account lines.items t s stands told.0 told.1 c.in-Some.answer
@@ -63,7 +64,8 @@ returns g c =
     subst (λ xs. list_any (is_line_of (year_of day)) xs ≡ true → AreScheduled xs
     → IsStatusBy xs day answer) c.deref-2.ensures.value c.status_by.ensures in
     record {
-      call = served_looked g.S.Store (Question (Status name day)) c.args.tx.now c.years.new.self account answer
+      call = served_looked g.S.Store (Question (Status name day)) c.args.tx.now c.years.new.self
+          account answer
           (λ a. fact) read
           (λ t s stands sound knows. (let told = knows s stands in
           status_told name day account lines.items t s stands told.0 told.1 answer is tells));

@@ -1,5 +1,5 @@
-use Rattle.std.proofs.Common.{rules, ◌≡◌, ◌∙◌, ◌||◌, ◌⊎◌, Bool, true, false, List, [], ◌∷◌, inl, inr}
-use Rattle.std.proofs.Common.{refl, sym, subst}
+use Rattle.std.proofs.Common.{rules, ◌≡◌, ◌∙◌, ◌||◌, ◌⊎◌, Bool, true, false, List, [], ◌∷◌, inl}
+use Rattle.std.proofs.Common.{inr, refl, sym, subst}
 use Rattle.std.specs.List.{list_any}
 use Rattle.ftd_rules.specs.declared.Obligation.{Obligation}
 use Rattle.ftd_rules.specs.Lists.{Has}

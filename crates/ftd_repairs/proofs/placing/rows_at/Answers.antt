@@ -3,9 +3,9 @@ use Rattle.std.proofs.Common.{take, length, ap, sym, arith, ◌+◌}
 use Rattle.std.specs.Prelude.{filter}
 use Rattle.std.proofs.lemmas.List.Elements.{filter-append}
 use Rattle.ftd_rules.specs.declared.Obligation.{Obligation}
+use Rattle.ftd_rules.proofs.Members.{filter_in, filter_out}
 use Rattle.ftd_store.proofs.Items.{taken}
 use Rattle.ftd_store.proofs.Replaced.{all_taken}
-use Rattle.ftd_store.proofs.Sifted.{filter_in, filter_out}
 use Rattle.ftd_repairs.specs.Placing.{begins}
 use Rattle.ftd_repairs.proofs.placing.rows_at.Goals as goal
 use Rattle.ftd_repairs.proofs.placing.rows_at.Goals.{then-begins+in_ok-push, else-begins}

@@ -1,7 +1,7 @@
 use Rattle.std.proofs.Common.{rules, ◌≡◌, ◌<◌, ◌⊎◌, ℕ, List, get_or, ap, sym, subst, inl, inr}
 use Rattle.std.proofs.Common.{arith}
 use Rattle.std.proofs.lemmas.List.Sums.{sum_by_more, sum_by_push}
-use Rattle.ftd_rules.proofs.Cuts.{lt_or_le}
+use Rattle.std.proofs.lemmas.Bool.{cases_lt}
 use Rattle.ftd_rules.proofs.Walk.{share_before, share_after}
 use Rattle.ftd_rules.specs.declared.DaySum.{DaySum}
 use Rattle.ftd_rules.specs.Liability.{share}
@@ -15,7 +15,7 @@ use Rattle.ftd_repairs.proofs.windows.sums_in.Goals.{else-le-via-else-le}
 -- a sum of a day out of the range adds nothing
 share_out : (x : DaySum) (a b : ℕ) → (x.day < a) ⊎ (b < x.day) → share a b x ≡ 0
 share_out x a b (inl before) = share_before x a b before
-share_out x a b (inr after) = elim (lt_or_le x.day a) [
+share_out x a b (inr after) = elim (cases_lt x.day a) [
   | inl before ↦ share_before x a b before
   | inr from ↦ share_after x a b from after
 ]

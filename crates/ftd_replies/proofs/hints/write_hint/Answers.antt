@@ -15,12 +15,14 @@ returns-in-Said-clause-err g c = rw (sym c.hint_of.ensures ∙ c.in-Said.is)
 pub returns-in-Enrol-clause-ok : goal.returns-in-Enrol-clause-ok
 unfolding hint_text
 returns-in-Enrol-clause-ok g c = rw (sym c.hint_of.ensures ∙ c.in-Enrol.is)
-    (rw (c.as_bytes.ensures.value, c.account_in-account.ensures, c.enrolled_as.ensures) at c.write_on.ensures.ok)
+    (rw (c.as_bytes.ensures.value, c.account_in-account.ensures, c.enrolled_as.ensures)
+    at c.write_on.ensures.ok)
 
 pub returns-in-Enrol-clause-err : goal.returns-in-Enrol-clause-err
 unfolding hint_text
 returns-in-Enrol-clause-err g c = rw (sym c.hint_of.ensures ∙ c.in-Enrol.is)
-    (rw (c.as_bytes.ensures.value, c.account_in-account.ensures, c.enrolled_as.ensures) at c.write_on.ensures.err)
+    (rw (c.as_bytes.ensures.value, c.account_in-account.ensures, c.enrolled_as.ensures)
+    at c.write_on.ensures.err)
 
 pub returns-in-Void-clause-ok : goal.returns-in-Void-clause-ok
 unfolding hint_text
@@ -35,12 +37,14 @@ returns-in-Void-clause-err g c = rw (sym c.hint_of.ensures ∙ c.in-Void.is)
 pub returns-in-VoidPay-clause-ok : goal.returns-in-VoidPay-clause-ok
 unfolding hint_text
 returns-in-VoidPay-clause-ok g c = rw (sym c.hint_of.ensures ∙ c.in-VoidPay.is)
-    (rw (c.account_in-account.ensures, c.number_in-in-VoidPay.ensures) at c.write_number-in-VoidPay.ensures.ok)
+    (rw (c.account_in-account.ensures, c.number_in-in-VoidPay.ensures)
+    at c.write_number-in-VoidPay.ensures.ok)
 
 pub returns-in-VoidPay-clause-err : goal.returns-in-VoidPay-clause-err
 unfolding hint_text
 returns-in-VoidPay-clause-err g c = rw (sym c.hint_of.ensures ∙ c.in-VoidPay.is)
-    (rw (c.account_in-account.ensures, c.number_in-in-VoidPay.ensures) at c.write_number-in-VoidPay.ensures.err)
+    (rw (c.account_in-account.ensures, c.number_in-in-VoidPay.ensures)
+    at c.write_number-in-VoidPay.ensures.err)
 
 pub returns-in-Calendar-clause-ok : goal.returns-in-Calendar-clause-ok
 unfolding hint_text

@@ -1,26 +1,19 @@
 use Rattle.ftd_replies.specs.Replies.{posted_text}
 use Rattle.ftd_replies.proofs.replies.write_posted.Goals as goal
 
-pub returns-clause-ok : goal.returns-clause-ok
+pub returns : goal.returns
 unfolding posted_text
-returns-clause-ok g c =
-    rw (
+returns g c =
+    let told = rw (
       c.day_bytes-from.ensures,
       c.day_bytes-to.ensures,
       c.as_bytes-removed.ensures.value,
       c.format.ensures.text,
       c.as_bytes-added.ensures.value,
       c.format-2.ensures.text,
-    ) at c.write_pieces.ensures.ok
-
-pub returns-clause-err : goal.returns-clause-err
-unfolding posted_text
-returns-clause-err g c =
-    rw (
-      c.day_bytes-from.ensures,
-      c.day_bytes-to.ensures,
-      c.as_bytes-removed.ensures.value,
-      c.format.ensures.text,
-      c.as_bytes-added.ensures.value,
-      c.format-2.ensures.text,
-    ) at c.write_pieces.ensures.err
+    ) at c.write_pieces.ensures in
+    record {
+      ok = told.ok;
+      err = told.err;
+      fault = told.fault;
+    }

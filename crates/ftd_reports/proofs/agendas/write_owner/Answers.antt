@@ -2,9 +2,9 @@ use Rattle.ftd_reports.specs.Agendas.{owner_text}
 use Rattle.ftd_reports.proofs.AgendaFacts.{owner_parts}
 use Rattle.ftd_reports.proofs.agendas.write_owner.Goals as goal
 
-pub returns-clause-ok : goal.returns-clause-ok
+pub returns : goal.returns
 unfolding owner_text
-returns-clause-ok g c =
+returns g c =
     let whole = owner_parts c.day_bytes-due.result c.as_str-account.result.now
     c.spaces_after-spaces.result.now
     c.form_bytes-form.result in
@@ -14,28 +14,14 @@ returns-clause-ok g c =
       c.day_bytes-due.ensures,
       c.form_bytes-form.ensures,
     ) at whole in
-    rw line (rw (
+    let told = rw (
       c.as_bytes.ensures.value,
       c.as_str-account.ensures,
       c.day_bytes-due.ensures,
       c.form_bytes-form.ensures,
-    ) at c.write_pieces.ensures.ok)
-
-pub returns-clause-err : goal.returns-clause-err
-unfolding owner_text
-returns-clause-err g c =
-    let whole = owner_parts c.day_bytes-due.result c.as_str-account.result.now
-    c.spaces_after-spaces.result.now
-    c.form_bytes-form.result in
-    let line = rw (
-      c.spaces_after-spaces.ensures,
-      c.as_str-account.ensures,
-      c.day_bytes-due.ensures,
-      c.form_bytes-form.ensures,
-    ) at whole in
-    rw line (rw (
-      c.as_bytes.ensures.value,
-      c.as_str-account.ensures,
-      c.day_bytes-due.ensures,
-      c.form_bytes-form.ensures,
-    ) at c.write_pieces.ensures.err)
+    ) at c.write_pieces.ensures in
+    record {
+      ok = rw line told.ok;
+      err = rw line told.err;
+      fault = told.fault;
+    }

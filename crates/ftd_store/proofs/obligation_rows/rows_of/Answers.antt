@@ -1,4 +1,5 @@
 use Rattle.std.proofs.Common.{◌≡◌, ◌+◌, ◌-◌, arith, refl}
+use Rattle.std.proofs.lemmas.Result.{IfOk-weaker}
 use Rattle.ftd_days.specs.Calendar.{quarter_start}
 use Rattle.sqlite.specs.Held.{state}
 use Rattle.ftd_schema.specs.declared.TableName.TheVariants.{Obligations}
@@ -8,7 +9,7 @@ use Rattle.ftd_schema.proofs.Asking.{lists_obligations}
 use Rattle.ftd_schema.proofs.Controls.{weaker}
 use Rattle.ftd_schema.proofs.Reading.{asking}
 use Rattle.ftd_store.proofs.Beginning.{settled_stays}
-use Rattle.ftd_store.proofs.Walks.{begun_reading, refused_rests, if_ok}
+use Rattle.ftd_store.proofs.Walks.{begun_reading, refused_rests}
 use Rattle.ftd_store.proofs.obligation_rows.rows_of.Goals as goal
 
 pub returns : goal.returns
@@ -27,7 +28,8 @@ returns g c =
       (
         c.query.ensures.same_reference,
         (
-          if_ok c.query.result _ _ (λ rows begun clean. begun_reading g.S.Store LIST_OBLIGATIONS.now
+          IfOk-weaker c.query.result _ _ (λ rows begun clean. begun_reading g.S.Store
+              LIST_OBLIGATIONS.now
               _ c.args.conn.now rows.conn.now reads
               (rw (
                 c.params-to_sql.ensures,
@@ -37,12 +39,12 @@ returns g c =
                 last_is,
               ) at (begun clean))) c.query.ensures.begun,
           (
-            if_ok c.query.result _ _
+            IfOk-weaker c.query.result _ _
                 (λ rows begun clean. settled_stays (state g.S.Store c.args.conn.now)
                 (state g.S.Store rows.conn.now)
                 (begun_reading g.S.Store LIST_OBLIGATIONS.now _ c.args.conn.now rows.conn.now reads
                 (begun clean)).1 settled) c.query.ensures.begun,
-            if_ok c.query.result _ _
+            IfOk-weaker c.query.result _ _
                 (λ rows survives. weaker _ _ _
                 (λ db. reading_commits_nothing _ LIST_OBLIGATIONS.now _ db reads) survives)
                 c.query.ensures.survives,

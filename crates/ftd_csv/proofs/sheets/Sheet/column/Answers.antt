@@ -19,5 +19,6 @@ returns c =
     let from = c.from.ensures in omega arith in
     ap (λ o. option_map (λ (name : Bor (List ℕ)). name.now) o) c.copied.ensures
     ∙ column_is (header_row c.args.self) (header_row c.args.self) columns c.columns.ensures
-    c.from.result c.get.result found.1 (bounds c.get.result (length columns) c.from.result _ found.3)
+    c.from.result c.get.result found.1 (bounds c.get.result (length columns) c.from.result _
+    found.3)
     ∙ ap (λ n. numbered_field (header_row c.args.self) n) (sym next)

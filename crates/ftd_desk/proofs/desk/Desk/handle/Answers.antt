@@ -10,13 +10,14 @@ use Rattle.ftd_machine.specs.Laws.{is_change}
 use Rattle.ftd_machine.specs.Runs.{IsFault}
 use Rattle.ftd_machine.specs.declared.replies.Refusal.TheVariants.{Store}
 use Rattle.ftd_questions.specs.Faults.{refusal_of}
+use Rattle.ftd_questions.proofs.RowsTold.{is_fault}
 use Rattle.ftd_machine.specs.Questions.{question_of}
 use Rattle.ftd_desk.specs.Shown.{ShowsAsked}
 use Rattle.ftd_desk.specs.Words.{Handles}
 use Rattle.ftd_desk.proofs.Showing.{asked_shows, change_shows, refusal_shows}
 use Rattle.ftd_desk.proofs.Handling.{ServesBy, none_known, served_ok, served_err, served_less}
 use Rattle.ftd_desk.proofs.Handling.{handles_dropped, handles_uncommitted, handles_committed}
-use Rattle.ftd_desk.proofs.Handling.{at_err, at_ok, handles_still, handles_unbegun, is_fault}
+use Rattle.ftd_desk.proofs.Handling.{at_err, at_ok, handles_still, handles_unbegun}
 use Rattle.ftd_desk.proofs.desk.Desk.handle.Goals as goal
 
 pub returns-then-self-clause-handles : goal.returns-then-self-clause-handles

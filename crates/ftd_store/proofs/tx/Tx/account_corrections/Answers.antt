@@ -14,7 +14,8 @@ use Rattle.ftd_store.proofs.tx.Tx.account_corrections.Goals as goal
 pub read_all-requires : goal.read_all-requires
 read_all-requires g c =
     record {
-      of_reading = asking CorrectedAccounts LIST_ACCOUNT_CORRECTIONS.now _ _ _ lists_account_corrections;
+      of_reading = asking CorrectedAccounts LIST_ACCOUNT_CORRECTIONS.now _ _ _
+          lists_account_corrections;
     }
 
 pub returns : goal.returns

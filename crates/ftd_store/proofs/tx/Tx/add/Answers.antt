@@ -10,21 +10,20 @@ use Rattle.ftd_store.proofs.tx.Tx.add.Goals as goal
 
 pub change-requires : goal.change-requires
 change-requires g c = record {
-  of_rows = subst IsRowText (sym c.requires.of_table.1)
-      (add_is_row_text c.requires.of_table.0);
+  of_rows = subst IsRowText (sym c.adding.ensures) (add_is_row_text c.args.table);
 }
 
 pub returns : goal.returns
 returns g c = record {
-  call = λ table row text cells. record {
+  call = λ row cells. record {
     frame = goes_on g.S.Store c.args.self.now _ _ _ c.in_ok-change.ensures.frame;
     does = λ clean t stands.
         let old = shown g.S.Store c.args.self.now in
         let new = shown g.S.Store c.change.new.self in
-        let ran = subst (λ sql. Executes sql (bound c.args.params.now) old new
-        (Ok c.in_ok-change.field-0)) text (c.in_ok-change.ensures.ran clean) in
-        adds table row old new c.in_ok-change.field-0 t stands
-        (subst (λ params. Executes (add_of table) params old new (Ok c.in_ok-change.field-0)) cells
-        ran);
+        let count = c.in_ok-change.field-0 in
+        let ran = subst (λ sql. Executes sql (bound c.args.params.now) old new (Ok count))
+        c.adding.ensures (c.in_ok-change.ensures.ran clean) in
+        adds c.args.table row old new count t stands
+        (subst (λ params. Executes (add_of c.args.table) params old new (Ok count)) cells ran);
   };
 }

@@ -1,16 +1,11 @@
 use Rattle.std.proofs.Common.{refl}
-use Rattle.ftd_schema.specs.declared.TableName.TheVariants.{CorrectedAccounts}
 use Rattle.ftd_rows.specs.Rows.{account_correction_row}
 use Rattle.ftd_store.proofs.tx.Tx.add_account_correction.Goals as goal
-
-pub add-requires : goal.add-requires
-add-requires g c = record { of_table = (CorrectedAccounts, refl) }
 
 pub returns : goal.returns
 returns g c =
     record {
-      call = c.add.ensures.call CorrectedAccounts
-          (account_correction_row c.args.account.now c.args.correction) refl
+      call = c.add.ensures.call (account_correction_row c.args.account.now c.args.correction)
           (rw (
             c.params-to_sql.ensures,
             c.params-to_sql-2.ensures,

@@ -1,15 +1,11 @@
 use Rattle.std.proofs.Common.{refl}
 use Rattle.ftd_days.specs.Calendar.{year_of}
-use Rattle.ftd_schema.specs.declared.TableName.TheVariants.{AddedHolidays}
 use Rattle.ftd_rows.specs.Rows.{holiday_row}
 use Rattle.ftd_store.proofs.tx.Tx.add_added.Goals as goal
-
-pub add-requires : goal.add-requires
-add-requires g c = record { of_table = (AddedHolidays, refl) }
 
 pub returns : goal.returns
 returns g c =
     record {
-      call = c.add.ensures.call AddedHolidays (holiday_row (year_of c.args.day) c.args.day)
-          refl (rw (c.params-to_sql.ensures, c.params-to_sql-2.ensures, c.year-year.ensures) refl);
+      call = c.add.ensures.call (holiday_row (year_of c.args.day) c.args.day)
+          (rw (c.params-to_sql.ensures, c.params-to_sql-2.ensures, c.year-year.ensures) refl);
     }

@@ -1,16 +1,11 @@
 use Rattle.std.proofs.Common.{refl}
-use Rattle.ftd_schema.specs.declared.TableName.TheVariants.{CorrectedQuarters}
 use Rattle.ftd_rows.specs.Rows.{correction_row}
 use Rattle.ftd_store.proofs.tx.Tx.add_correction.Goals as goal
-
-pub add-requires : goal.add-requires
-add-requires g c = record { of_table = (CorrectedQuarters, refl) }
 
 pub returns : goal.returns
 returns g c =
     record {
-      call = c.add.ensures.call CorrectedQuarters
-          (correction_row c.args.account.now c.args.quarter c.args.correction) refl
+      call = c.add.ensures.call (correction_row c.args.account.now c.args.quarter c.args.correction)
           (rw (
             c.params-to_sql.ensures,
             c.params-to_sql-2.ensures,

@@ -1,13 +1,9 @@
 use Rattle.std.proofs.Common.{refl}
-use Rattle.ftd_schema.specs.declared.TableName.TheVariants.{Forms}
 use Rattle.ftd_rows.specs.Rows.{form_row}
 use Rattle.ftd_store.proofs.tx.Tx.add_form.Goals as goal
 
-pub add-requires : goal.add-requires
-add-requires g c = record { of_table = (Forms, refl) }
-
 pub returns : goal.returns
 returns g c = record {
-  call = c.add.ensures.call Forms (form_row c.args.account.now c.args.form)
-      refl (rw (c.params-to_sql.ensures, c.params-to_sql-2.ensures) refl);
+  call = c.add.ensures.call (form_row c.args.account.now c.args.form)
+      (rw (c.params-to_sql.ensures, c.params-to_sql-2.ensures) refl);
 }

@@ -1,17 +1,12 @@
 use Rattle.std.proofs.Common.{refl}
 use Rattle.ftd_days.specs.Calendar.{year_of}
-use Rattle.ftd_schema.specs.declared.TableName.TheVariants.{ChangedHolidays}
 use Rattle.ftd_rows.specs.Rows.{holiday_change_row}
 use Rattle.ftd_store.proofs.tx.Tx.add_holiday_change.Goals as goal
-
-pub add-requires : goal.add-requires
-add-requires g c = record { of_table = (ChangedHolidays, refl) }
 
 pub returns : goal.returns
 returns g c =
     record {
-      call = c.add.ensures.call ChangedHolidays
-          (holiday_change_row (year_of c.args.change.day) c.args.change) refl
+      call = c.add.ensures.call (holiday_change_row (year_of c.args.change.day) c.args.change)
           (rw (
             c.params-to_sql.ensures,
             c.params-to_sql-2.ensures,

@@ -1,16 +1,12 @@
 use Rattle.std.proofs.Common.{pos, false, refl}
-use Rattle.ftd_schema.specs.declared.TableName.TheVariants.{Payments}
 use Rattle.ftd_rows.specs.Rows.{payment_row}
 use Rattle.ftd_store.proofs.tx.Tx.add_payment.Goals as goal
-
-pub add-requires : goal.add-requires
-add-requires g c = record { of_table = (Payments, refl) }
 
 pub returns : goal.returns
 returns g c =
     record {
-      call = c.add.ensures.call Payments
-          (payment_row c.args.account.now (pos c.args.number) c.args.payment false) refl
+      call = c.add.ensures.call
+          (payment_row c.args.account.now (pos c.args.number) c.args.payment false)
           (rw (
             c.params-to_sql.ensures,
             c.params-to_sql-2.ensures,

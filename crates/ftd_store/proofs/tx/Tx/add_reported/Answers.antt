@@ -1,16 +1,11 @@
 use Rattle.std.proofs.Common.{refl}
-use Rattle.ftd_schema.specs.declared.TableName.TheVariants.{ReportedQuarters}
 use Rattle.ftd_rows.specs.Rows.{reported_row}
 use Rattle.ftd_store.proofs.tx.Tx.add_reported.Goals as goal
-
-pub add-requires : goal.add-requires
-add-requires g c = record { of_table = (ReportedQuarters, refl) }
 
 pub returns : goal.returns
 returns g c =
     record {
-      call = c.add.ensures.call ReportedQuarters
-          (reported_row c.args.account.now c.args.quarter c.args.cents) refl
+      call = c.add.ensures.call (reported_row c.args.account.now c.args.quarter c.args.cents)
           (rw (
             c.params-to_sql.ensures,
             c.params-to_sql-2.ensures,

@@ -1,15 +1,10 @@
 use Rattle.std.proofs.Common.{pos, false, refl}
-use Rattle.ftd_schema.specs.declared.TableName.TheVariants.{Runs}
 use Rattle.ftd_rows.specs.Rows.{run_row}
 use Rattle.ftd_store.proofs.tx.Tx.add_run.Goals as goal
 
-pub add-requires : goal.add-requires
-add-requires g c = record { of_table = (Runs, refl) }
-
 pub returns : goal.returns
 returns g c = record {
-  call = c.add.ensures.call Runs (run_row c.args.account.now (pos c.args.number) c.args.run false)
-      refl
+  call = c.add.ensures.call (run_row c.args.account.now (pos c.args.number) c.args.run false)
       (rw (
         c.params-to_sql.ensures,
         c.params-to_sql-2.ensures,

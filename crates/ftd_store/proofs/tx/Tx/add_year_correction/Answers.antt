@@ -1,16 +1,12 @@
 use Rattle.std.proofs.Common.{refl}
-use Rattle.ftd_schema.specs.declared.TableName.TheVariants.{CorrectedYears}
 use Rattle.ftd_rows.specs.Rows.{year_correction_row}
 use Rattle.ftd_store.proofs.tx.Tx.add_year_correction.Goals as goal
-
-pub add-requires : goal.add-requires
-add-requires g c = record { of_table = (CorrectedYears, refl) }
 
 pub returns : goal.returns
 returns g c =
     record {
-      call = c.add.ensures.call CorrectedYears
-          (year_correction_row c.args.account.now c.args.year c.args.correction) refl
+      call = c.add.ensures.call
+          (year_correction_row c.args.account.now c.args.year c.args.correction)
           (rw (
             c.params-to_sql.ensures,
             c.params-to_sql-2.ensures,

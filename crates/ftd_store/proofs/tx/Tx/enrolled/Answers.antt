@@ -13,12 +13,14 @@ use Rattle.ftd_store.proofs.Telling.{lists}
 use Rattle.ftd_store.proofs.tx.Tx.enrolled.Goals as goal
 
 pub read_all-requires : goal.read_all-requires
-read_all-requires g c = record { of_reading = asking Accounts LIST_ENROLLED.now _ _ _ lists_enrolled }
+read_all-requires g c =
+    record { of_reading = asking Accounts LIST_ENROLLED.now _ _ _ lists_enrolled }
 
 pub returns : goal.returns
 returns g c = record {
   call = lists g.S.Store c.args.self.now c.read_all.new.self c.read_all.result (λ xs. xs.items)
-      Accounts LIST_ENROLLED.now _ is_any_account enrolled_shown named_account_cells NamesRise IsNamedAccount
+      Accounts LIST_ENROLLED.now _ is_any_account enrolled_shown named_account_cells NamesRise
+      IsNamedAccount
       enrolled_in_order
       (λ x y passes. named_account_is x y)
       c.read_all.ensures.call;

@@ -13,12 +13,14 @@ use Rattle.ftd_store.proofs.Telling.{lists}
 use Rattle.ftd_store.proofs.tx.Tx.kept_payments.Goals as goal
 
 pub read_all-requires : goal.read_all-requires
-read_all-requires g c = record { of_reading = asking Payments LIST_KEPT_PAYMENTS.now _ _ _ lists_kept_payments }
+read_all-requires g c =
+    record { of_reading = asking Payments LIST_KEPT_PAYMENTS.now _ _ _ lists_kept_payments }
 
 pub returns : goal.returns
 returns g c = record {
   call = lists g.S.Store c.args.self.now c.read_all.new.self c.read_all.result (λ xs. xs.items)
-      Payments LIST_KEPT_PAYMENTS.now _ _ kept_payment_shown numbered_payment_cells PaymentsRise (IsNumberedPayment c.args.account.now)
+      Payments LIST_KEPT_PAYMENTS.now _ _ kept_payment_shown numbered_payment_cells PaymentsRise
+      (IsNumberedPayment c.args.account.now)
       (kept_payments_in_order c.args.account.now (day_number c.args.from) (day_number c.args.to))
       (numbered_payment_is c.args.account.now (day_number c.args.from) (day_number c.args.to))
       (rw (c.params-to_sql.ensures, c.params-to_sql-2.ensures, c.params-to_sql-3.ensures) at

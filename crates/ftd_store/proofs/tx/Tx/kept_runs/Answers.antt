@@ -18,7 +18,8 @@ read_all-requires g c = record { of_reading = asking Runs LIST_KEPT_RUNS.now _ _
 pub returns : goal.returns
 returns g c = record {
   call = lists g.S.Store c.args.self.now c.read_all.new.self c.read_all.result (λ xs. xs.items)
-      Runs LIST_KEPT_RUNS.now _ _ kept_run_shown numbered_run_cells RunsRise (IsNumberedRun c.args.account.now)
+      Runs LIST_KEPT_RUNS.now _ _ kept_run_shown numbered_run_cells RunsRise
+      (IsNumberedRun c.args.account.now)
       (kept_runs_in_order c.args.account.now (day_number c.args.from) (day_number c.args.to))
       (numbered_run_is c.args.account.now (day_number c.args.from) (day_number c.args.to))
       (rw (c.params-to_sql.ensures, c.params-to_sql-2.ensures, c.params-to_sql-3.ensures) at

@@ -16,9 +16,6 @@ use Rattle.ftd_store.proofs.tx.Tx.put_year.Goals as goal
 pub change_any-requires : goal.change_any-requires
 change_any-requires g c = record { of_rows = changing Years SET_YEAR.now _ _ _ _ sets_year }
 
-pub add-requires : goal.add-requires
-add-requires g c = record { of_table = (Years, refl) }
-
 pub returns-then-branch : goal.returns-then-branch
 returns-then-branch g c =
     let y = year_row c.args.account.now c.args.line in
@@ -51,7 +48,7 @@ returns g c =
     let old = shown g.S.Store c.args.self.now in
     let mid = shown g.S.Store c.change_any.new.self in
     let new = shown g.S.Store c.add.new.self in
-    let added = c.add.ensures.call Years y refl
+    let added = c.add.ensures.call y
     (rw (
       c.params-to_sql.ensures,
       c.params-to_sql-2.ensures,

@@ -12,12 +12,14 @@ use Rattle.ftd_store.proofs.Telling.{lists}
 use Rattle.ftd_store.proofs.tx.Tx.reported_totals.Goals as goal
 
 pub read_all-requires : goal.read_all-requires
-read_all-requires g c = record { of_reading = asking ReportedQuarters LIST_REPORTED.now _ _ _ lists_reported }
+read_all-requires g c =
+    record { of_reading = asking ReportedQuarters LIST_REPORTED.now _ _ _ lists_reported }
 
 pub returns : goal.returns
 returns g c = record {
   call = lists g.S.Store c.args.self.now c.read_all.new.self c.read_all.result (λ xs. xs.items)
-      ReportedQuarters LIST_REPORTED.now _ _ quarter_total_shown quarter_total_cells QuartersRise (IsQuarterTotal c.args.account.now)
+      ReportedQuarters LIST_REPORTED.now _ _ quarter_total_shown quarter_total_cells QuartersRise
+      (IsQuarterTotal c.args.account.now)
       (reported_in_order c.args.account.now)
       (quarter_total_is c.args.account.now)
       (rw c.params-to_sql.ensures at c.read_all.ensures.call);

@@ -12,12 +12,14 @@ use Rattle.ftd_store.proofs.Telling.{lists}
 use Rattle.ftd_store.proofs.tx.Tx.reported_year_totals.Goals as goal
 
 pub read_all-requires : goal.read_all-requires
-read_all-requires g c = record { of_reading = asking ReportedYears LIST_REPORTED_YEARS.now _ _ _ lists_reported_years }
+read_all-requires g c =
+    record { of_reading = asking ReportedYears LIST_REPORTED_YEARS.now _ _ _ lists_reported_years }
 
 pub returns : goal.returns
 returns g c = record {
   call = lists g.S.Store c.args.self.now c.read_all.new.self c.read_all.result (λ xs. xs.items)
-      ReportedYears LIST_REPORTED_YEARS.now _ _ year_total_shown year_total_cells ReportedYearsRise (IsYearTotal c.args.account.now)
+      ReportedYears LIST_REPORTED_YEARS.now _ _ year_total_shown year_total_cells ReportedYearsRise
+      (IsYearTotal c.args.account.now)
       (reported_years_in_order c.args.account.now)
       (year_total_is c.args.account.now)
       (rw c.params-to_sql.ensures at c.read_all.ensures.call);

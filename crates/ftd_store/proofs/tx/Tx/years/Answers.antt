@@ -34,7 +34,8 @@ returns-in-Ok g c =
     let is = rw c.deref.ensures.value at c.in-Ok.ensures.lines in
     let there = rw c.deref.ensures.value at c.in-Ok.ensures.there in
     record {
-      call = then_reads g.S.Store c.args.self.now c.account_in_force.new.self c.read_all.new.self found
+      call = then_reads g.S.Store c.args.self.now c.account_in_force.new.self c.read_all.new.self
+          found
           stored lines _ _ _
           (λ t account years. record {
             listed = subst (Lists YearsRise (IsYear who) _) (sym is)

@@ -1,8 +1,8 @@
 use Rattle.std.proofs.Common.{take}
 use Rattle.std.specs.Prelude.{filter}
 use Rattle.ftd_rows.specs.Lists.{Pairs}
-use Rattle.ftd_kept.specs.Kept.{IsPaymentFor, is_live_payment}
-use Rattle.ftd_kept.proofs.rows.live_payments.Given as goal
+use Rattle.ftd_reasons.specs.Payments.{IsPaymentFor, is_live_payment}
+use Rattle.ftd_reasons.proofs.payment_rows.live_payments.Given as goal
 
 abbrev pub invariant-loop-row : goal.invariant-loop-row
 invariant-loop-row l = Pairs (IsPaymentFor l.first)

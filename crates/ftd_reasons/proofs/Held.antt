@@ -1,10 +1,9 @@
 -- Which obligation holds a day: one more of those looked at.
-use Rattle.std.proofs.Common.{◌≡◌, ◌∙◌, sym, ap, refl, inl, inr, arith}
-use Rattle.std.proofs.Common.{ℕ, ◌+◌, ◌<◌, List, [], ◌∷◌, ◌++◌, take, length, get_or}
-use Rattle.std.proofs.Common.{Option, None, Some}
+use Rattle.std.proofs.Common.{◌≡◌, ◌∙◌, sym, ap, refl, inl, inr, arith, ℕ, ◌+◌, ◌<◌, List, [], ◌∷◌}
+use Rattle.std.proofs.Common.{◌++◌, take, length, get_or, Option, None, Some}
 use Rattle.std.proofs.Math.Nat.{min-eq_left, min-eq_right}
+use Rattle.std.proofs.lemmas.Bool.{cases_lt}
 use Rattle.ftd_rules.specs.declared.Obligation.{Obligation}
-use Rattle.ftd_rules.proofs.Cuts.{lt_or_le}
 use Rattle.ftd_rules.proofs.Owed.{has_append, has_left, has_right}
 use Rattle.ftd_rules.specs.Laws.{Covers}
 use Rattle.ftd_machine.specs.Kept.{IsHeldBy}
@@ -12,11 +11,12 @@ use Rattle.ftd_rows.specs.Lists.{Pairs}
 use Rattle.ftd_rows.specs.declared.kept.NumberedPayment.{NumberedPayment}
 use Rattle.ftd_machine.specs.declared.kept.KeptPayment.{KeptPayment}
 use Rattle.ftd_store.proofs.Items.{taken, pairs_more}
-use Rattle.ftd_kept.specs.Kept.{earlier, kept_payment, IsKeptPayment}
+use Rattle.ftd_reasons.specs.Payments.{earlier, kept_payment, IsKeptPayment}
 
 -- the new one holds the day
 holds_new : (xs : List Obligation) (o : Obligation) (day : ℕ) (held : Option ℕ)
-    → IsHeldBy xs day held → Covers o day → IsHeldBy (xs ++ o ∷ []) day (Some (earlier held o.first))
+    → IsHeldBy xs day held → Covers o day → IsHeldBy (xs ++ o ∷ []) day
+    (Some (earlier held o.first))
 holds_new xs o day None none h = (
   o,
   has_right xs (o ∷ []) o (inl refl),
@@ -28,7 +28,7 @@ holds_new xs o day None none h = (
     | inr (inr never) ↦ absurd never
   ],
 )
-holds_new xs o day (Some first) (q, hasq, hq, is_first, least) h = elim (lt_or_le first o.first) [
+holds_new xs o day (Some first) (q, hasq, hq, is_first, least) h = elim (cases_lt first o.first) [
   | inl before ↦
       let same = min-eq_left {n = first} {m = o.first} (omega arith) in (
         q,

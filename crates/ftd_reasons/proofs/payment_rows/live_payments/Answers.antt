@@ -1,10 +1,10 @@
 use Rattle.std.proofs.Common.{◌≡◌, ◌<◌, ℕ, List, length, rules, true, false}
 use Rattle.ftd_rows.specs.declared.kept.NumberedPayment.{NumberedPayment}
 use Rattle.ftd_machine.specs.declared.kept.KeptPayment.{KeptPayment}
-use Rattle.ftd_kept.specs.Kept.{IsPaymentFor, is_live_payment}
-use Rattle.ftd_kept.proofs.Items.{kept_pair, left_pair}
-use Rattle.ftd_kept.proofs.rows.live_payments.Goals as goal
-use Rattle.ftd_kept.proofs.rows.live_payments.Goals.{then-not-row+in_ok-push, else-not-row}
+use Rattle.ftd_reasons.specs.Payments.{IsPaymentFor, is_live_payment}
+use Rattle.ftd_store.proofs.Items.{kept_pair, left_pair}
+use Rattle.ftd_reasons.proofs.payment_rows.live_payments.Goals as goal
+use Rattle.ftd_reasons.proofs.payment_rows.live_payments.Goals.{then-not-row+in_ok-push, else-not-row}
 
 pub loop-row-preserved : goal.loop-row-preserved
 loop-row-preserved c =

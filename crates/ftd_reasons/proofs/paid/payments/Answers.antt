@@ -14,12 +14,12 @@ use Rattle.ftd_machine.specs.declared.requests.Request.TheVariants.{Question}
 use Rattle.ftd_machine.proofs.Deciding.{decided, passed}
 use Rattle.ftd_entries.specs.Known.{KnowsAccount}
 use Rattle.ftd_entries.proofs.Serving.{served_looked}
-use Rattle.ftd_kept.specs.Kept.{IsKeptPayment}
+use Rattle.ftd_reasons.specs.Payments.{IsKeptPayment}
 use Rattle.ftd_entries.specs.Owed.{KnowsObligations}
-use Rattle.ftd_kept.proofs.KeptPayments.{payments_are}
-use Rattle.ftd_kept.proofs.KeptYears.{early_quarter}
+use Rattle.ftd_reasons.proofs.PaymentsTold.{payments_are}
+use Rattle.ftd_entries.proofs.QuarterDays.{early_quarter}
 use Rattle.ftd_entries.proofs.OwedRows.{obligations_known}
-use Rattle.ftd_kept.proofs.lists.payments.Goals as goal
+use Rattle.ftd_reasons.proofs.paid.payments.Goals as goal
 
 pub returns-in-Some : goal.returns-in-Some
 returns-in-Some g c =

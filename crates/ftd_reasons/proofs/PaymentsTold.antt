@@ -1,13 +1,16 @@
 -- The payments of a quarter that were read are those that are kept.
 use Rattle.std.proofs.Common.{◌≡◌, ◌∙◌, sym, ap, subst, ℕ, ◌+◌, ◌≤◌, ◌&&◌, pos, Bool, true, false}
 use Rattle.std.proofs.Common.{List, map, Option, None, Some, refl, arith}
-use Rattle.std.specs.Prelude.{◌↔◌, filter, bytes_eq, int_le, nat_le, not}
-use Rattle.std.proofs.lemmas.Bool.{le-leb}
+use Rattle.std.specs.Prelude.{◌↔◌, filter, bytes_eq, int_le, nat_le}
+use Rattle.std.proofs.lemmas.Bool.{le-leb, not-true}
+use Rattle.std.proofs.lemmas.Option.{same_Some}
 use Rattle.ftd_days.specs.Calendar.{quarter_of, quarter_start, quarter_year}
 use Rattle.ftd_rules.specs.declared.Obligation.{Obligation}
 use Rattle.ftd_rules.specs.declared.payment.Payment.{Payment}
 use Rattle.ftd_rules.specs.declared.run.Voidable.{Voidable}
 use Rattle.ftd_rules.specs.Lists.{Has}
+use Rattle.ftd_rules.proofs.Members.{has_mapped, mapped_has, has_kept}
+use Rattle.ftd_rules.specs.Obligations.{begins_on}
 use Rattle.ftd_schema.specs.Orders.{PaymentsRise}
 use Rattle.ftd_schema.specs.Rows.{PaymentRow}
 use Rattle.ftd_schema.specs.Standing.{Tables}
@@ -18,24 +21,21 @@ use Rattle.ftd_rows.specs.Lists.{Lists, Pairs}
 use Rattle.ftd_rows.specs.Rows.{payment_row}
 use Rattle.ftd_rows.specs.declared.kept.NumberedPayment.{NumberedPayment}
 use Rattle.ftd_store.specs.Kept.{IsNumberedPayment}
-use Rattle.ftd_store.proofs.Sifted.{keeps_has}
 use Rattle.ftd_machine.specs.Kept.{IsHeldBy, IsPaymentIn}
 use Rattle.ftd_machine.specs.Sound.{IsSound}
 use Rattle.ftd_machine.specs.State.{State, Entry, entries_of, kept_at}
 use Rattle.ftd_machine.specs.declared.kept.KeptPayment.{KeptPayment}
 use Rattle.ftd_machine.specs.Explaining.{IsPaymentOf}
 use Rattle.ftd_machine.proofs.Adding.{own_name}
-use Rattle.ftd_machine.proofs.AgendaOrder.{inside}
 use Rattle.ftd_machine.proofs.KeptOne.{payment_one}
-use Rattle.ftd_machine.proofs.Members.{has_filtered, has_mapped, mapped_has}
+use Rattle.ftd_machine.proofs.Members.{has_filtered}
 use Rattle.ftd_entries.specs.Standing.{StandsFor, payment_entry}
 use Rattle.ftd_entries.proofs.Kept.{same_nat, payment_is}
 use Rattle.ftd_entries.proofs.ListedRows.{value_passes, passing_value}
-use Rattle.ftd_kept.specs.Kept.{IsKeptPayment, is_live_payment, IsPaymentFor}
-use Rattle.ftd_entries.specs.Owed.{begins_on}
+use Rattle.ftd_reasons.specs.Payments.{IsKeptPayment, is_live_payment, IsPaymentFor}
 use Rattle.ftd_store.proofs.Items.{paired_from, paired_to}
 use Rattle.ftd_machine.proofs.Entered.{is_kept, of_kept}
-use Rattle.ftd_kept.proofs.KeptRuns.{days_from, days_into}
+use Rattle.ftd_entries.proofs.QuarterDays.{days_from, days_into}
 use Rattle.ftd_entries.proofs.QuarterDays.{in_quarter, of_quarter}
 
 -- the obligation that holds a day is among those that begin by a later one
@@ -47,7 +47,7 @@ held_all : (owed : List Obligation) (last day : ℕ) (held : Option ℕ) → day
     → IsHeldBy (filter (begins_on 0 last) owed) day held → IsHeldBy owed day held
 held_all owed last day None soon none = λ o has holds.
     (let first = holds.0 in
-    none o (keeps_has (begins_on 0 last) owed o has (begun_by last o (omega arith))) holds)
+    none o (has_kept (begins_on 0 last) owed o has (begun_by last o (omega arith))) holds)
 held_all owed last day (Some first) soon held = (
   held.0,
   (has_filtered (begins_on 0 last) owed held.0 held.1).0,
@@ -55,7 +55,7 @@ held_all owed last day (Some first) soon held = (
   held.3,
   λ p has holds.
       (let begins = holds.0 in
-      held.4 p (keeps_has (begins_on 0 last) owed p has (begun_by last p (omega arith))) holds),
+      held.4 p (has_kept (begins_on 0 last) owed p has (begun_by last p (omega arith))) holds),
 )
 
 -- the row of a payment of the account
@@ -67,65 +67,67 @@ row_of name x = payment_row name (pos x.number) x.payment.value x.payment.voided
 module _ (name : List ℕ) (first last : ℕ) (t : Tables) (s : State) (stands : StandsFor t s)
     (sound : IsSound s) (found : List NumberedPayment)
     (lists : Lists PaymentsRise (IsNumberedPayment name)
-    (filter (is_payment_between name (day_number first) (day_number last)) (t Payments)) found) where
-  abbrev test : PaymentRow → Bool
-  test = is_payment_between name (day_number first) (day_number last)
+    (filter (is_payment_between name (day_number first) (day_number last)) (t Payments)) found)
+  where
+    abbrev test : PaymentRow → Bool
+    test = is_payment_between name (day_number first) (day_number last)
 
-  -- it is kept under its number, for one of the days
-  abbrev pub IsKeptOn : NumberedPayment → Type 0
-  IsKeptOn x =
-      (kept_at x.number (entries_of s name).payments ≡ Some x.payment)
-      × (first ≤ x.payment.value.for_day) × (x.payment.value.for_day ≤ last)
+    -- it is kept under its number, for one of the days
+    abbrev pub IsKeptOn : NumberedPayment → Type 0
+    IsKeptOn x =
+        (kept_at x.number (entries_of s name).payments ≡ Some x.payment)
+        × (first ≤ x.payment.value.for_day) × (x.payment.value.for_day ≤ last)
 
-  pub is_kept_on : (x : NumberedPayment) → Has found x → IsKeptOn x
-  is_kept_on x has =
-      let there = value_passes (row_of name) PaymentsRise test (t Payments) found lists x has in
-      let found_entry = has_mapped payment_entry s.payments (row_of name x)
-      (subst (λ rs. Has rs (row_of name x)) stands.payments there.0) in
-      let e : Entry (Voidable Payment) = found_entry.0 in
-      let is : payment_entry e ≡ row_of name x = sym found_entry.2 in
-      let named : e.name ≡ name = ap (λ (r : PaymentRow). r.account) is in
-      let key : e.key ≡ x.number = same_nat e.key x.number (ap (λ (r : PaymentRow). r.number) is) in
-      let content : e.content ≡ x.payment = payment_is name x.number e x.payment is in
-      let kept = is_kept name s.payments sound.payments e found_entry.1 named in
-      let days = days_from name first last x.payment.value.for_day (bytes_eq name name) there.1 in (
-        subst (λ k. kept_at k (entries_of s name).payments ≡ Some x.payment) key
-            (kept ∙ ap Some content),
-        days.1,
-        days.2,
-      )
+    pub is_kept_on : (x : NumberedPayment) → Has found x → IsKeptOn x
+    is_kept_on x has =
+        let there = value_passes (row_of name) PaymentsRise test (t Payments) found lists x has in
+        let found_entry = has_mapped payment_entry s.payments (row_of name x)
+        (subst (λ rs. Has rs (row_of name x)) stands.payments there.0) in
+        let e : Entry (Voidable Payment) = found_entry.0 in
+        let is : payment_entry e ≡ row_of name x = sym found_entry.2 in
+        let named : e.name ≡ name = ap (λ (r : PaymentRow). r.account) is in
+        let key : e.key ≡ x.number = same_nat e.key x.number (ap (λ (r : PaymentRow). r.number) is)
+        in
+        let content : e.content ≡ x.payment = payment_is name x.number e x.payment is in
+        let kept = is_kept name s.payments sound.payments e found_entry.1 named in
+        let days = days_from name first last x.payment.value.for_day (bytes_eq name name) there.1 in (
+          subst (λ k. kept_at k (entries_of s name).payments ≡ Some x.payment) key
+              (kept ∙ ap Some content),
+          days.1,
+          days.2,
+        )
 
-  -- and each that is was read
-  pub found_on : (x : NumberedPayment) → IsKeptOn x → Has found x
-  found_on x is =
-      let kept = of_kept name s.payments sound.payments x.number x.payment is.0 in
-      let row : payment_entry kept.0 ≡ row_of name x =
-      ap (λ (d : Entry (Voidable Payment)). payment_entry d)
-      (same_entry kept.0 kept.2 kept.3 kept.4) in
-      let there : Has (t Payments) (row_of name x) =
-      subst (λ rs. Has rs (row_of name x)) (sym stands.payments)
-      (subst (Has (map payment_entry s.payments)) row
-      (mapped_has payment_entry s.payments kept.0 kept.1)) in
-      let passes : test (row_of name x) ≡ true =
-      ap (λ b. b && (int_le (day_number first) (day_number x.payment.value.for_day)
-      && int_le (day_number x.payment.value.for_day) (day_number last))) (own_name name)
-      ∙ days_into first last x.payment.value.for_day is.1 is.2 in
-      let item = passing_value (row_of name) PaymentsRise test (t Payments) found lists
-      (row_of name x) there passes in
-      let number : x.number ≡ item.0.number =
-      same_nat x.number item.0.number (ap (λ (r : PaymentRow). r.number) item.2) in
-      let its = is_kept_on item.0 item.1 in
-      let payment : x.payment ≡ item.0.payment = inside x.payment item.0.payment (sym is.0
-      ∙ ap (λ k. kept_at k (entries_of s name).payments) number ∙ its.0) in
-      subst (Has found) (sym (same item.0 number payment)) item.1
-    where
-      same_entry : (e : Entry (Voidable Payment)) → e.name ≡ name → e.key ≡ x.number
-          → e.content ≡ x.payment
-          → e ≡ record { name = name; key = x.number; content = x.payment }
-      same_entry e a b c = rw (sym a, sym b, sym c) refl
+    -- and each that is was read
+    pub found_on : (x : NumberedPayment) → IsKeptOn x → Has found x
+    found_on x is =
+        let kept = of_kept name s.payments sound.payments x.number x.payment is.0 in
+        let row : payment_entry kept.0 ≡ row_of name x =
+        ap (λ (d : Entry (Voidable Payment)). payment_entry d)
+        (same_entry kept.0 kept.2 kept.3 kept.4) in
+        let there : Has (t Payments) (row_of name x) =
+        subst (λ rs. Has rs (row_of name x)) (sym stands.payments)
+        (subst (Has (map payment_entry s.payments)) row
+        (mapped_has payment_entry s.payments kept.0 kept.1)) in
+        let passes : test (row_of name x) ≡ true =
+        ap (λ b. b && (int_le (day_number first) (day_number x.payment.value.for_day)
+        && int_le (day_number x.payment.value.for_day) (day_number last))) (own_name name)
+        ∙ days_into first last x.payment.value.for_day is.1 is.2 in
+        let item = passing_value (row_of name) PaymentsRise test (t Payments) found lists
+        (row_of name x) there passes in
+        let number : x.number ≡ item.0.number =
+        same_nat x.number item.0.number (ap (λ (r : PaymentRow). r.number) item.2) in
+        let its = is_kept_on item.0 item.1 in
+        let payment : x.payment ≡ item.0.payment = same_Some x.payment item.0.payment (sym is.0
+        ∙ ap (λ k. kept_at k (entries_of s name).payments) number ∙ its.0) in
+        subst (Has found) (sym (same item.0 number payment)) item.1
+      where
+        same_entry : (e : Entry (Voidable Payment)) → e.name ≡ name → e.key ≡ x.number
+            → e.content ≡ x.payment
+            → e ≡ record { name = name; key = x.number; content = x.payment }
+        same_entry e a b c = rw (sym a, sym b, sym c) refl
 
-      same : (z : NumberedPayment) → x.number ≡ z.number → x.payment ≡ z.payment → x ≡ z
-      same z a b = rw (a, b) refl
+        same : (z : NumberedPayment) → x.number ≡ z.number → x.payment ≡ z.payment → x ≡ z
+        same z a b = rw (a, b) refl
 
 -- ---- of a quarter
 
@@ -191,10 +193,6 @@ module _ (name : List ℕ) (quarter last : ℕ) (is_last : last + 1 ≡ quarter_
 
 -- ---- of an obligation
 
-live_is : (b : Bool) → not b ≡ true → b ≡ false
-live_is true e = absurd cc
-live_is false e = refl
-
 module _ (name : List ℕ) (o : Obligation) (t : Tables) (s : State) (stands : StandsFor t s)
     (sound : IsSound s) (found : List NumberedPayment)
     (lists : Lists PaymentsRise (IsNumberedPayment name)
@@ -211,7 +209,7 @@ module _ (name : List ℕ) (o : Obligation) (t : Tables) (s : State) (stands : S
       let z : NumberedPayment = from.0 in
       let live = has_filtered is_live_payment found z from.1 in
       let on = is_kept_on name o.first o.last t s stands sound found lists z live.0 in
-      let voided : z.payment.voided ≡ false = live_is z.payment.voided live.1 in
+      let voided : z.payment.voided ≡ false = not-true z.payment.voided live.1 in
       subst Counts (sym from.2) (on.0 ∙ ap Some (as_live z voided), (on.1, on.2), voided, refl)
     where
       as_live : (z : NumberedPayment) → z.payment.voided ≡ false
@@ -227,7 +225,7 @@ module _ (name : List ℕ) (o : Obligation) (t : Tables) (s : State) (stands : S
       let has = found_on name o.first o.last t s stands sound found lists z
       (is.0, is.1.0, is.1.1) in
       let as_told = paired_to (IsPaymentFor o.first) (filter is_live_payment found) told z are_told
-      (keeps_has is_live_payment found z has refl) in
+      (has_kept is_live_payment found z has refl) in
       subst (Has told) (as_told.2 ∙ sym (whole is)) as_told.1
     where
       whole : Counts x → x ≡ record {

@@ -3,9 +3,9 @@ use Rattle.std.specs.Prelude.{filter}
 use Rattle.ftd_rows.specs.Lists.{Pairs}
 use Rattle.ftd_store.specs.Kept.{ListsKeptPayments}
 use Rattle.ftd_store.proofs.Telling.{reads_on}
-use Rattle.ftd_kept.specs.Kept.{IsPaymentFor, is_live_payment, KnowsPaymentsOf}
-use Rattle.ftd_kept.proofs.KeptPayments.{payments_of_are}
-use Rattle.ftd_kept.proofs.lists.obligation_payments.Goals as goal
+use Rattle.ftd_reasons.specs.Payments.{IsPaymentFor, is_live_payment, KnowsPaymentsOf}
+use Rattle.ftd_reasons.proofs.PaymentsTold.{payments_of_are}
+use Rattle.ftd_reasons.proofs.paid.obligation_payments.Goals as goal
 
 pub returns-in-Ok : goal.returns-in-Ok
 returns-in-Ok g c =
