@@ -21,7 +21,6 @@ use Rattle.ftd_machine.specs.declared.requests.Request.{Request}
 use Rattle.ftd_machine.proofs.Leaving.{leaves}
 use Rattle.sqlite.specs.Store as store
 use Rattle.ftd_rows.specs.declared.faults.StoreFault.{StoreFault}
-use Rattle.ftd_rows.specs.declared.faults.StoreFault.TheVariants as fault
 use Rattle.ftd_store.specs.declared.tx.Tx.{Tx}
 use Rattle.ftd_store.specs.Seen.{shown}
 use Rattle.ftd_store.specs.Frame.{Calls}

@@ -1,6 +1,7 @@
 //! The deposit desk over its tables: each request in one transaction.
 #![tactic(auto)]
 
+mod answering;
 mod books;
 mod bounds;
 mod counts;

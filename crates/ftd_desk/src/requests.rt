@@ -12,6 +12,7 @@ ghost use Rattle.ftd_desk.specs.Kept.{kept_of};
 ghost use Rattle.ftd_desk.specs.Shown.{ShowsFor};
 ghost use Rattle.ftd_desk.specs.Private.Reports.{is_report};
 
+use crate::answering::ask;
 use crate::counts::Counts;
 use crate::kept::Kept;
 use ftd_days::{Cents, Day};
@@ -21,7 +22,6 @@ use ftd_entries::{
 use ftd_holidays::{add_holiday, change_holiday};
 use ftd_machine::{Account, Answer, Beginning, Request};
 use ftd_posting::{correct_report, correct_report_year, post, void};
-use ftd_questions::ask;
 use ftd_rules::{Form, PayRun, Payment};
 use ftd_store::{StoreFault, Tx};
 use sqlite::Alter;

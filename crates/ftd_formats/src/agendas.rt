@@ -46,7 +46,6 @@ fn fields_of(row: &AgendaRow) -> [(&str, Value<'_>); 11]
 impl RowFormat<AgendaRow> for Records {
     ghost row_text = { λ records row. record_told (agenda_fields row) };
 
-    #[tactic(auto, unfolding(crate::specs::Fields::record_told))]
     fn write_row<W: Target>(&self, row: &AgendaRow, target: &mut W) -> Result<(), WriteFault> {
         write_record(&fields_of(row), target)
     }
@@ -55,7 +54,6 @@ impl RowFormat<AgendaRow> for Records {
 impl RowFormat<AgendaRow> for Objects {
     ghost row_text = { λ objects row. object_told (agenda_fields row) };
 
-    #[tactic(auto, unfolding(crate::specs::Fields::object_told))]
     fn write_row<W: Target>(&self, row: &AgendaRow, target: &mut W) -> Result<(), WriteFault> {
         write_object(&fields_of(row), target)
     }
@@ -83,6 +81,7 @@ pub fn write_agenda_csv<W: Target>(rows: &[AgendaRow], target: &mut W) -> Result
 /// Writes what is due over all accounts as JSON: an object with the rows, and with the sum of what
 /// is left to pay of each. It takes no memory but what the target takes. Where the target fails, a
 /// prefix of the text was written, and it fails nowhere else.
+#[tactic(auto, unfolding(crate::specs::Dues::agenda_json))]
 pub fn write_agenda_json<W: Target>(rows: &[AgendaRow], target: &mut W) -> Result<(), WriteFault>
     ensures ok { OnOk result
         (Appends (W.taken target.old) (W.taken target.new) (agenda_json rows.now)) }

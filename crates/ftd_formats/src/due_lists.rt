@@ -51,7 +51,6 @@ fn fields_of<'a>(account: &'a str, row: &DueRow) -> [(&'a str, Value<'a>); 10]
 impl<'a> RowFormat<DueRow> for Records<'a> {
     ghost row_text = { λ records row. record_told (due_fields records.account.now row) };
 
-    #[tactic(auto, unfolding(crate::specs::Fields::record_told))]
     fn write_row<W: Target>(&self, row: &DueRow, target: &mut W) -> Result<(), WriteFault> {
         write_record(&fields_of(self.account, row), target)
     }
@@ -60,7 +59,6 @@ impl<'a> RowFormat<DueRow> for Records<'a> {
 impl<'a> RowFormat<DueRow> for Objects<'a> {
     ghost row_text = { λ objects row. object_told (due_fields objects.account.now row) };
 
-    #[tactic(auto, unfolding(crate::specs::Fields::object_told))]
     fn write_row<W: Target>(&self, row: &DueRow, target: &mut W) -> Result<(), WriteFault> {
         write_object(&fields_of(self.account, row), target)
     }

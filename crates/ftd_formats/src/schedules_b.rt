@@ -88,6 +88,7 @@ pub fn write_b_csv<W: Target>(
 /// Writes Schedule B of an account's quarter as JSON: an object with the days, and with the sum of
 /// their amounts. It takes no memory but what the target takes. Where the target fails, a prefix of
 /// the text was written, and it fails nowhere else.
+#[tactic(auto, unfolding(crate::specs::Dues::b_json))]
 pub fn write_b_json<W: Target>(
     account: &str,
     sums: &[DaySum],

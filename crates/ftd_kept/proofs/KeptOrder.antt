@@ -1,25 +1,19 @@
 -- What stands in order from each to the next stands so to all after it.
-use Rattle.std.proofs.Common.{◌≡◌, ◌⊎◌, inl, inr, refl, ◌&&◌, ◌||◌, ◌==◌, true}
-use Rattle.std.proofs.Common.{List, [], ◌∷◌, arith}
+use Rattle.std.proofs.Common.{◌≡◌, inl, inr, ◌&&◌, ◌==◌, true}
+use Rattle.std.proofs.Common.{List, arith}
 use Rattle.std.specs.Prelude.{nat_lt}
-use Rattle.std.specs.Ordering.{is_lt, nat_cmp}
-use Rattle.std.specs.declared.cmp.Ordering.{Ordering}
-use Rattle.std.specs.declared.cmp.Ordering.TheVariants.{Less, Equal, Greater}
-use Rattle.std.specs.Cmp.Lexicographic.{slice_cmp}
 use Rattle.std.proofs.lemmas.Bool.{ltb-true, eqb-true, or_cases, and_parts}
 use Rattle.ftd_entries.proofs.InOrder.{in_order}
 use Rattle.ftd_rules.specs.Lists.{are_in_order}
 use Rattle.ftd_machine.specs.Agenda.{EachToLater}
-use Rattle.ftd_machine.specs.Kept.{IsRunBefore, IsTotalBefore, IsAccountBefore}
+use Rattle.ftd_machine.specs.Kept.{IsRunBefore, IsTotalBefore}
 use Rattle.ftd_machine.specs.Kept.{period_of}
-use Rattle.ftd_machine.specs.declared.kept.KeptAccount.{KeptAccount}
 use Rattle.ftd_machine.specs.declared.kept.KeptRun.{KeptRun}
 use Rattle.ftd_machine.specs.declared.kept.KeptTotal.{KeptTotal}
-use Rattle.ftd_machine.proofs.AgendaOrder.{names_then}
 use Rattle.ftd_machine.proofs.KeptOne.{payday_of, run_number}
 use Rattle.ftd_machine.proofs.KeptOne.{two_then}
 use Rattle.ftd_kept.specs.Kept.{is_run_before}
-use Rattle.ftd_kept.specs.Kept.{is_total_before, is_account_before}
+use Rattle.ftd_kept.specs.Kept.{is_total_before}
 
 run_before : (x y : KeptRun) → is_run_before x y ≡ true → IsRunBefore x y
 run_before x y e =
@@ -41,17 +35,3 @@ pub totals_in_order : (xs : List KeptTotal) → are_in_order is_total_before xs 
 totals_in_order xs e =
     in_order is_total_before IsTotalBefore (λ x y e. ltb-true (period_of x) (period_of y) e)
     (λ x y z g h. omega arith) xs e
-
-pub accounts_in_order : (xs : List KeptAccount) → are_in_order is_account_before xs ≡ true
-    → EachToLater IsAccountBefore xs
-accounts_in_order xs e =
-    in_order is_account_before IsAccountBefore account_before
-    (λ x y z g h. names_then x.name y.name z.name g h) xs e
-  where
-    less : (o : Ordering) → is_lt o ≡ true → o ≡ Less
-    less Less e = refl
-    less Equal e = absurd cc
-    less Greater e = absurd cc
-
-    account_before : (x y : KeptAccount) → is_account_before x y ≡ true → IsAccountBefore x y
-    account_before x y e = less (slice_cmp nat_cmp x.name y.name) e

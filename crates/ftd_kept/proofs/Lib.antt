@@ -4,5 +4,4 @@ mod KeptTotals
 mod TotalsKnown
 mod YearsKnown
 mod HolidaysKnown
-mod KeptEnrolled
 mod KeptAdded

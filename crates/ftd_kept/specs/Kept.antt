@@ -1,68 +1,34 @@
 -- Rows of what is kept, as they are told, and what is known of them by what the tables have.
 use Rattle.std.specs.Prelude.{◌≡◌, ◌==◌, ◌&&◌, ◌||◌, ◌↔◌, ◌++◌, ℕ, nat_lt, Bool, true, false, List}
-use Rattle.std.specs.Prelude.{◌⊎◌, ◌≤◌, map, filter, string_bytes, Some}
+use Rattle.std.specs.Prelude.{◌⊎◌, ◌≤◌, map, Some}
 use Rattle.std.specs.List.{All}
-use Rattle.std.specs.Ordering.{is_lt, nat_cmp}
-use Rattle.std.specs.Cmp.Lexicographic.{slice_cmp}
 use Rattle.ftd_rules.specs.declared.Form.{Form}
 use Rattle.ftd_rules.specs.declared.Form.TheVariants.{F941, F943}
 use Rattle.ftd_rules.specs.declared.YearLine.{YearLine}
 use Rattle.ftd_rules.specs.Lists.{Has}
 use Rattle.ftd_rules.specs.Lookback.{IsLookback, IsFirstMissing, IsYearLookback, IsYearMissing}
-use Rattle.ftd_schema.specs.Orders.{NamesRise}
 use Rattle.ftd_schema.specs.Standing.{Tables}
-use Rattle.ftd_schema.specs.Tests.{is_any_account}
-use Rattle.ftd_schema.specs.declared.TableName.TheVariants.{Accounts}
-use Rattle.ftd_rows.specs.Lists.{Lists, Pairs}
 use Rattle.ftd_store.specs.Holidays.{is_kept}
-use Rattle.ftd_store.specs.Kept.{IsNamedAccount}
 use Rattle.ftd_days.specs.declared.cents.Cents.{Cents}
 use Rattle.ftd_rows.specs.declared.corrections.HolidayChange.{HolidayChange}
-use Rattle.ftd_rows.specs.declared.kept.NamedAccount.{NamedAccount}
 use Rattle.ftd_rows.specs.declared.kept.NumberedRun.{NumberedRun}
 use Rattle.ftd_rows.specs.declared.kept.QuarterTotal.{QuarterTotal}
 use Rattle.ftd_rows.specs.declared.kept.YearTotal.{YearTotal}
 use Rattle.ftd_machine.specs.Agenda.{EachToLater}
-use Rattle.ftd_machine.specs.Kept.{IsAccountBefore, IsEnrolled, IsTotal, IsTotalBefore}
+use Rattle.ftd_machine.specs.Kept.{IsTotal, IsTotalBefore}
 use Rattle.ftd_machine.specs.Kept.{period_of, as_first_reported, line_of}
 use Rattle.ftd_machine.specs.Kept.{IsAdded, IsDayBefore, kept_days}
 use Rattle.ftd_machine.specs.History.{AreLinesOf, HasLookback}
 use Rattle.ftd_machine.specs.Sound.{IsSound}
 use Rattle.ftd_machine.specs.State.{State, Entries, entries_of, kept_at, calendar_at}
 use Rattle.ftd_machine.specs.declared.entries.Account.{Account}
-use Rattle.ftd_machine.specs.declared.kept.KeptAccount.{KeptAccount}
 use Rattle.ftd_machine.specs.declared.kept.KeptHoliday.{KeptHoliday}
 use Rattle.ftd_machine.specs.declared.kept.KeptRun.{KeptRun}
 use Rattle.ftd_machine.specs.declared.kept.KeptTotal.{KeptTotal}
 use Rattle.ftd_machine.specs.declared.kept.KeptTotal.TheVariants.{OfQuarter, OfYear}
 use Rattle.ftd_machine.specs.declared.kept.KeptYear.{KeptYear}
-use Rattle.ftd_entries.specs.Known.{KnowsAccount, KnowsFigure, KnowsYearFigure}
+use Rattle.ftd_entries.specs.Known.{KnowsFigure, KnowsYearFigure}
 use Rattle.ftd_entries.specs.Standing.{StandsFor}
-
--- ---- accounts
-
-abbrev pub is_account_before : KeptAccount → KeptAccount → Bool
-is_account_before a b = is_lt (slice_cmp nat_cmp a.name b.name)
-
-abbrev pub kept_account : List ℕ → Account → KeptAccount
-kept_account name account = record { name = name; account = account }
-
--- the account of the row is told as it is in force
-abbrev pub IsToldAccount : Tables → NamedAccount → KeptAccount → Type 0
-IsToldAccount t row x =
-    (x.name ≡ string_bytes row.name) × KnowsAccount (string_bytes row.name) (Some x.account) t
-
--- they are all accounts, by the rows of the table
-pub record AreToldAccounts (rows : List KeptAccount) (t : Tables) : Type 0 where
-  pub named : List NamedAccount
-  pub are_named : Lists NamesRise IsNamedAccount (filter is_any_account (t Accounts)) named
-  pub are_told : Pairs (IsToldAccount t) named rows
-
--- they are all accounts, by name, in each sound state for which the tables stand
-pub record KnowsAccounts (rows : List KeptAccount) (t : Tables) : Type 0 where
-  pub by_name : EachToLater IsAccountBefore rows
-  pub all : (s : State) → StandsFor t s → IsSound s → (x : KeptAccount)
-      → Has rows x ↔ IsEnrolled s x
 
 -- ---- open years
 

@@ -5,60 +5,22 @@ ghost use Rattle.ftd_machine.specs.declared.requests.Kept.TheVariants as kept;
 ghost use Rattle.ftd_machine.specs.declared.requests.Question.TheVariants as questions;
 ghost use Rattle.ftd_machine.specs.declared.requests.Request.TheVariants.{Question};
 ghost use Rattle.ftd_entries.specs.Words.{Serves};
-ghost use Rattle.ftd_kept.specs.Kept.{AreToldAccounts, IsInForce, KnowsAccounts, KnowsFirstTotals};
-ghost use Rattle.ftd_kept.specs.Kept.{KnowsTotals};
+ghost use Rattle.ftd_kept.specs.Kept.{IsInForce, KnowsFirstTotals, KnowsTotals};
 
 use crate::holiday_rows::all_holidays;
-use crate::rows::{
-    add_account, add_total, are_accounts_in_order, told_quarters, told_runs, told_years,
-};
+use crate::rows::{add_total, told_quarters, told_runs, told_years};
 use crate::year_rows::open_years;
+use ftd_accounts::all_accounts;
 use ftd_days::Quarter;
 use ftd_entries::{figure, known, year_figure};
 use ftd_machine::{
-    Answer, Facts, KeptAccount, KeptAccounts, KeptHolidays, KeptRows, KeptRuns, KeptTotal,
-    KeptTotals, KeptYears, Refusal, Reply, holidays_check, kept_in_quarter_check, kept_of_check,
+    Answer, Facts, KeptAccounts, KeptHolidays, KeptRows, KeptRuns, KeptTotal, KeptTotals,
+    KeptYears, Refusal, Reply, holidays_check, kept_in_quarter_check, kept_of_check,
 };
 use ftd_rules::Form;
 use ftd_store::{StoreFault, Tx};
 use sqlite::Alter;
 use std::alloc::Global;
-
-/// All accounts as they are in force, in the order of their rows. `Failed` also where one has no
-/// form.
-fn accounts_in_force<S: Alter>(
-    tx: &mut Tx<'_, S>,
-    alloc: Global,
-) -> Result<Vec<KeptAccount>, StoreFault>
-    ensures call { Reads S.Store tx.old tx.new result (λ rows. AreToldAccounts rows.items) }
-{
-    let named = tx.enrolled(alloc)?;
-    let mut rows: Vec<KeptAccount> = Vec::new(alloc);
-    for row in &named {
-        let Some(account) = known(tx, alloc, &row.name)? else {
-            return tx.give_up(StoreFault::Failed);
-        };
-        if let Err(fault) = add_account(alloc, &row.name, account, &mut rows) {
-            return tx.give_up(fault);
-        }
-    }
-    Ok(rows)
-}
-
-/// All accounts as they are in force, by name. `Failed` also where one has no form, and where they
-/// do not go on by name.
-pub fn all_accounts<S: Alter>(
-    tx: &mut Tx<'_, S>,
-    alloc: Global,
-) -> Result<Vec<KeptAccount>, StoreFault>
-    ensures call { Reads S.Store tx.old tx.new result (λ rows. KnowsAccounts rows.items) }
-{
-    let rows = accounts_in_force(tx, alloc)?;
-    if !are_accounts_in_order(&rows) {
-        return tx.give_up(StoreFault::Failed);
-    }
-    Ok(rows)
-}
 
 /// Tells all accounts, by name.
 pub fn accounts<S: Alter>(tx: &mut Tx<'_, S>, alloc: Global) -> Result<Answer, StoreFault>

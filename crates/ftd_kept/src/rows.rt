@@ -4,10 +4,10 @@ ghost use Rattle.std.specs.Prelude.{◌≡◌, ◌++◌, ◌∷◌, [], IfOk, On
 ghost use Rattle.ftd_rules.specs.Lists.{are_in_order};
 ghost use Rattle.ftd_machine.specs.Agenda.{EachToLater};
 ghost use Rattle.ftd_machine.specs.Kept.{IsTotalBefore, IsRunBefore, period_of};
-ghost use Rattle.ftd_kept.specs.Kept.{kept_run, kept_quarter, kept_year, is_account_before};
-ghost use Rattle.ftd_kept.specs.Kept.{is_run_before, is_total_before, kept_account};
+ghost use Rattle.ftd_kept.specs.Kept.{kept_run, kept_quarter, kept_year, is_run_before};
+ghost use Rattle.ftd_kept.specs.Kept.{is_total_before};
 
-use ftd_machine::{Account, AccountName, KeptAccount, KeptRun, KeptTotal};
+use ftd_machine::{KeptRun, KeptTotal};
 use ftd_rows::{NumberedRun, QuarterTotal, YearTotal};
 use ftd_store::StoreFault;
 use std::alloc::{AllocError, Global};
@@ -73,41 +73,6 @@ pub(crate) fn told_runs(alloc: Global, rows: &[NumberedRun]) -> Result<Vec<KeptR
         return Err(StoreFault::Failed);
     }
     Ok(runs)
-}
-
-// ---- accounts
-
-/// Whether an account comes before another one, by its name's bytes.
-fn is_account_before(account: &KeptAccount, next: &KeptAccount) -> bool
-    ensures { result ≡ is_account_before account.now next.now }
-{
-    account.name.as_str() < next.name.as_str()
-}
-
-/// Whether each account comes before the next.
-pub(crate) fn are_accounts_in_order(accounts: &[KeptAccount]) -> bool
-    ensures { result ≡ are_in_order is_account_before accounts.now }
-{
-    accounts
-        .iter()
-        .zip(accounts.iter().skip(1))
-        .all(|(account, next)| is_account_before(account, next))
-}
-
-/// Adds an account, as it is told. `Memory` where there was none.
-pub(crate) fn add_account(
-    alloc: Global,
-    name: &str,
-    account: Account,
-    rows: &mut Vec<KeptAccount>,
-) -> Result<(), StoreFault>
-    ensures { OnOk result
-        (rows.new.items ≡ rows.old.items ++ kept_account name.now account ∷ []) }
-{
-    let name = String::from_str(alloc, name)?;
-    let name = AccountName::from_string(name);
-    rows.push(KeptAccount { name, account })?;
-    Ok(())
 }
 
 // ---- reported totals

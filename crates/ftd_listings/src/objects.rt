@@ -86,6 +86,7 @@ fn payment_members<'a>(account: &'a str, row: &KeptPayment) -> [(&'a str, Value<
 impl<'a> RowFormat<KeptAccount> for Objects<'a> {
     ghost row_text = { λ objects row. object_told (account_fields row) };
 
+    #[tactic(auto, unfolding(ftd_formats::specs::Fields::object_told))]
     fn write_row<W: Target>(&self, row: &KeptAccount, target: &mut W) -> Result<(), WriteFault> {
         write_object(&account_fields(row), target)
     }
@@ -94,6 +95,7 @@ impl<'a> RowFormat<KeptAccount> for Objects<'a> {
 impl<'a> RowFormat<KeptYear> for Objects<'a> {
     ghost row_text = { λ objects row. object_told (year_fields objects.account.now row) };
 
+    #[tactic(auto, unfolding(ftd_formats::specs::Fields::object_told))]
     fn write_row<W: Target>(&self, row: &KeptYear, target: &mut W) -> Result<(), WriteFault> {
         write_object(&year_fields(self.account, row), target)
     }
@@ -102,6 +104,7 @@ impl<'a> RowFormat<KeptYear> for Objects<'a> {
 impl<'a> RowFormat<KeptTotal> for Objects<'a> {
     ghost row_text = { λ objects row. total_object objects.account.now row };
 
+    #[tactic(auto, unfolding(ftd_formats::specs::Fields::object_told))]
     fn write_row<W: Target>(&self, row: &KeptTotal, target: &mut W) -> Result<(), WriteFault> {
         write_object(&total_members(self.account, row), target)
     }
@@ -118,6 +121,7 @@ impl<'a> RowFormat<KeptHoliday> for Objects<'a> {
 impl<'a> RowFormat<KeptRun> for Objects<'a> {
     ghost row_text = { λ objects row. run_object objects.account.now row };
 
+    #[tactic(auto, unfolding(ftd_formats::specs::Fields::object_told))]
     fn write_row<W: Target>(&self, row: &KeptRun, target: &mut W) -> Result<(), WriteFault> {
         write_object(&run_members(self.account, row), target)
     }
@@ -126,6 +130,7 @@ impl<'a> RowFormat<KeptRun> for Objects<'a> {
 impl<'a> RowFormat<KeptPayment> for Objects<'a> {
     ghost row_text = { λ objects row. payment_object objects.account.now row };
 
+    #[tactic(auto, unfolding(ftd_formats::specs::Fields::object_told))]
     fn write_row<W: Target>(&self, row: &KeptPayment, target: &mut W) -> Result<(), WriteFault> {
         write_object(&payment_members(self.account, row), target)
     }

@@ -33,6 +33,7 @@ impl<'a> RowFormat<KeptAccount> for Records<'a> {
 impl<'a> RowFormat<KeptYear> for Records<'a> {
     ghost row_text = { λ records row. record_told (year_fields records.account.now row) };
 
+    #[tactic(auto, unfolding(ftd_formats::specs::Fields::record_told))]
     fn write_row<W: Target>(&self, row: &KeptYear, target: &mut W) -> Result<(), WriteFault> {
         write_record(&year_fields(self.account, row), target)
     }
@@ -41,6 +42,7 @@ impl<'a> RowFormat<KeptYear> for Records<'a> {
 impl<'a> RowFormat<KeptTotal> for Records<'a> {
     ghost row_text = { λ records row. record_told (total_fields records.account.now row) };
 
+    #[tactic(auto, unfolding(ftd_formats::specs::Fields::record_told))]
     fn write_row<W: Target>(&self, row: &KeptTotal, target: &mut W) -> Result<(), WriteFault> {
         write_record(&total_fields(self.account, row), target)
     }
@@ -100,6 +102,7 @@ fn write_live_payment<W: Target>(
 }
 
 /// Writes the record of a payment.
+#[tactic(auto, unfolding(ftd_formats::specs::Fields::record_told))]
 fn write_payment<W: Target>(
     account: &str,
     payment: &KeptPayment,

@@ -27,7 +27,7 @@ use Rattle.ftd_machine.specs.declared.kept.KeptAccount.{KeptAccount}
 use Rattle.ftd_machine.proofs.Members.{has_filtered, some_of}
 use Rattle.ftd_entries.specs.Standing.{StandsFor}
 use Rattle.ftd_entries.proofs.OwedRows.{kept_by_first_day}
-use Rattle.ftd_kept.specs.Kept.{KnowsAccounts}
+use Rattle.ftd_accounts.specs.Accounts.{KnowsAccounts}
 use Rattle.ftd_questions.specs.Listing.{AddsDue, AreDue, AreOwn, HasOwed, IsOwedBefore, IsOwedBy}
 use Rattle.ftd_questions.specs.Listing.{IsUnpaidBy, KnowsDue, KnowsOwn, is_due_on}
 use Rattle.ftd_questions.proofs.OwedDays.{piece}

@@ -39,15 +39,15 @@ use Rattle.ftd_machine.proofs.Few.{few_in_force}
 use Rattle.ftd_machine.proofs.Members.{has_filtered}
 use Rattle.ftd_machine.proofs.DueSome.{makeup_one, verdict_one}
 use Rattle.ftd_entries.specs.Standing.{StandsFor, IsSettled}
-use Rattle.ftd_reasons.specs.Returns.{KnowsPeriod}
+use Rattle.ftd_accounts.specs.Returns.{KnowsPeriod}
 use Rattle.ftd_questions.specs.DueRows.{begins_in, IsReturnBy, IsRowBy, KnowsReturnDue}
 use Rattle.ftd_questions.specs.Walks.{begun}
-use Rattle.ftd_reasons.specs.declared.return_periods.ReturnPeriod.{ReturnPeriod}
+use Rattle.ftd_accounts.specs.declared.return_periods.ReturnPeriod.{ReturnPeriod}
 use Rattle.ftd_questions.specs.declared.due_rows.QuarterReturn.{QuarterReturn}
 use Rattle.ftd_questions.proofs.OneVerdict.{same_test}
 use Rattle.ftd_entries.proofs.OwedRows.{kept_by_first_day}
-use Rattle.ftd_reasons.proofs.YearsRead.{years_agree}
-use Rattle.ftd_reasons.proofs.ReturnDates.{AgreeIn, return_same, makeup_same}
+use Rattle.ftd_accounts.proofs.YearsRead.{years_agree}
+use Rattle.ftd_accounts.proofs.ReturnDates.{AgreeIn, return_same, makeup_same}
 use Rattle.ftd_questions.proofs.OwedDays.{quarter_begins, piece, period_days, some_days}
 use Rattle.ftd_store.proofs.Items.{paired_from, paired_to}
 

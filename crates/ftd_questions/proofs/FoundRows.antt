@@ -17,10 +17,10 @@ use Rattle.ftd_machine.specs.History.{form_of}
 use Rattle.ftd_machine.specs.Asking.{return_period, has_next_day}
 use Rattle.ftd_entries.specs.Standing.{StandsFor}
 use Rattle.ftd_entries.specs.Owed.{KnowsObligations}
-use Rattle.ftd_reasons.specs.Returns.{KnowsPeriod}
+use Rattle.ftd_accounts.specs.Returns.{KnowsPeriod}
 use Rattle.ftd_questions.specs.DueRows.{begins_in, is_next_day_row}
 use Rattle.ftd_questions.specs.Walks.{begun}
-use Rattle.ftd_reasons.specs.declared.return_periods.ReturnPeriod.{ReturnPeriod}
+use Rattle.ftd_accounts.specs.declared.return_periods.ReturnPeriod.{ReturnPeriod}
 use Rattle.ftd_questions.proofs.DueListed.{same_return}
 use Rattle.ftd_questions.proofs.OwedDays.{quarter_begins, begins_is}
 

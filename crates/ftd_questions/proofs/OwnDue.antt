@@ -25,7 +25,7 @@ use Rattle.ftd_entries.specs.Owed.{KnowsObligations}
 use Rattle.ftd_entries.specs.Standing.{StandsFor}
 use Rattle.ftd_entries.proofs.OwedRows.{kept_by_first_day}
 use Rattle.ftd_questions.specs.Listing.{AreOwn, KnowsOwn, is_unpaid}
-use Rattle.ftd_reasons.specs.Returns.{KnowsPayments}
+use Rattle.ftd_accounts.specs.Returns.{KnowsPayments}
 use Rattle.ftd_questions.proofs.DueYears.{begins_late}
 use Rattle.ftd_questions.proofs.OwedDays.{period_days, piece, some_days}
 

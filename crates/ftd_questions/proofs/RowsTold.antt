@@ -1,5 +1,5 @@
 -- Rows that are told are rows of the due list.
-use Rattle.std.proofs.Common.{◌≡◌, ℕ, ◌+◌, ◌-◌, ◌*◌, ◌%◌, ◌<◌, ◌≤◌, ◌⊎◌, Err}
+use Rattle.std.proofs.Common.{◌≡◌, ℕ, Err}
 use Rattle.std.proofs.Common.{inl, inr, List, [], ◌∷◌, ◌++◌, refl, sym, ap, ◌∙◌, subst}
 use Rattle.std.proofs.lemmas.List.{append_assoc}
 use Rattle.ftd_days.specs.Holidays.{holidays_of}

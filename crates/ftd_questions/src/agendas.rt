@@ -28,7 +28,7 @@ fn by_due_date(rows: Vec<AgendaRow>) -> Result<Vec<AgendaRow>, AllocError>
 
 /// Tells what is due between the days, both included, over all accounts, as of a day. The rows are
 /// read before the days are checked, as what is known of an account is for the other questions.
-pub(crate) fn agenda<S: Alter>(
+pub fn agenda<S: Alter>(
     tx: &mut Tx<'_, S>,
     alloc: Global,
     from: Day,
@@ -48,7 +48,7 @@ pub(crate) fn agenda<S: Alter>(
 }
 
 /// Tells what is due until the day, over all accounts, and not paid as of a day.
-pub(crate) fn owed<S: Alter>(
+pub fn owed<S: Alter>(
     tx: &mut Tx<'_, S>,
     alloc: Global,
     until: Day,

@@ -18,9 +18,9 @@ ghost use Rattle.ftd_questions.specs.Walks.{Stays, StandIfOpen};
 
 use crate::due::{KnownForDue, known_for_due};
 use crate::faults::refusal_of;
+use ftd_accounts::{ReturnPeriod, return_period};
 use ftd_days::{Day, Holidays, Quarter};
 use ftd_machine::{Answer, Refusal, due_list_check};
-use ftd_reasons::{ReturnPeriod, return_period};
 use ftd_rules::Form;
 use ftd_store::{Store, StoreFault, Tx};
 use sqlite::Alter;

@@ -10,10 +10,10 @@ ghost use Rattle.ftd_questions.specs.DueRows.{KnowsForDue, KnowsYears};
 ghost use Rattle.ftd_questions.specs.Shown.{KnowsQuarter, Shows};
 
 use crate::due_rows::{due_rows, has_next_day, quarter_return};
+use ftd_accounts::return_period;
 use ftd_days::{Day, Holidays, Quarter};
 use ftd_entries::{is_open, known};
 use ftd_machine::{Account, Answer, DueRows, Facts, Refusal, Reply, due_list_check};
-use ftd_reasons::return_period;
 use ftd_rules::{DueRow, Form};
 use ftd_store::{StoreFault, Tx};
 use sqlite::Alter;
@@ -88,7 +88,7 @@ pub(crate) fn rows_of_quarter<S: Alter>(
 /// Tells the account's obligations that begin in the quarter, by first day, each with its makeup
 /// date, what was paid for it by the day, and how it stands as of the day. They are the rows of the
 /// tables as they stand, whatever else these hold.
-pub(crate) fn due_list<S: Alter>(
+pub fn due_list<S: Alter>(
     tx: &mut Tx<'_, S>,
     alloc: Global,
     name: &str,

@@ -7,8 +7,8 @@ ghost use Rattle.ftd_rules.specs.Payments.{payment_cents};
 ghost use Rattle.ftd_rows.specs.Lists.{Pairs};
 ghost use Rattle.ftd_questions.specs.DueRows.{IsReturnBy, IsRowBy, begins_in, is_next_day_row};
 
+use ftd_accounts::{AMOUNTS_END, ReturnPeriod};
 use ftd_days::{Day, Holidays, Quarter};
-use ftd_reasons::{AMOUNTS_END, ReturnPeriod};
 use ftd_rules::{
     Case, DueRow, Form, Obligation, Payment, Rule, makeup, paid_by, return_due, with_return,
 };

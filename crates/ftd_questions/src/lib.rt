@@ -1,12 +1,10 @@
-//! Requests that ask: the deposit schedule of a day, what must be deposited for a quarter, its
-//! liability by day, and what is due over all accounts. Each is one function on a transaction,
-//! whose contract is the machine's step. A due list is also told row by row, on the store, and what
-//! a refusal can be mended by is read there.
+//! What must be deposited: for a quarter, and over all accounts. Each question is one function on a
+//! transaction, whose contract is the machine's step. A due list is also told row by row, on the
+//! store, and what a refusal can be mended by is read there.
 #![tactic(auto)]
 
 mod agenda_rows;
 mod agendas;
-mod answering;
 mod asking;
 mod due;
 mod due_rows;
@@ -16,7 +14,8 @@ mod missing;
 mod telling;
 mod walking;
 
-pub use crate::answering::ask;
+pub use crate::agendas::{agenda, owed};
+pub use crate::due::due_list;
 pub use crate::faults::{DueFault, refusal_of};
 pub use crate::missing::{first_year, given_days, missing_quarters};
 pub use crate::telling::due_into;

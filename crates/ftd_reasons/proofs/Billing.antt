@@ -23,7 +23,7 @@ use Rattle.ftd_machine.proofs.Heads.{Gives, gives_needs, skip_needs}
 use Rattle.ftd_entries.specs.Known.{KnowsAccount, KnowsYear}
 use Rattle.ftd_entries.specs.Standing.{StandsFor}
 use Rattle.ftd_entries.proofs.Reading.{Both}
-use Rattle.ftd_reasons.proofs.LiableDays.{liable_days, days_rise}
+use Rattle.ftd_accounts.proofs.LiableDays.{liable_days, days_rise}
 
 module _ (name : List ℕ) (quarter : ℕ) where
   -- the account, and whether the year of the quarter is open

@@ -1,7 +1,7 @@
 -- What is told of an obligation by what was read explains it.
-use Rattle.std.proofs.Common.{◌≡◌, ◌∙◌, ◌+◌, ◌<◌, ◌≤◌, ℕ, List, Option, None, Some, Ok, sym, ap}
-use Rattle.std.proofs.Common.{subst, refl, arith, Bool, true, false, [], ◌∷◌, inl, inr}
-use Rattle.std.specs.Prelude.{MatchOption, nat_le, ◌||◌, ◌↔◌}
+use Rattle.std.proofs.Common.{◌≡◌, ◌∙◌, ◌+◌, ◌<◌, ◌≤◌, ℕ, List, Option, None, Some, Ok, sym}
+use Rattle.std.proofs.Common.{subst, refl, arith, Bool, true}
+use Rattle.std.specs.Prelude.{MatchOption, nat_le, ◌↔◌}
 use Rattle.std.specs.List.{list_any, find}
 use Rattle.std.proofs.lemmas.Bool.{le-leb, eq-eqb, leb-true, and_parts}
 use Rattle.ftd_days.specs.Business.{is_holiday}
@@ -48,20 +48,9 @@ use Rattle.ftd_reasons.proofs.PaymentsTold.{begun_by}
 use Rattle.ftd_reasons.specs.Explained.{KnowsPaydays, IsToldBy, KnowsExplanation, KnowsCovering}
 use Rattle.ftd_reasons.specs.Schedules.{AreScheduled}
 use Rattle.ftd_reasons.proofs.Counted.{counted_are, counted_rise}
-use Rattle.ftd_reasons.proofs.ReturnDates.{AgreeIn, return_same}
-use Rattle.ftd_reasons.proofs.Searching.{found, not_found}
-use Rattle.ftd_reasons.proofs.YearsRead.{years_agree}
-
-pub any_has : {X : Type 0} (p : X → Bool) (xs : List X) (x : X) → Has xs x → p x ≡ true
-    → list_any p xs ≡ true
-any_has p [] x has e = absurd has
-any_has p (y ∷ xs) x (inl is) e = let same = ap p (sym is) ∙ e in rw same refl
-any_has p (y ∷ xs) x (inr has) e =
-    let rest = any_has p xs x has e in or_true (p y) (list_any p xs) rest
-  where
-    or_true : (a b : Bool) → b ≡ true → (a || b) ≡ true
-    or_true true b e = refl
-    or_true false b e = e
+use Rattle.ftd_accounts.proofs.ReturnDates.{AgreeIn, return_same}
+use Rattle.ftd_accounts.proofs.Searching.{found, not_found, any_has}
+use Rattle.ftd_accounts.proofs.YearsRead.{years_agree}
 
 -- the first day that is counted comes after the last of the obligation
 after_last : (rule : Rule) (last from : ℕ) → last ≤ last_day → IsFirstCounted rule last from

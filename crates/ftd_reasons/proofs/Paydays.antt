@@ -20,7 +20,7 @@ use Rattle.ftd_machine.specs.State.{State, entries_of}
 use Rattle.ftd_machine.specs.declared.explained.RunningSum.{RunningSum}
 use Rattle.ftd_entries.specs.Standing.{StandsFor}
 use Rattle.ftd_reasons.specs.Explained.{AreRunning}
-use Rattle.ftd_reasons.proofs.LiableDays.{liable_in, sum_is, is_sum, rise}
+use Rattle.ftd_accounts.proofs.LiableDays.{liable_in, sum_is, is_sum, rise}
 
 -- ---- one row more
 

@@ -29,7 +29,7 @@ use Rattle.ftd_entries.specs.Opening.{is_line_of, turns_into}
 use Rattle.ftd_entries.specs.Standing.{StandsFor}
 use Rattle.ftd_entries.proofs.KnownYears.{open_lines}
 use Rattle.ftd_reasons.specs.Schedules.{AreScheduled, IsStatusBy}
-use Rattle.ftd_reasons.proofs.Searching.{found, not_found, some_pass}
+use Rattle.ftd_accounts.proofs.Searching.{found, not_found, some_pass}
 
 -- ---- the line of a year
 

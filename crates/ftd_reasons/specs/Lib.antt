@@ -1,5 +1,4 @@
 pub mod Schedules
-pub mod Returns
 pub mod Explained
 pub mod Payments
 pub use Rattle.ftd_days.specs.Calendar

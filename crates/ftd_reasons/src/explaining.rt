@@ -14,8 +14,8 @@ ghost use Rattle.ftd_reasons.specs.Explained.{KnowsExplained, KnowsExplanation, 
 ghost use Rattle.ftd_rules.specs.Laws.{IsFirstCounted};
 
 use crate::paid::obligation_payments;
-use crate::return_periods::AMOUNTS_END;
 use crate::schedules::schedule_on;
+use ftd_accounts::AMOUNTS_END;
 use ftd_days::{Cents, Day, Holidays};
 use ftd_entries::{has_year, known};
 use ftd_machine::{

@@ -1,18 +1,15 @@
 //! What the tables tell of one account's days: the deposit schedule of a day and why, the liability
-//! of a quarter by day, why an obligation is so, what a return period has, and the payments, with
-//! the obligation that each counts for. Each question is one function on a transaction, whose
-//! contract is the machine's step.
+//! of a quarter by day, why an obligation is so, and the payments, with the obligation that each
+//! counts for. Each question is one function on a transaction, whose contract is the machine's step.
 #![tactic(auto)]
 
 mod explaining;
 mod liable;
 mod paid;
 mod payment_rows;
-mod return_periods;
 mod schedules;
 
 pub use crate::explaining::explain;
 pub use crate::liable::schedule_b;
 pub use crate::paid::payments;
-pub use crate::return_periods::{AMOUNTS_END, ReturnPeriod, payments_of, return_period};
 pub use crate::schedules::status;

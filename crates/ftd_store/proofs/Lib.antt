@@ -13,3 +13,4 @@ pub mod Turning
 pub mod Items
 pub mod Sifted
 pub mod AddedYears
+mod ReadTexts

@@ -21,3 +21,4 @@ pub use Rattle.ftd_schema.specs.Tests
 pub use Rattle.ftd_tables.specs.TextKinds
 pub mod Kept
 pub mod Corrections
+pub mod Readings

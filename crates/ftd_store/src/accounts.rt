@@ -4,10 +4,11 @@ ghost use Rattle.ftd_store.specs.Changes.{with_account, with_form};
 ghost use Rattle.ftd_store.specs.Finds.{FindsAccount, FindsForm, FindsInForce};
 ghost use Rattle.ftd_store.specs.Frame.{Reads, Writes};
 
+use crate::readings::Reading;
 use crate::tx::Tx;
 use ftd_rows::{Account, StoreFault, StoredDay, StoredFlag, StoredForm, as_corrected};
 use ftd_rules::Form;
-use ftd_schema::{TableName, texts};
+use ftd_schema::TableName;
 use sqlite::{Alter, params};
 use std::alloc::Global;
 
@@ -16,7 +17,7 @@ impl<'store, S: Alter> Tx<'store, S> {
     pub fn account(&mut self, name: &str) -> Result<Option<Account>, StoreFault>
         ensures call { Reads S.Store self.old self.new result (FindsAccount name.now) }
     {
-        self.read_only(texts::READ_ACCOUNT, params![name])
+        self.read_only(Reading::ReadAccount, params![name])
     }
 
     /// The account of the name as its last correction has it, or as it was enrolled where it has
@@ -46,7 +47,7 @@ impl<'store, S: Alter> Tx<'store, S> {
     pub fn form(&mut self, account: &str) -> Result<Option<Form>, StoreFault>
         ensures call { Reads S.Store self.old self.new result (FindsForm account.now) }
     {
-        self.read_only(texts::READ_FORM, params![account])
+        self.read_only(Reading::ReadForm, params![account])
     }
 
     /// Adds the form of the account. `Failed` where it has one, and where the account is not there.

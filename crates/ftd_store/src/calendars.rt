@@ -6,10 +6,11 @@ ghost use Rattle.ftd_store.specs.Changes.{adding, with_calendar, with_added_holi
 ghost use Rattle.ftd_store.specs.Finds.{HasCalendar, FindsCalendar, ListsAdded};
 ghost use Rattle.ftd_store.specs.Frame.{Reads, Writes};
 
+use crate::readings::Reading;
 use crate::tx::Tx;
 use ftd_days::Day;
 use ftd_rows::{StoreFault, StoredDay};
-use ftd_schema::{TableName, texts};
+use ftd_schema::TableName;
 use sqlite::{Alter, params};
 use std::alloc::Global;
 
@@ -18,7 +19,7 @@ impl<'store, S: Alter> Tx<'store, S> {
     fn has_calendar(&mut self, year: u32) -> Result<bool, StoreFault>
         ensures call { Reads S.Store self.old self.new result (HasCalendar year) }
     {
-        let found: Option<u32> = self.read_only(texts::READ_CALENDAR_YEAR, params![year])?;
+        let found: Option<u32> = self.read_only(Reading::ReadCalendarYear, params![year])?;
         Ok(found.is_some())
     }
 
@@ -30,7 +31,7 @@ impl<'store, S: Alter> Tx<'store, S> {
         if !self.has_calendar(year)? {
             return Ok(None);
         }
-        let days = self.read_all(alloc, texts::LIST_HOLIDAYS, params![year])?;
+        let days = self.read_all(alloc, Reading::ListHolidays, params![year])?;
         Ok(Some(days))
     }
 
@@ -64,7 +65,7 @@ impl<'store, S: Alter> Tx<'store, S> {
     pub fn added(&mut self, alloc: Global, year: u32) -> Result<Vec<Day>, StoreFault>
         ensures call { Reads S.Store self.old self.new result (ListsAdded year) }
     {
-        self.read_all(alloc, texts::LIST_ADDED_HOLIDAYS, params![year])
+        self.read_all(alloc, Reading::ListAddedHolidays, params![year])
     }
 
     /// Adds a holiday to its year. `Failed` where it was added before, and where the year's

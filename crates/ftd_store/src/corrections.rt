@@ -8,13 +8,14 @@ ghost use Rattle.ftd_store.specs.Corrections.{ListsYearCorrections, ListsCorrect
 ghost use Rattle.ftd_store.specs.Corrections.{ListsAccountCorrections, ListsHolidayChanges};
 ghost use Rattle.ftd_store.specs.Frame.{Reads, Writes};
 
+use crate::readings::Reading;
 use crate::tx::Tx;
 use ftd_days::Quarter;
 use ftd_rows::{
     AccountCorrection, Correction, HolidayChange, QuarterCorrection, StoreFault, StoredCents,
     StoredDay, StoredFlag, YearCorrection,
 };
-use ftd_schema::{TableName, texts};
+use ftd_schema::TableName;
 use sqlite::{Alter, params};
 use std::alloc::Global;
 
@@ -31,7 +32,11 @@ impl<'store, S: Alter> Tx<'store, S> {
     {
         let year = quarter.year();
         let part = u32::from(quarter.number());
-        self.read_all(alloc, texts::LIST_CORRECTIONS, params![account, year, part])
+        self.read_all(
+            alloc,
+            Reading::ListCorrections,
+            params![account, year, part],
+        )
     }
 
     /// The corrections of all the totals that the account reported for quarters, by quarter and
@@ -43,7 +48,7 @@ impl<'store, S: Alter> Tx<'store, S> {
     ) -> Result<Vec<QuarterCorrection>, StoreFault>
         ensures call { Reads S.Store self.old self.new result (ListsCorrected account.now) }
     {
-        self.read_all(alloc, texts::LIST_CORRECTED, params![account])
+        self.read_all(alloc, Reading::ListCorrected, params![account])
     }
 
     /// Adds a correction of the total of the quarter. `Failed` where there is one of its number,
@@ -79,7 +84,7 @@ impl<'store, S: Alter> Tx<'store, S> {
         ensures call { Reads S.Store self.old self.new result
             (ListsYearCorrections account.now year) }
     {
-        self.read_all(alloc, texts::LIST_YEAR_CORRECTIONS, params![account, year])
+        self.read_all(alloc, Reading::ListYearCorrections, params![account, year])
     }
 
     /// The corrections of all the totals that the account reported for years, by year and number.
@@ -90,7 +95,7 @@ impl<'store, S: Alter> Tx<'store, S> {
     ) -> Result<Vec<YearCorrection>, StoreFault>
         ensures call { Reads S.Store self.old self.new result (ListsCorrectedYears account.now) }
     {
-        self.read_all(alloc, texts::LIST_CORRECTED_YEARS, params![account])
+        self.read_all(alloc, Reading::ListCorrectedYears, params![account])
     }
 
     /// Adds a correction of the total of the year. `Failed` where there is one of its number, and
@@ -123,7 +128,7 @@ impl<'store, S: Alter> Tx<'store, S> {
         ensures call { Reads S.Store self.old self.new result
             (ListsAccountCorrections account.now) }
     {
-        self.read_all(alloc, texts::LIST_ACCOUNT_CORRECTIONS, params![account])
+        self.read_all(alloc, Reading::ListAccountCorrections, params![account])
     }
 
     /// Adds a correction of the account. `Failed` where there is one of its number, and where the
@@ -156,7 +161,7 @@ impl<'store, S: Alter> Tx<'store, S> {
     ) -> Result<Vec<HolidayChange>, StoreFault>
         ensures call { Reads S.Store self.old self.new result (ListsHolidayChanges year) }
     {
-        self.read_all(alloc, texts::LIST_CHANGED_HOLIDAYS, params![year])
+        self.read_all(alloc, Reading::ListChangedHolidays, params![year])
     }
 
     /// Adds a change of a day to the day's year. `Failed` where there is one of its number, and

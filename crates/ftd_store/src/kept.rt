@@ -4,13 +4,13 @@ ghost use Rattle.ftd_store.specs.Frame.{Reads};
 ghost use Rattle.ftd_store.specs.Kept.{ListsEnrolled, ListsForms, ListsReported};
 ghost use Rattle.ftd_store.specs.Kept.{ListsReportedYears, ListsKeptRuns, ListsKeptPayments};
 
+use crate::readings::Reading;
 use crate::tx::Tx;
 use ftd_days::Day;
 use ftd_rows::{
     NamedAccount, NamedForm, NumberedPayment, NumberedRun, QuarterTotal, StoreFault, StoredDay,
     YearTotal,
 };
-use ftd_schema::texts;
 use sqlite::{Alter, params};
 use std::alloc::Global;
 
@@ -19,14 +19,14 @@ impl<'store, S: Alter> Tx<'store, S> {
     pub fn enrolled(&mut self, alloc: Global) -> Result<Vec<NamedAccount>, StoreFault>
         ensures call { Reads S.Store self.old self.new result ListsEnrolled }
     {
-        self.read_all(alloc, texts::LIST_ENROLLED, params![])
+        self.read_all(alloc, Reading::ListEnrolled, params![])
     }
 
     /// The forms of all accounts, by account.
     pub fn forms(&mut self, alloc: Global) -> Result<Vec<NamedForm>, StoreFault>
         ensures call { Reads S.Store self.old self.new result ListsForms }
     {
-        self.read_all(alloc, texts::LIST_FORMS, params![])
+        self.read_all(alloc, Reading::ListForms, params![])
     }
 
     /// The totals that the account reported for quarters, by quarter.
@@ -37,7 +37,7 @@ impl<'store, S: Alter> Tx<'store, S> {
     ) -> Result<Vec<QuarterTotal>, StoreFault>
         ensures call { Reads S.Store self.old self.new result (ListsReported account.now) }
     {
-        self.read_all(alloc, texts::LIST_REPORTED, params![account])
+        self.read_all(alloc, Reading::ListReported, params![account])
     }
 
     /// The totals that the account reported for years, by year.
@@ -48,7 +48,7 @@ impl<'store, S: Alter> Tx<'store, S> {
     ) -> Result<Vec<YearTotal>, StoreFault>
         ensures call { Reads S.Store self.old self.new result (ListsReportedYears account.now) }
     {
-        self.read_all(alloc, texts::LIST_REPORTED_YEARS, params![account])
+        self.read_all(alloc, Reading::ListReportedYears, params![account])
     }
 
     /// The account's runs with a payday from `from` to `to`, void ones too, by payday and number.
@@ -63,7 +63,7 @@ impl<'store, S: Alter> Tx<'store, S> {
     {
         self.read_all(
             alloc,
-            texts::LIST_KEPT_RUNS,
+            Reading::ListKeptRuns,
             params![account, StoredDay(from), StoredDay(to)],
         )
     }
@@ -82,7 +82,7 @@ impl<'store, S: Alter> Tx<'store, S> {
     {
         self.read_all(
             alloc,
-            texts::LIST_KEPT_PAYMENTS,
+            Reading::ListKeptPayments,
             params![account, StoredDay(from), StoredDay(to)],
         )
     }

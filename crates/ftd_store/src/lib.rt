@@ -13,6 +13,7 @@ mod obligation_rows;
 mod obligations;
 mod opening;
 mod payments;
+mod readings;
 mod reported;
 mod runs;
 mod store;

@@ -11,6 +11,7 @@ ghost use Rattle.ftd_store.specs.Changes.{with_obligation, with_due_date};
 ghost use Rattle.ftd_store.specs.Finds.{ListsObligations, ListsDueOver, ListsDueBetween};
 ghost use Rattle.ftd_store.specs.Frame.{Reads, Writes, WritesOne};
 
+use crate::readings::Reading;
 use crate::tx::Tx;
 use ftd_days::Day;
 use ftd_rows::{AccountObligation, StoreFault, StoredCents, StoredDay, StoredRule};
@@ -33,7 +34,7 @@ impl<'store, S: Alter> Tx<'store, S> {
     {
         self.read_all(
             alloc,
-            texts::LIST_OBLIGATIONS,
+            Reading::ListObligations,
             params![account, StoredDay(from), StoredDay(to)],
         )
     }
@@ -120,7 +121,7 @@ impl<'store, S: Alter> Tx<'store, S> {
     ) -> Result<Vec<AccountObligation>, StoreFault>
         ensures call { Reads S.Store self.old self.new result (ListsDueOver day) }
     {
-        self.read_all(alloc, texts::LIST_DUE_OVER, params![StoredDay(day)])
+        self.read_all(alloc, Reading::ListDueOver, params![StoredDay(day)])
     }
 
     /// The obligations of all accounts that are due from `from` to `to`, by account and first day.
@@ -135,7 +136,7 @@ impl<'store, S: Alter> Tx<'store, S> {
     {
         self.read_all(
             alloc,
-            texts::LIST_DUE_BETWEEN,
+            Reading::ListDueBetween,
             params![StoredDay(from), StoredDay(to)],
         )
     }

@@ -8,6 +8,7 @@ ghost use Rattle.ftd_store.specs.Changes.{with_payment, with_void_payment};
 ghost use Rattle.ftd_store.specs.Finds.{FindsPayment, CountsPayments, ListsPayments};
 ghost use Rattle.ftd_store.specs.Frame.{Reads, Writes, WritesOne};
 
+use crate::readings::Reading;
 use crate::tx::Tx;
 use ftd_days::Day;
 use ftd_rows::{StoreFault, StoredCents, StoredDay, StoredFlag};
@@ -25,14 +26,14 @@ impl<'store, S: Alter> Tx<'store, S> {
     ) -> Result<Option<Voidable<Payment>>, StoreFault>
         ensures call { Reads S.Store self.old self.new result (FindsPayment account.now number) }
     {
-        self.read_only(texts::READ_PAYMENT, params![account, number])
+        self.read_only(Reading::ReadPayment, params![account, number])
     }
 
     /// How many payments the account has, void ones too. `Failed` also where they are 2^32 or more.
     pub fn count_payments(&mut self, account: &str) -> Result<u32, StoreFault>
         ensures call { Reads S.Store self.old self.new result (CountsPayments account.now) }
     {
-        self.count(texts::COUNT_PAYMENTS, params![account])
+        self.count(Reading::CountPayments, params![account])
     }
 
     /// Adds a payment of the account, which is not void. `Failed` where the account has one of the
@@ -82,7 +83,7 @@ impl<'store, S: Alter> Tx<'store, S> {
     {
         self.read_all(
             alloc,
-            texts::LIST_PAYMENTS,
+            Reading::ListPayments,
             params![account, StoredDay(from), StoredDay(to)],
         )
     }

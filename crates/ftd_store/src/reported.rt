@@ -5,10 +5,11 @@ ghost use Rattle.ftd_store.specs.Changes.{with_reported, with_reported_year};
 ghost use Rattle.ftd_store.specs.Finds.{FindsReported, FindsReportedYear};
 ghost use Rattle.ftd_store.specs.Frame.{Reads, Writes};
 
+use crate::readings::Reading;
 use crate::tx::Tx;
 use ftd_days::{Cents, Quarter};
 use ftd_rows::{StoreFault, StoredCents};
-use ftd_schema::{TableName, texts};
+use ftd_schema::TableName;
 use sqlite::{Alter, params};
 
 impl<'store, S: Alter> Tx<'store, S> {
@@ -18,7 +19,7 @@ impl<'store, S: Alter> Tx<'store, S> {
     {
         let year = quarter.year();
         let number = u32::from(quarter.number());
-        self.read_only(texts::READ_REPORTED, params![account, year, number])
+        self.read_only(Reading::ReadReported, params![account, year, number])
     }
 
     /// Adds the total of the quarter. `Failed` where it has one, and where the account is not
@@ -45,7 +46,7 @@ impl<'store, S: Alter> Tx<'store, S> {
     pub fn reported_year(&mut self, account: &str, year: u32) -> Result<Option<Cents>, StoreFault>
         ensures call { Reads S.Store self.old self.new result (FindsReportedYear account.now year) }
     {
-        self.read_only(texts::READ_REPORTED_YEAR, params![account, year])
+        self.read_only(Reading::ReadReportedYear, params![account, year])
     }
 
     /// Adds the total of the year. `Failed` where it has one, and where the account is not there.

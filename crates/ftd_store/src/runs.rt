@@ -8,6 +8,7 @@ ghost use Rattle.ftd_store.specs.Changes.{with_run, with_void_run};
 ghost use Rattle.ftd_store.specs.Finds.{FindsRun, CountsRuns, ListsLiability};
 ghost use Rattle.ftd_store.specs.Frame.{Reads, Writes, WritesOne};
 
+use crate::readings::Reading;
 use crate::tx::Tx;
 use ftd_days::Day;
 use ftd_rows::{StoreFault, StoredCents, StoredDay, StoredFlag, sums_of};
@@ -25,14 +26,14 @@ impl<'store, S: Alter> Tx<'store, S> {
     ) -> Result<Option<Voidable<PayRun>>, StoreFault>
         ensures call { Reads S.Store self.old self.new result (FindsRun account.now number) }
     {
-        self.read_only(texts::READ_RUN, params![account, number])
+        self.read_only(Reading::ReadRun, params![account, number])
     }
 
     /// How many runs the account has, void ones too. `Failed` also where they are 2^32 or more.
     pub fn count_runs(&mut self, account: &str) -> Result<u32, StoreFault>
         ensures call { Reads S.Store self.old self.new result (CountsRuns account.now) }
     {
-        self.count(texts::COUNT_RUNS, params![account])
+        self.count(Reading::CountRuns, params![account])
     }
 
     /// Adds a run of the account, which is not void. `Failed` where the account has one of the
@@ -77,7 +78,7 @@ impl<'store, S: Alter> Tx<'store, S> {
     {
         let runs: Vec<PayRun> = self.read_all(
             alloc,
-            texts::LIST_RUNS,
+            Reading::ListRuns,
             params![account, StoredDay(from), StoredDay(to)],
         )?;
         match sums_of(alloc, &runs) {

@@ -4,7 +4,7 @@ ghost use Rattle.std.specs.Prelude.{◌≡◌, ◌<◌, ◌^◌, true, false, is
 ghost use Rattle.std.specs.Prelude.{◌∷◌, IsTrue, IfOk, OnOk, OnErr, Err, Ok};
 ghost use Rattle.sqlite.specs.State.{HasCleanDisk, Survives, Shows, Executes};
 ghost use Rattle.sqlite.specs.Values.{bound};
-ghost use Rattle.ftd_tables.specs.TextKinds.{IsRowText, IsReadText};
+ghost use Rattle.ftd_tables.specs.TextKinds.{IsRowText};
 ghost use Rattle.ftd_schema.specs.Rows.{RowOf, cells_of};
 ghost use Rattle.ftd_schema.specs.States.{CrashKeeps};
 ghost use Rattle.ftd_rows.specs.Cells.{count_cells};
@@ -13,7 +13,9 @@ ghost use Rattle.ftd_store.specs.Seen.{seen, shown};
 ghost use Rattle.ftd_store.specs.Frame.{Frame, Queries, Writes, HasFailed};
 ghost use Rattle.ftd_store.specs.Ends.{EndsAs, CrashLeaves};
 ghost use Rattle.ftd_store.specs.Changes.{adding};
+ghost use Rattle.ftd_store.specs.Readings.{text_of};
 
+use crate::readings::Reading;
 use crate::store::Store;
 use ftd_rows::{FromRow, StoreFault, all, only};
 use ftd_schema::TableName;
@@ -165,17 +167,16 @@ impl<'store, S: Alter> Tx<'store, S> {
     // runs a query
     pub(crate) fn read(
         &mut self,
-        sql: &str,
+        reading: Reading,
         params: &[ValueRef<'_>],
     ) -> Result<Vec<Row>, StoreFault>
-        requires of_reading { IsReadText sql.now }
-        ensures call { Queries S.Store self.old self.new result sql.now (bound params.now)
-            (λ read rows. rows ≡ read.items) }
+        ensures call { Queries S.Store self.old self.new result (text_of reading)
+            (bound params.now) (λ read rows. rows ≡ read.items) }
     {
         if self.failed {
             return Err(StoreFault::Failed);
         }
-        match self.store.conn.query_all(sql, params) {
+        match self.store.conn.query_all(reading.text(), params) {
             Ok(rows) => Ok(rows),
             Err(error) => self.stop(StoreFault::from(error)),
         }
@@ -184,14 +185,13 @@ impl<'store, S: Alter> Tx<'store, S> {
     // runs a query that shows one row or none
     pub(crate) fn read_only<T: FromRow>(
         &mut self,
-        sql: &str,
+        reading: Reading,
         params: &[ValueRef<'_>],
     ) -> Result<Option<T>, StoreFault>
-        requires of_reading { IsReadText sql.now }
-        ensures call { Queries S.Store self.old self.new result sql.now (bound params.now)
-            (λ found rows. rows ≡ rows_of T.shown found) }
+        ensures call { Queries S.Store self.old self.new result (text_of reading)
+            (bound params.now) (λ found rows. rows ≡ rows_of T.shown found) }
     {
-        let rows = self.read(sql, params)?;
+        let rows = self.read(reading, params)?;
         match only(&rows) {
             Ok(found) => Ok(found),
             Err(fault) => self.stop(fault),
@@ -202,14 +202,13 @@ impl<'store, S: Alter> Tx<'store, S> {
     pub(crate) fn read_all<T: FromRow + Drop>(
         &mut self,
         alloc: Global,
-        sql: &str,
+        reading: Reading,
         params: &[ValueRef<'_>],
     ) -> Result<Vec<T>, StoreFault>
-        requires of_reading { IsReadText sql.now }
-        ensures call { Queries S.Store self.old self.new result sql.now (bound params.now)
-            (λ listed rows. rows ≡ map T.shown listed.items) }
+        ensures call { Queries S.Store self.old self.new result (text_of reading)
+            (bound params.now) (λ listed rows. rows ≡ map T.shown listed.items) }
     {
-        let rows = self.read(sql, params)?;
+        let rows = self.read(reading, params)?;
         match all(alloc, &rows) {
             Ok(listed) => Ok(listed),
             Err(fault) => self.stop(fault),
@@ -217,12 +216,16 @@ impl<'store, S: Alter> Tx<'store, S> {
     }
 
     // runs a query that counts rows
-    pub(crate) fn count(&mut self, sql: &str, params: &[ValueRef<'_>]) -> Result<u32, StoreFault>
-        requires of_reading { IsReadText sql.now }
-        ensures call { Queries S.Store self.old self.new result sql.now (bound params.now)
+    pub(crate) fn count(
+        &mut self,
+        reading: Reading,
+        params: &[ValueRef<'_>],
+    ) -> Result<u32, StoreFault>
+        ensures call { Queries S.Store self.old self.new result (text_of reading)
+            (bound params.now)
             (λ count rows. (rows ≡ count_cells count ∷ []) × (count < 2 ^ 32)) }
     {
-        match self.read_only(sql, params)? {
+        match self.read_only(reading, params)? {
             Some(count) => Ok(count),
             None => self.stop(StoreFault::Failed),
         }

@@ -5,6 +5,7 @@ ghost use Rattle.ftd_store.specs.Changes.{with_year};
 ghost use Rattle.ftd_store.specs.Finds.{ListsYears};
 ghost use Rattle.ftd_store.specs.Frame.{Reads, Writes};
 
+use crate::readings::Reading;
 use crate::tx::Tx;
 use ftd_rows::{StoreFault, StoredCents, StoredSchedule, StoredYear, open_years, stored_turn};
 use ftd_rules::YearLine;
@@ -21,7 +22,7 @@ impl<'store, S: Alter> Tx<'store, S> {
         ensures call { Reads S.Store self.old self.new result (ListsYears account.now) }
     {
         let found = self.account_in_force(alloc, account)?;
-        let stored: Vec<StoredYear> = self.read_all(alloc, texts::LIST_YEARS, params![account])?;
+        let stored: Vec<StoredYear> = self.read_all(alloc, Reading::ListYears, params![account])?;
         match open_years(alloc, found, &stored) {
             Ok(lines) => Ok(lines),
             Err(fault) => self.stop(fault),

@@ -6,7 +6,7 @@ use Rattle.ftd_machine.specs.declared.requests.Question.TheVariants as questions
 use Rattle.ftd_machine.specs.declared.requests.Request.TheVariants.{Question}
 use Rattle.ftd_machine.proofs.Deciding.{passed}
 use Rattle.ftd_entries.proofs.Serving.{served_looked}
-use Rattle.ftd_kept.specs.Kept.{KnowsAccounts}
+use Rattle.ftd_accounts.specs.Accounts.{KnowsAccounts}
 use Rattle.ftd_kept.proofs.lists.accounts.Goals as goal
 
 pub returns : goal.returns

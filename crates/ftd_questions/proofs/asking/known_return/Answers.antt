@@ -2,7 +2,7 @@ use Rattle.std.proofs.Common.{◌+◌, subst}
 use Rattle.ftd_days.specs.Holidays.{holidays_of}
 use Rattle.ftd_store.specs.Holidays.{HasYears}
 use Rattle.ftd_store.proofs.Telling.{then_reads}
-use Rattle.ftd_reasons.specs.Returns.{KnowsPeriod}
+use Rattle.ftd_accounts.specs.Returns.{KnowsPeriod}
 use Rattle.ftd_questions.specs.Telling.{KnowsReturn}
 use Rattle.ftd_questions.proofs.asking.known_return.Goals as goal
 

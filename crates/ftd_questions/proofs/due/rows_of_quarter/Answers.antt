@@ -8,7 +8,7 @@ use Rattle.ftd_store.specs.Finds.{ListsObligations}
 use Rattle.ftd_store.proofs.Going.{then_goes}
 use Rattle.ftd_store.proofs.Telling.{then_reads}
 use Rattle.ftd_store.proofs.Turning.{gave_up_after}
-use Rattle.ftd_reasons.specs.Returns.{KnowsPeriod}
+use Rattle.ftd_accounts.specs.Returns.{KnowsPeriod}
 use Rattle.ftd_questions.specs.DueRows.{IsRowBy, KnowsYears, begins_in, is_next_day_row}
 use Rattle.ftd_questions.specs.Shown.{KnowsQuarter}
 use Rattle.ftd_questions.proofs.DueListed.{return_known}

@@ -7,7 +7,7 @@ use Rattle.ftd_store.proofs.Telling.{reads_on, then_reads}
 use Rattle.ftd_store.proofs.Turning.{gave_up_after}
 use Rattle.ftd_entries.proofs.OwedRows.{obligations_known}
 use Rattle.ftd_questions.specs.Listing.{KnowsOwn, is_unpaid}
-use Rattle.ftd_reasons.specs.Returns.{KnowsPayments}
+use Rattle.ftd_accounts.specs.Returns.{KnowsPayments}
 use Rattle.ftd_questions.proofs.OwnDue.{own_read, own_unpaid}
 use Rattle.ftd_questions.proofs.listing.own_due.Goals as goal
 

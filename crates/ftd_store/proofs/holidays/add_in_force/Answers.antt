@@ -1,9 +1,7 @@
-use Rattle.std.proofs.Common.{◌≡◌, ◌≢◌, ◌||◌, ◌∙◌, sym, ap, ℕ, false, Result, Ok, Err}
-use Rattle.std.specs.Prelude.{OnOk, All}
+use Rattle.std.proofs.Common.{◌||◌, ◌∙◌, sym, ap, Result, Ok, Err}
+use Rattle.std.specs.Prelude.{OnOk}
 use Rattle.ftd_days.specs.Business.{is_holiday}
-use Rattle.ftd_days.specs.Calendar.{year_of}
 use Rattle.ftd_days.specs.Holidays.{holidays_of}
-use Rattle.ftd_store.specs.Holidays.{is_holiday_in}
 use Rattle.ftd_store.proofs.AddedYears.{both_elsewhere, both_kept}
 use Rattle.ftd_store.proofs.holidays.add_in_force.Goals as goal
 

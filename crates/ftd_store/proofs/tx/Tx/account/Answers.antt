@@ -1,22 +1,17 @@
+use Rattle.std.proofs.Common.{rules}
 use Rattle.ftd_schema.specs.declared.TableName.TheVariants.{Accounts}
 use Rattle.ftd_schema.specs.declared.texts.TheConstants.{READ_ACCOUNT}
 use Rattle.ftd_schema.specs.Answers.{account_shown}
-use Rattle.ftd_schema.proofs.Asking.{reads_account}
-use Rattle.ftd_schema.proofs.Reading.{asking}
 use Rattle.ftd_schema.proofs.Meanings.{shows_account}
 use Rattle.ftd_rows.specs.Cells.{account_cells}
 use Rattle.ftd_store.proofs.Same.{account_is}
 use Rattle.ftd_store.proofs.Telling.{finds}
 use Rattle.ftd_store.proofs.tx.Tx.account.Goals as goal
 
-pub read_only-requires : goal.read_only-requires
-read_only-requires g c =
-    record { of_reading = asking Accounts READ_ACCOUNT.now _ _ _ reads_account }
-
 pub returns : goal.returns
 returns g c = record {
   call = finds g.S.Store c.args.self.now c.read_only.new.self c.read_only.result Accounts
       READ_ACCOUNT.now _ _ account_shown account_cells _ (shows_account c.args.name.now)
       (account_is c.args.name.now)
-      (rw c.params-to_sql.ensures at c.read_only.ensures.call);
+      (search rules);
 }

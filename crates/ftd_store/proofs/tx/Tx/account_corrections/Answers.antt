@@ -1,22 +1,14 @@
+use Rattle.std.proofs.Common.{rules}
 use Rattle.ftd_schema.specs.declared.TableName.TheVariants.{CorrectedAccounts}
 use Rattle.ftd_schema.specs.declared.texts.TheConstants.{LIST_ACCOUNT_CORRECTIONS}
 use Rattle.ftd_schema.specs.Answers.{account_correction_shown}
 use Rattle.ftd_schema.specs.Orders.{AccountCorrectionsRise}
-use Rattle.ftd_schema.proofs.Asking.{lists_account_corrections}
-use Rattle.ftd_schema.proofs.Reading.{asking}
 use Rattle.ftd_schema.proofs.Meanings.{account_corrections_in_order}
 use Rattle.ftd_rows.specs.Corrections.{account_correction_cells}
 use Rattle.ftd_store.specs.Corrections.{IsAccountCorrection}
 use Rattle.ftd_store.proofs.SameCorrections.{account_correction_is}
 use Rattle.ftd_store.proofs.Telling.{lists}
 use Rattle.ftd_store.proofs.tx.Tx.account_corrections.Goals as goal
-
-pub read_all-requires : goal.read_all-requires
-read_all-requires g c =
-    record {
-      of_reading = asking CorrectedAccounts LIST_ACCOUNT_CORRECTIONS.now _ _ _
-          lists_account_corrections;
-    }
 
 pub returns : goal.returns
 returns g c = record {
@@ -26,5 +18,5 @@ returns g c = record {
       AccountCorrectionsRise (IsAccountCorrection c.args.account.now)
       (account_corrections_in_order c.args.account.now)
       (account_correction_is c.args.account.now)
-      (rw c.params-to_sql.ensures at c.read_all.ensures.call);
+      (search rules);
 }

@@ -1,4 +1,4 @@
-use Rattle.std.proofs.Common.{refl}
+use Rattle.std.proofs.Common.{rules}
 use Rattle.ftd_rows.specs.Rows.{account_row}
 use Rattle.ftd_store.proofs.tx.Tx.add_account.Goals as goal
 
@@ -6,5 +6,5 @@ pub returns : goal.returns
 returns g c =
     record {
       call = c.add.ensures.call (account_row c.args.name.now c.args.account)
-          (rw (c.params-to_sql.ensures, c.params-to_sql-2.ensures, c.params-to_sql-3.ensures) refl);
+          (search rules);
     }

@@ -1,4 +1,4 @@
-use Rattle.std.proofs.Common.{refl}
+use Rattle.std.proofs.Common.{rules}
 use Rattle.ftd_rows.specs.Rows.{account_correction_row}
 use Rattle.ftd_store.proofs.tx.Tx.add_account_correction.Goals as goal
 
@@ -6,10 +6,5 @@ pub returns : goal.returns
 returns g c =
     record {
       call = c.add.ensures.call (account_correction_row c.args.account.now c.args.correction)
-          (rw (
-            c.params-to_sql.ensures,
-            c.params-to_sql-2.ensures,
-            c.params-to_sql-3.ensures,
-            c.params-to_sql-4.ensures,
-          ) refl);
+          (search rules);
     }

@@ -1,4 +1,4 @@
-use Rattle.std.proofs.Common.{refl}
+use Rattle.std.proofs.Common.{rules}
 use Rattle.ftd_days.specs.Calendar.{year_of}
 use Rattle.ftd_rows.specs.Rows.{holiday_change_row}
 use Rattle.ftd_store.proofs.tx.Tx.add_holiday_change.Goals as goal
@@ -7,11 +7,5 @@ pub returns : goal.returns
 returns g c =
     record {
       call = c.add.ensures.call (holiday_change_row (year_of c.args.change.day) c.args.change)
-          (rw (
-            c.params-to_sql.ensures,
-            c.params-to_sql-2.ensures,
-            c.params-to_sql-3.ensures,
-            c.params-to_sql-4.ensures,
-            c.year-year.ensures,
-          ) refl);
+          (search rules);
     }

@@ -1,4 +1,4 @@
-use Rattle.std.proofs.Common.{refl}
+use Rattle.std.proofs.Common.{rules}
 use Rattle.ftd_rows.specs.Rows.{reported_year_row}
 use Rattle.ftd_store.proofs.tx.Tx.add_reported_year.Goals as goal
 
@@ -6,5 +6,5 @@ pub returns : goal.returns
 returns g c =
     record {
       call = c.add.ensures.call (reported_year_row c.args.account.now c.args.year c.args.cents)
-          (rw (c.params-to_sql.ensures, c.params-to_sql-2.ensures, c.params-to_sql-3.ensures) refl);
+          (search rules);
     }

@@ -1,4 +1,4 @@
-use Rattle.std.proofs.Common.{refl}
+use Rattle.std.proofs.Common.{rules}
 use Rattle.ftd_rows.specs.Rows.{year_correction_row}
 use Rattle.ftd_store.proofs.tx.Tx.add_year_correction.Goals as goal
 
@@ -7,10 +7,5 @@ returns g c =
     record {
       call = c.add.ensures.call
           (year_correction_row c.args.account.now c.args.year c.args.correction)
-          (rw (
-            c.params-to_sql.ensures,
-            c.params-to_sql-2.ensures,
-            c.params-to_sql-3.ensures,
-            c.params-to_sql-4.ensures,
-          ) refl);
+          (search rules);
     }

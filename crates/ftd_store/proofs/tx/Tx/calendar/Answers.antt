@@ -1,20 +1,14 @@
-use Rattle.std.proofs.Common.{pos, None, Some, Ok, Vec, Global, ℕ}
+use Rattle.std.proofs.Common.{pos, None, Some, Ok, Vec, Global, ℕ, rules}
 use Rattle.ftd_schema.specs.declared.TableName.TheVariants.{Holidays}
 use Rattle.ftd_schema.specs.declared.texts.TheConstants.{LIST_HOLIDAYS}
 use Rattle.ftd_schema.specs.Answers.{holiday_shown}
 use Rattle.ftd_schema.specs.Orders.{HolidaysRise}
-use Rattle.ftd_schema.proofs.Asking.{lists_holidays}
-use Rattle.ftd_schema.proofs.Reading.{asking}
 use Rattle.ftd_schema.proofs.Meanings.{holidays_in_order}
 use Rattle.ftd_rows.specs.Cells.{day_cells}
 use Rattle.ftd_store.specs.Finds.{IsHoliday}
 use Rattle.ftd_store.proofs.Same.{holiday_is}
 use Rattle.ftd_store.proofs.Telling.{lists, reads_on, then_reads}
 use Rattle.ftd_store.proofs.tx.Tx.calendar.Goals as goal
-
-pub read_all-requires : goal.read_all-requires
-read_all-requires g c =
-    record { of_reading = asking Holidays LIST_HOLIDAYS.now _ _ _ lists_holidays }
 
 pub returns-then-not-branch : goal.returns-then-not-branch
 returns-then-not-branch g c = record {
@@ -29,7 +23,7 @@ returns g c =
     let listed = lists g.S.Store c.has_calendar.new.self c.read_all.new.self (Ok days)
     (λ xs. xs.items) Holidays LIST_HOLIDAYS.now _ _ holiday_shown day_cells HolidaysRise
     (IsHoliday year) (holidays_in_order (pos year)) (holiday_is year)
-    (rw c.params-to_sql.ensures at c.in_ok-days.ensures.call) in
+    (search rules) in
     record {
       call = then_reads g.S.Store c.args.self.now c.has_calendar.new.self c.read_all.new.self
           c.in_ok-has_calendar.field-0 days (Some days) _ _ _

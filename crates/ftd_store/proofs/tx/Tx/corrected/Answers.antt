@@ -1,19 +1,14 @@
+use Rattle.std.proofs.Common.{rules}
 use Rattle.ftd_schema.specs.declared.TableName.TheVariants.{CorrectedQuarters}
 use Rattle.ftd_schema.specs.declared.texts.TheConstants.{LIST_CORRECTED}
 use Rattle.ftd_schema.specs.Answers.{quarter_correction_shown}
 use Rattle.ftd_schema.specs.Orders.{QuarterCorrectionsRise}
-use Rattle.ftd_schema.proofs.Asking.{lists_corrected}
-use Rattle.ftd_schema.proofs.Reading.{asking}
 use Rattle.ftd_schema.proofs.Meanings.{corrected_in_order}
 use Rattle.ftd_rows.specs.Corrections.{quarter_correction_cells}
 use Rattle.ftd_store.specs.Corrections.{IsQuarterCorrection}
 use Rattle.ftd_store.proofs.SameCorrections.{quarter_correction_is}
 use Rattle.ftd_store.proofs.Telling.{lists}
 use Rattle.ftd_store.proofs.tx.Tx.corrected.Goals as goal
-
-pub read_all-requires : goal.read_all-requires
-read_all-requires g c =
-    record { of_reading = asking CorrectedQuarters LIST_CORRECTED.now _ _ _ lists_corrected }
 
 pub returns : goal.returns
 returns g c = record {
@@ -22,5 +17,5 @@ returns g c = record {
       QuarterCorrectionsRise (IsQuarterCorrection c.args.account.now)
       (corrected_in_order c.args.account.now)
       (quarter_correction_is c.args.account.now)
-      (rw c.params-to_sql.ensures at c.read_all.ensures.call);
+      (search rules);
 }

@@ -1,10 +1,8 @@
-use Rattle.std.proofs.Common.{pos}
+use Rattle.std.proofs.Common.{pos, rules}
 use Rattle.ftd_schema.specs.declared.TableName.TheVariants.{CorrectedQuarters}
 use Rattle.ftd_schema.specs.declared.texts.TheConstants.{LIST_CORRECTIONS}
 use Rattle.ftd_schema.specs.Answers.{correction_shown}
 use Rattle.ftd_schema.specs.Orders.{CorrectionsRise}
-use Rattle.ftd_schema.proofs.Asking.{lists_corrections}
-use Rattle.ftd_schema.proofs.Reading.{asking}
 use Rattle.ftd_schema.proofs.Meanings.{corrections_in_order}
 use Rattle.ftd_days.specs.Calendar.{quarter_year, quarter_number}
 use Rattle.ftd_rows.specs.Corrections.{correction_cells}
@@ -12,10 +10,6 @@ use Rattle.ftd_store.specs.Corrections.{IsCorrection}
 use Rattle.ftd_store.proofs.SameCorrections.{correction_is}
 use Rattle.ftd_store.proofs.Telling.{lists}
 use Rattle.ftd_store.proofs.tx.Tx.corrections.Goals as goal
-
-pub read_all-requires : goal.read_all-requires
-read_all-requires g c =
-    record { of_reading = asking CorrectedQuarters LIST_CORRECTIONS.now _ _ _ lists_corrections }
 
 pub returns : goal.returns
 returns g c = record {
@@ -25,12 +19,5 @@ returns g c = record {
       (corrections_in_order c.args.account.now
       (pos (quarter_year c.args.quarter)) (pos (quarter_number c.args.quarter)))
       (correction_is c.args.account.now c.args.quarter)
-      (rw (
-        c.params-to_sql.ensures,
-        c.params-to_sql-2.ensures,
-        c.params-to_sql-3.ensures,
-        c.year-year.ensures,
-        c.from-part.ensures,
-        c.number.ensures,
-      ) at c.read_all.ensures.call);
+      (search rules);
 }

@@ -1,17 +1,13 @@
+use Rattle.std.proofs.Common.{rules}
 use Rattle.ftd_schema.specs.declared.TableName.TheVariants.{Payments}
 use Rattle.ftd_schema.specs.declared.texts.TheConstants.{COUNT_PAYMENTS}
-use Rattle.ftd_schema.proofs.Asking.{counts_payments}
-use Rattle.ftd_schema.proofs.Reading.{counting}
 use Rattle.ftd_schema.proofs.Meanings.{payments_counted}
 use Rattle.ftd_store.proofs.Telling.{counts}
 use Rattle.ftd_store.proofs.tx.Tx.count_payments.Goals as goal
-
-pub count-requires : goal.count-requires
-count-requires g c = record { of_reading = counting Payments COUNT_PAYMENTS.now _ counts_payments }
 
 pub returns : goal.returns
 returns g c = record {
   call = counts g.S.Store c.args.self.now c.count.new.self c.count.result Payments
       COUNT_PAYMENTS.now _ _ (payments_counted c.args.account.now)
-      (rw c.params-to_sql.ensures at c.count.ensures.call);
+      (search rules);
 }

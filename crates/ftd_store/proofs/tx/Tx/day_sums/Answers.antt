@@ -1,11 +1,9 @@
-use Rattle.std.proofs.Common.{Ok, Vec, Global}
+use Rattle.std.proofs.Common.{Ok, Vec, Global, rules}
 use Rattle.ftd_rules.specs.declared.run.PayRun.{PayRun}
 use Rattle.ftd_schema.specs.declared.TableName.TheVariants.{Runs}
 use Rattle.ftd_schema.specs.declared.texts.TheConstants.{LIST_RUNS}
 use Rattle.ftd_schema.specs.Answers.{live_run_shown}
 use Rattle.ftd_schema.specs.Orders.{RunsRise}
-use Rattle.ftd_schema.proofs.Asking.{lists_runs}
-use Rattle.ftd_schema.proofs.Reading.{asking}
 use Rattle.ftd_schema.proofs.Meanings.{runs_in_order}
 use Rattle.ftd_rows.specs.Cells.{day_number, pay_run_cells}
 use Rattle.ftd_rows.specs.DaySums.{IsLiveRun}
@@ -13,9 +11,6 @@ use Rattle.ftd_store.proofs.Same.{live_run_is}
 use Rattle.ftd_store.proofs.Telling.{lists, reads_on}
 use Rattle.ftd_store.proofs.Sums.{sums_listed}
 use Rattle.ftd_store.proofs.tx.Tx.day_sums.Goals as goal
-
-pub read_all-requires : goal.read_all-requires
-read_all-requires g c = record { of_reading = asking Runs LIST_RUNS.now _ _ _ lists_runs }
 
 pub returns-in-Ok : goal.returns-in-Ok
 returns-in-Ok g c =
@@ -26,8 +21,7 @@ returns-in-Ok g c =
     let listed = lists g.S.Store c.args.self.now c.read_all.new.self (Ok runs) (λ xs. xs.items) Runs
     LIST_RUNS.now _ _ live_run_shown pay_run_cells RunsRise (IsLiveRun who)
     (runs_in_order who from to) (live_run_is who from to)
-    (rw (c.params-to_sql.ensures, c.params-to_sql-2.ensures, c.params-to_sql-3.ensures) at
-    c.in_ok-runs.ensures.call) in
+    (search rules) in
     record {
       call = reads_on g.S.Store c.args.self.now c.read_all.new.self runs c.in-Ok.sums _ _
           (λ t is. sums_listed who _ runs.items c.in-Ok.sums.items is

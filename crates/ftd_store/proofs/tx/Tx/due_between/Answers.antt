@@ -1,19 +1,14 @@
+use Rattle.std.proofs.Common.{rules}
 use Rattle.ftd_schema.specs.declared.TableName.TheVariants.{Obligations}
 use Rattle.ftd_schema.specs.declared.texts.TheConstants.{LIST_DUE_BETWEEN}
 use Rattle.ftd_schema.specs.Answers.{account_obligation_shown}
 use Rattle.ftd_schema.specs.Orders.{AccountsRise}
-use Rattle.ftd_schema.proofs.Asking.{lists_due_between}
-use Rattle.ftd_schema.proofs.Reading.{asking}
 use Rattle.ftd_schema.proofs.Meanings.{due_between_in_order}
 use Rattle.ftd_rows.specs.Cells.{day_number, account_obligation_cells}
 use Rattle.ftd_store.specs.Finds.{IsAccountObligation}
 use Rattle.ftd_store.proofs.Same.{account_obligation_is}
 use Rattle.ftd_store.proofs.Telling.{lists}
 use Rattle.ftd_store.proofs.tx.Tx.due_between.Goals as goal
-
-pub read_all-requires : goal.read_all-requires
-read_all-requires g c =
-    record { of_reading = asking Obligations LIST_DUE_BETWEEN.now _ _ _ lists_due_between }
 
 pub returns : goal.returns
 returns g c = record {
@@ -22,5 +17,5 @@ returns g c = record {
       account_obligation_cells AccountsRise (IsAccountObligation)
       (due_between_in_order (day_number c.args.from) (day_number c.args.to))
       (λ x o passes. account_obligation_is x o)
-      (rw (c.params-to_sql.ensures, c.params-to_sql-2.ensures) at c.read_all.ensures.call);
+      (search rules);
 }

@@ -1,9 +1,8 @@
+use Rattle.std.proofs.Common.{rules}
 use Rattle.ftd_schema.specs.declared.TableName.TheVariants.{Obligations}
 use Rattle.ftd_schema.specs.declared.texts.TheConstants.{LIST_DUE_OVER}
 use Rattle.ftd_schema.specs.Answers.{account_obligation_shown}
 use Rattle.ftd_schema.specs.Orders.{AccountsRise}
-use Rattle.ftd_schema.proofs.Asking.{lists_due_over}
-use Rattle.ftd_schema.proofs.Reading.{asking}
 use Rattle.ftd_schema.proofs.Meanings.{due_over_in_order}
 use Rattle.ftd_rows.specs.Cells.{day_number, account_obligation_cells}
 use Rattle.ftd_store.specs.Finds.{IsAccountObligation}
@@ -11,15 +10,11 @@ use Rattle.ftd_store.proofs.Same.{account_obligation_is}
 use Rattle.ftd_store.proofs.Telling.{lists}
 use Rattle.ftd_store.proofs.tx.Tx.due_over.Goals as goal
 
-pub read_all-requires : goal.read_all-requires
-read_all-requires g c =
-    record { of_reading = asking Obligations LIST_DUE_OVER.now _ _ _ lists_due_over }
-
 pub returns : goal.returns
 returns g c = record {
   call = lists g.S.Store c.args.self.now c.read_all.new.self c.read_all.result
       (λ xs. xs.items) Obligations LIST_DUE_OVER.now _ _ account_obligation_shown
       account_obligation_cells AccountsRise (IsAccountObligation)
       (due_over_in_order (day_number c.args.day)) (λ x o passes. account_obligation_is x o)
-      (rw c.params-to_sql.ensures at c.read_all.ensures.call);
+      (search rules);
 }

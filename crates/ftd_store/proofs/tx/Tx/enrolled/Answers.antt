@@ -3,18 +3,12 @@ use Rattle.ftd_schema.specs.declared.texts.TheConstants.{LIST_ENROLLED}
 use Rattle.ftd_schema.specs.Answers.{enrolled_shown}
 use Rattle.ftd_schema.specs.Orders.{NamesRise}
 use Rattle.ftd_schema.specs.Tests.{is_any_account}
-use Rattle.ftd_schema.proofs.Asking.{lists_enrolled}
-use Rattle.ftd_schema.proofs.Reading.{asking}
 use Rattle.ftd_schema.proofs.Meanings.{enrolled_in_order}
 use Rattle.ftd_rows.specs.Kept.{named_account_cells}
 use Rattle.ftd_store.specs.Kept.{IsNamedAccount}
 use Rattle.ftd_store.proofs.SameKept.{named_account_is}
 use Rattle.ftd_store.proofs.Telling.{lists}
 use Rattle.ftd_store.proofs.tx.Tx.enrolled.Goals as goal
-
-pub read_all-requires : goal.read_all-requires
-read_all-requires g c =
-    record { of_reading = asking Accounts LIST_ENROLLED.now _ _ _ lists_enrolled }
 
 pub returns : goal.returns
 returns g c = record {

@@ -3,17 +3,12 @@ use Rattle.ftd_schema.specs.declared.texts.TheConstants.{LIST_FORMS}
 use Rattle.ftd_schema.specs.Answers.{account_form_shown}
 use Rattle.ftd_schema.specs.Orders.{FormsRise}
 use Rattle.ftd_schema.specs.Tests.{is_any_form}
-use Rattle.ftd_schema.proofs.Asking.{lists_forms}
-use Rattle.ftd_schema.proofs.Reading.{asking}
 use Rattle.ftd_schema.proofs.Meanings.{forms_in_order}
 use Rattle.ftd_rows.specs.Kept.{named_form_cells}
 use Rattle.ftd_store.specs.Kept.{IsNamedForm}
 use Rattle.ftd_store.proofs.SameKept.{named_form_is}
 use Rattle.ftd_store.proofs.Telling.{lists}
 use Rattle.ftd_store.proofs.tx.Tx.forms.Goals as goal
-
-pub read_all-requires : goal.read_all-requires
-read_all-requires g c = record { of_reading = asking Forms LIST_FORMS.now _ _ _ lists_forms }
 
 pub returns : goal.returns
 returns g c = record {

@@ -1,11 +1,9 @@
-use Rattle.std.proofs.Common.{◌≡◌, ℕ, pos, Bool, Option, None, Some, Ok, List, [], ◌∷◌}
+use Rattle.std.proofs.Common.{◌≡◌, ℕ, pos, Bool, Option, None, Some, Ok, List, [], ◌∷◌, rules}
 use Rattle.std.specs.Prelude.{is_some, if◌then◌else◌}
 use Rattle.ftd_schema.specs.declared.TableName.TheVariants.{CalendarYears}
 use Rattle.ftd_schema.specs.Rows.{CalendarYearRow}
 use Rattle.ftd_schema.specs.declared.texts.TheConstants.{READ_CALENDAR_YEAR}
 use Rattle.ftd_schema.specs.Answers.{calendar_year_shown}
-use Rattle.ftd_schema.proofs.Asking.{reads_calendar_year}
-use Rattle.ftd_schema.proofs.Reading.{asking}
 use Rattle.ftd_schema.proofs.Meanings.{shows_calendar_year}
 use Rattle.ftd_rows.specs.Cells.{count_cells}
 use Rattle.ftd_rows.specs.Reading.{rows_of}
@@ -13,10 +11,6 @@ use Rattle.ftd_rows.specs.Rows.{calendar_year_row}
 use Rattle.ftd_store.proofs.Same.{calendar_year_is}
 use Rattle.ftd_store.proofs.Telling.{finds, reads_on}
 use Rattle.ftd_store.proofs.tx.Tx.has_calendar.Goals as goal
-
-pub read_only-requires : goal.read_only-requires
-read_only-requires g c =
-    record { of_reading = asking CalendarYears READ_CALENDAR_YEAR.now _ _ _ reads_calendar_year }
 
 there : (row : CalendarYearRow) (rows : List CalendarYearRow) (found : Option ℕ) (b : Bool)
     → b ≡ is_some found → rows ≡ rows_of (λ n. row) found → rows ≡ (if b then row ∷ [] else [])
@@ -33,5 +27,5 @@ returns g c =
           (finds g.S.Store c.args.self.now c.read_only.new.self (Ok c.in_ok-found.found)
           CalendarYears READ_CALENDAR_YEAR.now _ _ calendar_year_shown count_cells
           (λ n. calendar_year_row year) (shows_calendar_year (pos year)) (calendar_year_is year)
-          (rw c.params-to_sql.ensures at c.in_ok-found.ensures.call));
+          (search rules));
     }

@@ -1,22 +1,14 @@
-use Rattle.std.proofs.Common.{pos}
+use Rattle.std.proofs.Common.{pos, rules}
 use Rattle.ftd_schema.specs.declared.TableName.TheVariants.{ChangedHolidays}
 use Rattle.ftd_schema.specs.declared.texts.TheConstants.{LIST_CHANGED_HOLIDAYS}
 use Rattle.ftd_schema.specs.Answers.{holiday_change_shown}
 use Rattle.ftd_schema.specs.Orders.{HolidayChangesRise}
-use Rattle.ftd_schema.proofs.Asking.{lists_changed_holidays}
-use Rattle.ftd_schema.proofs.Reading.{asking}
 use Rattle.ftd_schema.proofs.Meanings.{holiday_changes_in_order}
 use Rattle.ftd_rows.specs.Corrections.{holiday_change_cells}
 use Rattle.ftd_store.specs.Corrections.{IsHolidayChange}
 use Rattle.ftd_store.proofs.SameCorrections.{holiday_change_is}
 use Rattle.ftd_store.proofs.Telling.{lists}
 use Rattle.ftd_store.proofs.tx.Tx.holiday_changes.Goals as goal
-
-pub read_all-requires : goal.read_all-requires
-read_all-requires g c =
-    record {
-      of_reading = asking ChangedHolidays LIST_CHANGED_HOLIDAYS.now _ _ _ lists_changed_holidays;
-    }
 
 pub returns : goal.returns
 returns g c = record {
@@ -25,5 +17,5 @@ returns g c = record {
       HolidayChangesRise (IsHolidayChange c.args.year)
       (holiday_changes_in_order (pos c.args.year))
       (holiday_change_is c.args.year)
-      (rw c.params-to_sql.ensures at c.read_all.ensures.call);
+      (search rules);
 }

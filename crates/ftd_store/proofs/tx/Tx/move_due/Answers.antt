@@ -1,3 +1,4 @@
+use Rattle.std.proofs.Common.{rules}
 use Rattle.ftd_schema.specs.declared.TableName.TheVariants.{Obligations}
 use Rattle.ftd_schema.specs.declared.texts.TheConstants.{SET_DUE}
 use Rattle.ftd_schema.proofs.Changing.{sets_due}
@@ -15,6 +16,5 @@ returns g c = record {
   call = changes_one g.S.Store c.args.self.now c.change_one.new.self c.change_one.result Obligations
       SET_DUE.now _ _ _ (due_set c.args.account.now (day_number c.args.first)
       (day_number c.args.due)) c.change_one.ensures.frame
-      (rw (c.params-to_sql.ensures, c.params-to_sql-2.ensures, c.params-to_sql-3.ensures) at
-      c.change_one.ensures.ran);
+      (search rules);
 }

@@ -1,19 +1,14 @@
+use Rattle.std.proofs.Common.{rules}
 use Rattle.ftd_schema.specs.declared.TableName.TheVariants.{Obligations}
 use Rattle.ftd_schema.specs.declared.texts.TheConstants.{LIST_OBLIGATIONS}
 use Rattle.ftd_schema.specs.Answers.{obligation_shown}
 use Rattle.ftd_schema.specs.Orders.{ObligationsRise}
-use Rattle.ftd_schema.proofs.Asking.{lists_obligations}
-use Rattle.ftd_schema.proofs.Reading.{asking}
 use Rattle.ftd_schema.proofs.Meanings.{obligations_in_order}
 use Rattle.ftd_rows.specs.Cells.{day_number, obligation_cells}
 use Rattle.ftd_store.specs.Finds.{IsObligation}
 use Rattle.ftd_store.proofs.Same.{obligation_is}
 use Rattle.ftd_store.proofs.Telling.{lists}
 use Rattle.ftd_store.proofs.tx.Tx.obligations.Goals as goal
-
-pub read_all-requires : goal.read_all-requires
-read_all-requires g c =
-    record { of_reading = asking Obligations LIST_OBLIGATIONS.now _ _ _ lists_obligations }
 
 pub returns : goal.returns
 returns g c = record {
@@ -22,6 +17,5 @@ returns g c = record {
       ObligationsRise (IsObligation c.args.account.now) (obligations_in_order c.args.account.now
       (day_number c.args.from) (day_number c.args.to))
       (obligation_is c.args.account.now (day_number c.args.from) (day_number c.args.to))
-      (rw (c.params-to_sql.ensures, c.params-to_sql-2.ensures, c.params-to_sql-3.ensures) at
-      c.read_all.ensures.call);
+      (search rules);
 }

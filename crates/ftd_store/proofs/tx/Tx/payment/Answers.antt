@@ -1,18 +1,12 @@
-use Rattle.std.proofs.Common.{pos}
+use Rattle.std.proofs.Common.{pos, rules}
 use Rattle.ftd_schema.specs.declared.TableName.TheVariants.{Payments}
 use Rattle.ftd_schema.specs.declared.texts.TheConstants.{READ_PAYMENT}
 use Rattle.ftd_schema.specs.Answers.{payment_shown}
-use Rattle.ftd_schema.proofs.Asking.{reads_payment}
-use Rattle.ftd_schema.proofs.Reading.{asking}
 use Rattle.ftd_schema.proofs.Meanings.{shows_payment}
 use Rattle.ftd_rows.specs.Cells.{stored_payment_cells}
 use Rattle.ftd_store.proofs.Same.{payment_is}
 use Rattle.ftd_store.proofs.Telling.{finds}
 use Rattle.ftd_store.proofs.tx.Tx.payment.Goals as goal
-
-pub read_only-requires : goal.read_only-requires
-read_only-requires g c =
-    record { of_reading = asking Payments READ_PAYMENT.now _ _ _ reads_payment }
 
 pub returns : goal.returns
 returns g c = record {
@@ -20,5 +14,5 @@ returns g c = record {
       READ_PAYMENT.now _ _ payment_shown stored_payment_cells _
       (shows_payment c.args.account.now (pos c.args.number))
       (payment_is c.args.account.now c.args.number)
-      (rw (c.params-to_sql.ensures, c.params-to_sql-2.ensures) at c.read_only.ensures.call);
+      (search rules);
 }

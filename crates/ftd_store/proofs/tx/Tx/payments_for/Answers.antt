@@ -1,19 +1,14 @@
+use Rattle.std.proofs.Common.{rules}
 use Rattle.ftd_schema.specs.declared.TableName.TheVariants.{Payments}
 use Rattle.ftd_schema.specs.declared.texts.TheConstants.{LIST_PAYMENTS}
 use Rattle.ftd_schema.specs.Answers.{live_payment_shown}
 use Rattle.ftd_schema.specs.Orders.{PaymentsRise}
-use Rattle.ftd_schema.proofs.Asking.{lists_payments}
-use Rattle.ftd_schema.proofs.Reading.{asking}
 use Rattle.ftd_schema.proofs.Meanings.{payments_in_order}
 use Rattle.ftd_rows.specs.Cells.{day_number, payment_cells}
 use Rattle.ftd_store.specs.Finds.{IsLivePayment}
 use Rattle.ftd_store.proofs.Same.{live_payment_is}
 use Rattle.ftd_store.proofs.Telling.{lists}
 use Rattle.ftd_store.proofs.tx.Tx.payments_for.Goals as goal
-
-pub read_all-requires : goal.read_all-requires
-read_all-requires g c =
-    record { of_reading = asking Payments LIST_PAYMENTS.now _ _ _ lists_payments }
 
 pub returns : goal.returns
 returns g c = record {
@@ -22,6 +17,5 @@ returns g c = record {
       (IsLivePayment c.args.account.now)
       (payments_in_order c.args.account.now (day_number c.args.from) (day_number c.args.to))
       (live_payment_is c.args.account.now (day_number c.args.from) (day_number c.args.to))
-      (rw (c.params-to_sql.ensures, c.params-to_sql-2.ensures, c.params-to_sql-3.ensures) at
-      c.read_all.ensures.call);
+      (search rules);
 }

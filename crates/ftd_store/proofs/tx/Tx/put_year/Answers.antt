@@ -1,4 +1,4 @@
-use Rattle.std.proofs.Common.{refl, ap}
+use Rattle.std.proofs.Common.{ap, rules}
 use Rattle.ftd_schema.specs.declared.TableName.TheVariants.{Years}
 use Rattle.ftd_schema.specs.Standing.{with_rows}
 use Rattle.ftd_schema.proofs.OneOfAll.{stands_same}
@@ -49,14 +49,7 @@ returns g c =
     let mid = shown g.S.Store c.change_any.new.self in
     let new = shown g.S.Store c.add.new.self in
     let added = c.add.ensures.call y
-    (rw (
-      c.params-to_sql.ensures,
-      c.params-to_sql-2.ensures,
-      c.params-to_sql-3.ensures,
-      c.params-to_sql-4.ensures,
-      c.params-to_sql-5.ensures,
-      turn_given c.args.line.turn _ c.stored_turn-turn.ensures,
-    ) refl) in
+    (search rules) in
     record {
       call = puts_after g.S.Store c.args.self.now c.change_any.new.self c.add.new.self _
           c.add.result y c.in_ok-change_any.ensures.frame

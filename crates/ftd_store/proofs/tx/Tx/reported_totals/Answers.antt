@@ -1,19 +1,14 @@
+use Rattle.std.proofs.Common.{rules}
 use Rattle.ftd_schema.specs.declared.TableName.TheVariants.{ReportedQuarters}
 use Rattle.ftd_schema.specs.declared.texts.TheConstants.{LIST_REPORTED}
 use Rattle.ftd_schema.specs.Answers.{quarter_total_shown}
 use Rattle.ftd_schema.specs.Orders.{QuartersRise}
-use Rattle.ftd_schema.proofs.Asking.{lists_reported}
-use Rattle.ftd_schema.proofs.Reading.{asking}
 use Rattle.ftd_schema.proofs.Meanings.{reported_in_order}
 use Rattle.ftd_rows.specs.Kept.{quarter_total_cells}
 use Rattle.ftd_store.specs.Kept.{IsQuarterTotal}
 use Rattle.ftd_store.proofs.SameKept.{quarter_total_is}
 use Rattle.ftd_store.proofs.Telling.{lists}
 use Rattle.ftd_store.proofs.tx.Tx.reported_totals.Goals as goal
-
-pub read_all-requires : goal.read_all-requires
-read_all-requires g c =
-    record { of_reading = asking ReportedQuarters LIST_REPORTED.now _ _ _ lists_reported }
 
 pub returns : goal.returns
 returns g c = record {
@@ -22,5 +17,5 @@ returns g c = record {
       (IsQuarterTotal c.args.account.now)
       (reported_in_order c.args.account.now)
       (quarter_total_is c.args.account.now)
-      (rw c.params-to_sql.ensures at c.read_all.ensures.call);
+      (search rules);
 }

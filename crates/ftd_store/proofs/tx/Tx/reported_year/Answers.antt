@@ -1,18 +1,12 @@
-use Rattle.std.proofs.Common.{pos}
+use Rattle.std.proofs.Common.{pos, rules}
 use Rattle.ftd_schema.specs.declared.TableName.TheVariants.{ReportedYears}
 use Rattle.ftd_schema.specs.declared.texts.TheConstants.{READ_REPORTED_YEAR}
 use Rattle.ftd_schema.specs.Answers.{reported_year_shown}
-use Rattle.ftd_schema.proofs.Asking.{reads_reported_year}
-use Rattle.ftd_schema.proofs.Reading.{asking}
 use Rattle.ftd_schema.proofs.Meanings.{shows_reported_year}
 use Rattle.ftd_rows.specs.Cells.{cents_cells}
 use Rattle.ftd_store.proofs.Same.{reported_year_is}
 use Rattle.ftd_store.proofs.Telling.{finds}
 use Rattle.ftd_store.proofs.tx.Tx.reported_year.Goals as goal
-
-pub read_only-requires : goal.read_only-requires
-read_only-requires g c =
-    record { of_reading = asking ReportedYears READ_REPORTED_YEAR.now _ _ _ reads_reported_year }
 
 pub returns : goal.returns
 returns g c = record {
@@ -20,5 +14,5 @@ returns g c = record {
       READ_REPORTED_YEAR.now _ _ reported_year_shown cents_cells _
       (shows_reported_year c.args.account.now (pos c.args.year))
       (reported_year_is c.args.account.now c.args.year)
-      (rw (c.params-to_sql.ensures, c.params-to_sql-2.ensures) at c.read_only.ensures.call);
+      (search rules);
 }

@@ -1,17 +1,12 @@
-use Rattle.std.proofs.Common.{pos}
+use Rattle.std.proofs.Common.{pos, rules}
 use Rattle.ftd_schema.specs.declared.TableName.TheVariants.{Runs}
 use Rattle.ftd_schema.specs.declared.texts.TheConstants.{READ_RUN}
 use Rattle.ftd_schema.specs.Answers.{run_shown}
-use Rattle.ftd_schema.proofs.Asking.{reads_run}
-use Rattle.ftd_schema.proofs.Reading.{asking}
 use Rattle.ftd_schema.proofs.Meanings.{shows_run}
 use Rattle.ftd_rows.specs.Cells.{stored_run_cells}
 use Rattle.ftd_store.proofs.Same.{run_is}
 use Rattle.ftd_store.proofs.Telling.{finds}
 use Rattle.ftd_store.proofs.tx.Tx.run.Goals as goal
-
-pub read_only-requires : goal.read_only-requires
-read_only-requires g c = record { of_reading = asking Runs READ_RUN.now _ _ _ reads_run }
 
 pub returns : goal.returns
 returns g c =
@@ -21,5 +16,5 @@ returns g c =
       call = finds g.S.Store c.args.self.now c.read_only.new.self c.read_only.result Runs
           READ_RUN.now _ _ run_shown stored_run_cells _ (shows_run who (pos number))
           (run_is who number)
-          (rw (c.params-to_sql.ensures, c.params-to_sql-2.ensures) at c.read_only.ensures.call);
+          (search rules);
     }

@@ -1,3 +1,4 @@
+use Rattle.std.proofs.Common.{rules}
 use Rattle.ftd_schema.specs.declared.TableName.TheVariants.{Obligations}
 use Rattle.ftd_schema.specs.declared.texts.TheConstants.{SET_OBLIGATION}
 use Rattle.ftd_schema.proofs.Changing.{sets_obligation}
@@ -17,12 +18,5 @@ returns g c = record {
       SET_OBLIGATION.now _ _ _
       (obligation_set (obligation_row c.args.account.now c.args.obligation))
       c.change_one.ensures.frame
-      (rw (
-        c.params-to_sql.ensures,
-        c.params-to_sql-2.ensures,
-        c.params-to_sql-3.ensures,
-        c.params-to_sql-4.ensures,
-        c.params-to_sql-5.ensures,
-        c.params-to_sql-6.ensures,
-      ) at c.change_one.ensures.ran);
+      (search rules);
 }

@@ -1,4 +1,4 @@
-use Rattle.std.proofs.Common.{pos}
+use Rattle.std.proofs.Common.{pos, rules}
 use Rattle.ftd_schema.specs.declared.TableName.TheVariants.{Payments}
 use Rattle.ftd_schema.specs.declared.texts.TheConstants.{VOID_PAYMENT}
 use Rattle.ftd_schema.proofs.Changing.{voids_payment}
@@ -16,5 +16,5 @@ returns g c = record {
   call = changes_one g.S.Store c.args.self.now c.change_one.new.self c.change_one.result Payments
       VOID_PAYMENT.now _ _ _ (payment_voided c.args.account.now (pos c.args.number))
       c.change_one.ensures.frame
-      (rw (c.params-to_sql.ensures, c.params-to_sql-2.ensures) at c.change_one.ensures.ran);
+      (search rules);
 }

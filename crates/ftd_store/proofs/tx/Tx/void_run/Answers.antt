@@ -1,4 +1,4 @@
-use Rattle.std.proofs.Common.{pos}
+use Rattle.std.proofs.Common.{pos, rules}
 use Rattle.ftd_schema.specs.declared.TableName.TheVariants.{Runs}
 use Rattle.ftd_schema.specs.declared.texts.TheConstants.{VOID_RUN}
 use Rattle.ftd_schema.proofs.Changing.{voids_run}
@@ -15,5 +15,5 @@ returns g c = record {
   call = changes_one g.S.Store c.args.self.now c.change_one.new.self c.change_one.result Runs
       VOID_RUN.now _ _ _ (run_voided c.args.account.now (pos c.args.number))
       c.change_one.ensures.frame
-      (rw (c.params-to_sql.ensures, c.params-to_sql-2.ensures) at c.change_one.ensures.ran);
+      (search rules);
 }

@@ -1,22 +1,14 @@
-use Rattle.std.proofs.Common.{pos}
+use Rattle.std.proofs.Common.{pos, rules}
 use Rattle.ftd_schema.specs.declared.TableName.TheVariants.{CorrectedYears}
 use Rattle.ftd_schema.specs.declared.texts.TheConstants.{LIST_YEAR_CORRECTIONS}
 use Rattle.ftd_schema.specs.Answers.{correction_of_year_shown}
 use Rattle.ftd_schema.specs.Orders.{YearCorrectionsRise}
-use Rattle.ftd_schema.proofs.Asking.{lists_year_corrections}
-use Rattle.ftd_schema.proofs.Reading.{asking}
 use Rattle.ftd_schema.proofs.Meanings.{year_corrections_in_order}
 use Rattle.ftd_rows.specs.Corrections.{correction_cells}
 use Rattle.ftd_store.specs.Corrections.{IsCorrectionOfYear}
 use Rattle.ftd_store.proofs.SameCorrections.{correction_of_year_is}
 use Rattle.ftd_store.proofs.Telling.{lists}
 use Rattle.ftd_store.proofs.tx.Tx.year_corrections.Goals as goal
-
-pub read_all-requires : goal.read_all-requires
-read_all-requires g c =
-    record {
-      of_reading = asking CorrectedYears LIST_YEAR_CORRECTIONS.now _ _ _ lists_year_corrections;
-    }
 
 pub returns : goal.returns
 returns g c = record {
@@ -25,5 +17,5 @@ returns g c = record {
       YearCorrectionsRise (IsCorrectionOfYear c.args.account.now c.args.year)
       (year_corrections_in_order c.args.account.now (pos c.args.year))
       (correction_of_year_is c.args.account.now c.args.year)
-      (rw (c.params-to_sql.ensures, c.params-to_sql-2.ensures) at c.read_all.ensures.call);
+      (search rules);
 }

@@ -1,10 +1,8 @@
-use Rattle.std.proofs.Common.{Ok, Vec, Global, sym, subst}
+use Rattle.std.proofs.Common.{Ok, Vec, Global, sym, subst, rules}
 use Rattle.ftd_schema.specs.declared.TableName.TheVariants.{Years}
 use Rattle.ftd_schema.specs.declared.texts.TheConstants.{LIST_YEARS}
 use Rattle.ftd_schema.specs.Answers.{year_shown}
 use Rattle.ftd_schema.specs.Orders.{YearsRise}
-use Rattle.ftd_schema.proofs.Asking.{lists_years}
-use Rattle.ftd_schema.proofs.Reading.{asking}
 use Rattle.ftd_schema.proofs.Meanings.{years_in_order}
 use Rattle.ftd_rules.specs.declared.YearLine.{YearLine}
 use Rattle.ftd_rules.specs.Years.{OnlyFirstCarried}
@@ -18,9 +16,6 @@ use Rattle.ftd_store.proofs.Telling.{lists, then_reads}
 use Rattle.ftd_store.proofs.YearRows.{IsStoredYear, stored_year_is, lines_listed}
 use Rattle.ftd_store.proofs.tx.Tx.years.Goals as goal
 
-pub read_all-requires : goal.read_all-requires
-read_all-requires g c = record { of_reading = asking Years LIST_YEARS.now _ _ _ lists_years }
-
 pub returns-in-Ok : goal.returns-in-Ok
 returns-in-Ok g c =
     let who = c.args.account.now in
@@ -30,7 +25,7 @@ returns-in-Ok g c =
     let listed = lists g.S.Store c.account_in_force.new.self c.read_all.new.self (Ok stored)
     (λ xs. xs.items) Years LIST_YEARS.now _ _ year_shown year_cells YearsRise (IsStoredYear who)
     (years_in_order who) (stored_year_is who)
-    (rw c.params-to_sql.ensures at c.in_ok-stored.ensures.call) in
+    (search rules) in
     let is = rw c.deref.ensures.value at c.in-Ok.ensures.lines in
     let there = rw c.deref.ensures.value at c.in-Ok.ensures.there in
     record {

@@ -1,0 +1,12 @@
+pub mod Accounts
+pub mod Returns
+pub use Rattle.ftd_days.specs.Calendar
+pub use Rattle.ftd_entries.specs.Standing
+pub use Rattle.ftd_machine.specs.History
+pub use Rattle.ftd_machine.specs.Kept as MachineKept
+pub use Rattle.ftd_machine.specs.Sound
+pub use Rattle.ftd_machine.specs.State
+pub use Rattle.ftd_rows.specs.Lists
+pub use Rattle.ftd_rules.specs.Liability
+pub use Rattle.ftd_store.specs.Frame
+pub use Rattle.ftd_store.specs.Kept as StoredKept
