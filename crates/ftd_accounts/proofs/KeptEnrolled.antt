@@ -57,7 +57,7 @@ module _ (rows : List KeptAccount) (t : Tables) (told : AreToldAccounts rows t) 
       let found = found_some account_of (is_named x.name) s.accounts first.0 first.1 in
       let e : Enrolled = found.0 in
       let row : Has (t Accounts) (enrolled_row e) =
-      subst (λ rs. Has rs (enrolled_row e)) (sym stands.accounts)
+      subst (λ rs. Has rs (enrolled_row e)) (sym stands.entries.enrolled.accounts)
       (mapped_has enrolled_row s.accounts e found.1) in
       let item = passing_value row_of NamesRise is_any_account (t Accounts) told.named
       told.are_named (enrolled_row e) row refl in

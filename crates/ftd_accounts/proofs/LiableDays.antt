@@ -180,7 +180,7 @@ module _ {A : Type 0} (name : List ℕ) (from to : ℕ) (sums : Vec DaySum A) (t
       ∙ sym (paired_sum name from to day lists.listed.ordered lists.runs lists.listed.pairs)
       ∙ sum_by-IsPermutation (row_owed name from to day) _ lists.listed.ordered lists.listed.same
       ∙ ap (λ rows. sum_by (row_owed name from to day) (filter (Test name from to day) rows))
-      stands.runs
+      stands.entries.paid.runs
 
   pub liable_in : (day : ℕ) → from ≤ day → day ≤ to → liability sums.items day day ≡ liability Of
       day day

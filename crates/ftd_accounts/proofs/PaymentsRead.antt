@@ -146,5 +146,5 @@ payments_known name first last listed t lists s stands from to as_of day low hig
     sym (paired_count name first last from to by low high lists.ordered listed.items lists.pairs)
     ∙ (sum_by-IsPermutation (counted name first last from to by low high) _ lists.ordered lists.same
     ∙ (ap (λ rows. sum_by (counted name first last from to by low high)
-    (filter (Test name first last from to by low high) rows)) stands.payments
+    (filter (Test name first last from to by low high) rows)) stands.entries.paid.payments
     ∙ entries_count name first last from to by low high s.payments))

@@ -7,7 +7,6 @@ use Rattle.ftd_schema.specs.Standing.{Tables}
 use Rattle.ftd_machine.specs.State.{entries_of, figure_at}
 use Rattle.ftd_machine.specs.Asking.{preceding}
 use Rattle.ftd_entries.specs.Known.{KnowsFigure}
-use Rattle.ftd_entries.proofs.Kept.{figures_stand}
 use Rattle.ftd_accounts.specs.Returns.{KnowsPreceding}
 
 pub on_941 : (name : List ℕ) (form : Form) (quarter before : ℕ) (found : Option Cents) (t : Tables)
@@ -17,7 +16,7 @@ on_941 name form quarter before found t is same knows s stands =
     let own = entries_of s name in
     ap (λ f. preceding f own quarter) is
     ∙ (ap (λ q. figure_at q own.reported own.corrected) (sym same)
-    ∙ knows s (figures_stand t s stands))
+    ∙ knows s stands.entries.figures)
 
 pub on_943 : (name : List ℕ) (form : Form) (quarter : ℕ) (t : Tables) → form ≡ F943
     → KnowsPreceding name form quarter None t

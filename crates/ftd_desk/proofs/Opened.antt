@@ -83,7 +83,7 @@ module _ (old new : database.State) (opened : Opening old new (Ok tt)) (clean : 
               }
           | inr moved ↦
               absurd (one_version (kept.tables Metas) moved.0 moved.1 moved.2
-              kept.stands_for.meta)
+              kept.stands_for.entries.meta)
         ]
 
     pub rests_migrated : (version : ℕ) (t : Tables) (s : State) → IsEarlier version

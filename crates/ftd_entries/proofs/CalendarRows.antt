@@ -242,15 +242,6 @@ calendar_rises s sound c has =
 abbrev pub days_found : {A : Type 0} → Vec ℕ A → List ℕ
 days_found days = days.items
 
--- the rows of the days of a state for which the tables stand
-pub days_stand : (t : Tables) (s : State) → StandsFor t s → KeepsDays t s
-days_stand t s stands = record {
-  calendars = stands.calendars;
-  calendar_days = stands.calendar_days;
-  added_days = stands.added_days;
-  changed_days = stands.changed_days;
-}
-
 -- the calendar that was found is the one that the state keeps
 pub calendar_kept : {A : Type 0} (year : ℕ) (found : Option (Vec ℕ A)) (t : Tables) (s : State)
     → KeepsDays t s → IsSound s → FindsCalendar year found t
@@ -285,4 +276,4 @@ pub calendar_known : {A : Type 0} (year : ℕ) (found : Option (Vec ℕ A)) (t :
     → StandsFor t s → IsSound s → FindsCalendar year found t
     → calendar_at s year ≡ option_map days_found found
 calendar_known year found t s stands sound finds =
-    calendar_kept year found t s (days_stand t s stands) sound finds
+    calendar_kept year found t s stands.entries.days sound finds

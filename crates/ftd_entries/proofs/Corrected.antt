@@ -215,7 +215,8 @@ module _ (name : List ℕ) where
       0 (moves_in s name) found AccountCorrectionsRise
       (λ a b rise. whole_rises a.number b.number rise)
       (subst (λ rows. Lists AccountCorrectionsRise (IsAccountCorrection name) rows found)
-      (ap (filter (is_account_correction_of name)) stands.moved ∙ account_rows s.moved) lists)
+      (ap (filter (is_account_correction_of name)) stands.entries.enrolled.moved
+      ∙ account_rows s.moved) lists)
 
   -- the account that was found, with its form, is that in force
   pub in_force_known : (found : Option StoredAccount) (form : Option Form) (t : Tables)
@@ -237,7 +238,7 @@ module _ (name : List ℕ) where
   carried_known found t s finds stands =
       let enrolled : option_map stored_of (enrolled_in s name) ≡ finds.enrolled =
       stored_is name finds.enrolled s.accounts
-      (ap (filter (is_account name)) (sym stands.accounts) ∙ finds.is_enrolled) in
+      (ap (filter (is_account name)) (sym stands.entries.enrolled.accounts) ∙ finds.is_enrolled) in
       let moves : beginnings_of finds.corrections ≡ moves_in s name =
       moves_listed finds.corrections t s finds.are_all stands in
       ap (λ ms. is_carried (account_in_force (enrolled_in s name) ms)) (sym moves)

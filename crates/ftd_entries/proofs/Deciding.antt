@@ -22,7 +22,6 @@ use Rattle.ftd_entries.specs.Standing.{StandsFor}
 use Rattle.ftd_entries.specs.Opening.{is_line_of, IsNextLine, KeepsYear, KnowsToOpen}
 use Rattle.ftd_entries.specs.Totals.{KnowsTotal}
 use Rattle.ftd_entries.specs.declared.open_years.KnownYear.{KnownYear}
-use Rattle.ftd_entries.proofs.Kept.{figures_stand}
 use Rattle.ftd_entries.proofs.Totals.{figures_once}
 use Rattle.ftd_entries.proofs.KnownYears.{open_lines}
 use Rattle.ftd_entries.proofs.Opening.{open_decided, open_lacks, open_waits, open_done}
@@ -62,7 +61,7 @@ module _ (name : List ℕ) (year : ℕ) (known : KnownYear) (there : Bool)
       year_lacks refusal knows =
           open_lacks name year known.account there known.given known.next s
           (keeps t s stands sound knows.0) all_passed refusal
-          (knows.1 s (figures_stand t s stands) (figures_once s sound name) (account_is knows.0))
+          (knows.1 s stands.entries.figures (figures_once s sound name) (account_is knows.0))
 
       -- whether the year before lets it be opened
       may_is : KnowsToOpen name year known t
@@ -86,7 +85,7 @@ module _ (name : List ℕ) (year : ℕ) (known : KnownYear) (there : Bool)
       year_waits total may_not knows =
           open_waits name year known.account there known.given known.next s
           (keeps t s stands sound knows.0) all_passed total (Err (YearNotOpen (year - 1)))
-          (knows.1 s (figures_stand t s stands) (figures_once s sound name) (account_is knows.0))
+          (knows.1 s stands.entries.figures (figures_once s sound name) (account_is knows.0))
           (ap (λ b. first_of (needs b (YearNotOpen (year - 1)) ∷ [])) (may_is knows.0 ∙ may_not))
 
       pub year_done : (total : Cents) (line : YearLine)
@@ -98,7 +97,7 @@ module _ (name : List ℕ) (year : ℕ) (known : KnownYear) (there : Bool)
       year_done total line may is_next knows =
           open_done name year known.account there known.given known.next s
           (keeps t s stands sound knows.0) all_passed t stands sound total
-          (knows.1 s (figures_stand t s stands) (figures_once s sound name) (account_is knows.0))
+          (knows.1 s stands.entries.figures (figures_once s sound name) (account_is knows.0))
           (ap (λ b. first_of (needs b (YearNotOpen (year - 1)) ∷ [])) (may_is knows.0 ∙ may)) line
           (subst (λ carried. IsNextLine carried (stands.settled name).lines year total line)
           (sym (ap is_carried (account_is knows.0)))

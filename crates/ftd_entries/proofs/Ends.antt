@@ -32,20 +32,23 @@ use Rattle.ftd_entries.specs.Words.{IsKept}
 
 nothing_stands : StandsFor new_tables nothing
 nothing_stands = record {
-  meta = refl;
-  accounts = refl;
-  forms = IsPermutation-refl [];
-  reported = refl;
-  reported_years = refl;
-  calendars = refl;
-  calendar_days = refl;
-  added_days = refl;
-  runs = refl;
-  payments = refl;
-  corrected = refl;
-  corrected_years = refl;
-  changed_days = refl;
-  moved = refl;
+  entries = record {
+    meta = refl;
+    enrolled = record { accounts = refl; forms = IsPermutation-refl []; moved = refl };
+    figures = record {
+      reported = refl;
+      reported_years = refl;
+      corrected = refl;
+      corrected_years = refl;
+    };
+    days = record {
+      calendars = refl;
+      calendar_days = refl;
+      added_days = refl;
+      changed_days = refl;
+    };
+    paid = record { runs = refl; payments = refl };
+  };
   settled = λ name. record {
     lines = [];
     are_lines = record {
@@ -98,45 +101,56 @@ module _ (version : ℕ) (before after : Tables) (moved : IsMigration version be
 
   pub migrated_stands : (s : State) → StandsForEarlier version before s → StandsFor after s
   migrated_stands s stands = record {
-    meta = moved.mark;
-    accounts = was Accounts refl (λ e. absurd cc) ∙ stands.accounts;
-    forms = elim earlier [
-      | inl is ↦
-          (let rows : map on_form_941 (before Accounts) ≡ map enrolled_form s.accounts =
-          ap (map on_form_941) stands.accounts
-          ∙ forms_are s.accounts (stands.first is).on_form_941 in
-          IsPermutation-sym (map enrolled_form s.accounts) (after Forms)
-          (subst (λ (fs : List FormRow). IsPermutation fs (after Forms)) rows (moved.forms is)))
-      | inr is ↦
-          (let same : after Forms ≡ before Forms = moved.others Forms (omega arith)
-          (λ e. absurd cc) in
-          rw same (stands.second is).forms)
-    ];
-    reported = was ReportedQuarters refl (λ e. absurd cc) ∙ stands.reported;
-    reported_years = elim earlier [
-      | inl is ↦ moved.later ReportedYears (omega arith) (λ e. absurd cc)
-          ∙ sym (ap (map year_entry) (stands.first is).no_years)
-      | inr is ↦ moved.others ReportedYears (omega arith) (λ e. absurd cc)
-          ∙ (stands.second is).reported_years
-    ];
-    calendars = was CalendarYears refl (λ e. absurd cc) ∙ stands.calendars;
-    calendar_days = was Holidays refl (λ e. absurd cc) ∙ stands.calendar_days;
-    added_days = elim earlier [
-      | inl is ↦ moved.later AddedHolidays (omega arith) (λ e. absurd cc)
-          ∙ sym (ap (map added_entry) (stands.first is).no_added)
-      | inr is ↦ moved.others AddedHolidays (omega arith) (λ e. absurd cc)
-          ∙ (stands.second is).added_days
-    ];
-    runs = was Runs refl (λ e. absurd cc) ∙ stands.runs;
-    payments = was Payments refl (λ e. absurd cc) ∙ stands.payments;
-    corrected = none CorrectedQuarters refl (λ e. absurd cc)
-        ∙ sym (ap (λ xs. map correction_entry (with_earlier [] xs)) stands.no_corrected);
-    corrected_years = none CorrectedYears refl (λ e. absurd cc)
-        ∙ sym (ap (λ xs. map year_correction_entry (with_earlier [] xs)) stands.no_corrected_years);
-    changed_days = none ChangedHolidays refl (λ e. absurd cc)
-        ∙ sym (ap (λ xs. map change_entry (with_earlier [] xs)) stands.no_changed);
-    moved = none CorrectedAccounts refl (λ e. absurd cc)
-        ∙ sym (ap (λ xs. map account_correction_entry (with_earlier [] xs)) stands.no_moved);
+    entries = record {
+      meta = moved.mark;
+      enrolled = record {
+        accounts = was Accounts refl (λ e. absurd cc) ∙ stands.accounts;
+        forms = elim earlier [
+          | inl is ↦
+              (let rows : map on_form_941 (before Accounts) ≡ map enrolled_form s.accounts =
+              ap (map on_form_941) stands.accounts
+              ∙ forms_are s.accounts (stands.first is).on_form_941 in
+              IsPermutation-sym (map enrolled_form s.accounts) (after Forms)
+              (subst (λ (fs : List FormRow). IsPermutation fs (after Forms)) rows (moved.forms is)))
+          | inr is ↦
+              (let same : after Forms ≡ before Forms = moved.others Forms (omega arith)
+              (λ e. absurd cc) in
+              rw same (stands.second is).forms)
+        ];
+        moved = none CorrectedAccounts refl (λ e. absurd cc)
+            ∙ sym (ap (λ xs. map account_correction_entry (with_earlier [] xs)) stands.no_moved);
+      };
+      figures = record {
+        reported = was ReportedQuarters refl (λ e. absurd cc) ∙ stands.reported;
+        reported_years = elim earlier [
+          | inl is ↦ moved.later ReportedYears (omega arith) (λ e. absurd cc)
+              ∙ sym (ap (map year_entry) (stands.first is).no_years)
+          | inr is ↦ moved.others ReportedYears (omega arith) (λ e. absurd cc)
+              ∙ (stands.second is).reported_years
+        ];
+        corrected = none CorrectedQuarters refl (λ e. absurd cc)
+            ∙ sym (ap (λ xs. map correction_entry (with_earlier [] xs)) stands.no_corrected);
+        corrected_years = none CorrectedYears refl (λ e. absurd cc)
+            ∙ sym (ap (λ xs. map year_correction_entry (with_earlier [] xs))
+            stands.no_corrected_years);
+      };
+      days = record {
+        calendars = was CalendarYears refl (λ e. absurd cc) ∙ stands.calendars;
+        calendar_days = was Holidays refl (λ e. absurd cc) ∙ stands.calendar_days;
+        added_days = elim earlier [
+          | inl is ↦ moved.later AddedHolidays (omega arith) (λ e. absurd cc)
+              ∙ sym (ap (map added_entry) (stands.first is).no_added)
+          | inr is ↦ moved.others AddedHolidays (omega arith) (λ e. absurd cc)
+              ∙ (stands.second is).added_days
+        ];
+        changed_days = none ChangedHolidays refl (λ e. absurd cc)
+            ∙ sym (ap (λ xs. map change_entry (with_earlier [] xs)) stands.no_changed);
+      };
+      paid = record {
+        runs = was Runs refl (λ e. absurd cc) ∙ stands.runs;
+        payments = was Payments refl (λ e. absurd cc) ∙ stands.payments;
+      };
+    };
     settled = λ name.
         let years : after Years ≡ before Years = was Years refl (λ e. absurd cc) in
         let owed : after Obligations ≡ before Obligations =

@@ -140,24 +140,22 @@ module _ (name : List ℕ) (account : Account) where
         Next s,
         step,
         record {
-          meta = stands.meta;
-          accounts = ap (λ rows. rows ++ enrolled_row new_one ∷ []) stands.accounts
-              ∙ sym (map-append enrolled_row s.accounts (new_one ∷ []));
-          forms = subst (IsPermutation (t Forms ++ enrolled_form new_one ∷ []))
-              (sym (map-append enrolled_form s.accounts (new_one ∷ [])))
-              (IsPermutation-append_left (enrolled_form new_one ∷ []) (t Forms)
-              (map enrolled_form s.accounts) stands.forms);
-          reported = stands.reported;
-          reported_years = stands.reported_years;
-          calendars = stands.calendars;
-          calendar_days = stands.calendar_days;
-          added_days = stands.added_days;
-          runs = stands.runs;
-          payments = stands.payments;
-          corrected = stands.corrected;
-          corrected_years = stands.corrected_years;
-          changed_days = stands.changed_days;
-          moved = stands.moved;
+          entries = record {
+            meta = stands.entries.meta;
+            enrolled = record {
+              accounts = ap (λ rows. rows ++ enrolled_row new_one ∷ [])
+                  stands.entries.enrolled.accounts
+                  ∙ sym (map-append enrolled_row s.accounts (new_one ∷ []));
+              forms = subst (IsPermutation (t Forms ++ enrolled_form new_one ∷ []))
+                  (sym (map-append enrolled_form s.accounts (new_one ∷ [])))
+                  (IsPermutation-append_left (enrolled_form new_one ∷ []) (t Forms)
+                  (map enrolled_form s.accounts) stands.entries.enrolled.forms);
+              moved = stands.entries.enrolled.moved;
+            };
+            figures = stands.entries.figures;
+            days = stands.entries.days;
+            paid = stands.entries.paid;
+          };
           settled = λ other. by_name t s sound none stands step other (bytes_eq name other) refl;
         },
       )

@@ -79,9 +79,11 @@ pub knows_enrolled : (name : List ℕ) (found : Option StoredAccount) (form : Op
     (t : Tables)
     → FindsAccount name found t → FindsForm name form t → KnowsEnrolled name (joined found form) t
 knows_enrolled name found form t account kind s stands =
-    account_is name found form s.accounts (ap (filter (is_account name)) (sym stands.accounts)
+    account_is name found form s.accounts (ap (filter (is_account name))
+    (sym stands.entries.enrolled.accounts)
     ∙ account) (one_filtered (is_form_of name) (t Forms) (map enrolled_form s.accounts)
-    (rows_of (form_row name) form) stands.forms (at_most_one (form_row name) form) kind)
+    (rows_of (form_row name) form) stands.entries.enrolled.forms
+    (at_most_one (form_row name) form) kind)
 
 -- and its form is that of its row
 pub has_form : (name : List ℕ) (found : Option StoredAccount) (form : Option Form) (t : Tables)

@@ -208,25 +208,24 @@ module _ (year : ℕ) (days : List ℕ) where
         Next s,
         step,
         record {
-          meta = stands.meta;
-          accounts = stands.accounts;
-          forms = stands.forms;
-          reported = stands.reported;
-          reported_years = stands.reported_years;
-          calendars = ap (λ rows. rows ++ calendar_entry Given ∷ []) stands.calendars
-              ∙ sym (map-append calendar_entry s.calendars (Given ∷ []));
-          calendar_days =
-              ap (λ rows. rows ++ map (holiday_row year) days) stands.calendar_days
-              ∙ ap (λ rows. flat_map holiday_entries s.calendars ++ rows)
-              (sym (append-nil (map (holiday_row year) days)))
-              ∙ sym (flat_map-append holiday_entries s.calendars (Given ∷ []));
-          added_days = stands.added_days;
-          runs = stands.runs;
-          payments = stands.payments;
-          corrected = stands.corrected;
-          corrected_years = stands.corrected_years;
-          changed_days = stands.changed_days;
-          moved = stands.moved;
+          entries = record {
+            meta = stands.entries.meta;
+            enrolled = stands.entries.enrolled;
+            figures = stands.entries.figures;
+            days = record {
+              calendars = ap (λ rows. rows ++ calendar_entry Given ∷ [])
+                  stands.entries.days.calendars
+                  ∙ sym (map-append calendar_entry s.calendars (Given ∷ []));
+              calendar_days = ap (λ rows. rows ++ map (holiday_row year) days)
+                  stands.entries.days.calendar_days
+                  ∙ ap (λ rows. flat_map holiday_entries s.calendars ++ rows)
+                  (sym (append-nil (map (holiday_row year) days)))
+                  ∙ sym (flat_map-append holiday_entries s.calendars (Given ∷ []));
+              added_days = stands.entries.days.added_days;
+              changed_days = stands.entries.days.changed_days;
+            };
+            paid = stands.entries.paid;
+          };
           settled = λ name. settled_still t s name sound none (fits.fact passed)
               (stands.settled name);
         },

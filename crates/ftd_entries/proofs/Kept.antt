@@ -140,15 +140,6 @@ run_is name number e x is =
 
 -- ---- what is found, and counted
 
--- the rows of the figures of a state for which the tables stand
-pub figures_stand : (t : Tables) (s : State) → StandsFor t s → KeepsFigures t s
-figures_stand t s stands = record {
-  reported = stands.reported;
-  reported_years = stands.reported_years;
-  corrected = stands.corrected;
-  corrected_years = stands.corrected_years;
-}
-
 module _ (name : List ℕ) (t : Tables) (s : State) (keeps : KeepsFigures t s) where
   pub first_kept : (quarter : ℕ) (found : Option Cents) → FindsReported name quarter found t
       → kept_at quarter (entries_of s name).reported ≡ found
@@ -172,11 +163,11 @@ module _ (name : List ℕ) (t : Tables) (s : State) (keeps : KeepsFigures t s) w
 module _ (name : List ℕ) (t : Tables) (s : State) (stands : StandsFor t s) where
   pub kept_reported : (quarter : ℕ) (found : Option Cents) → FindsReported name quarter found t
       → kept_at quarter (entries_of s name).reported ≡ found
-  kept_reported = first_kept name t s (figures_stand t s stands)
+  kept_reported = first_kept name t s stands.entries.figures
 
   pub kept_reported_year : (year : ℕ) (found : Option Cents) → FindsReportedYear name year found t
       → kept_at year (entries_of s name).reported_years ≡ found
-  kept_reported_year = first_year_kept name t s (figures_stand t s stands)
+  kept_reported_year = first_year_kept name t s stands.entries.figures
 
   pub kept_run : (number : ℕ) (found : Option (Voidable PayRun)) → FindsRun name number found t
       → kept_at number (entries_of s name).runs ≡ found
@@ -184,7 +175,7 @@ module _ (name : List ℕ) (t : Tables) (s : State) (stands : StandsFor t s) whe
       let test : RunRow → Bool = is_run name (pos number) in
       kept_is run_entry test name number (λ r. run_row name (pos number) r.value r.voided)
       (λ e. ap (λ b. bytes_eq e.name name && b) (year_cell e.key number))
-      (run_is name number) found s.runs (ap (filter test) (sym stands.runs) ∙ finds)
+      (run_is name number) found s.runs (ap (filter test) (sym stands.entries.paid.runs) ∙ finds)
 
   pub kept_payment : (number : ℕ) (found : Option (Voidable Payment))
       → FindsPayment name number found t → kept_at number (entries_of s name).payments ≡ found
@@ -192,12 +183,14 @@ module _ (name : List ℕ) (t : Tables) (s : State) (stands : StandsFor t s) whe
       let test : PaymentRow → Bool = is_payment name (pos number) in
       kept_is payment_entry test name number (λ p. payment_row name (pos number) p.value p.voided)
       (λ e. ap (λ b. bytes_eq e.name name && b) (year_cell e.key number))
-      (payment_is name number) found s.payments (ap (filter test) (sym stands.payments) ∙ finds)
+      (payment_is name number) found s.payments (ap (filter test)
+      (sym stands.entries.paid.payments) ∙ finds)
 
   pub counted_runs : (count : ℕ) → CountsRuns name count t → length (entries_of s name).runs ≡ count
   counted_runs count counts =
       sym (count_is run_entry (is_run_of name) name (λ e. refl) s.runs)
-      ∙ ap (λ (rows : List RunRow). length (filter (is_run_of name) rows)) (sym stands.runs)
+      ∙ ap (λ (rows : List RunRow). length (filter (is_run_of name) rows))
+      (sym stands.entries.paid.runs)
       ∙ sym counts
 
   pub counted_payments : (count : ℕ) → CountsPayments name count t
@@ -205,4 +198,4 @@ module _ (name : List ℕ) (t : Tables) (s : State) (stands : StandsFor t s) whe
   counted_payments count counts =
       sym (count_is payment_entry (is_payment_of name) name (λ e. refl) s.payments)
       ∙ ap (λ (rows : List PaymentRow). length (filter (is_payment_of name) rows))
-      (sym stands.payments) ∙ sym counts
+      (sym stands.entries.paid.payments) ∙ sym counts

@@ -510,20 +510,13 @@ module _ (name : List ℕ) (year : ℕ) where
                 Next s,
                 step,
                 record {
-                  meta = stands.meta;
-                  accounts = stands.accounts;
-                  forms = stands.forms;
-                  reported = stands.reported;
-                  reported_years = stands.reported_years;
-                  calendars = stands.calendars;
-                  calendar_days = stands.calendar_days;
-                  added_days = stands.added_days;
-                  runs = stands.runs;
-                  payments = stands.payments;
-                  corrected = stands.corrected;
-                  corrected_years = stands.corrected_years;
-                  changed_days = stands.changed_days;
-                  moved = stands.moved;
+                  entries = record {
+                    meta = stands.entries.meta;
+                    enrolled = stands.entries.enrolled;
+                    figures = stands.entries.figures;
+                    days = stands.entries.days;
+                    paid = stands.entries.paid;
+                  };
                   settled = λ other. by_name other (bytes_eq name other) refl;
                 },
               )

@@ -38,20 +38,13 @@ paid_stands : (t : Tables) (s : State) (rows : List PaymentRow)
     (payments : List (Entry (Voidable Payment))) → rows ≡ map payment_entry payments → StandsFor t s
     → StandsFor (with_rows Payments rows t) (record s { payments = payments })
 paid_stands t s rows payments are stands = record {
-  meta = stands.meta;
-  accounts = stands.accounts;
-  forms = stands.forms;
-  reported = stands.reported;
-  reported_years = stands.reported_years;
-  calendars = stands.calendars;
-  calendar_days = stands.calendar_days;
-  added_days = stands.added_days;
-  runs = stands.runs;
-  payments = are;
-  corrected = stands.corrected;
-  corrected_years = stands.corrected_years;
-  changed_days = stands.changed_days;
-  moved = stands.moved;
+  entries = record {
+    meta = stands.entries.meta;
+    enrolled = stands.entries.enrolled;
+    figures = stands.entries.figures;
+    days = stands.entries.days;
+    paid = record { runs = stands.entries.paid.runs; payments = are };
+  };
   settled = λ name.
       settled_grows t (with_rows Payments rows t) s (record s { payments = payments }) name refl
       refl refl
@@ -110,7 +103,7 @@ module _ (name : List ℕ) (number : ℕ) (payment : Payment) (count : ℕ) wher
         content = taken payment;
       } in
       paid_stands t s _ (with_entry s.payments name number (taken payment))
-      (ap (λ rows. rows ++ payment_entry more ∷ []) stands.payments
+      (ap (λ rows. rows ++ payment_entry more ∷ []) stands.entries.paid.payments
       ∙ sym (map-append payment_entry s.payments (more ∷ []))) stands
 
   -- a check decides
@@ -183,7 +176,7 @@ module _ (name : List ℕ) (number : ℕ) where
       → StandsFor (with_void_payment name number t) (Voided s)
   voided_stands t s stands =
       paid_stands t s _ (with_voided s.payments name number)
-      (ap (map (changed (is_payment name (pos number)) voided_payment)) stands.payments
+      (ap (map (changed (is_payment name (pos number)) voided_payment)) stands.entries.paid.payments
       ∙ rows_voided s.payments) stands
 
   -- a check decides

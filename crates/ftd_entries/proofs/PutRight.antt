@@ -87,7 +87,8 @@ module _ (name : List ℕ) (t : Tables) (s : State) (stands : StandsFor t s) whe
       sym (length-map (filter (is_of name) s.reported) quarter_entry)
       ∙ ap length (sym (filtered_rows (is_reported_of name) (is_of name) quarter_entry
       (λ e. refl) s.reported))
-      ∙ ap (λ rows. length (filter (is_reported_of name) rows)) (sym stands.reported)
+      ∙ ap (λ rows. length (filter (is_reported_of name) rows))
+      (sym stands.entries.figures.reported)
       ∙ as_many QuartersRise (IsQuarterTotal name) _ listed.items lists
 
   years_counted : {A : Type 0} (listed : Vec YearTotal A) → ListsReportedYears name listed t
@@ -96,7 +97,8 @@ module _ (name : List ℕ) (t : Tables) (s : State) (stands : StandsFor t s) whe
       sym (length-map (filter (is_of name) s.reported_years) year_entry)
       ∙ ap length (sym (filtered_rows (is_reported_year_of name) (is_of name) year_entry
       (λ e. refl) s.reported_years))
-      ∙ ap (λ rows. length (filter (is_reported_year_of name) rows)) (sym stands.reported_years)
+      ∙ ap (λ rows. length (filter (is_reported_year_of name) rows))
+      (sym stands.entries.figures.reported_years)
       ∙ as_many ReportedYearsRise (IsYearTotal name) _ listed.items lists
 
   lines_counted : {A : Type 0} (listed : Vec YearLine A) → ListsYears name listed t
@@ -242,26 +244,24 @@ module _ (name : List ℕ) (number : ℕ) (beginning : Beginning) where
         Next s,
         step,
         record {
-          meta = stands.meta;
-          accounts = stands.accounts;
-          forms = stands.forms;
-          reported = stands.reported;
-          reported_years = stands.reported_years;
-          calendars = stands.calendars;
-          calendar_days = stands.calendar_days;
-          added_days = stands.added_days;
-          runs = stands.runs;
-          payments = stands.payments;
-          corrected = stands.corrected;
-          corrected_years = stands.corrected_years;
-          changed_days = stands.changed_days;
-          moved = ap (λ rows. rows
-              ++ account_correction_row name (correction_of number beginning) ∷ []) stands.moved
-              ∙ ap (λ r. map account_correction_entry (with_earlier [] s.moved) ++ r ∷ [])
-              (sym row)
-              ∙ sym (ap (map account_correction_entry) (with_earlier_more [] s.moved new_one)
-              ∙ map-append account_correction_entry (with_earlier [] s.moved)
-              ((s.moved, new_one) ∷ []));
+          entries = record {
+            meta = stands.entries.meta;
+            enrolled = record {
+              accounts = stands.entries.enrolled.accounts;
+              forms = stands.entries.enrolled.forms;
+              moved = ap (λ rows. rows
+                  ++ account_correction_row name (correction_of number beginning) ∷ [])
+                  stands.entries.enrolled.moved
+                  ∙ ap (λ r. map account_correction_entry (with_earlier [] s.moved) ++ r ∷ [])
+                  (sym row)
+                  ∙ sym (ap (map account_correction_entry) (with_earlier_more [] s.moved new_one)
+                  ∙ map-append account_correction_entry (with_earlier [] s.moved)
+                  ((s.moved, new_one) ∷ []));
+            };
+            figures = stands.entries.figures;
+            days = stands.entries.days;
+            paid = stands.entries.paid;
+          };
           settled = λ other. by_name t s unused stands step other (bytes_eq name other) refl;
         },
       )

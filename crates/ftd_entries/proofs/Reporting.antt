@@ -48,21 +48,19 @@ module _ (name : List ℕ) (quarter : ℕ) (cents : Cents) where
   reported_stands t s stands =
       let more : Entry Cents = record { name = name; key = quarter; content = cents } in
       record {
-        meta = stands.meta;
-        accounts = stands.accounts;
-        forms = stands.forms;
-        reported = ap (λ rows. rows ++ quarter_entry more ∷ []) stands.reported
-            ∙ sym (map-append quarter_entry s.reported (more ∷ []));
-        reported_years = stands.reported_years;
-        calendars = stands.calendars;
-        calendar_days = stands.calendar_days;
-        added_days = stands.added_days;
-        runs = stands.runs;
-        payments = stands.payments;
-        corrected = stands.corrected;
-        corrected_years = stands.corrected_years;
-        changed_days = stands.changed_days;
-        moved = stands.moved;
+        entries = record {
+          meta = stands.entries.meta;
+          enrolled = stands.entries.enrolled;
+          figures = record {
+            reported = ap (λ rows. rows ++ quarter_entry more ∷ []) stands.entries.figures.reported
+                ∙ sym (map-append quarter_entry s.reported (more ∷ []));
+            reported_years = stands.entries.figures.reported_years;
+            corrected = stands.entries.figures.corrected;
+            corrected_years = stands.entries.figures.corrected_years;
+          };
+          days = stands.entries.days;
+          paid = stands.entries.paid;
+        };
         settled = λ other.
             settled_grows t (with_reported name quarter cents t) s (Next s) other refl refl refl
             (record {
@@ -122,21 +120,20 @@ module _ (name : List ℕ) (year : ℕ) (cents : Cents) where
   reported_year_stands t s stands =
       let more : Entry Cents = record { name = name; key = year; content = cents } in
       record {
-        meta = stands.meta;
-        accounts = stands.accounts;
-        forms = stands.forms;
-        reported = stands.reported;
-        reported_years = ap (λ rows. rows ++ year_entry more ∷ []) stands.reported_years
-            ∙ sym (map-append year_entry s.reported_years (more ∷ []));
-        calendars = stands.calendars;
-        calendar_days = stands.calendar_days;
-        added_days = stands.added_days;
-        runs = stands.runs;
-        payments = stands.payments;
-        corrected = stands.corrected;
-        corrected_years = stands.corrected_years;
-        changed_days = stands.changed_days;
-        moved = stands.moved;
+        entries = record {
+          meta = stands.entries.meta;
+          enrolled = stands.entries.enrolled;
+          figures = record {
+            reported = stands.entries.figures.reported;
+            reported_years = ap (λ rows. rows ++ year_entry more ∷ [])
+                stands.entries.figures.reported_years
+                ∙ sym (map-append year_entry s.reported_years (more ∷ []));
+            corrected = stands.entries.figures.corrected;
+            corrected_years = stands.entries.figures.corrected_years;
+          };
+          days = stands.entries.days;
+          paid = stands.entries.paid;
+        };
         settled = λ other.
             settled_grows t (with_reported_year name year cents t) s (NextYear s) other refl refl
             refl

@@ -31,7 +31,7 @@ use Rattle.ftd_machine.proofs.InYear.{never_added, is_in}
 use Rattle.ftd_machine.proofs.Keeping.{is_year}
 use Rattle.ftd_machine.proofs.Members.{found_none}
 use Rattle.ftd_entries.specs.Standing.{StandsFor, KeepsDays, added_entry}
-use Rattle.ftd_entries.proofs.CalendarRows.{year_cell, calendar_kept, days_stand}
+use Rattle.ftd_entries.proofs.CalendarRows.{year_cell, calendar_kept}
 use Rattle.ftd_entries.proofs.DayCells.{same_day}
 use Rattle.ftd_entries.proofs.DayChanges.{kept_known}
 use Rattle.ftd_days.proofs.Among.{is_among}
@@ -165,4 +165,4 @@ holiday_kept t s keeps sound read year day has its =
 pub holiday_read : (t : Tables) (s : State) → StandsFor t s → IsSound s → (read : List ℕ)
     (year day : ℕ) → HasHolidays t read year → year_of day ≡ year
     → is_holiday (holidays s) day ≡ is_holiday read day
-holiday_read t s stands = holiday_kept t s (days_stand t s stands)
+holiday_read t s stands = holiday_kept t s stands.entries.days

@@ -118,39 +118,69 @@ pub record IsSettled (t : Tables) (s : State) (name : List ℕ) : Type 0 where
   pub owed_rows : IsPermutation (filter (is_obligation_of name) (t Obligations))
       (map (obligation_row name) owed)
 
--- the rows of calendars, of added holidays and of changed days are those of the state
-pub record KeepsDays (t : Tables) (s : State) : Type 0 where
-  pub calendars : t CalendarYears ≡ map calendar_entry s.calendars
-  pub calendar_days : t Holidays ≡ flat_map holiday_entries s.calendars
-  pub added_days : t AddedHolidays ≡ map added_entry s.added_days
-  pub changed_days : t ChangedHolidays ≡ map change_entry (with_earlier [] s.changed_days)
+-- ---- the rows of what was entered, and what was entered
 
--- the rows of figures and of their corrections are those of the state
-pub record KeepsFigures (t : Tables) (s : State) : Type 0 where
-  pub reported : t ReportedQuarters ≡ map quarter_entry s.reported
-  pub reported_years : t ReportedYears ≡ map year_entry s.reported_years
-  pub corrected : t CorrectedQuarters ≡ map correction_entry (with_earlier [] s.corrected)
-  pub corrected_years : t CorrectedYears ≡ map year_correction_entry
-      (with_earlier [] s.corrected_years)
-
--- the tables are marked as those of version 3, and stand for the state
-pub record StandsFor (t : Tables) (s : State) : Type 0 where
-  pub meta : HasVersion (t Metas) 3
-  pub accounts : t Accounts ≡ map enrolled_row s.accounts
+-- accounts, their forms, and what was put right of them
+pub record AreAccounts (named : List AccountRow) (on : List FormRow)
+    (right : List CorrectedAccountRow) (enrolled : List Enrolled) (moves : List Move) : Type 0 where
+  pub accounts : named ≡ map enrolled_row enrolled
   -- in any order: a migration adds the forms in the order in which it reads the accounts
-  pub forms : IsPermutation (t Forms) (map enrolled_form s.accounts)
-  pub reported : t ReportedQuarters ≡ map quarter_entry s.reported
-  pub reported_years : t ReportedYears ≡ map year_entry s.reported_years
-  pub calendars : t CalendarYears ≡ map calendar_entry s.calendars
-  pub calendar_days : t Holidays ≡ flat_map holiday_entries s.calendars
-  pub added_days : t AddedHolidays ≡ map added_entry s.added_days
-  pub runs : t Runs ≡ map run_entry s.runs
-  pub payments : t Payments ≡ map payment_entry s.payments
-  pub corrected : t CorrectedQuarters ≡ map correction_entry (with_earlier [] s.corrected)
-  pub corrected_years : t CorrectedYears ≡ map year_correction_entry
-      (with_earlier [] s.corrected_years)
-  pub changed_days : t ChangedHolidays ≡ map change_entry (with_earlier [] s.changed_days)
-  pub moved : t CorrectedAccounts ≡ map account_correction_entry (with_earlier [] s.moved)
+  pub forms : IsPermutation on (map enrolled_form enrolled)
+  pub moved : right ≡ map account_correction_entry (with_earlier [] moves)
+
+-- figures of quarters and of years, and their corrections
+pub record AreFigures (quarters : List ReportedQuarterRow) (years : List ReportedYearRow)
+    (right : List CorrectedQuarterRow) (right_years : List CorrectedYearRow)
+    (first first_years later later_years : List (Entry Cents)) : Type 0 where
+  pub reported : quarters ≡ map quarter_entry first
+  pub reported_years : years ≡ map year_entry first_years
+  pub corrected : right ≡ map correction_entry (with_earlier [] later)
+  pub corrected_years : right_years ≡ map year_correction_entry (with_earlier [] later_years)
+
+-- calendars, added holidays and changed days
+pub record AreDays (years : List CalendarYearRow) (days more : List HolidayRow)
+    (changed : List ChangedHolidayRow) (given : List YearDays) (added : List ℕ)
+    (changes : List DayChange) : Type 0 where
+  pub calendars : years ≡ map calendar_entry given
+  pub calendar_days : days ≡ flat_map holiday_entries given
+  pub added_days : more ≡ map added_entry added
+  pub changed_days : changed ≡ map change_entry (with_earlier [] changes)
+
+-- pay runs and payments
+pub record ArePaid (posted : List RunRow) (recorded : List PaymentRow)
+    (paydays : List (Entry (Voidable PayRun))) (paid : List (Entry (Voidable Payment)))
+    : Type 0 where
+  pub runs : posted ≡ map run_entry paydays
+  pub payments : recorded ≡ map payment_entry paid
+
+-- ---- the rows of the tables are those of the state
+
+abbrev pub KeepsAccounts : Tables → State → Type 0
+KeepsAccounts t s =
+    AreAccounts (t Accounts) (t Forms) (t CorrectedAccounts) s.accounts s.moved
+
+abbrev pub KeepsFigures : Tables → State → Type 0
+KeepsFigures t s = AreFigures (t ReportedQuarters) (t ReportedYears) (t CorrectedQuarters)
+    (t CorrectedYears) s.reported s.reported_years s.corrected s.corrected_years
+
+abbrev pub KeepsDays : Tables → State → Type 0
+KeepsDays t s = AreDays (t CalendarYears) (t Holidays) (t AddedHolidays) (t ChangedHolidays)
+    s.calendars s.added_days s.changed_days
+
+abbrev pub KeepsPaid : Tables → State → Type 0
+KeepsPaid t s = ArePaid (t Runs) (t Payments) s.runs s.payments
+
+-- the tables are marked as those of version 3, and hold the rows of all that was entered
+pub record KeepsEntries (t : Tables) (s : State) : Type 0 where
+  pub meta : HasVersion (t Metas) 3
+  pub enrolled : KeepsAccounts t s
+  pub figures : KeepsFigures t s
+  pub days : KeepsDays t s
+  pub paid : KeepsPaid t s
+
+-- they stand for the state
+pub record StandsFor (t : Tables) (s : State) : Type 0 where
+  pub entries : KeepsEntries t s
   pub settled : (name : List ℕ) → IsSettled t s name
 
 -- ---- earlier versions

@@ -31,7 +31,7 @@ use Rattle.ftd_machine.proofs.Heads.{Gives, gives_done, skip_needs}
 use Rattle.ftd_machine.proofs.InYear.{filed_of, in_year}
 use Rattle.ftd_machine.proofs.Soundness.{step_sound}
 use Rattle.ftd_entries.specs.Standing.{StandsFor, KeepsDays, added_entry}
-use Rattle.ftd_entries.proofs.CalendarRows.{days_found, calendar_known, days_stand}
+use Rattle.ftd_entries.proofs.CalendarRows.{days_found, calendar_known}
 use Rattle.ftd_entries.proofs.YearHolidays.{added_known, added_counted}
 use Rattle.ftd_holidays.specs.Moved.{EntersDay}
 use Rattle.ftd_holidays.specs.declared.moving.DayEntry.TheVariants.{Added}
@@ -130,11 +130,12 @@ with_the_day day s forced d =
 keeps_added : (day : ℕ) (t : Tables) (s : State) → StandsFor t s
     → KeepsDays (with_added_holiday day t) (Next day s)
 keeps_added day t s stands = record {
-  calendars = stands.calendars;
-  calendar_days = stands.calendar_days;
-  added_days = ap (λ rows. rows ++ holiday_row (year_of day) day ∷ []) stands.added_days
+  calendars = stands.entries.days.calendars;
+  calendar_days = stands.entries.days.calendar_days;
+  added_days = ap (λ rows. rows ++ holiday_row (year_of day) day ∷ [])
+      stands.entries.days.added_days
       ∙ sym (map-append added_entry s.added_days (day ∷ []));
-  changed_days = stands.changed_days;
+  changed_days = stands.entries.days.changed_days;
 }
 
 module _ {A B : Type 0} (day year : ℕ) (its : year ≡ year_of day) (found : Option (Vec ℕ A))
@@ -154,8 +155,8 @@ module _ {A B : Type 0} (day year : ℕ) (its : year ≡ year_of day) (found : O
       ∙ (ap (λ y. first_of (add_holiday_checks day (option_map days_found found) (added_in s y)))
       (sym its)
       ∙ same_checks day (option_map days_found found) (added_in s year) added.items
-      (sym (added_known year added t s (days_stand t s stands) lists day))
-      (sym (added_counted year added t s (days_stand t s stands) lists)))
+      (sym (added_known year added t s stands.entries.days lists day))
+      (sym (added_counted year added t s stands.entries.days lists)))
 
   -- a check decides
   pub added_decided : (answer : Answer) → checks ≡ Some answer → (t : Tables) (s : State)

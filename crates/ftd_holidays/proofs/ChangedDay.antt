@@ -29,7 +29,7 @@ use Rattle.ftd_machine.proofs.Heads.{Gives, gives_needs, skip_needs, skip_finds,
 use Rattle.ftd_machine.proofs.InYear.{filed_of, in_year}
 use Rattle.ftd_machine.proofs.Soundness.{step_sound}
 use Rattle.ftd_entries.specs.Standing.{StandsFor, KeepsDays, change_entry, with_earlier}
-use Rattle.ftd_entries.proofs.CalendarRows.{days_found, calendar_known, days_stand}
+use Rattle.ftd_entries.proofs.CalendarRows.{days_found, calendar_known}
 use Rattle.ftd_entries.proofs.PutRight.{with_earlier_more}
 use Rattle.ftd_entries.proofs.YearHolidays.{added_known}
 use Rattle.ftd_holidays.specs.Changing.{KnowsForChange}
@@ -182,7 +182,7 @@ module _ (day number : ℕ) (word : Bool) where
       known.count)) (sym words)
       ∙ same_checks (option_map days_found known.calendar) (added_in s (year_of day))
       known.added.items (numbered number known.words.items) known.count
-      (sym (added_known (year_of day) known.added t s (days_stand t s stands) knows.added day))
+      (sym (added_known (year_of day) known.added t s stands.entries.days knows.added day))
 
   -- a check decides
   pub changed_decided : (known : KnownForChange) (answer : Answer) → checks known ≡ Some answer
@@ -217,11 +217,11 @@ module _ (day number : ℕ) (word : Bool) where
       ap (λ n. holiday_change_row (year_of day)
       (record { day = day; number = n; is_holiday = word })) (sym is) in
       record {
-        calendars = stands.calendars;
-        calendar_days = stands.calendar_days;
-        added_days = stands.added_days;
+        calendars = stands.entries.days.calendars;
+        calendar_days = stands.entries.days.calendar_days;
+        added_days = stands.entries.days.added_days;
         changed_days = ap (λ rows. rows ++ holiday_change_row (year_of day) Change ∷ [])
-            stands.changed_days
+            stands.entries.days.changed_days
             ∙ ap (λ r. map change_entry (with_earlier [] s.changed_days) ++ r ∷ []) (sym row)
             ∙ sym (ap (map change_entry) (with_earlier_more [] s.changed_days new_one)
             ∙ map-append change_entry (with_earlier [] s.changed_days)

@@ -157,20 +157,30 @@ module _ (e : DayEntry) (t u : Tables) (s : State) (added : List ℕ) (changes :
     -- the tables stand for the state with the days
     pub entered_stands : StandsFor u Next
     entered_stands = record {
-      meta = at Metas ∙ stands.meta;
-      accounts = at Accounts ∙ stands.accounts;
-      forms = subst (λ (rows : List FormRow). IsPermutation rows (map enrolled_form s.accounts))
-          (sym (at Forms)) stands.forms;
-      reported = at ReportedQuarters ∙ stands.reported;
-      reported_years = at ReportedYears ∙ stands.reported_years;
-      calendars = at CalendarYears ∙ stands.calendars;
-      calendar_days = at Holidays ∙ stands.calendar_days;
-      added_days = at AddedHolidays ∙ keeps.added_days;
-      runs = at Runs ∙ stands.runs;
-      payments = at Payments ∙ stands.payments;
-      corrected = at CorrectedQuarters ∙ stands.corrected;
-      corrected_years = at CorrectedYears ∙ stands.corrected_years;
-      changed_days = at ChangedHolidays ∙ keeps.changed_days;
-      moved = at CorrectedAccounts ∙ stands.moved;
+      entries = record {
+        meta = at Metas ∙ stands.entries.meta;
+        enrolled = record {
+          accounts = at Accounts ∙ stands.entries.enrolled.accounts;
+          forms = subst (λ (rows : List FormRow). IsPermutation rows (map enrolled_form s.accounts))
+              (sym (at Forms)) stands.entries.enrolled.forms;
+          moved = at CorrectedAccounts ∙ stands.entries.enrolled.moved;
+        };
+        figures = record {
+          reported = at ReportedQuarters ∙ stands.entries.figures.reported;
+          reported_years = at ReportedYears ∙ stands.entries.figures.reported_years;
+          corrected = at CorrectedQuarters ∙ stands.entries.figures.corrected;
+          corrected_years = at CorrectedYears ∙ stands.entries.figures.corrected_years;
+        };
+        days = record {
+          calendars = at CalendarYears ∙ stands.entries.days.calendars;
+          calendar_days = at Holidays ∙ stands.entries.days.calendar_days;
+          added_days = at AddedHolidays ∙ keeps.added_days;
+          changed_days = at ChangedHolidays ∙ keeps.changed_days;
+        };
+        paid = record {
+          runs = at Runs ∙ stands.entries.paid.runs;
+          payments = at Payments ∙ stands.entries.paid.payments;
+        };
+      };
       settled = still_settled;
     }

@@ -73,7 +73,7 @@ knows_holidays year given added changes rows t rise as_told lists all = record {
   told = λ s stands sound found.
       (let kept : (day : ℕ) → year_of day ≡ year
       → is_kept changes.items day ≡ is_in_force s.changed_days day =
-      λ day its. kept_known day changes t s.changed_days stands.changed_days
+      λ day its. kept_known day changes t s.changed_days stands.entries.days.changed_days
       (subst (λ y. ListsHolidayChanges y changes t) (sym its) all) in
       let of_given = told_same changes.items s false given
       (λ day has. kept day (given_in s sound year given found day has)) in

@@ -31,7 +31,7 @@ module _ (year : ℕ) (t : Tables) (s : State) (stands : StandsFor t s) (added :
       let there = value_passes (holiday_row year) HolidaysRise (is_holiday_of (pos year))
       (t AddedHolidays) added lists day has in
       let from = has_mapped added_entry s.added_days (holiday_row year day)
-      (subst (λ rs. Has rs (holiday_row year day)) stands.added_days there.0) in
+      (subst (λ rs. Has rs (holiday_row year day)) stands.entries.days.added_days there.0) in
       let same : day ≡ from.0 = day_is day from.0 (ap (λ (r : HolidayRow). r.day) from.2) in
       let its : year ≡ year_of from.0 =
       same_nat year (year_of from.0) (ap (λ (r : HolidayRow). r.year) from.2) in
@@ -40,7 +40,7 @@ module _ (year : ℕ) (t : Tables) (s : State) (stands : StandsFor t s) (added :
   added_there : (day : ℕ) → IsAdded s year day → Has added day
   added_there day is =
       let row : Has (t AddedHolidays) (holiday_row year day) =
-      subst (λ rs. Has rs (holiday_row year day)) (sym stands.added_days)
+      subst (λ rs. Has rs (holiday_row year day)) (sym stands.entries.days.added_days)
       (subst (λ y. Has (map added_entry s.added_days) (holiday_row y day)) is.1
       (mapped_has added_entry s.added_days day is.0)) in
       let item = passing_value (holiday_row year) HolidaysRise (is_holiday_of (pos year))

@@ -49,7 +49,7 @@ module _ (name : List ℕ) (quarter last : ℕ) (is_last : last + 1 ≡ quarter_
   run_in x has =
       let there = value_passes (row_of name) RunsRise test (t Runs) found lists x has in
       let found_entry = has_mapped run_entry s.runs (row_of name x)
-      (subst (λ rs. Has rs (row_of name x)) stands.runs there.0) in
+      (subst (λ rs. Has rs (row_of name x)) stands.entries.paid.runs there.0) in
       let e : Entry (Voidable PayRun) = found_entry.0 in
       let is : run_entry e ≡ row_of name x = sym found_entry.2 in
       let named : e.name ≡ name = ap (λ (r : RunRow). r.account) is in
@@ -73,7 +73,7 @@ module _ (name : List ℕ) (quarter last : ℕ) (is_last : last + 1 ≡ quarter_
       let row : run_entry e ≡ row_of name y =
       ap (λ (d : Entry (Voidable PayRun)). run_entry d) (same_entry e kept.2 kept.3 kept.4) in
       let there : Has (t Runs) (row_of name y) =
-      subst (λ rs. Has rs (row_of name y)) (sym stands.runs)
+      subst (λ rs. Has rs (row_of name y)) (sym stands.entries.paid.runs)
       (subst (Has (map run_entry s.runs)) row (mapped_has run_entry s.runs e kept.1)) in
       let passes : test (row_of name y) ≡ true =
       ap (λ b. b && (int_le (day_number (quarter_start quarter)) (day_number x.run.payday)

@@ -50,7 +50,7 @@ module _ (name : List ℕ) (t : Tables) (s : State) (stands : StandsFor t s) (so
         let there = value_passes (quarter_row name) QuartersRise (is_reported_of name)
         (t ReportedQuarters) found lists x has in
         let from = has_mapped quarter_entry s.reported (quarter_row name x)
-        (subst (λ rs. Has rs (quarter_row name x)) stands.reported there.0) in
+        (subst (λ rs. Has rs (quarter_row name x)) stands.entries.figures.reported there.0) in
         let e : Entry Cents = from.0 in
         let is : quarter_entry e ≡ quarter_row name x = sym from.2 in
         let named : e.name ≡ name = ap (λ (r : ReportedQuarterRow). r.account) is in
@@ -75,7 +75,7 @@ module _ (name : List ℕ) (t : Tables) (s : State) (stands : StandsFor t s) (so
         let row : quarter_entry kept.0 ≡ quarter_row name x =
         ap quarter_entry (same_entry kept.0 name quarter cents kept.2 kept.3 kept.4) in
         let there : Has (t ReportedQuarters) (quarter_row name x) =
-        subst (λ rs. Has rs (quarter_row name x)) (sym stands.reported)
+        subst (λ rs. Has rs (quarter_row name x)) (sym stands.entries.figures.reported)
         (subst (Has (map quarter_entry s.reported)) row
         (mapped_has quarter_entry s.reported kept.0 kept.1)) in
         let item = passing_value (quarter_row name) QuartersRise (is_reported_of name)
@@ -123,7 +123,7 @@ module _ (name : List ℕ) (t : Tables) (s : State) (stands : StandsFor t s) (so
         let there = value_passes (year_row name) ReportedYearsRise (is_reported_year_of name)
         (t ReportedYears) found lists x has in
         let from = has_mapped year_entry s.reported_years (year_row name x)
-        (subst (λ rs. Has rs (year_row name x)) stands.reported_years there.0) in
+        (subst (λ rs. Has rs (year_row name x)) stands.entries.figures.reported_years there.0) in
         let e : Entry Cents = from.0 in
         let is : year_entry e ≡ year_row name x = sym from.2 in
         let named : e.name ≡ name = ap (λ (r : ReportedYearRow). r.account) is in
@@ -143,7 +143,7 @@ module _ (name : List ℕ) (t : Tables) (s : State) (stands : StandsFor t s) (so
         let row : year_entry kept.0 ≡ year_row name x =
         ap year_entry (same_entry kept.0 name year cents kept.2 kept.3 kept.4) in
         let there : Has (t ReportedYears) (year_row name x) =
-        subst (λ rs. Has rs (year_row name x)) (sym stands.reported_years)
+        subst (λ rs. Has rs (year_row name x)) (sym stands.entries.figures.reported_years)
         (subst (Has (map year_entry s.reported_years)) row
         (mapped_has year_entry s.reported_years kept.0 kept.1)) in
         let item = passing_value (year_row name) ReportedYearsRise (is_reported_year_of name)

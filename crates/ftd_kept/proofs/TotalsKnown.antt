@@ -20,7 +20,6 @@ use Rattle.ftd_machine.specs.Agenda.{EachToLater}
 use Rattle.ftd_machine.specs.Kept.{IsTotal, IsTotalBefore, period_of}
 use Rattle.ftd_machine.specs.State.{State, entries_of}
 use Rattle.ftd_machine.specs.declared.kept.KeptTotal.TheVariants.{OfQuarter, OfYear}
-use Rattle.ftd_entries.proofs.Kept.{figures_stand}
 use Rattle.ftd_entries.specs.Standing.{StandsFor}
 use Rattle.ftd_machine.specs.declared.kept.KeptTotal.{KeptTotal}
 use Rattle.ftd_kept.specs.Kept.{KnowsTotals, KnowsFirstTotals, IsFirstTotal, IsInForce}
@@ -84,12 +83,12 @@ module _ (name : List ℕ) (t : Tables) (s : State) (stands : StandsFor t s) whe
       → IsFirstTotal form (entries_of s name) first → IsTotal form (entries_of s name) x
   total_is F941 (OfQuarter quarter before first) x is was =
       subst (IsTotal F941 (entries_of s name)) (sym is.1)
-      (is.2 s (figures_stand t s stands), was.1)
+      (is.2 s stands.entries.figures, was.1)
   total_is F941 (OfYear year before first) x is was = absurd was
   total_is F943 (OfQuarter quarter before first) x is was = absurd was
   total_is F943 (OfYear year before first) x is was =
       subst (IsTotal F943 (entries_of s name)) (sym is.1)
-      (is.2 s (figures_stand t s stands), was.1)
+      (is.2 s stands.entries.figures, was.1)
 
   module _ (firsts xs : List KeptTotal) (pairs : Pairs (IsInForce name t) firsts xs) where
     is_there : (form : Form)
@@ -99,7 +98,7 @@ module _ (name : List ℕ) (t : Tables) (s : State) (stands : StandsFor t s) whe
         let to = paired_to (IsInForce name t) firsts xs (OfQuarter quarter first first) pairs
         (there (OfQuarter quarter first first) (refl, is.1)) in
         let amount : to.2.0 ≡ cents =
-        same_cents to.2.0 cents (sym (to.2.2 s (figures_stand t s stands)) ∙ is.0) in
+        same_cents to.2.0 cents (sym (to.2.2 s stands.entries.figures) ∙ is.0) in
         subst (Has xs) (to.2.1 ∙ ap (λ c. OfQuarter quarter c first) amount) to.1
     is_there F941 there (OfYear year cents first) is = absurd is
     is_there F943 there (OfQuarter quarter cents first) is = absurd is
@@ -107,7 +106,7 @@ module _ (name : List ℕ) (t : Tables) (s : State) (stands : StandsFor t s) whe
         let to = paired_to (IsInForce name t) firsts xs (OfYear year first first) pairs
         (there (OfYear year first first) (refl, is.1)) in
         let amount : to.2.0 ≡ cents =
-        same_cents to.2.0 cents (sym (to.2.2 s (figures_stand t s stands)) ∙ is.0) in
+        same_cents to.2.0 cents (sym (to.2.2 s stands.entries.figures) ∙ is.0) in
         subst (Has xs) (to.2.1 ∙ ap (λ c. OfYear year c first) amount) to.1
 
 pub knows_totals : (name : List ℕ) (form : Form) (t : Tables) (firsts xs : List KeptTotal)

@@ -162,7 +162,7 @@ book_known name account year days ledger t of_year starts ends knows knows_ledge
           sums_listed name days.from days.to s.runs ledger.sums.items
           (subst (λ (rows : List RunRow). ListsDaySums RunsRise name
           (filter (is_live_run_between name (day_number days.from) (day_number days.to)) rows)
-          ledger.sums.items) stands.runs knows_ledger.sums)
+          ledger.sums.items) stands.entries.paid.runs knows_ledger.sums)
           from to (omega arith) (omega arith);
       since = knows_ledger.since ∙ starts;
       owed = owed_read name ledger.since ledger.rows.items t s stands

@@ -206,25 +206,21 @@ module _ (name : List ℕ) (quarter number : ℕ) (cents : Cents) (year : ℕ)
         obligations = refl;
         years = refl;
         kept = record {
-          meta = stands.meta;
-          accounts = stands.accounts;
-          forms = stands.forms;
-          reported = stands.reported;
-          reported_years = stands.reported_years;
-          calendars = stands.calendars;
-          calendar_days = stands.calendar_days;
-          added_days = stands.added_days;
-          runs = stands.runs;
-          payments = stands.payments;
-          corrected = ap (λ rows. rows ++ correction_row name quarter quarter_correction ∷ [])
-              stands.corrected
-              ∙ ap (λ r. map correction_entry (with_earlier [] s.corrected) ++ r ∷ []) (sym row)
-              ∙ sym (ap (map correction_entry) (with_earlier_more [] s.corrected e)
-              ∙ map-append correction_entry (with_earlier [] s.corrected)
-              ((s.corrected, e) ∷ []));
-          corrected_years = stands.corrected_years;
-          changed_days = stands.changed_days;
-          moved = stands.moved;
+          meta = stands.entries.meta;
+          enrolled = stands.entries.enrolled;
+          figures = record {
+            reported = stands.entries.figures.reported;
+            reported_years = stands.entries.figures.reported_years;
+            corrected = ap (λ rows. rows ++ correction_row name quarter quarter_correction ∷ [])
+                stands.entries.figures.corrected
+                ∙ ap (λ r. map correction_entry (with_earlier [] s.corrected) ++ r ∷ []) (sym row)
+                ∙ sym (ap (map correction_entry) (with_earlier_more [] s.corrected e)
+                ∙ map-append correction_entry (with_earlier [] s.corrected)
+                ((s.corrected, e) ∷ []));
+            corrected_years = stands.entries.figures.corrected_years;
+          };
+          days = stands.entries.days;
+          paid = stands.entries.paid;
         };
       }
 
@@ -308,12 +304,7 @@ module _ (name : List ℕ) (quarter number : ℕ) (cents : Cents) (year : ℕ)
             ))
         | inr k ↦
             (let total = k.1.0 in
-            let keeps : KeepsFigures (WithQuarter t) next = record {
-              reported = entered.kept.reported;
-              reported_years = entered.kept.reported_years;
-              corrected = entered.kept.corrected;
-              corrected_years = entered.kept.corrected_years;
-            } in
+            let keeps : KeepsFigures (WithQuarter t) next = entered.kept.figures in
             let once = sound_once s sound name in
             let has : HasLookback (entries_of next name) year total =
             k.1.1 next keeps
@@ -400,27 +391,23 @@ module _ (name : List ℕ) (reported_year number : ℕ) (cents : Cents) (countin
         obligations = refl;
         years = refl;
         kept = record {
-          meta = stands.meta;
-          accounts = stands.accounts;
-          forms = stands.forms;
-          reported = stands.reported;
-          reported_years = stands.reported_years;
-          calendars = stands.calendars;
-          calendar_days = stands.calendar_days;
-          added_days = stands.added_days;
-          runs = stands.runs;
-          payments = stands.payments;
-          corrected = stands.corrected;
-          corrected_years =
-              ap (λ rows. rows ++ year_correction_row name reported_year year_correction ∷ [])
-              stands.corrected_years
-              ∙ ap (λ r. map year_correction_entry (with_earlier [] s.corrected_years) ++ r ∷ [])
-              (sym row)
-              ∙ sym (ap (map year_correction_entry) (with_earlier_more [] s.corrected_years e)
-              ∙ map-append year_correction_entry (with_earlier [] s.corrected_years)
-              ((s.corrected_years, e) ∷ []));
-          changed_days = stands.changed_days;
-          moved = stands.moved;
+          meta = stands.entries.meta;
+          enrolled = stands.entries.enrolled;
+          figures = record {
+            reported = stands.entries.figures.reported;
+            reported_years = stands.entries.figures.reported_years;
+            corrected = stands.entries.figures.corrected;
+            corrected_years = ap (λ rows. rows
+                ++ year_correction_row name reported_year year_correction ∷ [])
+                stands.entries.figures.corrected_years
+                ∙ ap (λ r. map year_correction_entry (with_earlier [] s.corrected_years) ++ r ∷ [])
+                (sym row)
+                ∙ sym (ap (map year_correction_entry) (with_earlier_more [] s.corrected_years e)
+                ∙ map-append year_correction_entry (with_earlier [] s.corrected_years)
+                ((s.corrected_years, e) ∷ []));
+          };
+          days = stands.entries.days;
+          paid = stands.entries.paid;
         };
       }
 
@@ -511,12 +498,7 @@ module _ (name : List ℕ) (reported_year number : ℕ) (cents : Cents) (countin
             ))
         | inr k ↦
             (let total = k.1.0 in
-            let keeps : KeepsFigures (WithYear t) next = record {
-              reported = entered.kept.reported;
-              reported_years = entered.kept.reported_years;
-              corrected = entered.kept.corrected;
-              corrected_years = entered.kept.corrected_years;
-            } in
+            let keeps : KeepsFigures (WithYear t) next = entered.kept.figures in
             let once = sound_once s sound name in
             let has : HasLookback (entries_of next name) counting total =
             k.1.1 next keeps

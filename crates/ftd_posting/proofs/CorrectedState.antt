@@ -43,7 +43,8 @@ use Rattle.ftd_machine.proofs.Lined.{years_same}
 use Rattle.ftd_store.specs.Changes.{with_year}
 use Rattle.ftd_store.specs.Finds.{ListsYears}
 use Rattle.ftd_store.specs.Holidays.{HasHolidays}
-use Rattle.ftd_entries.specs.Standing.{StandsFor, KeepsDays, IsSettled, is_obligation_of, run_entry}
+use Rattle.ftd_entries.specs.Standing.{StandsFor, KeepsEntries, KeepsDays, IsSettled}
+use Rattle.ftd_entries.specs.Standing.{is_obligation_of, run_entry}
 use Rattle.ftd_entries.proofs.Lines.{lines_known}
 use Rattle.ftd_entries.proofs.YearHolidays.{holiday_kept}
 use Rattle.ftd_repairs.specs.declared.Difference.{Difference}
@@ -56,7 +57,7 @@ use Rattle.ftd_posting.specs.Books.{AreHolidaysIn}
 use Rattle.ftd_posting.proofs.Booking.{first_of_year}
 use Rattle.ftd_posting.proofs.LinesAfter.{carried_same}
 use Rattle.ftd_posting.proofs.LiveRuns.{sums_listed}
-use Rattle.ftd_posting.proofs.Placed.{KeepsEntries, IsPlaced, placed_stands, placed_told}
+use Rattle.ftd_posting.proofs.Placed.{IsPlaced, placed_stands, placed_told}
 
 -- ---- the line of one year, among those of other years
 
@@ -184,23 +185,7 @@ module _ (t v : Tables) (s : State) (corrected corrected_years : List (Entry Cen
               ∙ is)))
 
       pub entered_stands : StandsFor v Next
-      entered_stands = record {
-        meta = entered.kept.meta;
-        accounts = entered.kept.accounts;
-        forms = entered.kept.forms;
-        reported = entered.kept.reported;
-        reported_years = entered.kept.reported_years;
-        calendars = entered.kept.calendars;
-        calendar_days = entered.kept.calendar_days;
-        added_days = entered.kept.added_days;
-        runs = entered.kept.runs;
-        payments = entered.kept.payments;
-        corrected = entered.kept.corrected;
-        corrected_years = entered.kept.corrected_years;
-        changed_days = entered.kept.changed_days;
-        moved = entered.kept.moved;
-        settled = settled_each;
-      }
+      entered_stands = record { entries = entered.kept; settled = settled_each }
 
       pub entered_told : (first : ℕ) → IsPosted (holidays s) own own_after first
           (Ok (Posted first first 0 0))
@@ -344,7 +329,7 @@ module _ (t v : Tables) (s : State) (corrected corrected_years : List (Entry Cen
 
       runs_are : YearRunsAre name v year Before After
       runs_are old new opens xs live a b l m =
-          let rows : v Runs ≡ map run_entry s.runs = entered.kept.runs in
+          let rows : v Runs ≡ map run_entry s.runs = entered.kept.paid.runs in
           sums_listed name (year_start old.year) (year_last old.year) s.runs xs
           (subst (λ (rs : List RunRow). ListsDaySums RunsRise name
           (filter (is_live_run_between name (day_number (year_start old.year))
@@ -371,12 +356,7 @@ module _ (t v : Tables) (s : State) (corrected corrected_years : List (Entry Cen
           })
 
       days : KeepsDays v s
-      days = record {
-        calendars = entered.kept.calendars;
-        calendar_days = entered.kept.calendar_days;
-        added_days = entered.kept.added_days;
-        changed_days = entered.kept.changed_days;
-      }
+      days = entered.kept.days
 
       read_now : (x : YearLine) → Has then x → year ≤ x.year
           → AreHolidaysIn s retotals.holidays x.year × AreHolidaysIn s retotals.holidays
@@ -441,19 +421,10 @@ module _ (t v : Tables) (s : State) (corrected corrected_years : List (Entry Cen
             ∙ ap (filter (is_year_of other)) entered.years;
         entered = record {
           meta = entered.kept.meta;
-          accounts = entered.kept.accounts;
-          forms = entered.kept.forms;
-          reported = entered.kept.reported;
-          reported_years = entered.kept.reported_years;
-          calendars = entered.kept.calendars;
-          calendar_days = entered.kept.calendar_days;
-          added_days = entered.kept.added_days;
-          runs = entered.kept.runs;
-          payments = entered.kept.payments;
-          corrected = entered.kept.corrected;
-          corrected_years = entered.kept.corrected_years;
-          changed_days = entered.kept.changed_days;
-          moved = entered.kept.moved;
+          enrolled = entered.kept.enrolled;
+          figures = entered.kept.figures;
+          days = entered.kept.days;
+          paid = entered.kept.paid;
         };
       }
 

@@ -39,7 +39,8 @@ use Rattle.ftd_machine.specs.Sound.{IsSound}
 use Rattle.ftd_machine.specs.declared.replies.Reply.TheVariants.{Posted}
 use Rattle.ftd_machine.proofs.Adding.{own_name}
 use Rattle.ftd_store.proofs.Sifted.{sifted}
-use Rattle.ftd_entries.specs.Standing.{StandsFor, IsSettled, is_obligation_of, enrolled_row}
+use Rattle.ftd_entries.specs.Standing.{StandsFor, KeepsEntries, IsSettled, is_obligation_of}
+use Rattle.ftd_entries.specs.Standing.{enrolled_row}
 use Rattle.ftd_entries.specs.Standing.{enrolled_form, quarter_entry, year_entry, calendar_entry}
 use Rattle.ftd_entries.specs.Standing.{holiday_entries, added_entry, run_entry, payment_entry}
 use Rattle.ftd_entries.specs.Standing.{correction_entry, year_correction_entry, change_entry}
@@ -55,24 +56,6 @@ use Rattle.ftd_posting.proofs.LinesAfter.{lines_after}
 use Rattle.ftd_posting.proofs.Patching.{patched_are}
 use Rattle.ftd_posting.proofs.RightByAll.{replaces_by_all}
 use Rattle.ftd_posting.proofs.RowsPlaced.{stays, placed_rows, gone_are, others_placed}
-
--- the rows of all that was entered are those of the state
-pub record KeepsEntries (t : Tables) (s : State) : Type 0 where
-  pub meta : HasVersion (t Metas) 3
-  pub accounts : t Accounts ≡ map enrolled_row s.accounts
-  pub forms : IsPermutation (t Forms) (map enrolled_form s.accounts)
-  pub reported : t ReportedQuarters ≡ map quarter_entry s.reported
-  pub reported_years : t ReportedYears ≡ map year_entry s.reported_years
-  pub calendars : t CalendarYears ≡ map calendar_entry s.calendars
-  pub calendar_days : t Holidays ≡ flat_map holiday_entries s.calendars
-  pub added_days : t AddedHolidays ≡ map added_entry s.added_days
-  pub runs : t Runs ≡ map run_entry s.runs
-  pub payments : t Payments ≡ map payment_entry s.payments
-  pub corrected : t CorrectedQuarters ≡ map correction_entry (with_earlier [] s.corrected)
-  pub corrected_years : t CorrectedYears ≡ map year_correction_entry
-      (with_earlier [] s.corrected_years)
-  pub changed_days : t ChangedHolidays ≡ map change_entry (with_earlier [] s.changed_days)
-  pub moved : t CorrectedAccounts ≡ map account_correction_entry (with_earlier [] s.moved)
 
 module _ (old changed new : Tables) (s : State) (runs : List (Entry (Voidable PayRun)))
     (corrected corrected_years : List (Entry Cents)) (name : List ℕ) (day since : ℕ)
@@ -233,21 +216,34 @@ module _ (old changed new : Tables) (s : State) (runs : List (Entry (Voidable Pa
         let row = repatches.put.rows.only in
         let kept = p.entered in
         record {
-          meta = put Metas ∙ (row Metas ∙ kept.meta);
-          accounts = put Accounts ∙ (row Accounts ∙ kept.accounts);
-          forms = subst (λ (rows : List FormRow). IsPermutation rows (map enrolled_form s.accounts))
-              (sym (put Forms ∙ row Forms)) kept.forms;
-          reported = put ReportedQuarters ∙ (row ReportedQuarters ∙ kept.reported);
-          reported_years = put ReportedYears ∙ (row ReportedYears ∙ kept.reported_years);
-          calendars = put CalendarYears ∙ (row CalendarYears ∙ kept.calendars);
-          calendar_days = put Holidays ∙ (row Holidays ∙ kept.calendar_days);
-          added_days = put AddedHolidays ∙ (row AddedHolidays ∙ kept.added_days);
-          runs = put Runs ∙ (row Runs ∙ kept.runs);
-          payments = put Payments ∙ (row Payments ∙ kept.payments);
-          corrected = put CorrectedQuarters ∙ (row CorrectedQuarters ∙ kept.corrected);
-          corrected_years = put CorrectedYears ∙ (row CorrectedYears ∙ kept.corrected_years);
-          changed_days = put ChangedHolidays ∙ (row ChangedHolidays ∙ kept.changed_days);
-          moved = put CorrectedAccounts ∙ (row CorrectedAccounts ∙ kept.moved);
+          entries = record {
+            meta = put Metas ∙ (row Metas ∙ kept.meta);
+            enrolled = record {
+              accounts = put Accounts ∙ (row Accounts ∙ kept.enrolled.accounts);
+              forms = subst (λ (rows : List FormRow). IsPermutation rows
+                  (map enrolled_form s.accounts))
+                  (sym (put Forms ∙ row Forms)) kept.enrolled.forms;
+              moved = put CorrectedAccounts ∙ (row CorrectedAccounts ∙ kept.enrolled.moved);
+            };
+            figures = record {
+              reported = put ReportedQuarters ∙ (row ReportedQuarters ∙ kept.figures.reported);
+              reported_years = put ReportedYears ∙
+                  (row ReportedYears ∙ kept.figures.reported_years);
+              corrected = put CorrectedQuarters ∙ (row CorrectedQuarters ∙ kept.figures.corrected);
+              corrected_years = put CorrectedYears ∙
+                  (row CorrectedYears ∙ kept.figures.corrected_years);
+            };
+            days = record {
+              calendars = put CalendarYears ∙ (row CalendarYears ∙ kept.days.calendars);
+              calendar_days = put Holidays ∙ (row Holidays ∙ kept.days.calendar_days);
+              added_days = put AddedHolidays ∙ (row AddedHolidays ∙ kept.days.added_days);
+              changed_days = put ChangedHolidays ∙ (row ChangedHolidays ∙ kept.days.changed_days);
+            };
+            paid = record {
+              runs = put Runs ∙ (row Runs ∙ kept.paid.runs);
+              payments = put Payments ∙ (row Payments ∙ kept.paid.payments);
+            };
+          };
           settled = settled_each;
         }
 

@@ -95,7 +95,7 @@ module _ (name : List ℕ) (number : ℕ) (run : PayRun) (count : ℕ) where
   pub run_added : (t : Tables) (s : State) → StandsFor t s → ChangesRuns s name run.payday
       (t Runs ++ run_entry More ∷ []) (with_entry s.runs name number (taken run))
   run_added t s stands = record {
-    rows_are = ap (λ rows. rows ++ run_entry More ∷ []) stands.runs
+    rows_are = ap (λ rows. rows ++ run_entry More ∷ []) stands.entries.paid.runs
         ∙ sym (map-append run_entry s.runs (More ∷ []));
     others = λ other apart. entry_other s.runs name number (taken run) other
         (λ same. apart (sym same));
@@ -232,7 +232,7 @@ module _ (name : List ℕ) (number : ℕ) where
       → ChangesRuns s name v.value.payday (map (changed (is_run name (pos number)) voided_run)
       (t Runs)) (with_voided s.runs name number)
   run_voided t s v stands sound kept = record {
-    rows_are = ap (map (changed (is_run name (pos number)) voided_run)) stands.runs
+    rows_are = ap (map (changed (is_run name (pos number)) voided_run)) stands.entries.paid.runs
         ∙ rows_voided s.runs;
     others = λ other apart. voided_other s.runs name number other (λ same. apart (sym same));
     same_days = λ other apart.

@@ -177,20 +177,11 @@ module _ (old new : Tables) (s : State) (name : List ℕ) (day : ℕ) (rows : Li
       obligations = refl;
       year_rows = λ other apart. refl;
       entered = record {
-        meta = stands.meta;
-        accounts = stands.accounts;
-        forms = stands.forms;
-        reported = stands.reported;
-        reported_years = stands.reported_years;
-        calendars = stands.calendars;
-        calendar_days = stands.calendar_days;
-        added_days = stands.added_days;
-        runs = changes.rows_are;
-        payments = stands.payments;
-        corrected = stands.corrected;
-        corrected_years = stands.corrected_years;
-        changed_days = stands.changed_days;
-        moved = stands.moved;
+        meta = stands.entries.meta;
+        enrolled = stands.entries.enrolled;
+        figures = stands.entries.figures;
+        days = stands.entries.days;
+        paid = record { runs = changes.rows_are; payments = stands.entries.paid.payments };
       };
     }
 

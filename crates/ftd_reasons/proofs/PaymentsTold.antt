@@ -82,7 +82,7 @@ module _ (name : List ℕ) (first last : ℕ) (t : Tables) (s : State) (stands :
     is_kept_on x has =
         let there = value_passes (row_of name) PaymentsRise test (t Payments) found lists x has in
         let found_entry = has_mapped payment_entry s.payments (row_of name x)
-        (subst (λ rs. Has rs (row_of name x)) stands.payments there.0) in
+        (subst (λ rs. Has rs (row_of name x)) stands.entries.paid.payments there.0) in
         let e : Entry (Voidable Payment) = found_entry.0 in
         let is : payment_entry e ≡ row_of name x = sym found_entry.2 in
         let named : e.name ≡ name = ap (λ (r : PaymentRow). r.account) is in
@@ -90,7 +90,8 @@ module _ (name : List ℕ) (first last : ℕ) (t : Tables) (s : State) (stands :
         in
         let content : e.content ≡ x.payment = payment_is name x.number e x.payment is in
         let kept = is_kept name s.payments sound.payments e found_entry.1 named in
-        let days = days_from name first last x.payment.value.for_day (bytes_eq name name) there.1 in (
+        let days = days_from name first last x.payment.value.for_day (bytes_eq name name)
+        there.1 in (
           subst (λ k. kept_at k (entries_of s name).payments ≡ Some x.payment) key
               (kept ∙ ap Some content),
           days.1,
@@ -105,7 +106,7 @@ module _ (name : List ℕ) (first last : ℕ) (t : Tables) (s : State) (stands :
         ap (λ (d : Entry (Voidable Payment)). payment_entry d)
         (same_entry kept.0 kept.2 kept.3 kept.4) in
         let there : Has (t Payments) (row_of name x) =
-        subst (λ rs. Has rs (row_of name x)) (sym stands.payments)
+        subst (λ rs. Has rs (row_of name x)) (sym stands.entries.paid.payments)
         (subst (Has (map payment_entry s.payments)) row
         (mapped_has payment_entry s.payments kept.0 kept.1)) in
         let passes : test (row_of name x) ≡ true =

@@ -18,6 +18,6 @@ returns-in-Ok g c =
       call = reads_on g.S.Store c.args.tx.now c.holiday_changes.new.self changes words
           (ListsHolidayChanges (year_of day)) (λ x. KnowsWords day x.items)
           (λ t listed s stands. said
-          ∙ words_known day changes t s.changed_days stands.changed_days listed)
+          ∙ words_known day changes t s.changed_days stands.entries.days.changed_days listed)
           (rw c.year.ensures at c.in_ok-changes.ensures.call);
     }

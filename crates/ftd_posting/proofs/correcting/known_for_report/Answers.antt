@@ -9,7 +9,6 @@ use Rattle.ftd_machine.specs.State.{numbered}
 use Rattle.ftd_machine.specs.declared.entries.Account.{Account}
 use Rattle.ftd_entries.specs.Known.{KnowsAccount, HasForm, KnowsYear, amounts_of, cents_of}
 use Rattle.ftd_entries.proofs.Corrected.{corrections_known}
-use Rattle.ftd_entries.proofs.Kept.{figures_stand}
 use Rattle.ftd_entries.proofs.Reading.{Both, both_read, reads_too}
 use Rattle.ftd_posting.specs.Correcting.{KnowsForReport}
 use Rattle.ftd_posting.proofs.correcting.known_for_report.Goals as goal
@@ -67,12 +66,12 @@ returns g c =
             corrected = record {
               known = λ s stands.
                   ap (numbered number) (sym (corrections_known name key corrections t listed s
-                  (figures_stand t s stands)))
+                  stands.entries.figures))
                   ∙ sym (c.numbered.ensures
                   ∙ ap (λ cs. numbered number (amounts_of cs)) c.deref.ensures.value);
               count = λ s stands.
                   ap length (sym (corrections_known name key corrections t listed s
-                  (figures_stand t s stands)))
+                  stands.entries.figures))
                   ∙ length-map corrections.items cents_of ∙ count;
             };
             is_open = told.1;
