@@ -6,8 +6,8 @@ cd "$(dirname "$0")" || exit 1
 said=$(mktemp) || exit 1
 trap 'rm -f "$said"' EXIT
 
-# Each check gets one job, since a second one takes more processor time than it saves, and so many run side by side as there are processors,
-# and as the memory that is free holds at 5 GB each.
+# Each check gets one job, since other checks keep the processors busy, and so many run side by side as there are processors, and as the memory
+# that is free holds at 5 GB each.
 if [ -z "${RT_JOBS:-}" ]; then
     lanes=$(($(awk '/^MemAvailable:/ { print $2 }' /proc/meminfo) / 5000000))
     [ "$lanes" -le "$(nproc)" ] || lanes=$(nproc)
