@@ -1,9 +1,9 @@
 //! Serving a connection.
 
 ghost use Rattle.std.specs.Prelude.{Some, ◌||◌, ◌==◌, ◌≡◌, ◌<◌, ◌≤◌, List, ℕ, true, false};
-ghost use Rattle.std.specs.Prelude.{IfOk, IfErr, OnOk, OnErr, drop, vec_len};
+ghost use Rattle.std.specs.Prelude.{IfOk, IfErr, OnOk, drop, vec_len};
 ghost use Rattle.std.specs.Io.KnownBytes.{Appends};
-ghost use Rattle.ftd_ports.specs.Writing.{WritesPrefix};
+ghost use Rattle.ftd_ports.specs.Writing.{Writes};
 ghost use Rattle.ftd_messages.specs.Messages.{Message};
 ghost use Rattle.ftd_messages.specs.Looks.{IsMessageAt, ArePartsOf};
 ghost use Rattle.ftd_routes.specs.Routes.{all_routes};
@@ -168,11 +168,8 @@ fn closes_after(answered: u32, closes: bool) -> bool
 
 /// Answers a message that is refused by its head.
 fn refuse<W: Target>(alloc: Global, target: &mut W, status: Status) -> Result<(), WriteFault>
-    ensures ok { OnOk result
-        (Appends (W.taken target.old) (W.taken target.new) (refusal_text (Some status))) }
-    ensures err { OnErr result
-        (WritesPrefix (W.taken target.old) (W.taken target.new) (refusal_text (Some status))) }
-    ensures fault { OnErr result (W.failed target.new ≡ true) }
+    ensures { Writes result (W.taken target.old) (W.taken target.new)
+        (W.failed target.new) (refusal_text (Some status)) }
 {
     write_response(alloc, target, &bare(alloc, status), true)
 }

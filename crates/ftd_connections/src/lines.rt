@@ -1,9 +1,8 @@
 //! The lines of a server.
 
-ghost use Rattle.std.specs.Prelude.{◌≡◌, true, OnOk, OnErr, Some};
+ghost use Rattle.std.specs.Prelude.{◌≡◌, Some};
 ghost use Rattle.std.specs.List.{flat_map};
-ghost use Rattle.std.specs.Io.KnownBytes.{Appends};
-ghost use Rattle.ftd_ports.specs.Writing.{WritesPrefix};
+ghost use Rattle.ftd_ports.specs.Writing.{Writes};
 ghost use Rattle.ftd_connections.specs.Listening.{IsTold, IsToldMore, cause_text, failed_line};
 ghost use Rattle.ftd_connections.specs.Listening.{listening_line, outcome_line, stop_line};
 
@@ -15,10 +14,8 @@ use itoa::Buffer;
 
 /// Tells at which port the server listens.
 pub fn tell_listening<W: Target>(port: u16, out: &mut W) -> Result<(), WriteFault>
-    ensures ok { OnOk result (Appends (W.taken out.old) (W.taken out.new) (listening_line port)) }
-    ensures err { OnErr result
-        (WritesPrefix (W.taken out.old) (W.taken out.new) (listening_line port)) }
-    ensures fault { OnErr result (W.failed out.new ≡ true) }
+    ensures { Writes result (W.taken out.old) (W.taken out.new)
+        (W.failed out.new) (listening_line port) }
 {
     let mut digits = Buffer::new();
     let port = digits.format(port).as_bytes();

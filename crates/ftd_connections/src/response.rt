@@ -1,9 +1,8 @@
 //! Responses.
 
-ghost use Rattle.std.specs.Prelude.{◌≡◌, ◌++◌, true, Some, IfOk, OnOk, OnErr};
+ghost use Rattle.std.specs.Prelude.{◌≡◌, ◌++◌, Some, IfOk, OnOk};
 ghost use Rattle.std.specs.Fmt.{decimal};
-ghost use Rattle.std.specs.Io.KnownBytes.{Appends};
-ghost use Rattle.ftd_ports.specs.Writing.{WritesPrefix};
+ghost use Rattle.ftd_ports.specs.Writing.{Writes};
 ghost use Rattle.ftd_connections.specs.Responses.{said_of, bare, json, formatted, list_content};
 ghost use Rattle.ftd_connections.specs.Responses.{told};
 ghost use Rattle.ftd_connections.specs.Responses.{content_of, other_method};
@@ -137,11 +136,8 @@ pub fn write_response<W: Target>(
     response: &Response,
     closes: bool,
 ) -> Result<(), WriteFault>
-    ensures ok { OnOk result (Appends (W.taken target.old) (W.taken target.new)
-        (response_text (said_of response.now) closes)) }
-    ensures err { OnErr result (WritesPrefix (W.taken target.old) (W.taken target.new)
-        (response_text (said_of response.now) closes)) }
-    ensures fault { OnErr result (W.failed target.new ≡ true) }
+    ensures { Writes result (W.taken target.old) (W.taken target.new)
+        (W.failed target.new) (response_text (said_of response.now) closes) }
 {
     match response_text(alloc, response, closes) {
         Ok(text) => write_all(target, text.as_slice()),
@@ -167,11 +163,8 @@ fn write_parts<W: Target>(
     response: &Response,
     closes: bool,
 ) -> Result<(), WriteFault>
-    ensures ok { OnOk result (Appends (W.taken target.old) (W.taken target.new)
-        (response_text (said_of response.now) closes)) }
-    ensures err { OnErr result (WritesPrefix (W.taken target.old) (W.taken target.new)
-        (response_text (said_of response.now) closes)) }
-    ensures fault { OnErr result (W.failed target.new ≡ true) }
+    ensures { Writes result (W.taken target.old) (W.taken target.new)
+        (W.failed target.new) (response_text (said_of response.now) closes) }
 {
     write_head(target, response, closes)?;
     write_all(target, response.body.as_slice())
@@ -184,11 +177,8 @@ fn write_head<W: Target>(
     response: &Response,
     closes: bool,
 ) -> Result<(), WriteFault>
-    ensures ok { OnOk result (Appends (W.taken target.old) (W.taken target.new)
-        (head_text (said_of response.now) closes)) }
-    ensures err { OnErr result (WritesPrefix (W.taken target.old) (W.taken target.new)
-        (head_text (said_of response.now) closes)) }
-    ensures fault { OnErr result (W.failed target.new ≡ true) }
+    ensures { Writes result (W.taken target.old) (W.taken target.new)
+        (W.failed target.new) (head_text (said_of response.now) closes) }
 {
     let mut length = Buffer::new();
     write_pieces(

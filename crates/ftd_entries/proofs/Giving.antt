@@ -30,7 +30,8 @@ use Rattle.ftd_machine.specs.Limits.{is_calendar, are_rising}
 use Rattle.ftd_machine.specs.State.{State, entries_of, is_of, is_given, calendar_at, holidays}
 use Rattle.ftd_machine.specs.State.{all_days, is_in_force}
 use Rattle.ftd_machine.specs.History.{form_of, live_sums, year_of_line, year_of_entry, AreLinesOf}
-use Rattle.ftd_machine.specs.Checks.{Answer, first_of, Decides}
+use Rattle.ftd_machine.specs.Checks.{Answer, first_of}
+use Rattle.ftd_machine.proofs.Deciding.{decided, passed}
 use Rattle.ftd_machine.specs.Requests.{calendar_checks}
 use Rattle.ftd_machine.specs.Step.{Step}
 use Rattle.ftd_machine.specs.Sound.{IsSound}
@@ -183,28 +184,23 @@ module _ (year : ℕ) (days : List ℕ) where
   pub calendar_decided : (known : Option (List ℕ)) (answer : Answer)
       → first_of (calendar_checks year days known) ≡ Some answer
       → (s : State) → calendar_at s year ≡ known → Step s Asked answer s
-  calendar_decided known answer decided s is =
-      subst (λ k. Decides (first_of (calendar_checks year days k)) s answer s
-      ((answer ≡ Ok Done) × (s ≡ Next s))) (sym is)
-      (subst (λ o. Decides o s answer s ((answer ≡ Ok Done) × (s ≡ Next s))) (sym decided)
-      (refl, refl))
+  calendar_decided known answer decides s is =
+      decided _ s answer _ (ap (λ k. first_of (calendar_checks year days k)) is ∙ decides)
 
   -- all checks pass
   pub calendar_done : (known : Option (List ℕ)) → first_of (calendar_checks year days known) ≡ None
       → (t : Tables) (s : State) → StandsFor t s → IsSound s → calendar_at s year ≡ known
       → (next : State) × Step s Asked (Ok Done) next × StandsFor (with_calendar year days t) next
-  calendar_done known passed t s stands sound is =
+  calendar_done known passes t s stands sound is =
       let answer : Answer = Ok Done in
       let step : Step s Asked answer (Next s) =
-      subst (λ k. Decides (first_of (calendar_checks year days k)) s answer (Next s)
-      ((answer ≡ Ok Done) × (Next s ≡ Next s))) (sym is)
-      (subst (λ o. Decides o s answer (Next s) ((answer ≡ Ok Done) × (Next s ≡ Next s)))
-      (sym passed) (refl, refl)) in
+      passed _ s answer (Next s) _ (ap (λ k. first_of (calendar_checks year days k)) is ∙ passes)
+      (refl, refl) in
       let new : Gives (calendar_checks year days known) (known ≡ None) =
       skip_needs _ _ _ _ (skip_needs _ _ _ _ (gives_new _ _ _ _)) in
       let fits : Gives (calendar_checks year days known) (is_calendar year days ≡ true) =
       skip_needs _ _ _ _ (gives_needs _ _ _) in
-      let none : calendar_at s year ≡ None = is ∙ new.fact passed in (
+      let none : calendar_at s year ≡ None = is ∙ new.fact passes in (
         Next s,
         step,
         record {
@@ -226,7 +222,7 @@ module _ (year : ℕ) (days : List ℕ) where
             };
             paid = stands.entries.paid;
           };
-          settled = λ name. settled_still t s name sound none (fits.fact passed)
+          settled = λ name. settled_still t s name sound none (fits.fact passes)
               (stands.settled name);
         },
       )

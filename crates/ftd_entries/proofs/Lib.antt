@@ -5,6 +5,7 @@ pub mod Opened
 pub mod Reading
 pub mod Serving
 pub mod Growing
+pub mod Settling
 pub mod Enrolling
 pub mod CalendarRows
 pub mod Corrections
@@ -18,10 +19,12 @@ pub mod KnownYears
 pub mod Figures
 pub mod Totals
 pub mod Reporting
+pub mod Voiding
 pub mod Paying
 pub mod DayCells
 pub mod YearHolidays
 pub mod OwedRows
+pub mod OwedAgain
 pub mod Ends
 pub mod ListedRows
 pub mod QuarterDays

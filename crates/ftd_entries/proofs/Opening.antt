@@ -41,7 +41,7 @@ use Rattle.ftd_machine.specs.State.{State, Entry, Entries, entries_of, is_of, ha
 use Rattle.ftd_machine.specs.State.{kept_at, is_open, is_given, holidays}
 use Rattle.ftd_machine.specs.History.{form_of, is_carried, is_live, value_of, live, liability_of}
 use Rattle.ftd_machine.specs.History.{live_sums, IsLookbackOn, HasLookback, AreCarried}
-use Rattle.ftd_machine.specs.History.{year_of_line, year_of_entry, AreLinesOf, LacksFigure}
+use Rattle.ftd_machine.specs.History.{year_of_line, year_of_entry, LacksFigure}
 use Rattle.ftd_machine.specs.Checks.{Answer, first_of}
 use Rattle.ftd_machine.specs.Requests.{open_year_checks}
 use Rattle.ftd_machine.specs.Step.{Step, OpensNext, may_open, with_entry}
@@ -61,6 +61,7 @@ use Rattle.ftd_machine.proofs.Lined.{open_years_of, between_is}
 use Rattle.ftd_entries.specs.Standing.{StandsFor, IsSettled}
 use Rattle.ftd_entries.specs.Opening.{HasOpening, IsNextLine, KeepsYear}
 use Rattle.ftd_entries.proofs.CalendarRows.{year_cell}
+use Rattle.ftd_entries.proofs.Settling.{HasRowsOf, each_name, names_apart, same_order, settled_as}
 
 -- ---- lists with one more
 
@@ -487,21 +488,12 @@ module _ (name : List ℕ) (year : ℕ) where
             owed_rows = was.owed_rows;
           }
 
-          settled_other : (other : List ℕ) → bytes_eq name other ≡ false
-              → entries_of (Next s) other ≡ entries_of s other → IsSettled After (Next s) other
-          settled_other other apart same =
-              let its = stands.settled other in
-              record {
-                lines = its.lines;
-                are_lines = subst (λ own. AreLinesOf own its.lines) (sym same) its.are_lines;
-                owed = its.owed;
-                are_owed = subst (λ own. AreObligations (form_of own.account) its.lines
-                    (live_sums own) (holidays s) its.owed) (sym same) its.are_owed;
-                line_rows = subst (λ rows. IsPermutation rows (map (year_row other) its.lines))
-                    (sym (ap (filter (is_year_of other)) rows_put ∙ filter_more (is_year_of other)
-                    (t Years) (year_row name line) false apart)) its.line_rows;
-                owed_rows = its.owed_rows;
-              }
+          rows_other : (other : List ℕ) → bytes_eq name other ≡ false → HasRowsOf other t After
+          rows_other other apart = record {
+            years = same_order _ _ (ap (filter (is_year_of other)) rows_put
+                ∙ filter_more (is_year_of other) (t Years) (year_row name line) false apart);
+            obligations = same_order _ _ refl;
+          }
 
           -- the year is opened
           pub open_done : (next : State) × Step s Asked (Ok Done) next × StandsFor After next
@@ -517,16 +509,9 @@ module _ (name : List ℕ) (year : ℕ) where
                     days = stands.entries.days;
                     paid = stands.entries.paid;
                   };
-                  settled = λ other. by_name other (bytes_eq name other) refl;
+                  settled = each_name (IsSettled After (Next s)) name settled_own
+                      (λ other apart. settled_as t After s (Next s) other (others s Asked (Ok Done)
+                      (Next s) other step (names_apart name other apart)) refl
+                      (rows_other other apart) (stands.settled other));
                 },
               )
-            where
-              by_name : (other : List ℕ) (b : Bool) → bytes_eq name other ≡ b
-                  → IsSettled After (Next s) other
-              by_name other true is = subst (IsSettled After (Next s)) (same_text name other is)
-                  settled_own
-              by_name other false is =
-                  settled_other other is (others s Asked (Ok Done) (Next s) other
-                  (open_step total has may)
-                  (λ same. true≢false
-                  (sym (subst (λ n. bytes_eq name n ≡ true) same (own_name name)) ∙ is)))

@@ -1,8 +1,8 @@
 -- Payments that are taken and voided: what is answered, and the tables stand for the machine's next
 -- state.
-use Rattle.std.proofs.Common.{◌≡◌, ◌∙◌, refl, sym, ap, ℕ, ◌&&◌, pos, Bool, true, false, cond, List}
+use Rattle.std.proofs.Common.{◌≡◌, ◌∙◌, refl, sym, ap, ℕ, ◌&&◌, pos, List}
 use Rattle.std.proofs.Common.{[], ◌∷◌, ◌++◌, map, length, Option, None, Some, Ok}
-use Rattle.std.specs.Prelude.{bytes_eq, if◌then◌else◌}
+use Rattle.std.specs.Prelude.{bytes_eq}
 use Rattle.std.proofs.lemmas.List.{map-append}
 use Rattle.ftd_days.specs.Calendar.{year_of}
 use Rattle.ftd_rules.specs.declared.payment.Payment.{Payment}
@@ -20,7 +20,7 @@ use Rattle.ftd_machine.specs.declared.replies.Reply.TheVariants.{Done}
 use Rattle.ftd_machine.specs.State.{State, Entry, Entries, entries_of, kept_at, is_open}
 use Rattle.ftd_machine.specs.Checks.{Answer, first_of}
 use Rattle.ftd_machine.specs.Requests.{pay_checks, void_payment_checks}
-use Rattle.ftd_machine.specs.Step.{Step, with_entry, with_voided, voided_if, is_under, as_voided}
+use Rattle.ftd_machine.specs.Step.{Step, with_entry, with_voided}
 use Rattle.ftd_machine.specs.Step.{taken}
 use Rattle.ftd_machine.specs.Sound.{IsSound}
 use Rattle.ftd_machine.proofs.Deciding.{decided, passed}
@@ -32,6 +32,7 @@ use Rattle.ftd_entries.proofs.Reading.{Both}
 use Rattle.ftd_entries.proofs.Kept.{kept_payment, counted_payments}
 use Rattle.ftd_entries.proofs.Growing.{settled_grows}
 use Rattle.ftd_entries.proofs.CalendarRows.{year_cell}
+use Rattle.ftd_entries.proofs.Voiding as voiding
 
 -- other payments change no line and no obligation
 paid_stands : (t : Tables) (s : State) (rows : List PaymentRow)
@@ -80,16 +81,12 @@ module _ (name : List ℕ) (number : ℕ) (payment : Payment) (count : ℕ) wher
       → CountsPayments name count t → KnowsAll known t → checks_on (entries_of s name)
       ≡ checks known
   checks_are known t s stands counted knows =
-      let own = entries_of s name in
-      ap (λ a. first_of (pay_checks name number payment a (kept_at number own.payments)
-      (is_open own (year_of payment.for_day)) (length own.payments))) (knows.account s stands)
-      ∙ ap (λ k. first_of (pay_checks name number payment known.account k
-      (is_open own (year_of payment.for_day)) (length own.payments)))
-      (kept_payment name t s stands number known.payment knows.payment)
-      ∙ ap (λ y. first_of (pay_checks name number payment known.account known.payment y
-      (length own.payments))) (knows.is_open s stands)
-      ∙ ap (λ n. first_of (pay_checks name number payment known.account known.payment known.is_open
-      n)) (counted_payments name t s stands count counted)
+      rw (
+        knows.account s stands,
+        kept_payment name t s stands number known.payment knows.payment,
+        knows.is_open s stands,
+        counted_payments name t s stands count counted,
+      ) refl
 
   abbrev Next : State → State
   Next s = record s { payments = with_entry s.payments name number (taken payment) }
@@ -130,32 +127,12 @@ module _ (name : List ℕ) (number : ℕ) (payment : Payment) (count : ℕ) wher
 -- ---- a payment is voided
 
 module _ (name : List ℕ) (number : ℕ) where
-  test_is : (e : Entry (Voidable Payment)) → is_payment name (pos number) (payment_entry e)
-      ≡ is_under name number e
-  test_is e = ap (λ b. bytes_eq e.name name && b) (year_cell e.key number)
-
-  -- the row of an entry that is voided, is voided
-  row_voided : (e : Entry (Voidable Payment))
-      → changed (is_payment name (pos number)) voided_payment (payment_entry e) ≡ payment_entry
-      (voided_if name number e)
-  row_voided e = ap (λ b. cond b (voided_payment (payment_entry e)) (payment_entry e)) (test_is e)
-      ∙ by (is_under name number e)
-    where
-      by : (under : Bool) → cond under (voided_payment (payment_entry e)) (payment_entry e)
-          ≡ payment_entry
-          (record {
-            name = e.name;
-            key = e.key;
-            content = if under then as_voided e.content else e.content;
-          })
-      by true = refl
-      by false = refl
-
   rows_voided : (xs : List (Entry (Voidable Payment)))
       → map (changed (is_payment name (pos number)) voided_payment) (map payment_entry xs)
       ≡ map payment_entry (with_voided xs name number)
-  rows_voided [] = refl
-  rows_voided (e ∷ xs) = rw (row_voided e, rows_voided xs) refl
+  rows_voided = voiding.rows_voided payment_entry voided_payment
+      (is_payment name (pos number)) name number
+      (λ e. ap (λ b. bytes_eq e.name name && b) (year_cell e.key number)) (λ e. refl)
 
   void_checks_are : (known : Option Account × Option (Voidable Payment)) (t : Tables) (s : State)
       → StandsFor t s → ReadsPayment name number known t
@@ -163,11 +140,7 @@ module _ (name : List ℕ) (number : ℕ) where
       (kept_at number (entries_of s name).payments)) ≡ first_of
       (void_payment_checks name number known.0 known.1)
   void_checks_are known t s stands knows =
-      ap (λ a. first_of
-      (void_payment_checks name number a (kept_at number (entries_of s name).payments)))
-      (knows.0 s stands)
-      ∙ ap (λ k. first_of (void_payment_checks name number known.0 k))
-      (kept_payment name t s stands number known.1 knows.1)
+      rw (knows.0 s stands, kept_payment name t s stands number known.1 knows.1) refl
 
   abbrev Voided : State → State
   Voided s = record s { payments = with_voided s.payments name number }

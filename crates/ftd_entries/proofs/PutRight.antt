@@ -1,10 +1,10 @@
 -- How an account begins is put right: what is answered, and the tables stand for the machine's next
 -- state.
-use Rattle.std.proofs.Common.{◌≡◌, ◌∙◌, refl, sym, ap, subst, ℕ, ◌+◌, ◌==◌, ◌&&◌, Bool, true}
+use Rattle.std.proofs.Common.{◌≡◌, ◌∙◌, refl, sym, ap, ℕ, ◌+◌, ◌==◌, ◌&&◌, Bool, true}
 use Rattle.std.proofs.Common.{append-nil, append_assoc, false, List, [], ◌∷◌, ◌++◌, map, length}
 use Rattle.std.proofs.Common.{Option, None, Some, Ok, Vec, arith}
-use Rattle.std.specs.Prelude.{filter, bytes_eq}
-use Rattle.std.proofs.lemmas.Bool.{true≢false, eqb-true, and_parts}
+use Rattle.std.specs.Prelude.{filter}
+use Rattle.std.proofs.lemmas.Bool.{eqb-true, and_parts}
 use Rattle.std.proofs.lemmas.List.{map-append, length-map}
 use Rattle.std.proofs.lemmas.List.Sorted.{length_permutation}
 use Rattle.ftd_rules.specs.declared.YearLine.{YearLine}
@@ -22,30 +22,25 @@ use Rattle.ftd_machine.specs.Checks.{Answer, first_of}
 use Rattle.ftd_machine.specs.Requests.{correct_account_checks, is_unused}
 use Rattle.ftd_machine.specs.Step.{Step, with_move}
 use Rattle.ftd_machine.specs.Sound.{IsSound}
-use Rattle.ftd_machine.proofs.Adding.{own_name}
 use Rattle.ftd_machine.proofs.Deciding.{decided, passed}
 use Rattle.ftd_machine.proofs.Others.{others}
 use Rattle.ftd_entries.specs.Correcting.{KnowsForCorrection}
 use Rattle.ftd_entries.specs.Standing.{StandsFor, IsSettled, with_earlier, account_correction_entry}
-use Rattle.std.specs.Prelude.{if◌then◌else◌, IsPermutation}
-use Rattle.ftd_days.proofs.Spelling.{same_text}
-use Rattle.ftd_rules.specs.Years.{AreLines}
-use Rattle.ftd_rules.specs.Obligations.{AreObligations}
+use Rattle.std.specs.Prelude.{if◌then◌else◌}
 use Rattle.ftd_schema.specs.Orders.{QuartersRise, ReportedYearsRise}
-use Rattle.ftd_schema.specs.Tests.{is_reported_of, is_reported_year_of, is_year_of}
-use Rattle.ftd_schema.specs.declared.TableName.TheVariants.{Years}
+use Rattle.ftd_schema.specs.Tests.{is_reported_of, is_reported_year_of}
 use Rattle.ftd_rows.specs.Lists.{Lists}
-use Rattle.ftd_rows.specs.Rows.{account_correction_row, year_row}
+use Rattle.ftd_rows.specs.Rows.{account_correction_row}
 use Rattle.ftd_store.specs.Finds.{ListsYears}
 use Rattle.ftd_store.specs.Kept.{IsQuarterTotal, IsYearTotal, ListsReported, ListsReportedYears}
 use Rattle.ftd_store.proofs.Items.{pairs_length}
-use Rattle.ftd_machine.specs.State.{holidays}
-use Rattle.ftd_machine.specs.History.{form_of, live_sums, year_of_line, year_of_entry, AreLinesOf}
+use Rattle.ftd_machine.specs.History.{year_of_line, year_of_entry}
 use Rattle.ftd_machine.proofs.Heads.{Gives, gives_needs, skip_needs, skip_finds, skip_new}
 use Rattle.ftd_machine.proofs.Soundness.{empty_of}
 use Rattle.ftd_entries.specs.Correcting.{KnowsUnused, correction_of}
 use Rattle.ftd_entries.specs.Standing.{quarter_entry, year_entry}
-use Rattle.ftd_entries.proofs.Enrolling.{owed_none, lines_none}
+use Rattle.ftd_entries.proofs.Settling.{each_name, names_apart, same_rows, settled_as}
+use Rattle.ftd_entries.proofs.Settling.{settled_unopened}
 use Rattle.ftd_entries.proofs.Lines.{lines_known}
 use Rattle.ftd_entries.specs.declared.beginnings.KnownForCorrection.{KnownForCorrection}
 
@@ -179,46 +174,14 @@ module _ (name : List ℕ) (number : ℕ) (beginning : Beginning) where
   abbrev After : Tables → Tables
   After = with_account_correction name (correction_of number beginning)
 
-  settled_other : (t : Tables) (s : State) (other : List ℕ)
-      → entries_of (Next s) other ≡ entries_of s other → IsSettled t s other
-      → IsSettled (After t) (Next s) other
-  settled_other t s other same was = record {
-    lines = was.lines;
-    are_lines = subst (λ own. AreLinesOf own was.lines) (sym same) was.are_lines;
-    owed = was.owed;
-    are_owed = subst (λ own. AreObligations (form_of own.account) was.lines (live_sums own)
-        (holidays s) was.owed) (sym same) was.are_owed;
-    line_rows = was.line_rows;
-    owed_rows = was.owed_rows;
-  }
-
-  settled_own : (t : Tables) (s : State) → is_unused (entries_of s name) ≡ true
-      → IsSettled t s name → IsSettled (After t) (Next s) name
-  settled_own t s unused was =
+  unopened : (s : State) → is_unused (entries_of s name) ≡ true
+      → (entries_of s name).open_years ≡ []
+  unopened s unused =
       let own = entries_of s name in
       let parts = and_parts (length own.reported == 0)
       ((length own.reported_years == 0) && (length own.open_years == 0)) unused in
-      let opened : own.open_years ≡ [] =
       empty_of own.open_years (and_parts (length own.reported_years == 0)
-      (length own.open_years == 0) parts.1).1 in
-      let lines : was.lines ≡ [] = lines_none was.lines (was.are_lines.years
-      ∙ ap (map year_of_entry) opened) in
-      record {
-        lines = [];
-        are_lines = record {
-          years = sym (ap (map year_of_entry) opened);
-          lookbacks = λ line has. absurd has;
-          carried = tt;
-          schedules = subst (AreLines (live_sums own)) lines was.are_lines.schedules;
-        };
-        owed = was.owed;
-        are_owed = owed_none _ _ _ _ _ _
-            (subst (λ ls. AreObligations (form_of own.account) ls (live_sums own) (holidays s)
-            was.owed) lines was.are_owed);
-        line_rows = subst (λ ls. IsPermutation (filter (is_year_of name) (t Years))
-            (map (year_row name) ls)) lines was.line_rows;
-        owed_rows = was.owed_rows;
-      }
+      (length own.open_years == 0) parts.1).1
 
   -- all checks pass
   pub put_right_done : (known : KnownForCorrection)
@@ -262,18 +225,12 @@ module _ (name : List ℕ) (number : ℕ) (beginning : Beginning) where
             days = stands.entries.days;
             paid = stands.entries.paid;
           };
-          settled = λ other. by_name t s unused stands step other (bytes_eq name other) refl;
+          settled = each_name (IsSettled (After t) (Next s)) name
+              (settled_unopened t (After t) s (Next s) name (unopened s unused)
+              (unopened s unused) refl (same_rows name t (After t) refl refl)
+              (stands.settled name))
+              (λ other apart. settled_as t (After t) s (Next s) other (others s Asked (Ok Done)
+              (Next s) other step (names_apart name other apart)) refl
+              (same_rows other t (After t) refl refl) (stands.settled other));
         },
       )
-    where
-      by_name : (t : Tables) (s : State) → is_unused (entries_of s name) ≡ true → StandsFor t s
-          → Step s Asked (Ok Done) (Next s) → (other : List ℕ) (b : Bool)
-          → bytes_eq name other ≡ b
-          → IsSettled (After t) (Next s) other
-      by_name t s unused stands step other true is =
-          subst (IsSettled (After t) (Next s)) (same_text name other is)
-          (settled_own t s unused (stands.settled name))
-      by_name t s unused stands step other false is =
-          settled_other t s other (others s Asked (Ok Done) (Next s) other step
-          (λ same. true≢false (sym (subst (λ n. bytes_eq name n ≡ true) same (own_name name))
-          ∙ is))) (stands.settled other)

@@ -37,11 +37,7 @@ module _ (name : List ℕ) (quarter : ℕ) (cents : Cents) where
       (kept_at quarter (entries_of s name).reported)) ≡ first_of
       (report_checks name quarter cents known.0 known.1)
   checks_are known t s stands knows =
-      ap (λ a. first_of
-      (report_checks name quarter cents a (kept_at quarter (entries_of s name).reported)))
-      (knows.0 s stands)
-      ∙ ap (λ k. first_of (report_checks name quarter cents known.0 k))
-      (kept_reported name t s stands quarter known.1 knows.1)
+      rw (knows.0 s stands, kept_reported name t s stands quarter known.1 knows.1) refl
 
   reported_stands : (t : Tables) (s : State) → StandsFor t s
       → StandsFor (with_reported name quarter cents t) (Next s)
@@ -109,11 +105,7 @@ module _ (name : List ℕ) (year : ℕ) (cents : Cents) where
       (kept_at year (entries_of s name).reported_years)) ≡ first_of
       (report_year_checks name year cents known.0 known.1)
   year_checks_are known t s stands knows =
-      ap (λ a. first_of
-      (report_year_checks name year cents a (kept_at year (entries_of s name).reported_years)))
-      (knows.0 s stands)
-      ∙ ap (λ k. first_of (report_year_checks name year cents known.0 k))
-      (kept_reported_year name t s stands year known.1 knows.1)
+      rw (knows.0 s stands, kept_reported_year name t s stands year known.1 knows.1) refl
 
   reported_year_stands : (t : Tables) (s : State) → StandsFor t s
       → StandsFor (with_reported_year name year cents t) (NextYear s)

@@ -1,5 +1,5 @@
 -- Which of an account's obligations begin on some days.
-use Rattle.std.specs.Prelude.{◌≡◌, ◌&&◌, ℕ, List, filter}
+use Rattle.std.specs.Prelude.{◌≡◌, ℕ, List, filter}
 use Rattle.ftd_rules.specs.declared.Obligation.{Obligation}
 use Rattle.ftd_rules.specs.Obligations.{begins_on}
 use Rattle.ftd_schema.specs.Standing.{Tables}

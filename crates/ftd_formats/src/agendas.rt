@@ -1,8 +1,7 @@
 //! What is due over all accounts as CSV and as JSON.
 
-ghost use Rattle.std.specs.Prelude.{◌≡◌, true, OnOk, OnErr, map};
-ghost use Rattle.std.specs.Io.KnownBytes.{Appends};
-ghost use Rattle.ftd_ports.specs.Writing.{WritesPrefix};
+ghost use Rattle.std.specs.Prelude.{◌≡◌, map};
+ghost use Rattle.ftd_ports.specs.Writing.{Writes};
 ghost use Rattle.ftd_formats.specs.Dues.{agenda_csv, agenda_fields, agenda_json};
 ghost use Rattle.ftd_formats.specs.Fields.{member_of, members_of, object_told, plain_of};
 ghost use Rattle.ftd_formats.specs.Fields.{plain_texts, record_told};
@@ -11,7 +10,7 @@ use crate::fields::{Value, write_list_with, write_object, write_record};
 use crate::rows::{RowFormat, write_table};
 use ftd_machine::AgendaRow;
 use ftd_ports::{Target, WriteFault};
-use ftd_reports::{left_of, total_left};
+use ftd_reports::{Left, left_of, total};
 
 /// The rows as records of CSV.
 #[derive(Drop)]
@@ -64,11 +63,8 @@ impl RowFormat<AgendaRow> for Objects {
 /// prefix of the text was written, and it fails nowhere else.
 #[tactic(auto, unfolding(crate::specs::Dues::agenda_csv))]
 pub fn write_agenda_csv<W: Target>(rows: &[AgendaRow], target: &mut W) -> Result<(), WriteFault>
-    ensures ok { OnOk result
-        (Appends (W.taken target.old) (W.taken target.new) (agenda_csv rows.now)) }
-    ensures err { OnErr result
-        (WritesPrefix (W.taken target.old) (W.taken target.new) (agenda_csv rows.now)) }
-    ensures fault { OnErr result (W.failed target.new ≡ true) }
+    ensures { Writes result (W.taken target.old) (W.taken target.new)
+        (W.failed target.new) (agenda_csv rows.now) }
 {
     write_table(
         b"due,account,form,first,last,rule,amount,paid,left,pay_by,verdict\n",
@@ -83,12 +79,9 @@ pub fn write_agenda_csv<W: Target>(rows: &[AgendaRow], target: &mut W) -> Result
 /// prefix of the text was written, and it fails nowhere else.
 #[tactic(auto, unfolding(crate::specs::Dues::agenda_json))]
 pub fn write_agenda_json<W: Target>(rows: &[AgendaRow], target: &mut W) -> Result<(), WriteFault>
-    ensures ok { OnOk result
-        (Appends (W.taken target.old) (W.taken target.new) (agenda_json rows.now)) }
-    ensures err { OnErr result
-        (WritesPrefix (W.taken target.old) (W.taken target.new) (agenda_json rows.now)) }
-    ensures fault { OnErr result (W.failed target.new ≡ true) }
+    ensures { Writes result (W.taken target.old) (W.taken target.new)
+        (W.failed target.new) (agenda_json rows.now) }
 {
-    let sums = [("left", Value::Sum(total_left(rows)))];
+    let sums = [("left", Value::Sum(total(&Left, rows)))];
     write_list_with(&Objects, rows, &sums, target)
 }

@@ -1,8 +1,7 @@
 //! What is due over all accounts as a calendar of iCalendar.
 
-ghost use Rattle.std.specs.Prelude.{◌≡◌, ◌++◌, true, OnOk, OnErr};
-ghost use Rattle.std.specs.Io.KnownBytes.{Appends};
-ghost use Rattle.ftd_ports.specs.Writing.{WritesPrefix};
+ghost use Rattle.std.specs.Prelude.{◌≡◌};
+ghost use Rattle.ftd_ports.specs.Writing.{Writes};
 ghost use Rattle.ftd_formats.specs.Calendars.{agenda_calendar, event_text, event_owner};
 ghost use Rattle.ftd_formats.specs.Calendars.{event_deposit, plain_day};
 
@@ -33,11 +32,8 @@ pub fn write_agenda_calendar<W: Target>(
     rows: &[AgendaRow],
     target: &mut W,
 ) -> Result<(), WriteFault>
-    ensures ok { OnOk result
-        (Appends (W.taken target.old) (W.taken target.new) (agenda_calendar as_of rows.now)) }
-    ensures err { OnErr result
-        (WritesPrefix (W.taken target.old) (W.taken target.new) (agenda_calendar as_of rows.now)) }
-    ensures fault { OnErr result (W.failed target.new ≡ true) }
+    ensures { Writes result (W.taken target.old) (W.taken target.new)
+        (W.failed target.new) (agenda_calendar as_of rows.now) }
 {
     write_all(
         target,
@@ -63,11 +59,8 @@ fn write_event_owner<W: Target>(
     row: &AgendaRow,
     target: &mut W,
 ) -> Result<(), WriteFault>
-    ensures ok { OnOk result
-        (Appends (W.taken target.old) (W.taken target.new) (event_owner as_of row.now)) }
-    ensures err { OnErr result
-        (WritesPrefix (W.taken target.old) (W.taken target.new) (event_owner as_of row.now)) }
-    ensures fault { OnErr result (W.failed target.new ≡ true) }
+    ensures { Writes result (W.taken target.old) (W.taken target.new)
+        (W.failed target.new) (event_owner as_of row.now) }
 {
     let as_of = plain_day(as_of);
     let due = plain_day(row.row.obligation.due);
@@ -98,11 +91,8 @@ fn write_event_owner<W: Target>(
 
 /// Writes its lines from the rule on.
 fn write_event_deposit<W: Target>(row: &AgendaRow, target: &mut W) -> Result<(), WriteFault>
-    ensures ok { OnOk result
-        (Appends (W.taken target.old) (W.taken target.new) (event_deposit row.now)) }
-    ensures err { OnErr result
-        (WritesPrefix (W.taken target.old) (W.taken target.new) (event_deposit row.now)) }
-    ensures fault { OnErr result (W.failed target.new ≡ true) }
+    ensures { Writes result (W.taken target.old) (W.taken target.new)
+        (W.failed target.new) (event_deposit row.now) }
 {
     let obligation = row.row.obligation;
     let mut dollars = Buffer::new();

@@ -1,11 +1,8 @@
 //! Due lists as CSV and as JSON.
 
-ghost use Rattle.std.specs.Prelude.{◌≡◌, true, OnOk, OnErr, map};
-ghost use Rattle.std.specs.List.{sum_by};
-ghost use Rattle.std.specs.Io.KnownBytes.{Appends};
-ghost use Rattle.ftd_ports.specs.Writing.{WritesPrefix};
+ghost use Rattle.std.specs.Prelude.{◌≡◌, map};
+ghost use Rattle.ftd_ports.specs.Writing.{Writes};
 ghost use Rattle.ftd_machine.specs.Agenda.{left_of};
-ghost use Rattle.ftd_rules.specs.Verdicts.{amount_of};
 ghost use Rattle.ftd_formats.specs.Dues.{due_csv, due_fields, due_json};
 ghost use Rattle.ftd_formats.specs.Fields.{member_of, members_of, object_told, plain_of};
 ghost use Rattle.ftd_formats.specs.Fields.{plain_texts, record_told};
@@ -13,7 +10,7 @@ ghost use Rattle.ftd_formats.specs.Fields.{plain_texts, record_told};
 use crate::fields::{Value, write_list_with, write_object, write_record};
 use crate::rows::{RowFormat, write_table};
 use ftd_ports::{Target, WriteFault};
-use ftd_reports::left_of;
+use ftd_reports::{Amount, Left, left_of, total};
 use ftd_rules::DueRow;
 
 /// The rows of an account's due list as records of CSV.
@@ -64,28 +61,6 @@ impl<'a> RowFormat<DueRow> for Objects<'a> {
     }
 }
 
-/// The amounts of the rows together, in cents.
-fn total_amount(rows: &[DueRow]) -> u128
-    ensures { result ≡ sum_by amount_of rows.now }
-{
-    let mut total = 0;
-    for row in rows {
-        total += u128::from(row.obligation.cents.0);
-    }
-    total
-}
-
-/// What is left to pay of the rows together, in cents.
-fn total_left(rows: &[DueRow]) -> u128
-    ensures { result ≡ sum_by left_of rows.now }
-{
-    let mut total = 0;
-    for row in rows {
-        total += u128::from(left_of(row).0);
-    }
-    total
-}
-
 /// Writes the rows of an account's due list as CSV: a first line with the names of the fields, and
 /// a record for each row. It takes no memory but what the target takes. Where the target fails, a
 /// prefix of the text was written, and it fails nowhere else.
@@ -95,11 +70,8 @@ pub fn write_due_csv<W: Target>(
     rows: &[DueRow],
     target: &mut W,
 ) -> Result<(), WriteFault>
-    ensures ok { OnOk result
-        (Appends (W.taken target.old) (W.taken target.new) (due_csv account.now rows.now)) }
-    ensures err { OnErr result
-        (WritesPrefix (W.taken target.old) (W.taken target.new) (due_csv account.now rows.now)) }
-    ensures fault { OnErr result (W.failed target.new ≡ true) }
+    ensures { Writes result (W.taken target.old) (W.taken target.new)
+        (W.failed target.new) (due_csv account.now rows.now) }
 {
     write_table(
         b"due,account,first,last,rule,amount,paid,left,makeup,verdict\n",
@@ -117,15 +89,12 @@ pub fn write_due_json<W: Target>(
     rows: &[DueRow],
     target: &mut W,
 ) -> Result<(), WriteFault>
-    ensures ok { OnOk result
-        (Appends (W.taken target.old) (W.taken target.new) (due_json account.now rows.now)) }
-    ensures err { OnErr result
-        (WritesPrefix (W.taken target.old) (W.taken target.new) (due_json account.now rows.now)) }
-    ensures fault { OnErr result (W.failed target.new ≡ true) }
+    ensures { Writes result (W.taken target.old) (W.taken target.new)
+        (W.failed target.new) (due_json account.now rows.now) }
 {
     let sums = [
-        ("amount", Value::Sum(total_amount(rows))),
-        ("left", Value::Sum(total_left(rows))),
+        ("amount", Value::Sum(total(&Amount, rows))),
+        ("left", Value::Sum(total(&Left, rows))),
     ];
     write_list_with(&Objects { account }, rows, &sums, target)
 }

@@ -1,15 +1,14 @@
 //! The fields of a row, as CSV and as JSON.
 
-ghost use Rattle.std.specs.Prelude.{◌≡◌, true, OnOk, OnErr, map};
-ghost use Rattle.std.specs.Io.KnownBytes.{Appends};
-ghost use Rattle.ftd_ports.specs.Writing.{WritesPrefix};
+ghost use Rattle.std.specs.Prelude.{◌≡◌, true, map};
+ghost use Rattle.ftd_ports.specs.Writing.{Writes};
 ghost use Rattle.std.specs.Fmt.{decimal};
 ghost use Rattle.ftd_days.specs.Text.{cents_text};
 ghost use Rattle.ftd_formats.specs.Fields.{array_of, json_text, list_of, list_with, member_of};
 ghost use Rattle.ftd_formats.specs.Fields.{object_of, plain_of, plain_text, quoted, record_of};
 ghost use Rattle.ftd_formats.specs.Fields.{true_false, yes_no};
 
-use crate::rows::{RowFormat, write_joined};
+use crate::rows::{RowFormat, write_enclosed, write_joined};
 use ftd_days::{Cents, Day, Quarter};
 use ftd_ports::{Target, WriteFault, write_all, write_pieces};
 use ftd_reports::{amount_text, day_bytes, form_bytes, quarter_bytes, rule_name, verdict_name};
@@ -67,11 +66,8 @@ fn true_false(flag: bool) -> &'static [u8]
 
 /// Writes an amount in cents.
 fn write_amount<W: Target>(cents: u128, target: &mut W) -> Result<(), WriteFault>
-    ensures ok { OnOk result
-        (Appends (W.taken target.old) (W.taken target.new) (cents_text cents)) }
-    ensures err { OnErr result
-        (WritesPrefix (W.taken target.old) (W.taken target.new) (cents_text cents)) }
-    ensures fault { OnErr result (W.failed target.new ≡ true) }
+    ensures { Writes result (W.taken target.old) (W.taken target.new)
+        (W.failed target.new) (cents_text cents) }
 {
     let mut dollars = Buffer::new();
     let amount = amount_text(cents, &mut dollars);
@@ -80,11 +76,8 @@ fn write_amount<W: Target>(cents: u128, target: &mut W) -> Result<(), WriteFault
 
 /// Writes a whole number.
 fn write_number<W: Target>(number: u32, target: &mut W) -> Result<(), WriteFault>
-    ensures ok { OnOk result
-        (Appends (W.taken target.old) (W.taken target.new) (decimal number)) }
-    ensures err { OnErr result
-        (WritesPrefix (W.taken target.old) (W.taken target.new) (decimal number)) }
-    ensures fault { OnErr result (W.failed target.new ≡ true) }
+    ensures { Writes result (W.taken target.old) (W.taken target.new)
+        (W.failed target.new) (decimal number) }
 {
     let mut digits = Buffer::new();
     write_all(target, digits.format(number).as_bytes())
@@ -92,11 +85,8 @@ fn write_number<W: Target>(number: u32, target: &mut W) -> Result<(), WriteFault
 
 /// Writes a value as it stands in a record of CSV.
 fn write_plain<W: Target>(value: &Value<'_>, target: &mut W) -> Result<(), WriteFault>
-    ensures ok { OnOk result
-        (Appends (W.taken target.old) (W.taken target.new) (plain_text value.now)) }
-    ensures err { OnErr result
-        (WritesPrefix (W.taken target.old) (W.taken target.new) (plain_text value.now)) }
-    ensures fault { OnErr result (W.failed target.new ≡ true) }
+    ensures { Writes result (W.taken target.old) (W.taken target.new)
+        (W.failed target.new) (plain_text value.now) }
 {
     match value {
         Value::Text(text) => write_all(target, text.as_bytes()),
@@ -115,11 +105,8 @@ fn write_plain<W: Target>(value: &Value<'_>, target: &mut W) -> Result<(), Write
 
 /// Writes a value as a text of JSON.
 fn write_quoted<W: Target>(value: &Value<'_>, target: &mut W) -> Result<(), WriteFault>
-    ensures ok { OnOk result
-        (Appends (W.taken target.old) (W.taken target.new) (quoted (plain_text value.now))) }
-    ensures err { OnErr result
-        (WritesPrefix (W.taken target.old) (W.taken target.new) (quoted (plain_text value.now))) }
-    ensures fault { OnErr result (W.failed target.new ≡ true) }
+    ensures { Writes result (W.taken target.old) (W.taken target.new)
+        (W.failed target.new) (quoted (plain_text value.now)) }
 {
     write_all(target, b"\"")?;
     write_plain(value, target)?;
@@ -128,11 +115,8 @@ fn write_quoted<W: Target>(value: &Value<'_>, target: &mut W) -> Result<(), Writ
 
 /// Writes a value as JSON.
 fn write_json<W: Target>(value: &Value<'_>, target: &mut W) -> Result<(), WriteFault>
-    ensures ok { OnOk result
-        (Appends (W.taken target.old) (W.taken target.new) (json_text value.now)) }
-    ensures err { OnErr result
-        (WritesPrefix (W.taken target.old) (W.taken target.new) (json_text value.now)) }
-    ensures fault { OnErr result (W.failed target.new ≡ true) }
+    ensures { Writes result (W.taken target.old) (W.taken target.new)
+        (W.failed target.new) (json_text value.now) }
 {
     match value {
         Value::Number(number) => write_number(*number, target),
@@ -182,13 +166,8 @@ pub fn write_record<W: Target>(
     fields: &[(&str, Value<'_>)],
     target: &mut W,
 ) -> Result<(), WriteFault>
-    ensures ok { OnOk result
-        (Appends (W.taken target.old) (W.taken target.new)
-        (record_of (map plain_of fields.now))) }
-    ensures err { OnErr result
-        (WritesPrefix (W.taken target.old) (W.taken target.new)
-        (record_of (map plain_of fields.now))) }
-    ensures fault { OnErr result (W.failed target.new ≡ true) }
+    ensures { Writes result (W.taken target.old) (W.taken target.new)
+        (W.failed target.new) (record_of (map plain_of fields.now)) }
 {
     write_joined(&Values, fields, target)?;
     write_all(target, b"\n")
@@ -200,17 +179,10 @@ pub fn write_object<W: Target>(
     fields: &[(&str, Value<'_>)],
     target: &mut W,
 ) -> Result<(), WriteFault>
-    ensures ok { OnOk result
-        (Appends (W.taken target.old) (W.taken target.new)
-        (object_of (map member_of fields.now))) }
-    ensures err { OnErr result
-        (WritesPrefix (W.taken target.old) (W.taken target.new)
-        (object_of (map member_of fields.now))) }
-    ensures fault { OnErr result (W.failed target.new ≡ true) }
+    ensures { Writes result (W.taken target.old) (W.taken target.new)
+        (W.failed target.new) (object_of (map member_of fields.now)) }
 {
-    write_all(target, b"{")?;
-    write_joined(&Members, fields, target)?;
-    write_all(target, b"}")
+    write_enclosed(b"{", &Members, fields, b"}", target)
 }
 
 /// Writes rows as an array of JSON. Where the target fails, a prefix of it was written, and it
@@ -220,17 +192,10 @@ pub fn write_array<T, F: RowFormat<T>, W: Target>(
     rows: &[T],
     target: &mut W,
 ) -> Result<(), WriteFault>
-    ensures ok { OnOk result
-        (Appends (W.taken target.old) (W.taken target.new)
-        (array_of (map (F.row_text format.now) rows.now))) }
-    ensures err { OnErr result
-        (WritesPrefix (W.taken target.old) (W.taken target.new)
-        (array_of (map (F.row_text format.now) rows.now))) }
-    ensures fault { OnErr result (W.failed target.new ≡ true) }
+    ensures { Writes result (W.taken target.old) (W.taken target.new)
+        (W.failed target.new) (array_of (map (F.row_text format.now) rows.now)) }
 {
-    write_all(target, b"[")?;
-    write_joined(format, rows, target)?;
-    write_all(target, b"]")
+    write_enclosed(b"[", format, rows, b"]", target)
 }
 
 /// Writes rows as a list of JSON: an object whose member `rows` is an array of them, and the end of
@@ -240,13 +205,8 @@ pub fn write_list<T, F: RowFormat<T>, W: Target>(
     rows: &[T],
     target: &mut W,
 ) -> Result<(), WriteFault>
-    ensures ok { OnOk result
-        (Appends (W.taken target.old) (W.taken target.new)
-        (list_of (map (F.row_text format.now) rows.now))) }
-    ensures err { OnErr result
-        (WritesPrefix (W.taken target.old) (W.taken target.new)
-        (list_of (map (F.row_text format.now) rows.now))) }
-    ensures fault { OnErr result (W.failed target.new ≡ true) }
+    ensures { Writes result (W.taken target.old) (W.taken target.new)
+        (W.failed target.new) (list_of (map (F.row_text format.now) rows.now)) }
 {
     write_all(target, b"{\"rows\":")?;
     write_array(format, rows, target)?;
@@ -260,13 +220,9 @@ pub fn write_list_with<T, F: RowFormat<T>, W: Target>(
     fields: &[(&str, Value<'_>)],
     target: &mut W,
 ) -> Result<(), WriteFault>
-    ensures ok { OnOk result
-        (Appends (W.taken target.old) (W.taken target.new)
-        (list_with (map (F.row_text format.now) rows.now) (map member_of fields.now))) }
-    ensures err { OnErr result
-        (WritesPrefix (W.taken target.old) (W.taken target.new)
-        (list_with (map (F.row_text format.now) rows.now) (map member_of fields.now))) }
-    ensures fault { OnErr result (W.failed target.new ≡ true) }
+    ensures { Writes result (W.taken target.old) (W.taken target.new)
+        (W.failed target.new) (list_with (map (F.row_text format.now) rows.now) (map member_of
+        fields.now)) }
 {
     write_all(target, b"{\"rows\":")?;
     write_array(format, rows, target)?;

@@ -1,9 +1,8 @@
 //! The formats in which lists are told.
 
-ghost use Rattle.std.specs.Prelude.{◌≡◌, ◌<◌, true, OnOk, OnErr};
+ghost use Rattle.std.specs.Prelude.{◌≡◌, ◌<◌};
 ghost use Rattle.std.specs.List.{sum_by};
-ghost use Rattle.std.specs.Io.KnownBytes.{Appends};
-ghost use Rattle.ftd_ports.specs.Writing.{WritesPrefix};
+ghost use Rattle.ftd_ports.specs.Writing.{Writes};
 ghost use Rattle.ftd_rules.specs.Liability.{cents_of};
 ghost use Rattle.ftd_rules.specs.Verdicts.{amount_of};
 ghost use Rattle.ftd_formats.specs.Formats.{agenda_as, b_as, due_as, list_format, owed_as};
@@ -61,13 +60,8 @@ pub fn write_agenda_as<W: Target>(
     rows: &[AgendaRow],
     target: &mut W,
 ) -> Result<(), WriteFault>
-    ensures ok { OnOk result
-        (Appends (W.taken target.old) (W.taken target.new)
-        (agenda_as format from to as_of rows.now)) }
-    ensures err { OnErr result
-        (WritesPrefix (W.taken target.old) (W.taken target.new)
-        (agenda_as format from to as_of rows.now)) }
-    ensures fault { OnErr result (W.failed target.new ≡ true) }
+    ensures { Writes result (W.taken target.old) (W.taken target.new)
+        (W.failed target.new) (agenda_as format from to as_of rows.now) }
 {
     match format {
         Format::List(ListFormat::Text) => write_agenda(from, to, as_of, rows, target),
@@ -86,12 +80,8 @@ pub fn write_owed_as<W: Target>(
     rows: &[AgendaRow],
     target: &mut W,
 ) -> Result<(), WriteFault>
-    ensures ok { OnOk result
-        (Appends (W.taken target.old) (W.taken target.new) (owed_as format until as_of rows.now)) }
-    ensures err { OnErr result
-        (WritesPrefix (W.taken target.old) (W.taken target.new)
-        (owed_as format until as_of rows.now)) }
-    ensures fault { OnErr result (W.failed target.new ≡ true) }
+    ensures { Writes result (W.taken target.old) (W.taken target.new)
+        (W.failed target.new) (owed_as format until as_of rows.now) }
 {
     match format {
         Format::List(ListFormat::Text) => write_owed(until, as_of, rows, target),
@@ -112,13 +102,8 @@ pub fn write_due_as<W: Target>(
     target: &mut W,
 ) -> Result<(), WriteFault>
     requires amounts { sum_by amount_of rows.now < 6_000_000_000_000_000 }
-    ensures ok { OnOk result
-        (Appends (W.taken target.old) (W.taken target.new)
-        (due_as format account.now quarter as_of rows.now)) }
-    ensures err { OnErr result
-        (WritesPrefix (W.taken target.old) (W.taken target.new)
-        (due_as format account.now quarter as_of rows.now)) }
-    ensures fault { OnErr result (W.failed target.new ≡ true) }
+    ensures { Writes result (W.taken target.old) (W.taken target.new)
+        (W.failed target.new) (due_as format account.now quarter as_of rows.now) }
 {
     match format {
         ListFormat::Text => due_list(account, quarter, as_of, rows, target),
@@ -137,13 +122,8 @@ pub fn write_b_as<W: Target>(
     target: &mut W,
 ) -> Result<(), WriteFault>
     requires amounts { sum_by cents_of sums.now < 6_000_000_000_000_000 }
-    ensures ok { OnOk result
-        (Appends (W.taken target.old) (W.taken target.new)
-        (b_as format account.now quarter sums.now)) }
-    ensures err { OnErr result
-        (WritesPrefix (W.taken target.old) (W.taken target.new)
-        (b_as format account.now quarter sums.now)) }
-    ensures fault { OnErr result (W.failed target.new ≡ true) }
+    ensures { Writes result (W.taken target.old) (W.taken target.new)
+        (W.failed target.new) (b_as format account.now quarter sums.now) }
 {
     match format {
         ListFormat::Text => schedule_b(account, quarter, sums, target),

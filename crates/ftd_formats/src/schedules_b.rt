@@ -1,10 +1,7 @@
 //! Schedule B as CSV and as JSON.
 
-ghost use Rattle.std.specs.Prelude.{◌≡◌, true, OnOk, OnErr, map};
-ghost use Rattle.std.specs.List.{sum_by};
-ghost use Rattle.std.specs.Io.KnownBytes.{Appends};
-ghost use Rattle.ftd_ports.specs.Writing.{WritesPrefix};
-ghost use Rattle.ftd_rules.specs.Liability.{cents_of};
+ghost use Rattle.std.specs.Prelude.{◌≡◌, map};
+ghost use Rattle.ftd_ports.specs.Writing.{Writes};
 ghost use Rattle.ftd_formats.specs.Dues.{b_csv, b_json, day_fields};
 ghost use Rattle.ftd_formats.specs.Fields.{member_of, members_of, object_told, plain_of};
 ghost use Rattle.ftd_formats.specs.Fields.{plain_texts, record_told};
@@ -12,6 +9,7 @@ ghost use Rattle.ftd_formats.specs.Fields.{plain_texts, record_told};
 use crate::fields::{Value, write_list_with, write_object, write_record};
 use crate::rows::{RowFormat, write_table};
 use ftd_ports::{Target, WriteFault};
+use ftd_reports::{Amount, total};
 use ftd_rules::DaySum;
 
 /// The days of an account's quarter as records of CSV.
@@ -56,17 +54,6 @@ impl<'a> RowFormat<DaySum> for Objects<'a> {
     }
 }
 
-/// The amounts of the days together, in cents.
-fn total_of(sums: &[DaySum]) -> u128
-    ensures { result ≡ sum_by cents_of sums.now }
-{
-    let mut total = 0;
-    for sum in sums {
-        total += u128::from(sum.cents.0);
-    }
-    total
-}
-
 /// Writes Schedule B of an account's quarter as CSV: a first line with the names of the fields, and
 /// a record for each day. It takes no memory but what the target takes. Where the target fails, a
 /// prefix of the text was written, and it fails nowhere else.
@@ -76,11 +63,8 @@ pub fn write_b_csv<W: Target>(
     sums: &[DaySum],
     target: &mut W,
 ) -> Result<(), WriteFault>
-    ensures ok { OnOk result
-        (Appends (W.taken target.old) (W.taken target.new) (b_csv account.now sums.now)) }
-    ensures err { OnErr result
-        (WritesPrefix (W.taken target.old) (W.taken target.new) (b_csv account.now sums.now)) }
-    ensures fault { OnErr result (W.failed target.new ≡ true) }
+    ensures { Writes result (W.taken target.old) (W.taken target.new)
+        (W.failed target.new) (b_csv account.now sums.now) }
 {
     write_table(b"account,day,amount\n", &Records { account }, sums, target)
 }
@@ -94,12 +78,9 @@ pub fn write_b_json<W: Target>(
     sums: &[DaySum],
     target: &mut W,
 ) -> Result<(), WriteFault>
-    ensures ok { OnOk result
-        (Appends (W.taken target.old) (W.taken target.new) (b_json account.now sums.now)) }
-    ensures err { OnErr result
-        (WritesPrefix (W.taken target.old) (W.taken target.new) (b_json account.now sums.now)) }
-    ensures fault { OnErr result (W.failed target.new ≡ true) }
+    ensures { Writes result (W.taken target.old) (W.taken target.new)
+        (W.failed target.new) (b_json account.now sums.now) }
 {
-    let total = [("amount", Value::Sum(total_of(sums)))];
+    let total = [("amount", Value::Sum(total(&Amount, sums)))];
     write_list_with(&Objects { account }, sums, &total, target)
 }

@@ -1,10 +1,9 @@
 //! The hint of a text whose first record is not the header.
 
-ghost use Rattle.std.specs.Prelude.{◌≡◌, true, OnOk, OnErr};
+ghost use Rattle.std.specs.Prelude.{◌≡◌};
 ghost use Rattle.std.specs.List.{position_or_len, prefix_len};
-ghost use Rattle.std.specs.Io.KnownBytes.{Appends};
 ghost use Rattle.csv.specs.Reading.{strip_bom};
-ghost use Rattle.ftd_ports.specs.Writing.{WritesPrefix};
+ghost use Rattle.ftd_ports.specs.Writing.{Writes};
 ghost use Rattle.ftd_hints.specs.Headers.{first_line, from_line, header_hint, header_text};
 ghost use Rattle.ftd_hints.specs.Headers.{is_line_end};
 
@@ -33,11 +32,8 @@ pub fn write_header_hint<W: Target>(
     text: &[u8],
     target: &mut W,
 ) -> Result<(), WriteFault>
-    ensures ok { OnOk result
-        (Appends (W.taken target.old) (W.taken target.new) (header_hint sheet text.now)) }
-    ensures err { OnErr result
-        (WritesPrefix (W.taken target.old) (W.taken target.new) (header_hint sheet text.now)) }
-    ensures fault { OnErr result (W.failed target.new ≡ true) }
+    ensures { Writes result (W.taken target.old) (W.taken target.new)
+        (W.failed target.new) (header_hint sheet text.now) }
 {
     let header = header_text(sheet);
     let line = first_line(text);

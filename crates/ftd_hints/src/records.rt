@@ -4,7 +4,7 @@ ghost use Rattle.std.specs.Prelude.{◌≡◌, true, Err, OnOk, OnErr};
 ghost use Rattle.std.specs.Io.KnownBytes.{Appends};
 ghost use Rattle.ftd_csv.specs.Fields.{numbered_field};
 ghost use Rattle.ftd_csv.specs.Places.{CanAdvance, fields_at, number_of, sheet_of};
-ghost use Rattle.ftd_ports.specs.Writing.{WritesPrefix};
+ghost use Rattle.ftd_ports.specs.Writing.{Writes, WritesPrefix};
 ghost use Rattle.ftd_hints.specs.Hints.{field_hint, field_text, fields_text, record_hints};
 ghost use Rattle.ftd_hints.specs.Hints.{text_hint, width_hint};
 ghost use Rattle.ftd_hints.specs.Places.{hints_left};
@@ -102,15 +102,9 @@ fn write_hints_of<W: Target>(
 
 /// Writes the hint of the record at which it stands, by the number of its bad field.
 fn write_hint<W: Target>(records: &Records<'_>, field: u8, target: &mut W) -> Result<(), WriteFault>
-    ensures ok { OnOk result
-        (Appends (W.taken target.old) (W.taken target.new)
+    ensures { Writes result (W.taken target.old) (W.taken target.new) (W.failed target.new)
         (text_hint (sheet_of records.now) (number_of records.now) (fields_at records.now) field
-        (numbered_field (fields_at records.now) field))) }
-    ensures err { OnErr result
-        (WritesPrefix (W.taken target.old) (W.taken target.new)
-        (text_hint (sheet_of records.now) (number_of records.now) (fields_at records.now) field
-        (numbered_field (fields_at records.now) field))) }
-    ensures fault { OnErr result (W.failed target.new ≡ true) }
+        (numbered_field (fields_at records.now) field)) }
 {
     let (sheet, number) = (records.sheet(), records.number());
     match records.field(field) {
@@ -137,12 +131,8 @@ fn write_width_hint<W: Target>(
     width: usize,
     target: &mut W,
 ) -> Result<(), WriteFault>
-    ensures ok { OnOk result
-        (Appends (W.taken target.old) (W.taken target.new) (width_hint sheet number width)) }
-    ensures err { OnErr result
-        (WritesPrefix (W.taken target.old) (W.taken target.new)
-        (width_hint sheet number width)) }
-    ensures fault { OnErr result (W.failed target.new ≡ true) }
+    ensures { Writes result (W.taken target.old) (W.taken target.new)
+        (W.failed target.new) (width_hint sheet number width) }
 {
     let (mut number_digits, mut width_digits) = (Buffer::new(), Buffer::new());
     let mut asked_digits = Buffer::new();
@@ -182,13 +172,8 @@ fn write_field_hint<W: Target>(
     text: &[u8],
     target: &mut W,
 ) -> Result<(), WriteFault>
-    ensures ok { OnOk result
-        (Appends (W.taken target.old) (W.taken target.new)
-        (field_hint sheet number field text.now)) }
-    ensures err { OnErr result
-        (WritesPrefix (W.taken target.old) (W.taken target.new)
-        (field_hint sheet number field text.now)) }
-    ensures fault { OnErr result (W.failed target.new ≡ true) }
+    ensures { Writes result (W.taken target.old) (W.taken target.new)
+        (W.failed target.new) (field_hint sheet number field text.now) }
 {
     let mut digits = Buffer::new();
     let mut buffer = [0; MOST_SHOWN];

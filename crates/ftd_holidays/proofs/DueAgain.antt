@@ -25,6 +25,7 @@ use Rattle.ftd_rules.proofs.Resting.{from_later, due_from, due_same}
 use Rattle.ftd_rules.proofs.Schedules.{year_facts}
 use Rattle.ftd_rules.proofs.Stated.{piece_owed, due_by, due_stated}
 use Rattle.ftd_rules.proofs.Members.{has_mapped, mapped_has}
+use Rattle.ftd_entries.proofs.OwedAgain.{owed_again}
 
 -- ---- one obligation
 
@@ -38,27 +39,6 @@ again holidays o = record o { due = due_again holidays o }
 pub is_due_again : (holidays : List ℕ) (o : Obligation) → IsDueBy holidays o.rule o.last
     (due_again holidays o)
 is_due_again holidays o = (due_some holidays o.rule o.last).1
-
--- with that due date it is an obligation by them
-owed_again : (form : Form) (lines : List YearLine) (sums : List DaySum) (some all : List ℕ)
-    (o : Obligation) (due : ℕ) → IsDue all o.rule o.last due
-    → IsObligation form lines sums some o → IsObligation form lines sums all
-    (record o { due = due })
-owed_again form lines sums some all o due is owed = record {
-  line = owed.line;
-  open_year = owed.open_year;
-  period_first = owed.period_first;
-  period_last = owed.period_last;
-  period = owed.period;
-  status = owed.status;
-  has_status = owed.has_status;
-  stops = owed.stops;
-  are_stops = owed.are_stops;
-  piece = owed.piece;
-  amount = owed.amount;
-  positive = owed.positive;
-  due = is;
-}
 
 -- its days lie in one year
 pub record HasDays (o : Obligation) : Type 0 where

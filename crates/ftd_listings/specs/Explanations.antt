@@ -73,25 +73,15 @@ return_line day = concat (codes "RETURN " ∷ day_text day ∷ (line_end ∷ [])
 
 -- ---- the text
 
--- the obligation, and the schedule of its first day; its paydays and the days that are counted; the
--- return and its payments
-unfoldable pub why_text : Explanation → List ℕ
-why_text e = obligation_line e.obligation ++ status_text e.obligation.first e.kind e.reason
-
-unfoldable pub days_text : Explanation → List ℕ
-days_text e =
-    (codes "PAYDAYS\n" ++ flat_map payday_line e.paydays)
-    ++ (codes "DAYS\n" ++ flat_map counted_line e.days)
-
-unfoldable pub paid_text : Explanation → List ℕ
-paid_text e =
-    return_line e.return_due ++ (codes "PAYMENTS\n" ++ flat_map payment_line e.payments)
-
-unfoldable pub rest_text : Explanation → List ℕ
-rest_text e = days_text e ++ paid_text e
-
+-- the obligation, and the schedule of its first day; its paydays and the days that are counted; when
+-- the return is due, and the payments
 unfoldable pub explanation_text : Explanation → List ℕ
-explanation_text e = why_text e ++ rest_text e
+explanation_text e =
+    obligation_line e.obligation ++ (status_text e.obligation.first e.kind e.reason
+    ++ ((codes "PAYDAYS\n" ++ flat_map payday_line e.paydays)
+    ++ ((codes "DAYS\n" ++ flat_map counted_line e.days)
+    ++ (return_line e.return_due
+    ++ (codes "PAYMENTS\n" ++ flat_map payment_line e.payments)))))
 
 -- the first line, which tells what was asked for
 abbrev pub explanation_head : List ℕ → ℕ → List ℕ

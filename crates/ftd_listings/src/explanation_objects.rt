@@ -1,9 +1,8 @@
 //! Why an obligation is so as JSON.
 
-ghost use Rattle.std.specs.Prelude.{◌≡◌, ◌++◌, true, OnOk, OnErr, map};
+ghost use Rattle.std.specs.Prelude.{◌≡◌, ◌++◌, map};
 ghost use Rattle.std.specs.List.{join_with_byte};
-ghost use Rattle.std.specs.Io.KnownBytes.{Appends};
-ghost use Rattle.ftd_ports.specs.Writing.{WritesPrefix};
+ghost use Rattle.ftd_ports.specs.Writing.{Writes};
 ghost use Rattle.ftd_formats.specs.Fields.{array_of, comma, member_of, members_of, object_of};
 ghost use Rattle.ftd_formats.specs.Fields.{object_told};
 ghost use Rattle.ftd_listings.specs.ExplanationForms.{asked_head, counted_fields};
@@ -90,13 +89,8 @@ fn write_object_member<W: Target>(
     fields: &[(&str, Value<'_>)],
     target: &mut W,
 ) -> Result<(), WriteFault>
-    ensures ok { OnOk result
-        (Appends (W.taken target.old) (W.taken target.new)
-        (head.now ++ object_of (map member_of fields.now))) }
-    ensures err { OnErr result
-        (WritesPrefix (W.taken target.old) (W.taken target.new)
-        (head.now ++ object_of (map member_of fields.now))) }
-    ensures fault { OnErr result (W.failed target.new ≡ true) }
+    ensures { Writes result (W.taken target.old) (W.taken target.new)
+        (W.failed target.new) (head.now ++ object_of (map member_of fields.now)) }
 {
     write_all(target, head)?;
     write_object(fields, target)
@@ -109,13 +103,8 @@ fn write_array_member<T, F: RowFormat<T>, W: Target>(
     rows: &[T],
     target: &mut W,
 ) -> Result<(), WriteFault>
-    ensures ok { OnOk result
-        (Appends (W.taken target.old) (W.taken target.new)
-        (head.now ++ array_of (map (F.row_text format.now) rows.now))) }
-    ensures err { OnErr result
-        (WritesPrefix (W.taken target.old) (W.taken target.new)
-        (head.now ++ array_of (map (F.row_text format.now) rows.now))) }
-    ensures fault { OnErr result (W.failed target.new ≡ true) }
+    ensures { Writes result (W.taken target.old) (W.taken target.new)
+        (W.failed target.new) (head.now ++ array_of (map (F.row_text format.now) rows.now)) }
 {
     write_all(target, head)?;
     write_array(format, rows, target)
@@ -123,11 +112,8 @@ fn write_array_member<T, F: RowFormat<T>, W: Target>(
 
 /// Writes when the return is due, as a member after others.
 fn write_return_due<W: Target>(day: Day, target: &mut W) -> Result<(), WriteFault>
-    ensures ok { OnOk result
-        (Appends (W.taken target.old) (W.taken target.new) (return_member day)) }
-    ensures err { OnErr result
-        (WritesPrefix (W.taken target.old) (W.taken target.new) (return_member day)) }
-    ensures fault { OnErr result (W.failed target.new ≡ true) }
+    ensures { Writes result (W.taken target.old) (W.taken target.new)
+        (W.failed target.new) (return_member day) }
 {
     let day = day_bytes(day);
     write_pieces(target, &[b",\"return_due\":\"", &day, b"\""])
@@ -139,13 +125,8 @@ fn write_members<W: Target>(
     e: &Explanation,
     target: &mut W,
 ) -> Result<(), WriteFault>
-    ensures ok { OnOk result
-        (Appends (W.taken target.old) (W.taken target.new)
-        (join_with_byte comma (explanation_members account.now e.now))) }
-    ensures err { OnErr result
-        (WritesPrefix (W.taken target.old) (W.taken target.new)
-        (join_with_byte comma (explanation_members account.now e.now))) }
-    ensures fault { OnErr result (W.failed target.new ≡ true) }
+    ensures { Writes result (W.taken target.old) (W.taken target.new)
+        (W.failed target.new) (join_with_byte comma (explanation_members account.now e.now)) }
 {
     let objects = Objects { account };
     let obligation = obligation_members(&e.obligation);
@@ -164,13 +145,8 @@ fn write_explained<W: Target>(
     found: &Option<Explanation>,
     target: &mut W,
 ) -> Result<(), WriteFault>
-    ensures ok { OnOk result
-        (Appends (W.taken target.old) (W.taken target.new)
-        (join_with_byte comma (explained_members account.now found.now))) }
-    ensures err { OnErr result
-        (WritesPrefix (W.taken target.old) (W.taken target.new)
-        (join_with_byte comma (explained_members account.now found.now))) }
-    ensures fault { OnErr result (W.failed target.new ≡ true) }
+    ensures { Writes result (W.taken target.old) (W.taken target.new)
+        (W.failed target.new) (join_with_byte comma (explained_members account.now found.now)) }
 {
     match found {
         Some(e) => write_members(account, e, target),
@@ -180,11 +156,8 @@ fn write_explained<W: Target>(
 
 /// Writes how the object begins: the account and the day that were asked for.
 fn write_asked<W: Target>(account: &str, day: Day, target: &mut W) -> Result<(), WriteFault>
-    ensures ok { OnOk result
-        (Appends (W.taken target.old) (W.taken target.new) (asked_head account.now day)) }
-    ensures err { OnErr result
-        (WritesPrefix (W.taken target.old) (W.taken target.new) (asked_head account.now day)) }
-    ensures fault { OnErr result (W.failed target.new ≡ true) }
+    ensures { Writes result (W.taken target.old) (W.taken target.new)
+        (W.failed target.new) (asked_head account.now day) }
 {
     let day = day_bytes(day);
     write_pieces(
@@ -211,13 +184,8 @@ pub fn write_explanation_json<W: Target>(
     found: &Option<Explanation>,
     target: &mut W,
 ) -> Result<(), WriteFault>
-    ensures ok { OnOk result
-        (Appends (W.taken target.old) (W.taken target.new)
-        (explanation_json account.now day found.now)) }
-    ensures err { OnErr result
-        (WritesPrefix (W.taken target.old) (W.taken target.new)
-        (explanation_json account.now day found.now)) }
-    ensures fault { OnErr result (W.failed target.new ≡ true) }
+    ensures { Writes result (W.taken target.old) (W.taken target.new)
+        (W.failed target.new) (explanation_json account.now day found.now) }
 {
     write_asked(account, day, target)?;
     write_explained(account, found, target)?;

@@ -1,16 +1,14 @@
 //! The deposit schedule of a day, and why an obligation is so, told in lines.
 
-ghost use Rattle.std.specs.Prelude.{◌≡◌, true, OnOk, OnErr};
-ghost use Rattle.std.specs.Io.KnownBytes.{Appends};
-ghost use Rattle.ftd_ports.specs.Writing.{WritesPrefix};
+ghost use Rattle.std.specs.Prelude.{◌≡◌};
+ghost use Rattle.ftd_ports.specs.Writing.{Writes};
 ghost use Rattle.ftd_listings.specs.ExplanationForms.{explanation_as};
-ghost use Rattle.ftd_listings.specs.Explanations.{counted_line, day_kind_name, days_text};
+ghost use Rattle.ftd_listings.specs.Explanations.{counted_line, day_kind_name};
 ghost use Rattle.ftd_listings.specs.Explanations.{explained_text, explanation_head};
 ghost use Rattle.ftd_listings.specs.Explanations.{explanation_text, explanation_told};
-ghost use Rattle.ftd_listings.specs.Explanations.{obligation_line, paid_text, payday_line};
+ghost use Rattle.ftd_listings.specs.Explanations.{obligation_line, payday_line};
 ghost use Rattle.ftd_listings.specs.Explanations.{reached_end, reason_name, reason_text};
-ghost use Rattle.ftd_listings.specs.Explanations.{rest_text, return_line, status_text, turn_of};
-ghost use Rattle.ftd_listings.specs.Explanations.{why_text};
+ghost use Rattle.ftd_listings.specs.Explanations.{return_line, status_text, turn_of};
 
 use crate::explanation_objects::write_explanation_json;
 use crate::lines::{Columns, kind_bytes};
@@ -57,11 +55,8 @@ fn write_reason<W: Target>(
     reason: &Reason,
     target: &mut W,
 ) -> Result<(), WriteFault>
-    ensures ok { OnOk result
-        (Appends (W.taken target.old) (W.taken target.new) (reason_text day kind reason.now)) }
-    ensures err { OnErr result
-        (WritesPrefix (W.taken target.old) (W.taken target.new) (reason_text day kind reason.now)) }
-    ensures fault { OnErr result (W.failed target.new ≡ true) }
+    ensures { Writes result (W.taken target.old) (W.taken target.new)
+        (W.failed target.new) (reason_text day kind reason.now) }
 {
     let pieces: [&[u8]; 5] = [
         &day_bytes(day),
@@ -75,11 +70,8 @@ fn write_reason<W: Target>(
 
 /// Writes the day on which 100,000.00 was reached, if it was, and the end of the line.
 fn write_reached<W: Target>(turn: Option<Day>, target: &mut W) -> Result<(), WriteFault>
-    ensures ok { OnOk result
-        (Appends (W.taken target.old) (W.taken target.new) (reached_end turn)) }
-    ensures err { OnErr result
-        (WritesPrefix (W.taken target.old) (W.taken target.new) (reached_end turn)) }
-    ensures fault { OnErr result (W.failed target.new ≡ true) }
+    ensures { Writes result (W.taken target.old) (W.taken target.new)
+        (W.failed target.new) (reached_end turn) }
 {
     match turn {
         None => write_all(target, b"\n"),
@@ -98,11 +90,8 @@ pub fn write_schedule<W: Target>(
     reason: Reason,
     target: &mut W,
 ) -> Result<(), WriteFault>
-    ensures ok { OnOk result
-        (Appends (W.taken target.old) (W.taken target.new) (status_text day kind reason)) }
-    ensures err { OnErr result
-        (WritesPrefix (W.taken target.old) (W.taken target.new) (status_text day kind reason)) }
-    ensures fault { OnErr result (W.failed target.new ≡ true) }
+    ensures { Writes result (W.taken target.old) (W.taken target.new)
+        (W.failed target.new) (status_text day kind reason) }
 {
     write_reason(day, kind, &reason, target)?;
     write_reached(turn_of(&reason), target)
@@ -110,11 +99,8 @@ pub fn write_schedule<W: Target>(
 
 /// Writes the line of an obligation.
 fn write_obligation<W: Target>(o: &Obligation, target: &mut W) -> Result<(), WriteFault>
-    ensures ok { OnOk result
-        (Appends (W.taken target.old) (W.taken target.new) (obligation_line o.now)) }
-    ensures err { OnErr result
-        (WritesPrefix (W.taken target.old) (W.taken target.new) (obligation_line o.now)) }
-    ensures fault { OnErr result (W.failed target.new ≡ true) }
+    ensures { Writes result (W.taken target.old) (W.taken target.new)
+        (W.failed target.new) (obligation_line o.now) }
 {
     let mut dollars = Buffer::new();
     let amount = amount_column(o.cents, &mut dollars);
@@ -190,89 +176,32 @@ impl RowFormat<CountedDay> for Columns {
 
 /// Writes when the return is due.
 fn write_return<W: Target>(day: Day, target: &mut W) -> Result<(), WriteFault>
-    ensures ok { OnOk result
-        (Appends (W.taken target.old) (W.taken target.new) (return_line day)) }
-    ensures err { OnErr result
-        (WritesPrefix (W.taken target.old) (W.taken target.new) (return_line day)) }
-    ensures fault { OnErr result (W.failed target.new ≡ true) }
+    ensures { Writes result (W.taken target.old) (W.taken target.new)
+        (W.failed target.new) (return_line day) }
 {
     let day = day_bytes(day);
     write_pieces(target, &[b"RETURN ", &day, b"\n"])
 }
 
-/// Writes the obligation, and the deposit schedule of its first day.
-#[tactic(auto, unfolding(crate::specs::Explanations::why_text))]
-fn write_why<W: Target>(e: &Explanation, target: &mut W) -> Result<(), WriteFault>
-    ensures ok { OnOk result
-        (Appends (W.taken target.old) (W.taken target.new) (why_text e.now)) }
-    ensures err { OnErr result
-        (WritesPrefix (W.taken target.old) (W.taken target.new) (why_text e.now)) }
-    ensures fault { OnErr result (W.failed target.new ≡ true) }
+/// Writes what explains an obligation: it, and the deposit schedule of its first day; its paydays,
+/// and the days that are counted; when the return is due, and the payments.
+#[tactic(auto, unfolding(crate::specs::Explanations::explanation_text))]
+fn write_explained<W: Target>(e: &Explanation, target: &mut W) -> Result<(), WriteFault>
+    ensures { Writes result (W.taken target.old) (W.taken target.new)
+        (W.failed target.new) (explanation_text e.now) }
 {
     write_obligation(&e.obligation, target)?;
-    write_schedule(e.obligation.first, e.kind, e.reason, target)
-}
-
-/// Writes the paydays, and the days that are counted.
-#[tactic(auto, unfolding(crate::specs::Explanations::days_text))]
-fn write_days<W: Target>(e: &Explanation, target: &mut W) -> Result<(), WriteFault>
-    ensures ok { OnOk result
-        (Appends (W.taken target.old) (W.taken target.new) (days_text e.now)) }
-    ensures err { OnErr result
-        (WritesPrefix (W.taken target.old) (W.taken target.new) (days_text e.now)) }
-    ensures fault { OnErr result (W.failed target.new ≡ true) }
-{
+    write_schedule(e.obligation.first, e.kind, e.reason, target)?;
     write_table(b"PAYDAYS\n", &Columns, e.paydays.as_slice(), target)?;
-    write_table(b"DAYS\n", &Columns, e.days.as_slice(), target)
-}
-
-/// Writes when the return is due, and the payments.
-#[tactic(auto, unfolding(crate::specs::Explanations::paid_text))]
-fn write_paid<W: Target>(e: &Explanation, target: &mut W) -> Result<(), WriteFault>
-    ensures ok { OnOk result
-        (Appends (W.taken target.old) (W.taken target.new) (paid_text e.now)) }
-    ensures err { OnErr result
-        (WritesPrefix (W.taken target.old) (W.taken target.new) (paid_text e.now)) }
-    ensures fault { OnErr result (W.failed target.new ≡ true) }
-{
+    write_table(b"DAYS\n", &Columns, e.days.as_slice(), target)?;
     write_return(e.return_due, target)?;
     write_table(b"PAYMENTS\n", &Columns, e.payments.as_slice(), target)
 }
 
-/// Writes all days and payments.
-#[tactic(auto, unfolding(crate::specs::Explanations::rest_text))]
-fn write_rest<W: Target>(e: &Explanation, target: &mut W) -> Result<(), WriteFault>
-    ensures ok { OnOk result
-        (Appends (W.taken target.old) (W.taken target.new) (rest_text e.now)) }
-    ensures err { OnErr result
-        (WritesPrefix (W.taken target.old) (W.taken target.new) (rest_text e.now)) }
-    ensures fault { OnErr result (W.failed target.new ≡ true) }
-{
-    write_days(e, target)?;
-    write_paid(e, target)
-}
-
-/// Writes what explains an obligation.
-#[tactic(auto, unfolding(crate::specs::Explanations::explanation_text))]
-fn write_explained<W: Target>(e: &Explanation, target: &mut W) -> Result<(), WriteFault>
-    ensures ok { OnOk result
-        (Appends (W.taken target.old) (W.taken target.new) (explanation_text e.now)) }
-    ensures err { OnErr result
-        (WritesPrefix (W.taken target.old) (W.taken target.new) (explanation_text e.now)) }
-    ensures fault { OnErr result (W.failed target.new ≡ true) }
-{
-    write_why(e, target)?;
-    write_rest(e, target)
-}
-
 /// Writes the first line.
 fn write_head<W: Target>(account: &str, day: Day, target: &mut W) -> Result<(), WriteFault>
-    ensures ok { OnOk result
-        (Appends (W.taken target.old) (W.taken target.new) (explanation_head account.now day)) }
-    ensures err { OnErr result
-        (WritesPrefix (W.taken target.old) (W.taken target.new)
-        (explanation_head account.now day)) }
-    ensures fault { OnErr result (W.failed target.new ≡ true) }
+    ensures { Writes result (W.taken target.old) (W.taken target.new)
+        (W.failed target.new) (explanation_head account.now day) }
 {
     let day = day_bytes(day);
     write_pieces(
@@ -283,11 +212,8 @@ fn write_head<W: Target>(account: &str, day: Day, target: &mut W) -> Result<(), 
 
 /// Writes what explains the obligation, if there is one.
 fn write_found<W: Target>(found: &Option<Explanation>, target: &mut W) -> Result<(), WriteFault>
-    ensures ok { OnOk result
-        (Appends (W.taken target.old) (W.taken target.new) (explained_text found.now)) }
-    ensures err { OnErr result
-        (WritesPrefix (W.taken target.old) (W.taken target.new) (explained_text found.now)) }
-    ensures fault { OnErr result (W.failed target.new ≡ true) }
+    ensures { Writes result (W.taken target.old) (W.taken target.new)
+        (W.failed target.new) (explained_text found.now) }
 {
     match found {
         Some(e) => write_explained(e, target),
@@ -308,13 +234,8 @@ pub fn write_explanation<W: Target>(
     found: &Option<Explanation>,
     target: &mut W,
 ) -> Result<(), WriteFault>
-    ensures ok { OnOk result
-        (Appends (W.taken target.old) (W.taken target.new)
-        (explanation_told account.now day found.now)) }
-    ensures err { OnErr result
-        (WritesPrefix (W.taken target.old) (W.taken target.new)
-        (explanation_told account.now day found.now)) }
-    ensures fault { OnErr result (W.failed target.new ≡ true) }
+    ensures { Writes result (W.taken target.old) (W.taken target.new)
+        (W.failed target.new) (explanation_told account.now day found.now) }
 {
     write_head(account, day, target)?;
     write_found(found, target)
@@ -331,13 +252,8 @@ pub fn write_explanation_as<W: Target>(
     found: &Option<Explanation>,
     target: &mut W,
 ) -> Result<(), WriteFault>
-    ensures ok { OnOk result
-        (Appends (W.taken target.old) (W.taken target.new)
-        (explanation_as format account.now day found.now)) }
-    ensures err { OnErr result
-        (WritesPrefix (W.taken target.old) (W.taken target.new)
-        (explanation_as format account.now day found.now)) }
-    ensures fault { OnErr result (W.failed target.new ≡ true) }
+    ensures { Writes result (W.taken target.old) (W.taken target.new)
+        (W.failed target.new) (explanation_as format account.now day found.now) }
 {
     match format {
         Format::List(ListFormat::Text) => write_explanation(account, day, found, target),

@@ -1,8 +1,7 @@
 //! What is kept, told in a line each.
 
-ghost use Rattle.std.specs.Prelude.{◌≡◌, true, OnOk, OnErr};
-ghost use Rattle.std.specs.Io.KnownBytes.{Appends};
-ghost use Rattle.ftd_ports.specs.Writing.{WritesPrefix};
+ghost use Rattle.std.specs.Prelude.{◌≡◌};
+ghost use Rattle.ftd_ports.specs.Writing.{Writes};
 ghost use Rattle.ftd_reports.specs.Columns.{amount_in};
 ghost use Rattle.ftd_listings.specs.Listings.{name_text, enrolled_text, account_line, carried_end};
 ghost use Rattle.ftd_listings.specs.Listings.{carried_text, kind_name};
@@ -78,11 +77,8 @@ fn held_text(obligation: Option<Day>) -> [u8; 10]
 
 /// Writes the name of an account in its column.
 fn write_name<W: Target>(name: &str, target: &mut W) -> Result<(), WriteFault>
-    ensures ok { OnOk result
-        (Appends (W.taken target.old) (W.taken target.new) (name_text name.now)) }
-    ensures err { OnErr result
-        (WritesPrefix (W.taken target.old) (W.taken target.new) (name_text name.now)) }
-    ensures fault { OnErr result (W.failed target.new ≡ true) }
+    ensures { Writes result (W.taken target.old) (W.taken target.new)
+        (W.failed target.new) (name_text name.now) }
 {
     let spaces = spaces_after(name);
     write_pieces(target, &[name.as_bytes(), spaces, b" "])
@@ -90,11 +86,8 @@ fn write_name<W: Target>(name: &str, target: &mut W) -> Result<(), WriteFault>
 
 /// Writes what an account was enrolled with, to the end of the line.
 fn write_enrolled<W: Target>(account: &Account, target: &mut W) -> Result<(), WriteFault>
-    ensures ok { OnOk result
-        (Appends (W.taken target.old) (W.taken target.new) (enrolled_text account.now)) }
-    ensures err { OnErr result
-        (WritesPrefix (W.taken target.old) (W.taken target.new) (enrolled_text account.now)) }
-    ensures fault { OnErr result (W.failed target.new ≡ true) }
+    ensures { Writes result (W.taken target.old) (W.taken target.new)
+        (W.failed target.new) (enrolled_text account.now) }
 {
     let form = form_bytes(account.form);
     let start = day_bytes(account.start);
@@ -115,11 +108,8 @@ impl RowFormat<KeptAccount> for Columns {
 /// Writes a year, its lookback total, the schedule that it opens with, and whether the account is
 /// carried into it.
 fn write_year<W: Target>(line: &YearLine, target: &mut W) -> Result<(), WriteFault>
-    ensures ok { OnOk result
-        (Appends (W.taken target.old) (W.taken target.new) (year_text line.now)) }
-    ensures err { OnErr result
-        (WritesPrefix (W.taken target.old) (W.taken target.new) (year_text line.now)) }
-    ensures fault { OnErr result (W.failed target.new ≡ true) }
+    ensures { Writes result (W.taken target.old) (W.taken target.new)
+        (W.failed target.new) (year_text line.now) }
 {
     let (mut digits, mut dollars) = (Buffer::new(), Buffer::new());
     let year = digits.format(line.year).as_bytes();
@@ -139,11 +129,8 @@ fn write_year<W: Target>(line: &YearLine, target: &mut W) -> Result<(), WriteFau
 
 /// Writes the day on which an account turned, if it did.
 fn write_turn<W: Target>(turn: Option<Day>, target: &mut W) -> Result<(), WriteFault>
-    ensures ok { OnOk result
-        (Appends (W.taken target.old) (W.taken target.new) (turn_text turn)) }
-    ensures err { OnErr result
-        (WritesPrefix (W.taken target.old) (W.taken target.new) (turn_text turn)) }
-    ensures fault { OnErr result (W.failed target.new ≡ true) }
+    ensures { Writes result (W.taken target.old) (W.taken target.new)
+        (W.failed target.new) (turn_text turn) }
 {
     match turn {
         None => Ok(()),
@@ -157,11 +144,8 @@ fn write_turn<W: Target>(turn: Option<Day>, target: &mut W) -> Result<(), WriteF
 /// Writes the amount that was first reported, if it is another than the one in force, and the end
 /// of the line.
 fn write_first<W: Target>(cents: Cents, first: Cents, target: &mut W) -> Result<(), WriteFault>
-    ensures ok { OnOk result
-        (Appends (W.taken target.old) (W.taken target.new) (first_end cents.0 first.0)) }
-    ensures err { OnErr result
-        (WritesPrefix (W.taken target.old) (W.taken target.new) (first_end cents.0 first.0)) }
-    ensures fault { OnErr result (W.failed target.new ≡ true) }
+    ensures { Writes result (W.taken target.old) (W.taken target.new)
+        (W.failed target.new) (first_end cents.0 first.0) }
 {
     if cents.0 == first.0 {
         return write_all(target, b"\n");
@@ -185,11 +169,8 @@ impl RowFormat<KeptYear> for Columns {
 
 /// Writes an amount in its column.
 fn write_amount<W: Target>(cents: Cents, target: &mut W) -> Result<(), WriteFault>
-    ensures ok { OnOk result
-        (Appends (W.taken target.old) (W.taken target.new) (amount_in cents.0)) }
-    ensures err { OnErr result
-        (WritesPrefix (W.taken target.old) (W.taken target.new) (amount_in cents.0)) }
-    ensures fault { OnErr result (W.failed target.new ≡ true) }
+    ensures { Writes result (W.taken target.old) (W.taken target.new)
+        (W.failed target.new) (amount_in cents.0) }
 {
     let mut dollars = Buffer::new();
     let amount = amount_column(cents, &mut dollars);
@@ -203,13 +184,8 @@ fn write_total<W: Target>(
     first: Cents,
     target: &mut W,
 ) -> Result<(), WriteFault>
-    ensures ok { OnOk result
-        (Appends (W.taken target.old) (W.taken target.new)
-        (total_text period.now cents.0 first.0)) }
-    ensures err { OnErr result
-        (WritesPrefix (W.taken target.old) (W.taken target.new)
-        (total_text period.now cents.0 first.0)) }
-    ensures fault { OnErr result (W.failed target.new ≡ true) }
+    ensures { Writes result (W.taken target.old) (W.taken target.new)
+        (W.failed target.new) (total_text period.now cents.0 first.0) }
 {
     write_pieces(target, &[period, b" "])?;
     write_amount(cents, target)?;

@@ -1,8 +1,7 @@
 //! Lists of what is kept.
 
-ghost use Rattle.std.specs.Prelude.{◌≡◌, true, OnOk, OnErr};
-ghost use Rattle.std.specs.Io.KnownBytes.{Appends};
-ghost use Rattle.ftd_ports.specs.Writing.{WritesPrefix};
+ghost use Rattle.std.specs.Prelude.{◌≡◌};
+ghost use Rattle.ftd_ports.specs.Writing.{Writes};
 ghost use Rattle.ftd_listings.specs.KeptForms.{account_of, kept_as};
 ghost use Rattle.ftd_listings.specs.Listings.{head_text, kept_text, of_account, of_quarter};
 ghost use Rattle.ftd_listings.specs.Listings.{rows_text};
@@ -26,12 +25,8 @@ pub fn write_kept_as<W: Target>(
     rows: &KeptRows,
     target: &mut W,
 ) -> Result<(), WriteFault>
-    ensures ok { OnOk result
-        (Appends (W.taken target.old) (W.taken target.new) (kept_as format asked.now rows.now)) }
-    ensures err { OnErr result
-        (WritesPrefix (W.taken target.old) (W.taken target.new)
-        (kept_as format asked.now rows.now)) }
-    ensures fault { OnErr result (W.failed target.new ≡ true) }
+    ensures { Writes result (W.taken target.old) (W.taken target.new)
+        (W.failed target.new) (kept_as format asked.now rows.now) }
 {
     match format {
         ListFormat::Text => write_kept(asked, rows, target),
@@ -62,11 +57,8 @@ pub fn write_kept<W: Target>(
     rows: &KeptRows,
     target: &mut W,
 ) -> Result<(), WriteFault>
-    ensures ok { OnOk result
-        (Appends (W.taken target.old) (W.taken target.new) (kept_text asked.now rows.now)) }
-    ensures err { OnErr result
-        (WritesPrefix (W.taken target.old) (W.taken target.new) (kept_text asked.now rows.now)) }
-    ensures fault { OnErr result (W.failed target.new ≡ true) }
+    ensures { Writes result (W.taken target.old) (W.taken target.new)
+        (W.failed target.new) (kept_text asked.now rows.now) }
 {
     write_head(asked, target)?;
     write_lines(rows, target)
@@ -74,11 +66,8 @@ pub fn write_kept<W: Target>(
 
 /// Writes the first line.
 fn write_head<W: Target>(asked: &Kept, target: &mut W) -> Result<(), WriteFault>
-    ensures ok { OnOk result
-        (Appends (W.taken target.old) (W.taken target.new) (head_text asked.now)) }
-    ensures err { OnErr result
-        (WritesPrefix (W.taken target.old) (W.taken target.new) (head_text asked.now)) }
-    ensures fault { OnErr result (W.failed target.new ≡ true) }
+    ensures { Writes result (W.taken target.old) (W.taken target.new)
+        (W.failed target.new) (head_text asked.now) }
 {
     match asked {
         Kept::Accounts => write_all(target, b"ACCOUNTS\n"),
@@ -100,11 +89,8 @@ fn write_head<W: Target>(asked: &Kept, target: &mut W) -> Result<(), WriteFault>
 
 /// Writes what is listed of an account.
 fn write_of_account<W: Target>(what: &[u8], account: &str, target: &mut W) -> Result<(), WriteFault>
-    ensures ok { OnOk result
-        (Appends (W.taken target.old) (W.taken target.new) (of_account what.now account.now)) }
-    ensures err { OnErr result
-        (WritesPrefix (W.taken target.old) (W.taken target.new) (of_account what.now account.now)) }
-    ensures fault { OnErr result (W.failed target.new ≡ true) }
+    ensures { Writes result (W.taken target.old) (W.taken target.new)
+        (W.failed target.new) (of_account what.now account.now) }
 {
     let pieces: [&[u8]; 3] = [what, account.as_bytes(), b"\n"];
     write_pieces(target, &pieces)
@@ -117,13 +103,8 @@ fn write_of_quarter<W: Target>(
     quarter: Quarter,
     target: &mut W,
 ) -> Result<(), WriteFault>
-    ensures ok { OnOk result
-        (Appends (W.taken target.old) (W.taken target.new)
-        (of_quarter what.now account.now quarter)) }
-    ensures err { OnErr result
-        (WritesPrefix (W.taken target.old) (W.taken target.new)
-        (of_quarter what.now account.now quarter)) }
-    ensures fault { OnErr result (W.failed target.new ≡ true) }
+    ensures { Writes result (W.taken target.old) (W.taken target.new)
+        (W.failed target.new) (of_quarter what.now account.now quarter) }
 {
     let quarter = quarter_bytes(quarter);
     write_pieces(target, &[what, account.as_bytes(), b" ", &quarter, b"\n"])
@@ -132,11 +113,8 @@ fn write_of_quarter<W: Target>(
 /// Writes the lines of the rows.
 #[tactic(auto, unfolding(crate::specs::Listings::rows_text))]
 fn write_lines<W: Target>(rows: &KeptRows, target: &mut W) -> Result<(), WriteFault>
-    ensures ok { OnOk result
-        (Appends (W.taken target.old) (W.taken target.new) (rows_text rows.now)) }
-    ensures err { OnErr result
-        (WritesPrefix (W.taken target.old) (W.taken target.new) (rows_text rows.now)) }
-    ensures fault { OnErr result (W.failed target.new ≡ true) }
+    ensures { Writes result (W.taken target.old) (W.taken target.new)
+        (W.failed target.new) (rows_text rows.now) }
 {
     match rows {
         KeptRows::Accounts(accounts) => write_rows(&Columns, accounts.as_slice(), target),

@@ -1,8 +1,7 @@
 //! What is kept as JSON.
 
-ghost use Rattle.std.specs.Prelude.{◌≡◌, ◌∷◌, ◌++◌, [], codes, true, OnOk, OnErr, map};
-ghost use Rattle.std.specs.Io.KnownBytes.{Appends};
-ghost use Rattle.ftd_ports.specs.Writing.{WritesPrefix};
+ghost use Rattle.std.specs.Prelude.{◌≡◌, ◌∷◌, ◌++◌, [], codes, map};
+ghost use Rattle.ftd_ports.specs.Writing.{Writes};
 ghost use Rattle.ftd_days.specs.Text.{cents_text};
 ghost use Rattle.ftd_formats.specs.Fields.{flag_field, member_of, members_of, object_told};
 ghost use Rattle.ftd_formats.specs.Fields.{text_field};
@@ -145,11 +144,8 @@ pub fn write_kept_json<W: Target>(
     rows: &KeptRows,
     target: &mut W,
 ) -> Result<(), WriteFault>
-    ensures ok { OnOk result
-        (Appends (W.taken target.old) (W.taken target.new) (rows_json account.now rows.now)) }
-    ensures err { OnErr result
-        (WritesPrefix (W.taken target.old) (W.taken target.new) (rows_json account.now rows.now)) }
-    ensures fault { OnErr result (W.failed target.new ≡ true) }
+    ensures { Writes result (W.taken target.old) (W.taken target.new)
+        (W.failed target.new) (rows_json account.now rows.now) }
 {
     let objects = Objects { account };
     match rows {

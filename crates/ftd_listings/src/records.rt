@@ -1,8 +1,6 @@
 //! What is kept as CSV.
 
-ghost use Rattle.std.specs.Prelude.{◌≡◌, true, OnOk, OnErr};
-ghost use Rattle.std.specs.Io.KnownBytes.{Appends};
-ghost use Rattle.ftd_ports.specs.Writing.{WritesPrefix};
+ghost use Rattle.ftd_ports.specs.Writing.{Writes};
 ghost use Rattle.ftd_formats.specs.Fields.{record_told};
 ghost use Rattle.ftd_listings.specs.KeptForms.{account_fields, holiday_fields};
 ghost use Rattle.ftd_listings.specs.KeptForms.{live_payment, live_record, payment_fields};
@@ -58,11 +56,8 @@ impl<'a> RowFormat<KeptHoliday> for Records<'a> {
 
 /// Writes the record of a run, nothing where it was voided.
 fn write_live_run<W: Target>(account: &str, run: &KeptRun, target: &mut W) -> Result<(), WriteFault>
-    ensures ok { OnOk result
-        (Appends (W.taken target.old) (W.taken target.new) (live_record account.now run.now)) }
-    ensures err { OnErr result
-        (WritesPrefix (W.taken target.old) (W.taken target.new) (live_record account.now run.now)) }
-    ensures fault { OnErr result (W.failed target.new ≡ true) }
+    ensures { Writes result (W.taken target.old) (W.taken target.new)
+        (W.failed target.new) (live_record account.now run.now) }
 {
     if run.voided {
         return Ok(());
@@ -72,11 +67,8 @@ fn write_live_run<W: Target>(account: &str, run: &KeptRun, target: &mut W) -> Re
 
 /// Writes the record of a run.
 fn write_run<W: Target>(account: &str, run: &KeptRun, target: &mut W) -> Result<(), WriteFault>
-    ensures ok { OnOk result
-        (Appends (W.taken target.old) (W.taken target.new) (run_record account.now run.now)) }
-    ensures err { OnErr result
-        (WritesPrefix (W.taken target.old) (W.taken target.new) (run_record account.now run.now)) }
-    ensures fault { OnErr result (W.failed target.new ≡ true) }
+    ensures { Writes result (W.taken target.old) (W.taken target.new)
+        (W.failed target.new) (run_record account.now run.now) }
 {
     write_record(&run_fields(account, run), target)
 }
@@ -87,13 +79,8 @@ fn write_live_payment<W: Target>(
     payment: &KeptPayment,
     target: &mut W,
 ) -> Result<(), WriteFault>
-    ensures ok { OnOk result
-        (Appends (W.taken target.old) (W.taken target.new)
-        (live_payment account.now payment.now)) }
-    ensures err { OnErr result
-        (WritesPrefix (W.taken target.old) (W.taken target.new)
-        (live_payment account.now payment.now)) }
-    ensures fault { OnErr result (W.failed target.new ≡ true) }
+    ensures { Writes result (W.taken target.old) (W.taken target.new)
+        (W.failed target.new) (live_payment account.now payment.now) }
 {
     if payment.voided {
         return Ok(());
@@ -108,13 +95,8 @@ fn write_payment<W: Target>(
     payment: &KeptPayment,
     target: &mut W,
 ) -> Result<(), WriteFault>
-    ensures ok { OnOk result
-        (Appends (W.taken target.old) (W.taken target.new)
-        (record_told (payment_fields account.now payment.now))) }
-    ensures err { OnErr result
-        (WritesPrefix (W.taken target.old) (W.taken target.new)
-        (record_told (payment_fields account.now payment.now))) }
-    ensures fault { OnErr result (W.failed target.new ≡ true) }
+    ensures { Writes result (W.taken target.old) (W.taken target.new)
+        (W.failed target.new) (record_told (payment_fields account.now payment.now)) }
 {
     write_record(&payment_fields(account, payment), target)
 }
@@ -146,11 +128,8 @@ pub fn write_kept_csv<W: Target>(
     rows: &KeptRows,
     target: &mut W,
 ) -> Result<(), WriteFault>
-    ensures ok { OnOk result
-        (Appends (W.taken target.old) (W.taken target.new) (rows_csv account.now rows.now)) }
-    ensures err { OnErr result
-        (WritesPrefix (W.taken target.old) (W.taken target.new) (rows_csv account.now rows.now)) }
-    ensures fault { OnErr result (W.failed target.new ≡ true) }
+    ensures { Writes result (W.taken target.old) (W.taken target.new)
+        (W.failed target.new) (rows_csv account.now rows.now) }
 {
     let records = Records { account };
     match rows {

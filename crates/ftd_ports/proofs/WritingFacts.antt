@@ -1,12 +1,14 @@
 -- How the written parts of a text add up.
 use Rattle.std.proofs.Common.{◌≡◌, ℕ, List, [], ◌++◌, refl, sym, ap, ◌∙◌, subst, ◌+◌, ◌<◌, length}
-use Rattle.std.proofs.Common.{drop, get_or, add-one, drop-cons, append_assoc, append-nil}
-use Rattle.std.specs.Prelude.{Option, Result, Ok, Err, OnOk, OnErr}
+use Rattle.std.proofs.Common.{true≢false, drop, get_or, add-one, drop-cons, append_assoc}
+use Rattle.std.proofs.Common.{append-nil}
+use Rattle.std.specs.Prelude.{Option, Result, Ok, Err, Bool}
 use Rattle.std.specs.List.{flat_map}
+use Rattle.std.specs.Result.{IsErr}
 use denote.Bor.{Bor}
 use Rattle.std.specs.Io.KnownBytes.{Appends, Keeps}
 use Rattle.std.proofs.KnownBytes.{Appends-nil, Appends-trans, Appends-kept}
-use Rattle.ftd_ports.specs.Writing.{WritesPrefix}
+use Rattle.ftd_ports.specs.Writing.{WritesPrefix, Writes}
 
 -- so much of a text is written, and the rest is not
 pub record HasWritten (before now : Option (List ℕ)) (text rest : List ℕ) : Type 0 where
@@ -79,21 +81,73 @@ pieces_at pieces i d h =
     rw add-one (ap (λ (z : List (Bor (List ℕ))). flat_map (λ (p : Bor (List ℕ)). p.now) z)
     (drop-cons pieces i d h))
 
--- a fact for an error
-pub on_err : {T E P : Type 0} (r : Result T E) → P → OnErr r P
-on_err (Ok x) p = tt
-on_err (Err e) p = p
+-- where nothing is to be written, nothing is
+pub nothing_written : {T E : Type 0} {x : T} {before : Option (List ℕ)} {end : Bool}
+    → Writes {T = T} {E = E} (Ok x) before before end []
+nothing_written {before = before} = record { ok = Appends-nil before; err = tt; fault = tt }
 
--- the last piece of a text, written or broken off
-pub last_piece : {E : Type 0} (r : Result (Unit {0}) E) (before now later : Option (List ℕ))
-    (text rest : List ℕ) → HasWritten before now text rest
-    → OnOk r (Appends now later rest) → OnOk r (Appends before later text)
-last_piece (Ok x) before now later text rest h a = ends before later text
-    (goes_on before now later text rest rest [] h (sym (append-nil rest)) a)
-last_piece (Err e) before now later text rest h a = tt
+-- where nothing is left to write, all is written
+pub all_written : {T E : Type 0} {x : T} {before now : Option (List ℕ)} {end : Bool}
+    {text : List ℕ} → HasWritten before now text []
+    → Writes {T = T} {E = E} (Ok x) before now end text
+all_written {before = before} {now = now} {text = text} h =
+    record { ok = ends before now text h; err = tt; fault = tt }
 
-pub last_broken : {E : Type 0} (r : Result (Unit {0}) E) (before now later : Option (List ℕ))
-    (text rest : List ℕ) → HasWritten before now text rest
-    → OnErr r (WritesPrefix now later rest) → OnErr r (WritesPrefix before later text)
-last_broken (Ok x) before now later text rest h p = tt
-last_broken (Err e) before now later text rest h p = breaks_off before now later text rest h p
+-- a text is written after one that was written
+pub then_writes : {T U E F : Type 0} {x : U} {r : Result T E} {before now later : Option (List ℕ)}
+    {at end : Bool} {first rest : List ℕ} → Writes {T = U} {E = F} (Ok x) before now at first
+    → Writes r now later end rest → Writes r before later end (first ++ rest)
+then_writes {r = Ok y} {before = before} {now = now} {later = later} {first = first} {rest = rest}
+    f w = record {
+      ok = Appends-trans before now later first rest f.ok w.ok;
+      err = tt;
+      fault = tt;
+    }
+then_writes {r = Err e} {before = before} {now = now} {later = later} {first = first} f w = record {
+  ok = tt;
+  err = record {
+    written = first ++ w.err.written;
+    unwritten = w.err.unwritten;
+    parts = ap (λ z. first ++ z) w.err.parts
+        ∙ sym (append_assoc first w.err.written w.err.unwritten);
+    appends = Appends-trans before now later first w.err.written f.ok w.err.appends;
+  };
+  fault = w.fault;
+}
+
+-- where a text is not written whole, what comes after it is not written
+pub stops_in : {T U E F : Type 0} {e : F} {r : Result T E} {before later : Option (List ℕ)}
+    {end : Bool} {first : List ℕ} (rest : List ℕ) → IsErr r
+    → Writes {T = U} {E = F} (Err e) before later end first
+    → Writes r before later end (first ++ rest)
+stops_in {r = Ok x} rest is w = absurd (true≢false (sym is))
+stops_in {r = Err x} {before = before} {later = later} {first = first} rest is w = record {
+  ok = tt;
+  err = prefix_more before later first rest (first ++ rest) refl w.err;
+  fault = w.fault;
+}
+
+-- the last part of a text, after those that are written
+pub ends_in : {T E : Type 0} {r : Result T E} {before now later : Option (List ℕ)} {end : Bool}
+    {text rest : List ℕ} → HasWritten before now text rest → Writes r now later end rest
+    → Writes r before later end text
+ends_in {r = Ok x} {before = before} {now = now} {later = later} {text = text} {rest = rest} h w =
+    record {
+      ok = ends before later text
+          (goes_on before now later text rest rest [] h (sym (append-nil rest)) w.ok);
+      err = tt;
+      fault = tt;
+    }
+ends_in {r = Err e} {before = before} {now = now} {later = later} {text = text} {rest = rest} h w =
+    record {
+      ok = tt;
+      err = breaks_off before now later text rest h w.err;
+      fault = w.fault;
+    }
+
+-- a part of a text that is not written whole, after those that are written
+pub stops_after : {T U E F : Type 0} {e : F} {r : Result T E} {before now later : Option (List ℕ)}
+    {end : Bool} {text rest piece : List ℕ} (others : List ℕ) → IsErr r
+    → HasWritten before now text rest → rest ≡ piece ++ others
+    → Writes {T = U} {E = F} (Err e) now later end piece → Writes r before later end text
+stops_after others is h parts w = ends_in h (rw parts (stops_in others is w))

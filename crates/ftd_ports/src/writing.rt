@@ -1,9 +1,7 @@
 //! Texts written whole to a target.
 
-ghost use Rattle.std.specs.Prelude.{◌≡◌, true, OnOk, OnErr};
 ghost use Rattle.std.specs.List.{flat_map};
-ghost use Rattle.std.specs.Io.KnownBytes.{Appends};
-ghost use Rattle.ftd_ports.specs.Writing.{WritesPrefix};
+ghost use Rattle.ftd_ports.specs.Writing.{Writes};
 
 use crate::Target;
 use thiserror::Error;
@@ -15,9 +13,8 @@ pub struct WriteFault;
 
 /// Writes the bytes. Where the target fails, a prefix of them was written.
 pub fn write_all<W: Target>(target: &mut W, bytes: &[u8]) -> Result<(), WriteFault>
-    ensures ok { OnOk result (Appends (W.taken target.old) (W.taken target.new) bytes.now) }
-    ensures err { OnErr result (WritesPrefix (W.taken target.old) (W.taken target.new) bytes.now) }
-    ensures fault { OnErr result (W.failed target.new ≡ true) }
+    ensures { Writes result (W.taken target.old) (W.taken target.new)
+        (W.failed target.new) bytes.now }
 {
     let mut rest = bytes;
     while !rest.is_empty() {
@@ -31,13 +28,8 @@ pub fn write_all<W: Target>(target: &mut W, bytes: &[u8]) -> Result<(), WriteFau
 
 /// Writes the pieces one after the other. Where the target fails, a prefix of them was written.
 pub fn write_pieces<W: Target>(target: &mut W, pieces: &[&[u8]]) -> Result<(), WriteFault>
-    ensures ok { OnOk result
-        (Appends (W.taken target.old) (W.taken target.new)
-        (flat_map (λ piece. piece.now) pieces.now)) }
-    ensures err { OnErr result
-        (WritesPrefix (W.taken target.old) (W.taken target.new)
-        (flat_map (λ piece. piece.now) pieces.now)) }
-    ensures fault { OnErr result (W.failed target.new ≡ true) }
+    ensures { Writes result (W.taken target.old) (W.taken target.new)
+        (W.failed target.new) (flat_map (λ piece. piece.now) pieces.now) }
 {
     for piece in pieces {
         write_all(target, piece)?;

@@ -2,7 +2,7 @@
 use Rattle.std.proofs.Common.{◌≡◌, ◌∙◌, inl, inr, refl, sym, ap, subst, ℕ, ◌+◌, ◌≤◌, List, [], ◌∷◌}
 use Rattle.std.proofs.Common.{map, length, Option, None, Some, Ok, arith}
 use Rattle.std.specs.Prelude.{filter, IfSome}
-use Rattle.std.specs.List.{list_any, sum_by}
+use Rattle.std.specs.List.{sum_by}
 use Rattle.sqlite.specs.Store as store
 use Rattle.sqlite.specs.State as database
 use Rattle.std.proofs.lemmas.List.{map-append}
@@ -57,7 +57,6 @@ use Rattle.ftd_machine.specs.declared.replies.Reply.{Reply}
 use Rattle.ftd_machine.specs.declared.replies.Reply.TheVariants.{Posted}
 use Rattle.ftd_entries.specs.Standing.{StandsFor, IsSettled}
 use Rattle.ftd_entries.specs.Known.{KnowsAccount}
-use Rattle.ftd_entries.specs.Opening.{is_line_of}
 use Rattle.ftd_entries.proofs.Lines.{lines_known}
 use Rattle.ftd_entries.proofs.Kept.{kept_run, counted_runs}
 use Rattle.ftd_entries.proofs.KnownYears.{open_lines}
@@ -185,18 +184,13 @@ module _ (name : List ℕ) (number : ℕ) (run : PayRun) (count : ℕ) (book : B
       → kept_at number (entries_of s name).runs ≡ kept
       → checks_on (entries_of s name) ≡ checks_by name number run count book kept
   checks_are kept t s stands right counted found =
-      let own = entries_of s name in
-      let year = year_of run.payday in
-      ap (λ a. first_of (post_checks name number run a (kept_at number own.runs) (is_open own year)
-      (length own.runs))) right.account
-      ∙ ap (λ k. first_of (post_checks name number run (Some book.account) k (is_open own year)
-      (length own.runs))) found
-      ∙ ap (λ y. first_of (post_checks name number run (Some book.account) kept y
-      (length own.runs))) (open_lines year book.ledger.years.lines.items own.open_years
-      right.lines.years)
-      ∙ ap (λ n. first_of (post_checks name number run (Some book.account) kept
-      (list_any (is_line_of year) book.ledger.years.lines.items) n))
-      (counted_runs name t s stands count counted)
+      rw (
+        right.account,
+        found,
+        open_lines (year_of run.payday) book.ledger.years.lines.items (entries_of s name).open_years
+            right.lines.years,
+        counted_runs name t s stands count counted,
+      ) refl
 
   -- a check decides
   pub decided_by : (kept : Option (Voidable PayRun)) (answer : Answer)

@@ -1,19 +1,17 @@
 -- A figure was corrected: the tables stand for the state with the correction, and it is told how
 -- the account's obligations differ.
 use Rattle.std.proofs.Common.{◌≡◌, ◌≢◌, ◌∙◌, ◌≤◌, ◌⊎◌, refl, sym, ap, subst, inl, inr, ℕ, ◌+◌, Bool}
-use Rattle.std.proofs.Common.{true, false, List, [], ◌∷◌, ◌++◌, map, Ok, Vec, Global, arith}
-use Rattle.std.specs.Prelude.{◌↔◌, filter, bytes_eq}
+use Rattle.std.proofs.Common.{false, List, [], ◌∷◌, ◌++◌, map, Ok, Vec, Global, arith}
+use Rattle.std.specs.Prelude.{◌↔◌, filter}
 use Rattle.std.specs.List.Sorted.{IsPermutation}
-use Rattle.std.proofs.lemmas.Bool.{true≢false}
 use Rattle.ftd_days.specs.Calendar.{year_of, year_start}
 use Rattle.ftd_days.specs.declared.cents.Cents.{Cents}
-use Rattle.ftd_days.proofs.Spelling.{same_text}
 use Rattle.ftd_rules.specs.declared.DaySum.{DaySum}
 use Rattle.ftd_rules.specs.declared.Form.{Form}
 use Rattle.ftd_rules.specs.declared.Obligation.{Obligation}
 use Rattle.ftd_rules.specs.declared.YearLine.{YearLine}
 use Rattle.ftd_rules.specs.Lists.{Has}
-use Rattle.ftd_rules.specs.Obligations.{AreObligations, IsObligation}
+use Rattle.ftd_rules.specs.Obligations.{IsObligation}
 use Rattle.ftd_rules.specs.Years.{AreLines, AreOpenYears, YearsFrom, basis_of, year_last}
 use Rattle.ftd_rules.proofs.Covering.{line_is}
 use Rattle.ftd_rules.proofs.Earlier.{counterpart}
@@ -38,7 +36,6 @@ use Rattle.ftd_machine.specs.History.{AreLinesOf, HasLookback}
 use Rattle.ftd_machine.specs.Posting.{IsPosted}
 use Rattle.ftd_machine.specs.Sound.{IsSound}
 use Rattle.ftd_machine.specs.declared.replies.Reply.TheVariants.{Posted}
-use Rattle.ftd_machine.proofs.Adding.{own_name}
 use Rattle.ftd_machine.proofs.Lined.{years_same}
 use Rattle.ftd_store.specs.Changes.{with_year}
 use Rattle.ftd_store.specs.Finds.{ListsYears}
@@ -58,6 +55,7 @@ use Rattle.ftd_posting.proofs.Booking.{first_of_year}
 use Rattle.ftd_posting.proofs.LinesAfter.{carried_same}
 use Rattle.ftd_posting.proofs.LiveRuns.{sums_listed}
 use Rattle.ftd_posting.proofs.Placed.{IsPlaced, placed_stands, placed_told}
+use Rattle.ftd_entries.proofs.Settling.{each_name, names_apart, same_rows, settled_as}
 
 -- ---- the line of one year, among those of other years
 
@@ -157,32 +155,12 @@ module _ (t v : Tables) (s : State) (corrected corrected_years : List (Entry Cen
       }
 
       settled_other : (other : List ℕ) → other ≢ name → IsSettled v Next other
-      settled_other other else =
-          let its = stands.settled other in
-          let same = sym (entered.others other else) in
-          record {
-            lines = its.lines;
-            are_lines = subst (λ o. AreLinesOf o its.lines) same its.are_lines;
-            owed = its.owed;
-            are_owed = subst (λ o. AreObligations (form_of o.account) its.lines (live_sums o)
-                (holidays s) its.owed) same its.are_owed;
-            line_rows = subst (λ (rows : List YearRow). IsPermutation
-                (filter (is_year_of other) rows) (map (year_row other) its.lines))
-                (sym entered.years) its.line_rows;
-            owed_rows = subst (λ (rows : List ObligationRow). IsPermutation
-                (filter (is_obligation_of other) rows) (map (obligation_row other) its.owed))
-                (sym entered.obligations) its.owed_rows;
-          }
+      settled_other other apart = settled_as t v s Next other (entered.others other apart) refl
+          (same_rows other t v entered.years entered.obligations) (stands.settled other)
 
       settled_each : (other : List ℕ) → IsSettled v Next other
-      settled_each other = by_name (bytes_eq other name) refl
-        where
-          by_name : (b : Bool) → bytes_eq other name ≡ b → IsSettled v Next other
-          by_name true is = subst (IsSettled v Next) (sym (same_text other name is)) settled_own
-          by_name false is =
-              settled_other other
-              (λ same. true≢false (sym (own_name name) ∙ (ap (λ n. bytes_eq n name) (sym same)
-              ∙ is)))
+      settled_each = each_name (IsSettled v Next) name settled_own
+          (λ other is. settled_other other (λ same. names_apart name other is (sym same)))
 
       pub entered_stands : StandsFor v Next
       entered_stands = record { entries = entered.kept; settled = settled_each }

@@ -1,14 +1,12 @@
 -- A patch that is right was put in the place of an account's rows: the tables stand for the state
 -- after the change, and it is told how the obligations differ.
-use Rattle.std.proofs.Common.{◌≡◌, ◌≢◌, ◌∙◌, refl, sym, ap, subst, ℕ, ◌+◌, ◌≤◌, Bool, true, false}
-use Rattle.std.proofs.Common.{List, [], ◌++◌, map, Ok, arith}
-use Rattle.std.specs.Prelude.{◌↔◌, filter, bytes_eq, flat_map}
+use Rattle.std.proofs.Common.{◌≡◌, ◌≢◌, ◌∙◌, refl, sym, ap, subst, ℕ, ◌+◌, ◌≤◌, Bool}
+use Rattle.std.proofs.Common.{List, ◌++◌, map, Ok, arith}
+use Rattle.std.specs.Prelude.{◌↔◌, filter}
 use Rattle.std.specs.List.Sorted.{IsPermutation}
-use Rattle.std.proofs.lemmas.Bool.{true≢false}
 use Rattle.std.proofs.lemmas.List.Sorted.{IsPermutation-trans}
 use Rattle.ftd_days.specs.Calendar.{year_start}
 use Rattle.ftd_days.specs.declared.cents.Cents.{Cents}
-use Rattle.ftd_days.proofs.Spelling.{same_text}
 use Rattle.ftd_rules.specs.declared.Form.{Form}
 use Rattle.ftd_rules.specs.declared.Obligation.{Obligation}
 use Rattle.ftd_rules.specs.declared.YearLine.{YearLine}
@@ -23,8 +21,7 @@ use Rattle.ftd_schema.specs.declared.TableName.TheVariants.{Payments, Obligation
 use Rattle.ftd_schema.specs.declared.TableName.TheVariants.{ReportedYears, AddedHolidays}
 use Rattle.ftd_schema.specs.declared.TableName.TheVariants.{CorrectedQuarters, CorrectedYears}
 use Rattle.ftd_schema.specs.declared.TableName.TheVariants.{ChangedHolidays, CorrectedAccounts}
-use Rattle.ftd_schema.specs.Beginnings.{HasVersion}
-use Rattle.ftd_schema.specs.Rows.{ObligationRow, YearRow, FormRow}
+use Rattle.ftd_schema.specs.Rows.{ObligationRow, FormRow}
 use Rattle.ftd_schema.specs.Standing.{Tables}
 use Rattle.ftd_schema.specs.Tests.{is_year_of, is_obligation_between}
 use Rattle.ftd_rows.specs.Cells.{day_number}
@@ -37,14 +34,9 @@ use Rattle.ftd_machine.specs.History.{form_of, live_sums, AreLinesOf}
 use Rattle.ftd_machine.specs.Posting.{IsPosted}
 use Rattle.ftd_machine.specs.Sound.{IsSound}
 use Rattle.ftd_machine.specs.declared.replies.Reply.TheVariants.{Posted}
-use Rattle.ftd_machine.proofs.Adding.{own_name}
 use Rattle.ftd_store.proofs.Sifted.{sifted}
 use Rattle.ftd_entries.specs.Standing.{StandsFor, KeepsEntries, IsSettled, is_obligation_of}
-use Rattle.ftd_entries.specs.Standing.{enrolled_row}
-use Rattle.ftd_entries.specs.Standing.{enrolled_form, quarter_entry, year_entry, calendar_entry}
-use Rattle.ftd_entries.specs.Standing.{holiday_entries, added_entry, run_entry, payment_entry}
-use Rattle.ftd_entries.specs.Standing.{correction_entry, year_correction_entry, change_entry}
-use Rattle.ftd_entries.specs.Standing.{account_correction_entry, with_earlier}
+use Rattle.ftd_entries.specs.Standing.{enrolled_form}
 use Rattle.ftd_repairs.specs.declared.Difference.{Difference}
 use Rattle.ftd_repairs.specs.Replaced.{patched}
 use Rattle.ftd_repairs.specs.Rescheduled.{AreAfter}
@@ -56,6 +48,7 @@ use Rattle.ftd_posting.proofs.LinesAfter.{lines_after}
 use Rattle.ftd_posting.proofs.Patching.{patched_are}
 use Rattle.ftd_posting.proofs.RightByAll.{replaces_by_all}
 use Rattle.ftd_posting.proofs.RowsPlaced.{stays, placed_rows, gone_are, others_placed}
+use Rattle.ftd_entries.proofs.Settling.{HasRowsOf, each_name, names_apart, same_order, settled_as}
 
 module _ (old changed new : Tables) (s : State) (runs : List (Entry (Voidable PayRun)))
     (corrected corrected_years : List (Entry Cents)) (name : List ℕ) (day since : ℕ)
@@ -178,36 +171,22 @@ module _ (old changed new : Tables) (s : State) (runs : List (Entry (Voidable Pa
           was.owed_rows);
     }
 
+    rows_other : (other : List ℕ) → other ≢ name → HasRowsOf other old new
+    rows_other other apart = record {
+      years = same_order _ _ (repatches.put.puts.others other apart
+          ∙ (ap (filter (is_year_of other)) (repatches.put.rows.only Years)
+          ∙ p.year_rows other apart));
+      obligations = some_are (is_obligation_of other) _ (same_order _ _
+          (others_placed name patch.from patch.to other apart (old Obligations) patch.rows));
+    }
+
     settled_other : (other : List ℕ) → other ≢ name → IsSettled new Next other
-    settled_other other apart =
-        let its = stands.settled other in
-        let same = sym (p.others other apart) in
-        record {
-          lines = its.lines;
-          are_lines = subst (λ o. AreLinesOf o its.lines) same its.are_lines;
-          owed = its.owed;
-          are_owed = subst (λ o. AreObligations (form_of o.account) its.lines (live_sums o)
-              (holidays s) its.owed) same its.are_owed;
-          line_rows =
-              subst (λ (ys : List YearRow). IsPermutation ys (map (year_row other) its.lines))
-              (sym (repatches.put.puts.others other apart ∙ (ap (filter (is_year_of other))
-              (repatches.put.rows.only Years) ∙ p.year_rows other apart))) its.line_rows;
-          owed_rows =
-              some_are (is_obligation_of other) (map (obligation_row other) its.owed)
-              (subst (λ (os : List ObligationRow). IsPermutation os
-              (map (obligation_row other) its.owed))
-              (sym (others_placed name patch.from patch.to other apart (old Obligations)
-              patch.rows)) its.owed_rows);
-        }
+    settled_other other apart = settled_as old new s Next other (p.others other apart) refl
+        (rows_other other apart) (stands.settled other)
 
     settled_each : (other : List ℕ) → IsSettled new Next other
-    settled_each other = by_name (bytes_eq other name) refl
-      where
-        by_name : (b : Bool) → bytes_eq other name ≡ b → IsSettled new Next other
-        by_name true is = subst (IsSettled new Next) (sym (same_text other name is)) settled_own
-        by_name false is =
-            settled_other other
-            (λ same. true≢false (sym (own_name name) ∙ (ap (λ n. bytes_eq n name) (sym same) ∙ is)))
+    settled_each = each_name (IsSettled new Next) name settled_own
+        (λ other is. settled_other other (λ same. names_apart name other is (sym same)))
 
     -- the tables stand for the state after the change
     pub placed_stands : StandsFor new Next

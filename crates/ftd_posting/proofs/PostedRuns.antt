@@ -1,7 +1,7 @@
 -- Pay runs that are posted and voided: what is answered, and the tables stand for the machine's
 -- next state.
 use Rattle.std.proofs.Common.{◌≡◌, ◌∙◌, inl, inr, refl, sym, ap, subst, ℕ, ◌&&◌, pos, Bool, true}
-use Rattle.std.proofs.Common.{false, cond, List, [], ◌∷◌, ◌++◌, map, length, Option, None, Some, Ok}
+use Rattle.std.proofs.Common.{false, List, [], ◌∷◌, ◌++◌, map, length, Option, None, Some, Ok}
 use Rattle.std.specs.Prelude.{bytes_eq, filter, find, option_map, is_some, if◌then◌else◌}
 use Rattle.std.proofs.lemmas.Bool.{true≢false, eqb-true, and_parts}
 use Rattle.std.proofs.lemmas.List.{map-append}
@@ -26,7 +26,7 @@ use Rattle.ftd_machine.specs.State.{kept_at, is_open}
 use Rattle.ftd_machine.specs.History.{form_of, live, liability_of}
 use Rattle.ftd_machine.specs.Checks.{Answer, first_of}
 use Rattle.ftd_machine.specs.Requests.{post_checks, void_checks}
-use Rattle.ftd_machine.specs.Step.{Step, with_entry, with_voided, voided_if, is_under, as_voided}
+use Rattle.ftd_machine.specs.Step.{Step, with_entry, with_voided, is_under, as_voided}
 use Rattle.ftd_machine.specs.Step.{taken}
 use Rattle.ftd_machine.specs.Sound.{IsSound, AreDistinct, place_of}
 use Rattle.ftd_machine.proofs.Adding.{entry_own, entry_other, voided_own, voided_other}
@@ -47,6 +47,7 @@ use Rattle.ftd_posting.specs.declared.known_runs.KnownForVoid.{KnownForVoid}
 use Rattle.ftd_posting.specs.Runs.{KnowsForPost, KnowsForVoid}
 use Rattle.ftd_posting.proofs.LiveRuns.{day_added, day_voided, ArePaidOn}
 use Rattle.ftd_posting.proofs.Reposting.{ChangesRuns, with_runs, reposted_stands, reposted_told}
+use Rattle.ftd_entries.proofs.Voiding as voiding
 
 -- what is answered where the obligations differ so
 abbrev pub told : Difference → Answer
@@ -78,16 +79,12 @@ module _ (name : List ℕ) (number : ℕ) (run : PayRun) (count : ℕ) where
   checks_are : (known : KnownForPost) (t : Tables) (s : State) → StandsFor t s
       → CountsRuns name count t → KnowsAll known t → checks_on (entries_of s name) ≡ checks known
   checks_are known t s stands counted knows =
-      let own = entries_of s name in
-      ap (λ a. first_of (post_checks name number run a (kept_at number own.runs)
-      (is_open own (year_of run.payday)) (length own.runs))) (knows.account s stands)
-      ∙ ap (λ k. first_of (post_checks name number run known.account k
-      (is_open own (year_of run.payday)) (length own.runs)))
-      (kept_run name t s stands number known.kept knows.kept)
-      ∙ ap (λ y. first_of (post_checks name number run known.account known.kept y
-      (length own.runs))) (knows.is_open s stands)
-      ∙ ap (λ n. first_of (post_checks name number run known.account known.kept known.is_open n))
-      (counted_runs name t s stands count counted)
+      rw (
+        knows.account s stands,
+        kept_run name t s stands number known.kept knows.kept,
+        knows.is_open s stands,
+        counted_runs name t s stands count counted,
+      ) refl
 
   abbrev More : Entry (Voidable PayRun)
   More = record { name = name; key = number; content = taken run }
@@ -152,33 +149,11 @@ module _ (name : List ℕ) (number : ℕ) (run : PayRun) (count : ℕ) where
 -- ---- a run is voided
 
 module _ (name : List ℕ) (number : ℕ) where
-  test_is : (e : Entry (Voidable PayRun)) → is_run name (pos number) (run_entry e) ≡ is_under name
-      number e
-  test_is e = ap (λ b. bytes_eq e.name name && b) (year_cell e.key number)
-
-  -- the row of an entry that is voided, is voided
-  row_voided : (e : Entry (Voidable PayRun)) → changed (is_run name (pos number)) voided_run
-      (run_entry e) ≡ run_entry (voided_if name number e)
-  row_voided e = ap (λ b. cond b (voided_run (run_entry e)) (run_entry e)) (test_is e)
-      ∙ by (is_under name number e)
-    where
-      by : (under : Bool) → cond under (voided_run (run_entry e)) (run_entry e)
-          ≡ run_entry
-          (record {
-            name = e.name;
-            key = e.key;
-            content = if under then as_voided e.content else e.content;
-          })
-      by true = refl
-      by false = refl
-
   rows_voided : (xs : List (Entry (Voidable PayRun)))
       → map (changed (is_run name (pos number)) voided_run) (map run_entry xs) ≡ map run_entry
       (with_voided xs name number)
-  rows_voided [] = refl
-  rows_voided (e ∷ xs) = ap (λ r. r ∷ map (changed (is_run name (pos number)) voided_run)
-      (map run_entry xs)) (row_voided e) ∙ ap (λ rs. run_entry (voided_if name number e) ∷ rs)
-      (rows_voided xs)
+  rows_voided = voiding.rows_voided run_entry voided_run (is_run name (pos number)) name number
+      (λ e. ap (λ b. bytes_eq e.name name && b) (year_cell e.key number)) (λ e. refl)
 
   places : (e f : Entry (Voidable PayRun)) → is_under name number e ≡ true
       → is_under name number f ≡ true → place_of e ≡ place_of f
@@ -252,10 +227,7 @@ module _ (name : List ℕ) (number : ℕ) where
       → first_of (void_checks name number (entries_of s name).account
       (kept_at number (entries_of s name).runs)) ≡ void_checked known
   void_checks_are known t s stands knows =
-      ap (λ a. first_of (void_checks name number a (kept_at number (entries_of s name).runs)))
-      (knows.account s stands)
-      ∙ ap (λ k. first_of (void_checks name number known.account k))
-      (kept_run name t s stands number known.kept knows.kept)
+      rw (knows.account s stands, kept_run name t s stands number known.kept knows.kept) refl
 
   -- the account and the run are known where all checks pass
   pub void_account_known : (known : KnownForVoid) → void_checked known ≡ None

@@ -4,7 +4,6 @@ use Rattle.std.proofs.Common.{◌≡◌, ℕ, ◌≤◌, List, sym, subst, arith
 use Rattle.ftd_days.specs.Calendar.{last_day}
 use Rattle.ftd_rules.specs.declared.Form.{Form}
 use Rattle.ftd_rules.specs.declared.Obligation.{Obligation}
-use Rattle.ftd_rules.specs.Due.{IsDue}
 use Rattle.ftd_rules.specs.Laws.{EqualHolidays}
 use Rattle.ftd_rules.specs.Private.Due.{IsDueBy}
 use Rattle.ftd_rules.proofs.Covering.{within_period, line_is}
@@ -16,26 +15,7 @@ use Rattle.ftd_buckets.specs.declared.Patch.{Patch}
 use Rattle.ftd_buckets.specs.Histories.{History, IsHistory}
 use Rattle.ftd_buckets.specs.Patches.{IsOwed, Replaces}
 use Rattle.ftd_posting.proofs.Differing.{BeginsElsewhere}
-
--- an obligation with the due date that other holidays give it
-with_due : (form : Form) (h : History) (some all : List ℕ) (o : Obligation) (due : ℕ)
-    → IsDue all o.rule o.last due → IsOwed form h some o
-    → IsOwed form h all (record o { due = due })
-with_due form h some all o due is owed = record {
-  line = owed.line;
-  open_year = owed.open_year;
-  period_first = owed.period_first;
-  period_last = owed.period_last;
-  period = owed.period;
-  status = owed.status;
-  has_status = owed.has_status;
-  stops = owed.stops;
-  are_stops = owed.are_stops;
-  piece = owed.piece;
-  amount = owed.amount;
-  positive = owed.positive;
-  due = is;
-}
+use Rattle.ftd_entries.proofs.OwedAgain.{owed_again}
 
 -- the last day of an obligation is a day
 pub last_is_day : (form : Form) (h : History) (holidays : List ℕ) (o : Obligation) → IsHistory h
@@ -67,9 +47,10 @@ stays_by : (form : Form) (before after : History) (some all : List ℕ) (from to
 stays_by form before after some all from to same o apart owed =
     let due = due_some some o.rule o.last in
     let p : Obligation = record o { due = due.0 } in
-    let found : IsOwed form before some p = with_due form before all some o due.0
+    let found : IsOwed form before some p =
+    owed_again form before.lines before.sums all some o due.0
     (due_stated some o.rule o.last due.0 due.1) owed in
-    with_due form after some all p o.due owed.due (same p apart found)
+    owed_again form after.lines after.sums some all p o.due owed.due (same p apart found)
 
 pub replaces_by_all : (form : Form) (before after : History) (some all : List ℕ) (patch : Patch)
     → IsHistory after
@@ -84,7 +65,8 @@ replaces_by_all form before after some all patch are agree p = record {
           (let k = (p.rows.all o).0 has in
           let due = due_some all o.rule o.last in
           let other : Obligation = record o { due = due.0 } in
-          let owed : IsOwed form after all other = with_due form after some all o due.0
+          let owed : IsOwed form after all other =
+          owed_again form after.lines after.sums some all o due.0
           (due_stated all o.rule o.last due.0 due.1) k.0 in
           let by_some : IsDueBy some o.rule o.last due.0 =
           due_too all some other due.0 (last_is_day form after some o are k.0)
@@ -98,7 +80,8 @@ replaces_by_all form before after some all patch are agree p = record {
           due_too all some o o.due (last_is_day form after all o are is)
           (λ d a b. sym (agree o k.1 is d a b)) (due_by all o.rule o.last o.due is.due) in
           (p.rows.all o).1 (
-            with_due form after all some o o.due (due_stated some o.rule o.last o.due by_some) is,
+            owed_again form after.lines after.sums all some o o.due
+                (due_stated some o.rule o.last o.due by_some) is,
             k.1,
             k.2,
           ))),

@@ -1,8 +1,7 @@
 //! The deposits of one account out of pay runs, without a desk.
 
-ghost use Rattle.std.specs.Prelude.{◌≡◌, OnErr, OnOk, true};
-ghost use Rattle.std.specs.Io.KnownBytes.{Appends};
-ghost use Rattle.ftd_ports.specs.Writing.{WritesPrefix};
+ghost use Rattle.std.specs.Prelude.{◌≡◌};
+ghost use Rattle.ftd_ports.specs.Writing.{Writes, WritesPrefix};
 ghost use Rattle.ftd_program.specs.Performing.{PrintsOut};
 ghost use Rattle.ftd_program.specs.Plain.{IsHinted, PerformsPlain, PrintsFault, fault_hints};
 ghost use Rattle.ftd_program.specs.Plain.{fault_line, fault_status, record_line, run_line};
@@ -109,10 +108,8 @@ fn status_of(fault: PlainFault) -> u8
 
 /// Writes the line of the fault.
 fn write_fault<E: Target>(fault: PlainFault, err: &mut E) -> Result<(), WriteFault>
-    ensures ok { OnOk result (Appends (E.taken err.old) (E.taken err.new) (fault_line fault)) }
-    ensures err { OnErr result
-        (WritesPrefix (E.taken err.old) (E.taken err.new) (fault_line fault)) }
-    ensures fault { OnErr result (E.failed err.new ≡ true) }
+    ensures { Writes result (E.taken err.old) (E.taken err.new)
+        (E.failed err.new) (fault_line fault) }
 {
     match fault {
         PlainFault::BadHeader => write_all(err, b"refused header\n"),
@@ -127,11 +124,8 @@ fn write_fault<E: Target>(fault: PlainFault, err: &mut E) -> Result<(), WriteFau
 
 /// Writes which record is malformed, and its least bad field.
 fn write_record<E: Target>(number: u32, field: u8, err: &mut E) -> Result<(), WriteFault>
-    ensures ok { OnOk result
-        (Appends (E.taken err.old) (E.taken err.new) (record_line number field)) }
-    ensures err { OnErr result
-        (WritesPrefix (E.taken err.old) (E.taken err.new) (record_line number field)) }
-    ensures fault { OnErr result (E.failed err.new ≡ true) }
+    ensures { Writes result (E.taken err.old) (E.taken err.new)
+        (E.failed err.new) (record_line number field) }
 {
     let (mut number_digits, mut field_digits) = (Buffer::new(), Buffer::new());
     let number = number_digits.format(number).as_bytes();
@@ -142,10 +136,8 @@ fn write_record<E: Target>(number: u32, field: u8, err: &mut E) -> Result<(), Wr
 
 /// Writes the number of which two runs differ.
 fn write_run<E: Target>(number: u32, err: &mut E) -> Result<(), WriteFault>
-    ensures ok { OnOk result (Appends (E.taken err.old) (E.taken err.new) (run_line number)) }
-    ensures err { OnErr result
-        (WritesPrefix (E.taken err.old) (E.taken err.new) (run_line number)) }
-    ensures fault { OnErr result (E.failed err.new ≡ true) }
+    ensures { Writes result (E.taken err.old) (E.taken err.new)
+        (E.failed err.new) (run_line number) }
 {
     let mut digits = Buffer::new();
     let number = digits.format(number).as_bytes();

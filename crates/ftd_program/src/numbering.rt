@@ -1,8 +1,7 @@
 //! A correction is asked of the desk under the next number.
 
-ghost use Rattle.std.specs.Prelude.{◌≡◌, true, OnOk, OnErr};
-ghost use Rattle.std.specs.Io.KnownBytes.{Appends};
-ghost use Rattle.ftd_ports.specs.Writing.{WritesPrefix};
+ghost use Rattle.std.specs.Prelude.{◌≡◌};
+ghost use Rattle.ftd_ports.specs.Writing.{Writes};
 ghost use Rattle.ftd_program.specs.Numbering.{next_of, number_text};
 ghost use Rattle.ftd_program.specs.Performing.{AsksNext, AsksUnder};
 
@@ -31,11 +30,8 @@ fn next_of(answer: &Answer) -> Option<u32>
 
 /// Writes the line of a number.
 fn write_number<W: Target>(number: u32, target: &mut W) -> Result<(), WriteFault>
-    ensures ok { OnOk result
-        (Appends (W.taken target.old) (W.taken target.new) (number_text number)) }
-    ensures err { OnErr result
-        (WritesPrefix (W.taken target.old) (W.taken target.new) (number_text number)) }
-    ensures fault { OnErr result (W.failed target.new ≡ true) }
+    ensures { Writes result (W.taken target.old) (W.taken target.new)
+        (W.failed target.new) (number_text number) }
 {
     let mut digits = Buffer::new();
     let number = digits.format(number).as_bytes();

@@ -1,8 +1,6 @@
 //! The text of an import's summary.
 
-ghost use Rattle.std.specs.Prelude.{◌≡◌, true, OnOk, OnErr};
-ghost use Rattle.std.specs.Io.KnownBytes.{Appends};
-ghost use Rattle.ftd_ports.specs.Writing.{WritesPrefix};
+ghost use Rattle.ftd_ports.specs.Writing.{Writes};
 ghost use Rattle.ftd_program.specs.Summaries.{bad_header_text, counts_text, field_text};
 ghost use Rattle.ftd_program.specs.Summaries.{finding_text, note_text, record_text, summary_text};
 
@@ -15,11 +13,8 @@ use itoa::Buffer;
 
 /// Writes the summary of an import: its counts, and a line for each note.
 pub fn write_summary<W: Target>(summary: &Summary, target: &mut W) -> Result<(), WriteFault>
-    ensures ok { OnOk result
-        (Appends (W.taken target.old) (W.taken target.new) (summary_text summary.now)) }
-    ensures err { OnErr result
-        (WritesPrefix (W.taken target.old) (W.taken target.new) (summary_text summary.now)) }
-    ensures fault { OnErr result (W.failed target.new ≡ true) }
+    ensures { Writes result (W.taken target.old) (W.taken target.new)
+        (W.failed target.new) (summary_text summary.now) }
 {
     write_counts(summary, target)?;
     for note in &summary.notes {
@@ -30,11 +25,8 @@ pub fn write_summary<W: Target>(summary: &Summary, target: &mut W) -> Result<(),
 
 /// Writes the counts.
 fn write_counts<W: Target>(summary: &Summary, target: &mut W) -> Result<(), WriteFault>
-    ensures ok { OnOk result
-        (Appends (W.taken target.old) (W.taken target.new) (counts_text summary.now)) }
-    ensures err { OnErr result
-        (WritesPrefix (W.taken target.old) (W.taken target.new) (counts_text summary.now)) }
-    ensures fault { OnErr result (W.failed target.new ≡ true) }
+    ensures { Writes result (W.taken target.old) (W.taken target.new)
+        (W.failed target.new) (counts_text summary.now) }
 {
     let (mut posted_digits, mut already_digits) = (Buffer::new(), Buffer::new());
     let (mut refused_digits, mut malformed_digits) = (Buffer::new(), Buffer::new());
@@ -60,11 +52,8 @@ fn write_counts<W: Target>(summary: &Summary, target: &mut W) -> Result<(), Writ
 
 /// Writes the line of a note.
 fn write_note<W: Target>(note: &Note, target: &mut W) -> Result<(), WriteFault>
-    ensures ok { OnOk result
-        (Appends (W.taken target.old) (W.taken target.new) (note_text note.now)) }
-    ensures err { OnErr result
-        (WritesPrefix (W.taken target.old) (W.taken target.new) (note_text note.now)) }
-    ensures fault { OnErr result (W.failed target.new ≡ true) }
+    ensures { Writes result (W.taken target.old) (W.taken target.new)
+        (W.failed target.new) (note_text note.now) }
 {
     write_record(note.number, target)?;
     write_finding(&note.finding, target)
@@ -72,11 +61,8 @@ fn write_note<W: Target>(note: &Note, target: &mut W) -> Result<(), WriteFault>
 
 /// Writes which record it is.
 fn write_record<W: Target>(number: u32, target: &mut W) -> Result<(), WriteFault>
-    ensures ok { OnOk result
-        (Appends (W.taken target.old) (W.taken target.new) (record_text number)) }
-    ensures err { OnErr result
-        (WritesPrefix (W.taken target.old) (W.taken target.new) (record_text number)) }
-    ensures fault { OnErr result (W.failed target.new ≡ true) }
+    ensures { Writes result (W.taken target.old) (W.taken target.new)
+        (W.failed target.new) (record_text number) }
 {
     let mut digits = Buffer::new();
     let number = digits.format(number).as_bytes();
@@ -85,11 +71,8 @@ fn write_record<W: Target>(number: u32, target: &mut W) -> Result<(), WriteFault
 
 /// Writes why the record was not posted.
 fn write_finding<W: Target>(finding: &Finding, target: &mut W) -> Result<(), WriteFault>
-    ensures ok { OnOk result
-        (Appends (W.taken target.old) (W.taken target.new) (finding_text finding.now)) }
-    ensures err { OnErr result
-        (WritesPrefix (W.taken target.old) (W.taken target.new) (finding_text finding.now)) }
-    ensures fault { OnErr result (W.failed target.new ≡ true) }
+    ensures { Writes result (W.taken target.old) (W.taken target.new)
+        (W.failed target.new) (finding_text finding.now) }
 {
     match finding {
         Finding::Malformed(field) => write_field(*field, target),
@@ -99,11 +82,8 @@ fn write_finding<W: Target>(finding: &Finding, target: &mut W) -> Result<(), Wri
 
 /// Writes which field is bad.
 fn write_field<W: Target>(field: u8, target: &mut W) -> Result<(), WriteFault>
-    ensures ok { OnOk result
-        (Appends (W.taken target.old) (W.taken target.new) (field_text field)) }
-    ensures err { OnErr result
-        (WritesPrefix (W.taken target.old) (W.taken target.new) (field_text field)) }
-    ensures fault { OnErr result (W.failed target.new ≡ true) }
+    ensures { Writes result (W.taken target.old) (W.taken target.new)
+        (W.failed target.new) (field_text field) }
 {
     let mut digits = Buffer::new();
     let field = digits.format(field).as_bytes();
@@ -117,11 +97,8 @@ pub fn write_bad_header<W: Target>(
     input: &[u8],
     target: &mut W,
 ) -> Result<(), WriteFault>
-    ensures ok { OnOk result
-        (Appends (W.taken target.old) (W.taken target.new) (bad_header_text sheet input.now)) }
-    ensures err { OnErr result
-        (WritesPrefix (W.taken target.old) (W.taken target.new) (bad_header_text sheet input.now)) }
-    ensures fault { OnErr result (W.failed target.new ≡ true) }
+    ensures { Writes result (W.taken target.old) (W.taken target.new)
+        (W.failed target.new) (bad_header_text sheet input.now) }
 {
     write_all(target, b"refused header\n")?;
     write_header_hint(sheet, input, target)

@@ -1,5 +1,5 @@
 -- The liability of a quarter by day: what is answered, and that it is the machine's answer.
-use Rattle.std.proofs.Common.{◌≡◌, ℕ, Bool, true, List, Option, None, Some, Ok, Vec, refl, ap, ◌∙◌}
+use Rattle.std.proofs.Common.{◌≡◌, ℕ, Bool, true, List, Option, None, Some, Ok, Vec, refl, ◌∙◌}
 use Rattle.std.proofs.Common.{◌+◌}
 use Rattle.std.specs.Prelude.{nat_le}
 use Rattle.std.proofs.lemmas.Bool.{leb-true, and_parts}
@@ -38,10 +38,7 @@ module _ (name : List ℕ) (quarter : ℕ) where
         → first_of (schedule_b_checks name quarter (entries_of s name).account
         (is_open (entries_of s name) (quarter_year quarter))) ≡ checks
     checks_are t s stands knows =
-        ap (λ a. first_of
-        (schedule_b_checks name quarter a (is_open (entries_of s name) (quarter_year quarter))))
-        (knows.0 s stands)
-        ∙ ap (λ b. first_of (schedule_b_checks name quarter known.0 b)) (knows.1 s stands)
+        rw (knows.0 s stands, knows.1 s stands) refl
 
     -- a check decides
     pub days_decided : (answer : Answer) → checks ≡ Some answer → (t : Tables) (s : State)

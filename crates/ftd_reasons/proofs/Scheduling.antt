@@ -131,9 +131,7 @@ module _ (name : List ℕ) (day : ℕ) (account : Option Account) (lines : List 
       ≡ first_of
       (status_checks name day account there)
   checks_are =
-      ap (λ a. first_of (status_checks name day a (is_open own (year_of day)))) account_is
-      ∙ ap (λ b. first_of (status_checks name day account b))
-      (open_lines (year_of day) lines own.open_years are.years)
+      rw (account_is, open_lines (year_of day) lines own.open_years are.years) refl
 
   pub status_decided : (answer : Answer) → first_of (status_checks name day account there)
       ≡ Some answer → Step s (Question (Status name day)) answer s

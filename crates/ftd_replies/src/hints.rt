@@ -1,10 +1,9 @@
 //! What can be done about a refusal: lines below it, each of which begins with `hint: `.
 
-ghost use Rattle.std.specs.Prelude.{◌≡◌, OnOk, OnErr, codes, true};
+ghost use Rattle.std.specs.Prelude.{◌≡◌, codes};
 ghost use Rattle.std.specs.Fmt.{decimal};
 ghost use Rattle.std.specs.List.{flat_map, list_all};
-ghost use Rattle.std.specs.Io.KnownBytes.{Appends};
-ghost use Rattle.ftd_ports.specs.Writing.{WritesPrefix};
+ghost use Rattle.ftd_ports.specs.Writing.{Writes};
 ghost use Rattle.ftd_replies.specs.Hints.{account_in, calendar_text};
 ghost use Rattle.ftd_replies.specs.Hints.{command_of, command_on, correct_text, days_in, days_text};
 ghost use Rattle.ftd_replies.specs.Hints.{differing_text, enrolled_as};
@@ -43,11 +42,8 @@ pub fn write_told<W: Target>(
     known: &Known,
     target: &mut W,
 ) -> Result<(), WriteFault>
-    ensures ok { OnOk result (Appends (W.taken target.old) (W.taken target.new)
-        (told_text db.now request.now refusal known.now)) }
-    ensures err { OnErr result (WritesPrefix (W.taken target.old) (W.taken target.new)
-        (told_text db.now request.now refusal known.now)) }
-    ensures fault { OnErr result (W.failed target.new ≡ true) }
+    ensures { Writes result (W.taken target.old) (W.taken target.new)
+        (W.failed target.new) (told_text db.now request.now refusal known.now) }
 {
     write_refusal(&refusal, target)?;
     write_hints(db, request, refusal, known, target)
@@ -63,11 +59,8 @@ fn write_hints<W: Target>(
     known: &Known,
     target: &mut W,
 ) -> Result<(), WriteFault>
-    ensures ok { OnOk result (Appends (W.taken target.old) (W.taken target.new)
-        (hints_text db.now request.now refusal known.now)) }
-    ensures err { OnErr result (WritesPrefix (W.taken target.old) (W.taken target.new)
-        (hints_text db.now request.now refusal known.now)) }
-    ensures fault { OnErr result (W.failed target.new ≡ true) }
+    ensures { Writes result (W.taken target.old) (W.taken target.new)
+        (W.failed target.new) (hints_text db.now request.now refusal known.now) }
 {
     match known {
         Known::Nothing => write_hint(db, request, refusal, target),
@@ -288,11 +281,8 @@ fn write_on<W: Target>(
     after: &[u8],
     target: &mut W,
 ) -> Result<(), WriteFault>
-    ensures ok { OnOk result (Appends (W.taken target.old) (W.taken target.new)
-        (command_on before.now db.now word.now after.now)) }
-    ensures err { OnErr result (WritesPrefix (W.taken target.old) (W.taken target.new)
-        (command_on before.now db.now word.now after.now)) }
-    ensures fault { OnErr result (W.failed target.new ≡ true) }
+    ensures { Writes result (W.taken target.old) (W.taken target.new)
+        (W.failed target.new) (command_on before.now db.now word.now after.now) }
 {
     let db = file_bytes(db);
     write_pieces(target, &[before, db, b" ", word, after])
@@ -307,11 +297,8 @@ fn write_of<W: Target>(
     after: &[u8],
     target: &mut W,
 ) -> Result<(), WriteFault>
-    ensures ok { OnOk result (Appends (W.taken target.old) (W.taken target.new)
-        (command_of before.now db.now account.now word.now after.now)) }
-    ensures err { OnErr result (WritesPrefix (W.taken target.old) (W.taken target.new)
-        (command_of before.now db.now account.now word.now after.now)) }
-    ensures fault { OnErr result (W.failed target.new ≡ true) }
+    ensures { Writes result (W.taken target.old) (W.taken target.new)
+        (W.failed target.new) (command_of before.now db.now account.now word.now after.now) }
 {
     let db = file_bytes(db);
     write_pieces(
@@ -329,11 +316,8 @@ fn write_number<W: Target>(
     after: &[u8],
     target: &mut W,
 ) -> Result<(), WriteFault>
-    ensures ok { OnOk result (Appends (W.taken target.old) (W.taken target.new)
-        (command_of before.now db.now account.now (decimal number) after.now)) }
-    ensures err { OnErr result (WritesPrefix (W.taken target.old) (W.taken target.new)
-        (command_of before.now db.now account.now (decimal number) after.now)) }
-    ensures fault { OnErr result (W.failed target.new ≡ true) }
+    ensures { Writes result (W.taken target.old) (W.taken target.new) (W.failed target.new)
+        (command_of before.now db.now account.now (decimal number) after.now) }
 {
     let mut digits = Buffer::new();
     write_of(
@@ -348,11 +332,9 @@ fn write_number<W: Target>(
 
 /// Writes the command that gives a year's calendar.
 fn write_year<W: Target>(db: &str, year: u32, target: &mut W) -> Result<(), WriteFault>
-    ensures ok { OnOk result (Appends (W.taken target.old) (W.taken target.new)
-        (command_on (codes "hint: ftd calendar --db ") db.now (decimal year) (codes " DAY ..\n"))) }
-    ensures err { OnErr result (WritesPrefix (W.taken target.old) (W.taken target.new)
-        (command_on (codes "hint: ftd calendar --db ") db.now (decimal year) (codes " DAY ..\n"))) }
-    ensures fault { OnErr result (W.failed target.new ≡ true) }
+    ensures { Writes result (W.taken target.old) (W.taken target.new)
+        (W.failed target.new) (command_on (codes "hint: ftd calendar --db ") db.now (decimal year)
+        (codes " DAY ..\n")) }
 {
     let mut digits = Buffer::new();
     let text = digits.format(year).as_bytes();
@@ -366,11 +348,8 @@ fn write_quarter<W: Target>(
     quarter: Quarter,
     target: &mut W,
 ) -> Result<(), WriteFault>
-    ensures ok { OnOk result (Appends (W.taken target.old) (W.taken target.new)
-        (quarter_hint db.now account.now quarter)) }
-    ensures err { OnErr result (WritesPrefix (W.taken target.old) (W.taken target.new)
-        (quarter_hint db.now account.now quarter)) }
-    ensures fault { OnErr result (W.failed target.new ≡ true) }
+    ensures { Writes result (W.taken target.old) (W.taken target.new)
+        (W.failed target.new) (quarter_hint db.now account.now quarter) }
 {
     let text = quarter_bytes(quarter);
     write_of(
@@ -390,11 +369,8 @@ fn write_missing<W: Target>(
     quarters: &[Quarter],
     target: &mut W,
 ) -> Result<(), WriteFault>
-    ensures ok { OnOk result (Appends (W.taken target.old) (W.taken target.new)
-        (flat_map (quarter_hint db.now account.now) quarters.now)) }
-    ensures err { OnErr result (WritesPrefix (W.taken target.old) (W.taken target.new)
-        (flat_map (quarter_hint db.now account.now) quarters.now)) }
-    ensures fault { OnErr result (W.failed target.new ≡ true) }
+    ensures { Writes result (W.taken target.old) (W.taken target.new)
+        (W.failed target.new) (flat_map (quarter_hint db.now account.now) quarters.now) }
 {
     for quarter in quarters {
         write_quarter(db, account, *quarter, target)?;
@@ -411,11 +387,8 @@ fn first_beside(days: &[Day], those: &[Day]) -> Option<Day>
 
 /// Writes the command that adds a holiday, if there is one to add.
 fn write_new<W: Target>(db: &str, day: Option<Day>, target: &mut W) -> Result<(), WriteFault>
-    ensures ok { OnOk result (Appends (W.taken target.old) (W.taken target.new)
-        (new_text db.now day)) }
-    ensures err { OnErr result (WritesPrefix (W.taken target.old) (W.taken target.new)
-        (new_text db.now day)) }
-    ensures fault { OnErr result (W.failed target.new ≡ true) }
+    ensures { Writes result (W.taken target.old) (W.taken target.new)
+        (W.failed target.new) (new_text db.now day) }
 {
     let Some(day) = day else {
         return Ok(());
@@ -432,11 +405,8 @@ fn write_new<W: Target>(db: &str, day: Option<Day>, target: &mut W) -> Result<()
 
 /// Writes that the day was given before, and the command that takes it back, if there is one.
 fn write_left_out<W: Target>(db: &str, day: Option<Day>, target: &mut W) -> Result<(), WriteFault>
-    ensures ok { OnOk result (Appends (W.taken target.old) (W.taken target.new)
-        (left_out_text db.now day)) }
-    ensures err { OnErr result (WritesPrefix (W.taken target.old) (W.taken target.new)
-        (left_out_text db.now day)) }
-    ensures fault { OnErr result (W.failed target.new ≡ true) }
+    ensures { Writes result (W.taken target.old) (W.taken target.new)
+        (W.failed target.new) (left_out_text db.now day) }
 {
     let Some(day) = day else {
         return Ok(());
@@ -463,11 +433,8 @@ fn write_differing<W: Target>(
     given: &[Day],
     target: &mut W,
 ) -> Result<(), WriteFault>
-    ensures ok { OnOk result (Appends (W.taken target.old) (W.taken target.new)
-        (differing_text db.now days.now given.now)) }
-    ensures err { OnErr result (WritesPrefix (W.taken target.old) (W.taken target.new)
-        (differing_text db.now days.now given.now)) }
-    ensures fault { OnErr result (W.failed target.new ≡ true) }
+    ensures { Writes result (W.taken target.old) (W.taken target.new)
+        (W.failed target.new) (differing_text db.now days.now given.now) }
 {
     write_new(db, first_beside(days, given), target)?;
     write_left_out(db, first_beside(given, days), target)
@@ -475,11 +442,8 @@ fn write_differing<W: Target>(
 
 /// Writes which of the account's years is the first.
 fn write_first<W: Target>(first: u32, target: &mut W) -> Result<(), WriteFault>
-    ensures ok { OnOk result (Appends (W.taken target.old) (W.taken target.new)
-        (first_text first)) }
-    ensures err { OnErr result (WritesPrefix (W.taken target.old) (W.taken target.new)
-        (first_text first)) }
-    ensures fault { OnErr result (W.failed target.new ≡ true) }
+    ensures { Writes result (W.taken target.old) (W.taken target.new)
+        (W.failed target.new) (first_text first) }
 {
     let mut digits = Buffer::new();
     let text = digits.format(first).as_bytes();
@@ -584,11 +548,8 @@ const YEAR_OTHERWISE: &[u8] = b"hint: the year is reported with another amount\n
 
 /// Writes the command that corrects what is known otherwise.
 fn write_correct<W: Target>(db: &str, request: &Request, target: &mut W) -> Result<(), WriteFault>
-    ensures ok { OnOk result (Appends (W.taken target.old) (W.taken target.new)
-        (correct_text db.now request.now)) }
-    ensures err { OnErr result (WritesPrefix (W.taken target.old) (W.taken target.new)
-        (correct_text db.now request.now)) }
-    ensures fault { OnErr result (W.failed target.new ≡ true) }
+    ensures { Writes result (W.taken target.old) (W.taken target.new)
+        (W.failed target.new) (correct_text db.now request.now) }
 {
     match request {
         Request::Enrol { account, .. } => {
@@ -625,11 +586,8 @@ fn write_correct<W: Target>(db: &str, request: &Request, target: &mut W) -> Resu
 
 /// Writes the next number, where there are so many.
 fn write_next<W: Target>(count: u32, target: &mut W) -> Result<(), WriteFault>
-    ensures ok { OnOk result (Appends (W.taken target.old) (W.taken target.new)
-        (next_text count)) }
-    ensures err { OnErr result (WritesPrefix (W.taken target.old) (W.taken target.new)
-        (next_text count)) }
-    ensures fault { OnErr result (W.failed target.new ≡ true) }
+    ensures { Writes result (W.taken target.old) (W.taken target.new)
+        (W.failed target.new) (next_text count) }
 {
     let mut digits = Buffer::new();
     let text = digits.format(u64::from(count) + 1).as_bytes();
@@ -650,11 +608,8 @@ fn write_hint<W: Target>(
     refusal: Refusal,
     target: &mut W,
 ) -> Result<(), WriteFault>
-    ensures ok { OnOk result (Appends (W.taken target.old) (W.taken target.new)
-        (hint_text db.now request.now refusal)) }
-    ensures err { OnErr result (WritesPrefix (W.taken target.old) (W.taken target.new)
-        (hint_text db.now request.now refusal)) }
-    ensures fault { OnErr result (W.failed target.new ≡ true) }
+    ensures { Writes result (W.taken target.old) (W.taken target.new)
+        (W.failed target.new) (hint_text db.now request.now refusal) }
 {
     let account = account_in(request);
     match hint_of(&refusal) {

@@ -1,10 +1,9 @@
 //! What is told of questions: the texts of their replies, and what is said where a year or a day is
 //! out of range.
 
-ghost use Rattle.std.specs.Prelude.{◌≡◌, ◌<◌, true, OnOk, OnErr};
+ghost use Rattle.std.specs.Prelude.{◌≡◌, ◌<◌};
 ghost use Rattle.std.specs.List.{sum_by};
-ghost use Rattle.std.specs.Io.KnownBytes.{Appends};
-ghost use Rattle.ftd_ports.specs.Writing.{WritesPrefix};
+ghost use Rattle.ftd_ports.specs.Writing.{Writes};
 ghost use Rattle.ftd_rules.specs.Liability.{cents_of};
 ghost use Rattle.ftd_rules.specs.Verdicts.{amount_of};
 ghost use Rattle.ftd_machine.specs.Limits.{amounts_end};
@@ -27,13 +26,8 @@ pub fn write_facts<W: Target>(
     target: &mut W,
 ) -> Result<(), WriteFault>
     requires bounded { AreBounded facts.now }
-    ensures ok { OnOk result
-        (Appends (W.taken target.old) (W.taken target.new)
-        (facts_told format (question_of request.now) facts.now)) }
-    ensures err { OnErr result
-        (WritesPrefix (W.taken target.old) (W.taken target.new)
-        (facts_told format (question_of request.now) facts.now)) }
-    ensures fault { OnErr result (W.failed target.new ≡ true) }
+    ensures { Writes result (W.taken target.old) (W.taken target.new)
+        (W.failed target.new) (facts_told format (question_of request.now) facts.now) }
 {
     match facts {
         Facts::Status { kind, reason } => write_status(request, *kind, *reason, target),
@@ -52,13 +46,8 @@ fn write_status<W: Target>(
     reason: Reason,
     target: &mut W,
 ) -> Result<(), WriteFault>
-    ensures ok { OnOk result
-        (Appends (W.taken target.old) (W.taken target.new)
-        (status_told (question_of request.now) kind reason)) }
-    ensures err { OnErr result
-        (WritesPrefix (W.taken target.old) (W.taken target.new)
-        (status_told (question_of request.now) kind reason)) }
-    ensures fault { OnErr result (W.failed target.new ≡ true) }
+    ensures { Writes result (W.taken target.old) (W.taken target.new)
+        (W.failed target.new) (status_told (question_of request.now) kind reason) }
 {
     match request.question() {
         Some(Question::Status { day, .. }) => write_schedule(*day, kind, reason, target),
@@ -82,13 +71,8 @@ fn write_due<W: Target>(
     target: &mut W,
 ) -> Result<(), WriteFault>
     requires bounded { sum_by amount_of rows.now < amounts_end }
-    ensures ok { OnOk result
-        (Appends (W.taken target.old) (W.taken target.new)
-        (due_told format (question_of request.now) rows.now)) }
-    ensures err { OnErr result
-        (WritesPrefix (W.taken target.old) (W.taken target.new)
-        (due_told format (question_of request.now) rows.now)) }
-    ensures fault { OnErr result (W.failed target.new ≡ true) }
+    ensures { Writes result (W.taken target.old) (W.taken target.new)
+        (W.failed target.new) (due_told format (question_of request.now) rows.now) }
 {
     match request.question() {
         Some(
@@ -125,13 +109,8 @@ fn write_days<W: Target>(
     target: &mut W,
 ) -> Result<(), WriteFault>
     requires bounded { sum_by cents_of sums.now < amounts_end }
-    ensures ok { OnOk result
-        (Appends (W.taken target.old) (W.taken target.new)
-        (days_told format (question_of request.now) sums.now)) }
-    ensures err { OnErr result
-        (WritesPrefix (W.taken target.old) (W.taken target.new)
-        (days_told format (question_of request.now) sums.now)) }
-    ensures fault { OnErr result (W.failed target.new ≡ true) }
+    ensures { Writes result (W.taken target.old) (W.taken target.new)
+        (W.failed target.new) (days_told format (question_of request.now) sums.now) }
 {
     match request.question() {
         Some(Question::ScheduleB { account, quarter }) => write_b_as(
@@ -160,13 +139,8 @@ fn write_rows<W: Target>(
     rows: &[AgendaRow],
     target: &mut W,
 ) -> Result<(), WriteFault>
-    ensures ok { OnOk result
-        (Appends (W.taken target.old) (W.taken target.new)
-        (agenda_told format (question_of request.now) rows.now)) }
-    ensures err { OnErr result
-        (WritesPrefix (W.taken target.old) (W.taken target.new)
-        (agenda_told format (question_of request.now) rows.now)) }
-    ensures fault { OnErr result (W.failed target.new ≡ true) }
+    ensures { Writes result (W.taken target.old) (W.taken target.new)
+        (W.failed target.new) (agenda_told format (question_of request.now) rows.now) }
 {
     match request.question() {
         Some(Question::Agenda { from, to, as_of }) => {
@@ -193,13 +167,8 @@ fn write_kept_rows<W: Target>(
     rows: &KeptRows,
     target: &mut W,
 ) -> Result<(), WriteFault>
-    ensures ok { OnOk result
-        (Appends (W.taken target.old) (W.taken target.new)
-        (kept_told format (question_of request.now) rows.now)) }
-    ensures err { OnErr result
-        (WritesPrefix (W.taken target.old) (W.taken target.new)
-        (kept_told format (question_of request.now) rows.now)) }
-    ensures fault { OnErr result (W.failed target.new ≡ true) }
+    ensures { Writes result (W.taken target.old) (W.taken target.new)
+        (W.failed target.new) (kept_told format (question_of request.now) rows.now) }
 {
     match request.question() {
         Some(Question::Kept(asked)) => write_kept_as(format.of_list(), asked, rows, target),
@@ -222,13 +191,8 @@ fn write_why<W: Target>(
     explained: &Option<Explanation>,
     target: &mut W,
 ) -> Result<(), WriteFault>
-    ensures ok { OnOk result
-        (Appends (W.taken target.old) (W.taken target.new)
-        (why_told format (question_of request.now) explained.now)) }
-    ensures err { OnErr result
-        (WritesPrefix (W.taken target.old) (W.taken target.new)
-        (why_told format (question_of request.now) explained.now)) }
-    ensures fault { OnErr result (W.failed target.new ≡ true) }
+    ensures { Writes result (W.taken target.old) (W.taken target.new)
+        (W.failed target.new) (why_told format (question_of request.now) explained.now) }
 {
     match request.question() {
         Some(Question::Explain { account, day }) => {

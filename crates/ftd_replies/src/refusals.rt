@@ -1,10 +1,9 @@
 //! The lines of refusals.
 
-ghost use Rattle.std.specs.Prelude.{◌≡◌, ◌∷◌, [], codes, true, OnOk, OnErr};
+ghost use Rattle.std.specs.Prelude.{◌≡◌, ◌∷◌, [], codes};
 ghost use Rattle.std.specs.Fmt.{decimal};
-ghost use Rattle.std.specs.Io.KnownBytes.{Appends};
 ghost use Rattle.ftd_days.specs.Text.{quarter_text};
-ghost use Rattle.ftd_ports.specs.Writing.{WritesPrefix};
+ghost use Rattle.ftd_ports.specs.Writing.{Writes};
 ghost use Rattle.ftd_replies.specs.Refusals.{line_of, named_text, refusal_status};
 ghost use Rattle.ftd_replies.specs.Refusals.{refusal_text, verb_text};
 
@@ -35,11 +34,8 @@ fn verb_of(refusal: Refusal) -> &'static [u8]
 /// Writes the line of a refusal: its number and name, and what it names.
 #[tactic(auto, unfolding(crate::specs::Refusals::refusal_text))]
 pub fn write_refusal<W: Target>(refusal: &Refusal, target: &mut W) -> Result<(), WriteFault>
-    ensures ok { OnOk result
-        (Appends (W.taken target.old) (W.taken target.new) (refusal_text refusal.now)) }
-    ensures err { OnErr result
-        (WritesPrefix (W.taken target.old) (W.taken target.new) (refusal_text refusal.now)) }
-    ensures fault { OnErr result (W.failed target.new ≡ true) }
+    ensures { Writes result (W.taken target.old) (W.taken target.new)
+        (W.failed target.new) (refusal_text refusal.now) }
 {
     write_line(
         refusal.named(),
@@ -58,11 +54,8 @@ fn write_line<W: Target>(
     name: &[u8],
     target: &mut W,
 ) -> Result<(), WriteFault>
-    ensures ok { OnOk result (Appends (W.taken target.old) (W.taken target.new)
-        (line_of verb.now number name.now (named_text named))) }
-    ensures err { OnErr result (WritesPrefix (W.taken target.old) (W.taken target.new)
-        (line_of verb.now number name.now (named_text named))) }
-    ensures fault { OnErr result (W.failed target.new ≡ true) }
+    ensures { Writes result (W.taken target.old) (W.taken target.new)
+        (W.failed target.new) (line_of verb.now number name.now (named_text named)) }
 {
     match named {
         Named::Nothing => write_plain(verb, number, name, target),
@@ -80,11 +73,8 @@ fn write_number<W: Target>(
     what: u32,
     target: &mut W,
 ) -> Result<(), WriteFault>
-    ensures ok { OnOk result (Appends (W.taken target.old) (W.taken target.new)
-        (line_of verb.now number name.now (codes " " ∷ decimal what ∷ []))) }
-    ensures err { OnErr result (WritesPrefix (W.taken target.old) (W.taken target.new)
-        (line_of verb.now number name.now (codes " " ∷ decimal what ∷ []))) }
-    ensures fault { OnErr result (W.failed target.new ≡ true) }
+    ensures { Writes result (W.taken target.old) (W.taken target.new)
+        (W.failed target.new) (line_of verb.now number name.now (codes " " ∷ decimal what ∷ [])) }
 {
     let mut digits = Buffer::new();
     let number = digits.format(number).as_bytes();
@@ -101,11 +91,9 @@ fn write_quarter<W: Target>(
     quarter: Quarter,
     target: &mut W,
 ) -> Result<(), WriteFault>
-    ensures ok { OnOk result (Appends (W.taken target.old) (W.taken target.new)
-        (line_of verb.now number name.now (codes " " ∷ quarter_text quarter ∷ []))) }
-    ensures err { OnErr result (WritesPrefix (W.taken target.old) (W.taken target.new)
-        (line_of verb.now number name.now (codes " " ∷ quarter_text quarter ∷ []))) }
-    ensures fault { OnErr result (W.failed target.new ≡ true) }
+    ensures { Writes result (W.taken target.old) (W.taken target.new)
+        (W.failed target.new) (line_of verb.now number name.now (codes " " ∷ quarter_text quarter ∷
+        [])) }
 {
     let mut digits = Buffer::new();
     let number = digits.format(number).as_bytes();
@@ -120,11 +108,8 @@ fn write_plain<W: Target>(
     name: &[u8],
     target: &mut W,
 ) -> Result<(), WriteFault>
-    ensures ok { OnOk result (Appends (W.taken target.old) (W.taken target.new)
-        (line_of verb.now number name.now [])) }
-    ensures err { OnErr result (WritesPrefix (W.taken target.old) (W.taken target.new)
-        (line_of verb.now number name.now [])) }
-    ensures fault { OnErr result (W.failed target.new ≡ true) }
+    ensures { Writes result (W.taken target.old) (W.taken target.new)
+        (W.failed target.new) (line_of verb.now number name.now []) }
 {
     let mut digits = Buffer::new();
     let number = digits.format(number).as_bytes();

@@ -1,8 +1,6 @@
 //! The texts of replies.
 
-ghost use Rattle.std.specs.Prelude.{◌≡◌, true, OnOk, OnErr};
-ghost use Rattle.std.specs.Io.KnownBytes.{Appends};
-ghost use Rattle.ftd_ports.specs.Writing.{WritesPrefix};
+ghost use Rattle.ftd_ports.specs.Writing.{Writes};
 ghost use Rattle.ftd_machine.specs.Laws.{IsBounded};
 ghost use Rattle.ftd_replies.specs.Replies.{posted_text, reply_text};
 
@@ -22,13 +20,8 @@ pub fn write_reply<W: Target>(
     target: &mut W,
 ) -> Result<(), WriteFault>
     requires bounded { IsBounded reply.now }
-    ensures ok { OnOk result
-        (Appends (W.taken target.old) (W.taken target.new)
-        (reply_text format request.now reply.now)) }
-    ensures err { OnErr result
-        (WritesPrefix (W.taken target.old) (W.taken target.new)
-        (reply_text format request.now reply.now)) }
-    ensures fault { OnErr result (W.failed target.new ≡ true) }
+    ensures { Writes result (W.taken target.old) (W.taken target.new)
+        (W.failed target.new) (reply_text format request.now reply.now) }
 {
     match reply {
         Reply::Done => write_pieces(target, &[b"done", b"\n"]),
@@ -51,12 +44,8 @@ fn write_posted<W: Target>(
     added: u32,
     target: &mut W,
 ) -> Result<(), WriteFault>
-    ensures ok { OnOk result
-        (Appends (W.taken target.old) (W.taken target.new) (posted_text from to removed added)) }
-    ensures err { OnErr result
-        (WritesPrefix (W.taken target.old) (W.taken target.new)
-        (posted_text from to removed added)) }
-    ensures fault { OnErr result (W.failed target.new ≡ true) }
+    ensures { Writes result (W.taken target.old) (W.taken target.new)
+        (W.failed target.new) (posted_text from to removed added) }
 {
     let (mut removed_digits, mut added_digits) = (Buffer::new(), Buffer::new());
     let removed = removed_digits.format(removed).as_bytes();

@@ -1,16 +1,14 @@
 //! The text of what is due over all accounts.
 
-ghost use Rattle.std.specs.Prelude.{◌≡◌, ◌++◌, true, OnOk, OnErr};
-ghost use Rattle.std.specs.List.{sum_by};
-ghost use Rattle.std.specs.Io.KnownBytes.{Appends};
-ghost use Rattle.ftd_ports.specs.Writing.{WritesPrefix};
-ghost use Rattle.ftd_machine.specs.Agenda.{left_of};
+ghost use Rattle.std.specs.Prelude.{◌≡◌, ◌++◌};
+ghost use Rattle.ftd_ports.specs.Writing.{Writes};
 ghost use Rattle.ftd_reports.specs.Columns.{left_in};
 ghost use Rattle.ftd_reports.specs.Agendas.{agenda_head, owed_head, form_number, agenda_line};
-ghost use Rattle.ftd_reports.specs.Agendas.{owner_text, deposit_text, left_line, left_cents};
+ghost use Rattle.ftd_reports.specs.Agendas.{owner_text, deposit_text, left_line};
 ghost use Rattle.ftd_reports.specs.Agendas.{lines_text};
 ghost use Rattle.ftd_reports.specs.Agendas.{agenda_text, owed_text};
 
+use crate::totals::{Left, left_of, total};
 use crate::values::{amount_column, day_bytes, rule_column, total_column, verdict_name};
 use ftd_days::{Cents, Day};
 use ftd_machine::AgendaRow;
@@ -33,12 +31,8 @@ pub fn write_agenda<W: Target>(
     rows: &[AgendaRow],
     target: &mut W,
 ) -> Result<(), WriteFault>
-    ensures ok { OnOk result
-        (Appends (W.taken target.old) (W.taken target.new) (agenda_text from to as_of rows.now)) }
-    ensures err { OnErr result
-        (WritesPrefix (W.taken target.old) (W.taken target.new)
-        (agenda_text from to as_of rows.now)) }
-    ensures fault { OnErr result (W.failed target.new ≡ true) }
+    ensures { Writes result (W.taken target.old) (W.taken target.new)
+        (W.failed target.new) (agenda_text from to as_of rows.now) }
 {
     write_agenda_head(from, to, as_of, target)?;
     write_lines(rows, target)
@@ -53,12 +47,8 @@ pub fn write_owed<W: Target>(
     rows: &[AgendaRow],
     target: &mut W,
 ) -> Result<(), WriteFault>
-    ensures ok { OnOk result
-        (Appends (W.taken target.old) (W.taken target.new) (owed_text until as_of rows.now)) }
-    ensures err { OnErr result
-        (WritesPrefix (W.taken target.old) (W.taken target.new)
-        (owed_text until as_of rows.now)) }
-    ensures fault { OnErr result (W.failed target.new ≡ true) }
+    ensures { Writes result (W.taken target.old) (W.taken target.new)
+        (W.failed target.new) (owed_text until as_of rows.now) }
 {
     write_owed_head(until, as_of, target)?;
     write_lines(rows, target)
@@ -71,11 +61,8 @@ fn write_agenda_head<W: Target>(
     as_of: Day,
     target: &mut W,
 ) -> Result<(), WriteFault>
-    ensures ok { OnOk result
-        (Appends (W.taken target.old) (W.taken target.new) (agenda_head from to as_of)) }
-    ensures err { OnErr result
-        (WritesPrefix (W.taken target.old) (W.taken target.new) (agenda_head from to as_of)) }
-    ensures fault { OnErr result (W.failed target.new ≡ true) }
+    ensures { Writes result (W.taken target.old) (W.taken target.new)
+        (W.failed target.new) (agenda_head from to as_of) }
 {
     let from = day_bytes(from);
     let to = day_bytes(to);
@@ -88,11 +75,8 @@ fn write_agenda_head<W: Target>(
 
 /// Writes the first line of what is due until a day and not paid.
 fn write_owed_head<W: Target>(until: Day, as_of: Day, target: &mut W) -> Result<(), WriteFault>
-    ensures ok { OnOk result
-        (Appends (W.taken target.old) (W.taken target.new) (owed_head until as_of)) }
-    ensures err { OnErr result
-        (WritesPrefix (W.taken target.old) (W.taken target.new) (owed_head until as_of)) }
-    ensures fault { OnErr result (W.failed target.new ≡ true) }
+    ensures { Writes result (W.taken target.old) (W.taken target.new)
+        (W.failed target.new) (owed_head until as_of) }
 {
     let until = day_bytes(until);
     let as_of = day_bytes(as_of);
@@ -101,34 +85,13 @@ fn write_owed_head<W: Target>(until: Day, as_of: Day, target: &mut W) -> Result<
 
 /// Writes the lines of the rows, and the last line.
 fn write_lines<W: Target>(rows: &[AgendaRow], target: &mut W) -> Result<(), WriteFault>
-    ensures ok { OnOk result
-        (Appends (W.taken target.old) (W.taken target.new) (lines_text rows.now)) }
-    ensures err { OnErr result
-        (WritesPrefix (W.taken target.old) (W.taken target.new) (lines_text rows.now)) }
-    ensures fault { OnErr result (W.failed target.new ≡ true) }
+    ensures { Writes result (W.taken target.old) (W.taken target.new)
+        (W.failed target.new) (lines_text rows.now) }
 {
     for row in rows {
         write_row(row, target)?;
     }
-    write_total(total_left(rows), target)
-}
-
-/// What is left to pay of the rows together, in cents.
-pub fn total_left(rows: &[AgendaRow]) -> u128
-    ensures { result ≡ sum_by left_cents rows.now }
-{
-    let mut total = 0;
-    for row in rows {
-        total += u128::from(left_of(&row.row).0);
-    }
-    total
-}
-
-/// What is left to pay of a row: its amount less what was paid, or nothing.
-pub fn left_of(row: &DueRow) -> Cents
-    ensures { result.0 ≡ left_of row.now }
-{
-    Cents(row.obligation.cents.0.saturating_sub(row.paid.0))
+    write_total(total(&Left, rows), target)
 }
 
 /// The spaces that follow an account in its column.
@@ -151,11 +114,8 @@ pub fn form_bytes(form: Form) -> [u8; 3]
 /// Writes the line of a row.
 #[tactic(auto, unfolding(crate::specs::Agendas::agenda_line))]
 fn write_row<W: Target>(row: &AgendaRow, target: &mut W) -> Result<(), WriteFault>
-    ensures ok { OnOk result
-        (Appends (W.taken target.old) (W.taken target.new) (agenda_line row.now)) }
-    ensures err { OnErr result
-        (WritesPrefix (W.taken target.old) (W.taken target.new) (agenda_line row.now)) }
-    ensures fault { OnErr result (W.failed target.new ≡ true) }
+    ensures { Writes result (W.taken target.old) (W.taken target.new)
+        (W.failed target.new) (agenda_line row.now) }
 {
     write_owner(row, target)?;
     write_deposit(row, target)
@@ -163,11 +123,8 @@ fn write_row<W: Target>(row: &AgendaRow, target: &mut W) -> Result<(), WriteFaul
 
 /// Writes the columns that say when it is due and who owes it, with a space behind.
 fn write_owner<W: Target>(row: &AgendaRow, target: &mut W) -> Result<(), WriteFault>
-    ensures ok { OnOk result
-        (Appends (W.taken target.old) (W.taken target.new) (owner_text row.now)) }
-    ensures err { OnErr result
-        (WritesPrefix (W.taken target.old) (W.taken target.new) (owner_text row.now)) }
-    ensures fault { OnErr result (W.failed target.new ≡ true) }
+    ensures { Writes result (W.taken target.old) (W.taken target.new)
+        (W.failed target.new) (owner_text row.now) }
 {
     let due = day_bytes(row.row.obligation.due);
     let account = row.account.as_str();
@@ -181,11 +138,8 @@ fn write_owner<W: Target>(row: &AgendaRow, target: &mut W) -> Result<(), WriteFa
 
 /// Writes the columns that say what is to be deposited and how it stands, to the end of the line.
 fn write_deposit<W: Target>(row: &AgendaRow, target: &mut W) -> Result<(), WriteFault>
-    ensures ok { OnOk result
-        (Appends (W.taken target.old) (W.taken target.new) (deposit_text row.now)) }
-    ensures err { OnErr result
-        (WritesPrefix (W.taken target.old) (W.taken target.new) (deposit_text row.now)) }
-    ensures fault { OnErr result (W.failed target.new ≡ true) }
+    ensures { Writes result (W.taken target.old) (W.taken target.new)
+        (W.failed target.new) (deposit_text row.now) }
 {
     let obligation = row.row.obligation;
     let (mut dollars, mut paid_dollars) = (Buffer::new(), Buffer::new());
@@ -222,11 +176,8 @@ fn write_deposit<W: Target>(row: &AgendaRow, target: &mut W) -> Result<(), Write
 
 /// Writes the last line, of a sum in cents.
 fn write_total<W: Target>(total: u128, target: &mut W) -> Result<(), WriteFault>
-    ensures ok { OnOk result
-        (Appends (W.taken target.old) (W.taken target.new) (left_line total)) }
-    ensures err { OnErr result
-        (WritesPrefix (W.taken target.old) (W.taken target.new) (left_line total)) }
-    ensures fault { OnErr result (W.failed target.new ≡ true) }
+    ensures { Writes result (W.taken target.old) (W.taken target.new)
+        (W.failed target.new) (left_line total) }
 {
     let mut dollars = Buffer::new();
     let total = total_column(total, &mut dollars);

@@ -1,9 +1,8 @@
 //! The text of a due list.
 
-ghost use Rattle.std.specs.Prelude.{◌≡◌, ◌<◌, true, OnOk, OnErr};
+ghost use Rattle.std.specs.Prelude.{◌<◌};
 ghost use Rattle.std.specs.List.{sum_by};
-ghost use Rattle.std.specs.Io.KnownBytes.{Appends};
-ghost use Rattle.ftd_ports.specs.Writing.{WritesPrefix};
+ghost use Rattle.ftd_ports.specs.Writing.{Writes};
 ghost use Rattle.ftd_rules.specs.Verdicts.{amount_of};
 ghost use Rattle.ftd_reports.specs.DueLists.{due_head, due_line, total_line, due_text};
 
@@ -25,13 +24,8 @@ pub fn due_list<W: Target>(
     target: &mut W,
 ) -> Result<(), WriteFault>
     requires amounts { sum_by amount_of rows.now < 6_000_000_000_000_000 }
-    ensures ok { OnOk result
-        (Appends (W.taken target.old) (W.taken target.new)
-        (due_text account.now quarter as_of rows.now)) }
-    ensures err { OnErr result
-        (WritesPrefix (W.taken target.old) (W.taken target.new)
-        (due_text account.now quarter as_of rows.now)) }
-    ensures fault { OnErr result (W.failed target.new ≡ true) }
+    ensures { Writes result (W.taken target.old) (W.taken target.new)
+        (W.failed target.new) (due_text account.now quarter as_of rows.now) }
 {
     write_head(account, quarter, as_of, target)?;
     let mut total = 0;
@@ -49,12 +43,8 @@ pub fn write_head<W: Target>(
     as_of: Day,
     target: &mut W,
 ) -> Result<(), WriteFault>
-    ensures ok { OnOk result
-        (Appends (W.taken target.old) (W.taken target.new) (due_head account.now quarter as_of)) }
-    ensures err { OnErr result
-        (WritesPrefix (W.taken target.old) (W.taken target.new)
-        (due_head account.now quarter as_of)) }
-    ensures fault { OnErr result (W.failed target.new ≡ true) }
+    ensures { Writes result (W.taken target.old) (W.taken target.new)
+        (W.failed target.new) (due_head account.now quarter as_of) }
 {
     let quarter = quarter_bytes(quarter);
     let as_of = day_bytes(as_of);
@@ -74,11 +64,8 @@ pub fn write_head<W: Target>(
 
 /// Writes the line of a row.
 pub fn write_row<W: Target>(row: &DueRow, target: &mut W) -> Result<(), WriteFault>
-    ensures ok { OnOk result
-        (Appends (W.taken target.old) (W.taken target.new) (due_line row.now)) }
-    ensures err { OnErr result
-        (WritesPrefix (W.taken target.old) (W.taken target.new) (due_line row.now)) }
-    ensures fault { OnErr result (W.failed target.new ≡ true) }
+    ensures { Writes result (W.taken target.old) (W.taken target.new)
+        (W.failed target.new) (due_line row.now) }
 {
     let Obligation {
         first,
@@ -117,11 +104,8 @@ pub fn write_row<W: Target>(row: &DueRow, target: &mut W) -> Result<(), WriteFau
 
 /// Writes the last line.
 pub fn write_total<W: Target>(total: Cents, target: &mut W) -> Result<(), WriteFault>
-    ensures ok { OnOk result
-        (Appends (W.taken target.old) (W.taken target.new) (total_line total.0)) }
-    ensures err { OnErr result
-        (WritesPrefix (W.taken target.old) (W.taken target.new) (total_line total.0)) }
-    ensures fault { OnErr result (W.failed target.new ≡ true) }
+    ensures { Writes result (W.taken target.old) (W.taken target.new)
+        (W.failed target.new) (total_line total.0) }
 {
     let mut dollars = Buffer::new();
     let amount = amount_column(total, &mut dollars);

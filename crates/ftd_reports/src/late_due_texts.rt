@@ -1,8 +1,8 @@
 //! A due list whose text begins with its first row.
 
-ghost use Rattle.std.specs.Prelude.{◌≡◌, ◌++◌, [], ℕ, List, Option, true, IfOk, IfErr, OnOk, OnErr};
+ghost use Rattle.std.specs.Prelude.{◌≡◌, ◌++◌, [], ℕ, List, Option, true, IfOk, IfErr, OnOk};
 ghost use Rattle.std.specs.Io.KnownBytes.{Appends};
-ghost use Rattle.ftd_ports.specs.Writing.{WritesPrefix};
+ghost use Rattle.ftd_ports.specs.Writing.{Writes, WritesPrefix};
 ghost use Rattle.ftd_rules.specs.declared.verdict.DueRow.{DueRow};
 ghost use Rattle.ftd_reports.specs.DueLists.{due_line, due_text, total_line};
 ghost use Rattle.ftd_reports.specs.LateTexts.{HasRows, waiting, writer_of};
@@ -53,15 +53,10 @@ impl<'a, W: Target> LateDueText<'a, W> {
 
     /// Writes the first line, where it still waits.
     fn begin(&mut self) -> Result<(), WriteFault>
-        ensures ok { OnOk result
-            (Appends (W.taken (writer_of self.old)) (W.taken (writer_of self.new))
-            (waiting self.old)) }
+        ensures writes { Writes result (W.taken (writer_of self.old)) (W.taken (writer_of self.new))
+            (W.failed (writer_of self.new)) (waiting self.old) }
         ensures begun { OnOk result
             (self.new ≡ record self.old { writer = self.new.writer; begun = true }) }
-        ensures err { OnErr result
-            (WritesPrefix (W.taken (writer_of self.old)) (W.taken (writer_of self.new))
-            (waiting self.old)) }
-        ensures fault { OnErr result (W.failed (writer_of self.new) ≡ true) }
     {
         if !self.begun {
             write_head(self.account, self.quarter, self.as_of, &mut self.writer)?;
@@ -72,15 +67,10 @@ impl<'a, W: Target> LateDueText<'a, W> {
 
     /// Writes the line of the row, after the first line.
     fn write(&mut self, row: &DueRow) -> Result<(), WriteFault>
-        ensures ok { OnOk result
-            (Appends (W.taken (writer_of self.old)) (W.taken (writer_of self.new))
-            (waiting self.old ++ due_line row.now)) }
+        ensures writes { Writes result (W.taken (writer_of self.old)) (W.taken (writer_of self.new))
+            (W.failed (writer_of self.new)) (waiting self.old ++ due_line row.now) }
         ensures begun { OnOk result
             (self.new ≡ record self.old { writer = self.new.writer; begun = true }) }
-        ensures err { OnErr result
-            (WritesPrefix (W.taken (writer_of self.old)) (W.taken (writer_of self.new))
-            (waiting self.old ++ due_line row.now)) }
-        ensures fault { OnErr result (W.failed (writer_of self.new) ≡ true) }
     {
         self.begin()?;
         write_row(row, &mut self.writer)
@@ -88,13 +78,8 @@ impl<'a, W: Target> LateDueText<'a, W> {
 
     /// Writes the last line, after the first line.
     fn finish(&mut self) -> Result<(), WriteFault>
-        ensures ok { OnOk result
-            (Appends (W.taken (writer_of self.old)) (W.taken (writer_of self.new))
-            (waiting self.old ++ total_line self.old.total)) }
-        ensures err { OnErr result
-            (WritesPrefix (W.taken (writer_of self.old)) (W.taken (writer_of self.new))
-            (waiting self.old ++ total_line self.old.total)) }
-        ensures fault { OnErr result (W.failed (writer_of self.new) ≡ true) }
+        ensures { Writes result (W.taken (writer_of self.old)) (W.taken (writer_of self.new))
+            (W.failed (writer_of self.new)) (waiting self.old ++ total_line self.old.total) }
     {
         let total = Cents(self.total);
         self.begin()?;

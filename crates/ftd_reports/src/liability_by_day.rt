@@ -1,9 +1,8 @@
 //! The text of Schedule B.
 
-ghost use Rattle.std.specs.Prelude.{◌≡◌, ◌<◌, ◌≤◌, true, OnOk, OnErr, length};
+ghost use Rattle.std.specs.Prelude.{◌≡◌, ◌<◌, ◌≤◌, length};
 ghost use Rattle.std.specs.List.{sum_by};
-ghost use Rattle.std.specs.Io.KnownBytes.{Appends};
-ghost use Rattle.ftd_ports.specs.Writing.{WritesPrefix};
+ghost use Rattle.ftd_ports.specs.Writing.{Writes};
 ghost use Rattle.ftd_rules.specs.Liability.{cents_of};
 ghost use Rattle.ftd_reports.specs.SchedulesB.{b_head, b_line, b_text, day_line, month_lines};
 
@@ -25,12 +24,8 @@ pub fn schedule_b<W: Target>(
     target: &mut W,
 ) -> Result<(), WriteFault>
     requires amounts { sum_by cents_of sums.now < 6_000_000_000_000_000 }
-    ensures ok { OnOk result
-        (Appends (W.taken target.old) (W.taken target.new) (b_text account.now quarter sums.now)) }
-    ensures err { OnErr result
-        (WritesPrefix (W.taken target.old) (W.taken target.new)
-        (b_text account.now quarter sums.now)) }
-    ensures fault { OnErr result (W.failed target.new ≡ true) }
+    ensures { Writes result (W.taken target.old) (W.taken target.new)
+        (W.failed target.new) (b_text account.now quarter sums.now) }
 {
     write_head(account, quarter, target)?;
     let first = 3 * quarter.quarters();
@@ -50,11 +45,8 @@ fn total_of(sums: &[DaySum]) -> Cents
 
 /// Writes the first line.
 fn write_head<W: Target>(account: &str, quarter: Quarter, target: &mut W) -> Result<(), WriteFault>
-    ensures ok { OnOk result
-        (Appends (W.taken target.old) (W.taken target.new) (b_head account.now quarter)) }
-    ensures err { OnErr result
-        (WritesPrefix (W.taken target.old) (W.taken target.new) (b_head account.now quarter)) }
-    ensures fault { OnErr result (W.failed target.new ≡ true) }
+    ensures { Writes result (W.taken target.old) (W.taken target.new)
+        (W.failed target.new) (b_head account.now quarter) }
 {
     let quarter = quarter_bytes(quarter);
     write_pieces(
@@ -67,11 +59,8 @@ fn write_head<W: Target>(account: &str, quarter: Quarter, target: &mut W) -> Res
 fn write_month<W: Target>(month: u32, sums: &[DaySum], target: &mut W) -> Result<(), WriteFault>
     requires month { month < 3600 }
     requires amounts { sum_by cents_of sums.now < 6_000_000_000_000_000 }
-    ensures ok { OnOk result
-        (Appends (W.taken target.old) (W.taken target.new) (month_lines sums.now month)) }
-    ensures err { OnErr result
-        (WritesPrefix (W.taken target.old) (W.taken target.new) (month_lines sums.now month)) }
-    ensures fault { OnErr result (W.failed target.new ≡ true) }
+    ensures { Writes result (W.taken target.old) (W.taken target.new)
+        (W.failed target.new) (month_lines sums.now month) }
 {
     let mut total = 0;
     for sum in sums {
@@ -86,11 +75,8 @@ fn write_month<W: Target>(month: u32, sums: &[DaySum], target: &mut W) -> Result
 /// Writes the line of a day.
 #[tactic(auto, unfolding(crate::specs::SchedulesB::day_line))]
 fn write_day<W: Target>(sum: &DaySum, target: &mut W) -> Result<(), WriteFault>
-    ensures ok { OnOk result
-        (Appends (W.taken target.old) (W.taken target.new) (day_line sum.now)) }
-    ensures err { OnErr result
-        (WritesPrefix (W.taken target.old) (W.taken target.new) (day_line sum.now)) }
-    ensures fault { OnErr result (W.failed target.new ≡ true) }
+    ensures { Writes result (W.taken target.old) (W.taken target.new)
+        (W.failed target.new) (day_line sum.now) }
 {
     write_line(&day_bytes(sum.day), sum.cents, target)
 }
@@ -99,11 +85,8 @@ fn write_day<W: Target>(sum: &DaySum, target: &mut W) -> Result<(), WriteFault>
 #[tactic(auto, unfolding(crate::specs::SchedulesB::b_line))]
 fn write_line<W: Target>(label: &[u8], amount: Cents, target: &mut W) -> Result<(), WriteFault>
     requires short { length label.now ≤ 12 }
-    ensures ok { OnOk result
-        (Appends (W.taken target.old) (W.taken target.new) (b_line label.now amount.0)) }
-    ensures err { OnErr result
-        (WritesPrefix (W.taken target.old) (W.taken target.new) (b_line label.now amount.0)) }
-    ensures fault { OnErr result (W.failed target.new ≡ true) }
+    ensures { Writes result (W.taken target.old) (W.taken target.new)
+        (W.failed target.new) (b_line label.now amount.0) }
 {
     let mut dollars = Buffer::new();
     let amount = amount_column(amount, &mut dollars);

@@ -1,7 +1,12 @@
 use Rattle.std.proofs.Common.{refl, inr}
-use Rattle.ftd_ports.proofs.WritingFacts.{on_err}
+use Rattle.std.specs.Prelude.{Result, Ok, Err, OnErr}
 use Rattle.ftd_connections.specs.Replying.{answered}
 use Rattle.ftd_connections.proofs.respond.respond.Goals as goal
+
+-- what holds in any case holds at an error
+on_err : {T E P : Type 0} (result : Result T E) → P → OnErr result P
+on_err (Ok x) fact = tt
+on_err (Err e) fact = fact
 
 pub returns-in-Asks-clause-err : goal.returns-in-Asks-clause-err
 returns-in-Asks-clause-err g c =

@@ -16,8 +16,4 @@ returns g c =
       c.day_bytes-3.ensures,
       c.verdict_name.ensures,
     ) at c.write_pieces.ensures in
-    record {
-      ok = rw (event_deposit_parts c.args.row.now) told.ok;
-      err = rw (event_deposit_parts c.args.row.now) told.err;
-      fault = told.fault;
-    }
+    rw (event_deposit_parts c.args.row.now) told

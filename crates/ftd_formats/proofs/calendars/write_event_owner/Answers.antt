@@ -4,7 +4,7 @@ use Rattle.ftd_formats.proofs.calendars.write_event_owner.Goals as goal
 pub returns : goal.returns
 unfolding event_owner
 returns g c =
-    let told = rw (
+    rw (
       c.as_bytes.ensures.value,
       c.as_bytes-2.ensures.value,
       c.as_str-account.ensures,
@@ -12,9 +12,4 @@ returns g c =
       c.plain_day-due.ensures,
       c.day_bytes-first.ensures,
       c.form_bytes-form.ensures,
-    ) at c.write_pieces.ensures in
-    record {
-      ok = told.ok;
-      err = told.err;
-      fault = told.fault;
-    }
+    ) at c.write_pieces.ensures

@@ -1,45 +1,27 @@
-use Rattle.std.proofs.Common.{refl}
-use Rattle.ftd_ports.proofs.WritingFacts.{begins, goes_on, breaks_off, prefix_more, last_piece}
-use Rattle.ftd_ports.proofs.WritingFacts.{last_broken, on_err}
+use Rattle.ftd_ports.proofs.WritingFacts.{then_writes, stops_in}
 use Rattle.ftd_formats.proofs.fields.write_list_with.Goals as goal
 
-pub returns-in_err-write_all-clause-err : goal.returns-in_err-write_all-clause-err
-returns-in_err-write_all-clause-err g c =
-    on_err c.from_residual.result (prefix_more _ _ _ _ _ refl c.in_err-write_all.ensures.err)
+pub returns-in_err-write_all : goal.returns-in_err-write_all
+returns-in_err-write_all g c = stops_in _ c.from_residual.ensures.0 c.in_err-write_all.ensures
 
-pub returns-in_err-write_array-clause-err : goal.returns-in_err-write_array-clause-err
-returns-in_err-write_array-clause-err g c =
-    let so_1 = goes_on _ _ _ _ _ _ _ (begins _ _) refl c.in_ok-write_all.ensures.ok in
-    on_err c.from_residual-in_err-write_array.result
-    (breaks_off _ _ _ _ _ so_1 (prefix_more _ _ _ _ _ refl c.in_err-write_array.ensures.err))
+pub returns-in_err-write_array : goal.returns-in_err-write_array
+returns-in_err-write_array g c =
+    then_writes c.in_ok-write_all.ensures (stops_in _ c.from_residual-in_err-write_array.ensures.0
+    c.in_err-write_array.ensures)
 
-pub returns-in_err-write_all-2-clause-err : goal.returns-in_err-write_all-2-clause-err
-returns-in_err-write_all-2-clause-err g c =
-    let so_1 = goes_on _ _ _ _ _ _ _ (begins _ _) refl c.in_ok-write_all.ensures.ok in
-    let so_2 = goes_on _ _ _ _ _ _ _ so_1 refl c.in_ok-write_array.ensures.ok in
-    on_err c.from_residual-in_err-write_all-2.result
-    (breaks_off _ _ _ _ _ so_2 (prefix_more _ _ _ _ _ refl c.in_err-write_all-2.ensures.err))
+pub returns-in_err-write_all-2 : goal.returns-in_err-write_all-2
+returns-in_err-write_all-2 g c =
+    then_writes c.in_ok-write_all.ensures (then_writes c.in_ok-write_array.ensures
+    (stops_in _ c.from_residual-in_err-write_all-2.ensures.0 c.in_err-write_all-2.ensures))
 
-pub returns-in_err-write_joined-clause-err : goal.returns-in_err-write_joined-clause-err
-returns-in_err-write_joined-clause-err g c =
-    let so_1 = goes_on _ _ _ _ _ _ _ (begins _ _) refl c.in_ok-write_all.ensures.ok in
-    let so_2 = goes_on _ _ _ _ _ _ _ so_1 refl c.in_ok-write_array.ensures.ok in
-    let so_3 = goes_on _ _ _ _ _ _ _ so_2 refl c.in_ok-write_all-2.ensures.ok in
-    on_err c.from_residual-in_err-write_joined.result
-    (breaks_off _ _ _ _ _ so_3 (prefix_more _ _ _ _ _ refl c.in_err-write_joined.ensures.err))
+pub returns-in_err-write_joined : goal.returns-in_err-write_joined
+returns-in_err-write_joined g c =
+    then_writes c.in_ok-write_all.ensures (then_writes c.in_ok-write_array.ensures
+    (then_writes c.in_ok-write_all-2.ensures
+    (stops_in _ c.from_residual-in_err-write_joined.ensures.0 c.in_err-write_joined.ensures)))
 
-pub returns-clause-ok : goal.returns-clause-ok
-returns-clause-ok g c =
-    let so_1 = goes_on _ _ _ _ _ _ _ (begins _ _) refl c.in_ok-write_all.ensures.ok in
-    let so_2 = goes_on _ _ _ _ _ _ _ so_1 refl c.in_ok-write_array.ensures.ok in
-    let so_3 = goes_on _ _ _ _ _ _ _ so_2 refl c.in_ok-write_all-2.ensures.ok in
-    let so_4 = goes_on _ _ _ _ _ _ _ so_3 refl c.in_ok-write_joined.ensures.ok in
-    last_piece c.write_all-3.result _ _ _ _ _ so_4 c.write_all-3.ensures.ok
-
-pub returns-clause-err : goal.returns-clause-err
-returns-clause-err g c =
-    let so_1 = goes_on _ _ _ _ _ _ _ (begins _ _) refl c.in_ok-write_all.ensures.ok in
-    let so_2 = goes_on _ _ _ _ _ _ _ so_1 refl c.in_ok-write_array.ensures.ok in
-    let so_3 = goes_on _ _ _ _ _ _ _ so_2 refl c.in_ok-write_all-2.ensures.ok in
-    let so_4 = goes_on _ _ _ _ _ _ _ so_3 refl c.in_ok-write_joined.ensures.ok in
-    last_broken c.write_all-3.result _ _ _ _ _ so_4 c.write_all-3.ensures.err
+pub returns : goal.returns
+returns g c =
+    then_writes c.in_ok-write_all.ensures (then_writes c.in_ok-write_array.ensures
+    (then_writes c.in_ok-write_all-2.ensures
+    (then_writes c.in_ok-write_joined.ensures c.write_all-3.ensures)))

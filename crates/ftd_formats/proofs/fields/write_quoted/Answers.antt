@@ -1,26 +1,15 @@
-use Rattle.std.proofs.Common.{refl}
-use Rattle.ftd_ports.proofs.WritingFacts.{begins, goes_on, breaks_off, prefix_more, last_piece}
-use Rattle.ftd_ports.proofs.WritingFacts.{last_broken, on_err}
+use Rattle.ftd_ports.proofs.WritingFacts.{then_writes, stops_in}
 use Rattle.ftd_formats.proofs.fields.write_quoted.Goals as goal
 
-pub returns-in_err-write_all-clause-err : goal.returns-in_err-write_all-clause-err
-returns-in_err-write_all-clause-err g c =
-    on_err c.from_residual.result (prefix_more _ _ _ _ _ refl c.in_err-write_all.ensures.err)
+pub returns-in_err-write_all : goal.returns-in_err-write_all
+returns-in_err-write_all g c = stops_in _ c.from_residual.ensures.0 c.in_err-write_all.ensures
 
-pub returns-in_err-write_plain-clause-err : goal.returns-in_err-write_plain-clause-err
-returns-in_err-write_plain-clause-err g c =
-    let so_1 = goes_on _ _ _ _ _ _ _ (begins _ _) refl c.in_ok-write_all.ensures.ok in
-    on_err c.from_residual-in_err-write_plain.result
-    (breaks_off _ _ _ _ _ so_1 (prefix_more _ _ _ _ _ refl c.in_err-write_plain.ensures.err))
+pub returns-in_err-write_plain : goal.returns-in_err-write_plain
+returns-in_err-write_plain g c =
+    then_writes c.in_ok-write_all.ensures (stops_in _ c.from_residual-in_err-write_plain.ensures.0
+    c.in_err-write_plain.ensures)
 
-pub returns-clause-ok : goal.returns-clause-ok
-returns-clause-ok g c =
-    let so_1 = goes_on _ _ _ _ _ _ _ (begins _ _) refl c.in_ok-write_all.ensures.ok in
-    let so_2 = goes_on _ _ _ _ _ _ _ so_1 refl c.in_ok-write_plain.ensures.ok in
-    last_piece c.write_all-2.result _ _ _ _ _ so_2 c.write_all-2.ensures.ok
-
-pub returns-clause-err : goal.returns-clause-err
-returns-clause-err g c =
-    let so_1 = goes_on _ _ _ _ _ _ _ (begins _ _) refl c.in_ok-write_all.ensures.ok in
-    let so_2 = goes_on _ _ _ _ _ _ _ so_1 refl c.in_ok-write_plain.ensures.ok in
-    last_broken c.write_all-2.result _ _ _ _ _ so_2 c.write_all-2.ensures.err
+pub returns : goal.returns
+returns g c =
+    then_writes c.in_ok-write_all.ensures (then_writes c.in_ok-write_plain.ensures
+    c.write_all-2.ensures)

@@ -1,18 +1,8 @@
-use Rattle.std.proofs.Common.{refl}
-use Rattle.ftd_ports.proofs.WritingFacts.{begins, goes_on, prefix_more, last_piece}
-use Rattle.ftd_ports.proofs.WritingFacts.{last_broken, on_err}
+use Rattle.ftd_ports.proofs.WritingFacts.{then_writes, stops_in}
 use Rattle.ftd_formats.proofs.fields.write_record.Goals as goal
 
-pub returns-in_err-write_joined-clause-err : goal.returns-in_err-write_joined-clause-err
-returns-in_err-write_joined-clause-err g c =
-    on_err c.from_residual.result (prefix_more _ _ _ _ _ refl c.in_err-write_joined.ensures.err)
+pub returns-in_err-write_joined : goal.returns-in_err-write_joined
+returns-in_err-write_joined g c = stops_in _ c.from_residual.ensures.0 c.in_err-write_joined.ensures
 
-pub returns-clause-ok : goal.returns-clause-ok
-returns-clause-ok g c =
-    let so_1 = goes_on _ _ _ _ _ _ _ (begins _ _) refl c.in_ok-write_joined.ensures.ok in
-    last_piece c.write_all.result _ _ _ _ _ so_1 c.write_all.ensures.ok
-
-pub returns-clause-err : goal.returns-clause-err
-returns-clause-err g c =
-    let so_1 = goes_on _ _ _ _ _ _ _ (begins _ _) refl c.in_ok-write_joined.ensures.ok in
-    last_broken c.write_all.result _ _ _ _ _ so_1 c.write_all.ensures.err
+pub returns : goal.returns
+returns g c = then_writes c.in_ok-write_joined.ensures c.write_all.ensures

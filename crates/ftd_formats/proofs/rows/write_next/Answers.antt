@@ -1,18 +1,8 @@
-use Rattle.std.proofs.Common.{refl}
-use Rattle.ftd_ports.proofs.WritingFacts.{begins, goes_on, prefix_more, last_piece, on_err}
-use Rattle.ftd_ports.proofs.WritingFacts.{last_broken}
+use Rattle.ftd_ports.proofs.WritingFacts.{then_writes, stops_in}
 use Rattle.ftd_formats.proofs.rows.write_next.Goals as goal
 
-pub returns-in_err-write_all-clause-err : goal.returns-in_err-write_all-clause-err
-returns-in_err-write_all-clause-err g c = on_err c.from_residual.result
-    (prefix_more _ _ _ _ _ refl c.in_err-write_all.ensures.err)
+pub returns-in_err-write_all : goal.returns-in_err-write_all
+returns-in_err-write_all g c = stops_in _ c.from_residual.ensures.0 c.in_err-write_all.ensures
 
-pub returns-clause-ok : goal.returns-clause-ok
-returns-clause-ok g c = last_piece c.write_row.result _ _ _ _ _
-    (goes_on _ _ _ _ _ _ _ (begins _ _) refl c.in_ok-write_all.ensures.ok)
-    c.write_row.ensures.ok
-
-pub returns-clause-err : goal.returns-clause-err
-returns-clause-err g c = last_broken c.write_row.result _ _ _ _ _
-    (goes_on _ _ _ _ _ _ _ (begins _ _) refl c.in_ok-write_all.ensures.ok)
-    c.write_row.ensures.err
+pub returns : goal.returns
+returns g c = then_writes c.in_ok-write_all.ensures c.write_row.ensures

@@ -1,4 +1,4 @@
-use Rattle.std.proofs.Common.{◌≤◌, length, arith}
+use Rattle.std.proofs.Common.{arith}
 use Rattle.std.proofs.lemmas.List.Sums.{prefix_len-le-length}
 use Rattle.ftd_hints.specs.Headers.{is_line_end}
 use Rattle.ftd_hints.proofs.headers.from_line.Goals as goal

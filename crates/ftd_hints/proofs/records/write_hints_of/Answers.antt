@@ -1,7 +1,7 @@
-use Rattle.std.proofs.Common.{◌≡◌, ◌-◌, [], ℕ, sym, ap, ◌∙◌, arith}
+use Rattle.std.proofs.Common.{◌≡◌, ◌-◌, [], sym, ap, ◌∙◌, arith}
 use Rattle.ftd_csv.specs.Answers.{entry_said}
 use Rattle.ftd_csv.specs.Places.{Advances}
-use Rattle.ftd_ports.proofs.WritingFacts.{begins, breaks_off, ends, goes_on, on_err, prefix_more}
+use Rattle.ftd_ports.proofs.WritingFacts.{begins, ends, goes_on, stops_after}
 use Rattle.ftd_hints.specs.Places.{hints_left}
 use Rattle.ftd_hints.proofs.Left.{none_left, none_wanted, past_bad}
 use Rattle.ftd_hints.proofs.records.write_hints_of.Goals as goal
@@ -14,10 +14,10 @@ returns-in_err-write_hint-clause-err g c =
     let goes : Advances c.loop-left.records c.advance.new.self =
     rw c.if-branch.true at c.in_ok-advance.ensures in
     let bad = sym c.entry.ensures ∙ ap entry_said c.in-Malformed.is in
-    on_err c.from_residual-in_err-write_hint.result
-    (breaks_off _ _ _ _ _ c.loop-left.invariant.written
-    (prefix_more _ _ _ _ _ (past_bad _ (c.loop-left.left - 1) _ _ _ goes bad (omega arith))
-    c.in_err-write_hint.ensures.err))
+    let stops = stops_after {r = c.from_residual-in_err-write_hint.result} _
+    c.from_residual-in_err-write_hint.ensures.0 c.loop-left.invariant.written
+    (past_bad _ (c.loop-left.left - 1) _ _ _ goes bad (omega arith)) c.in_err-write_hint.ensures in
+    stops.err
 
 pub loop-left-preserved-in-Malformed : goal.loop-left-preserved-in-Malformed
 loop-left-preserved-in-Malformed g c =

@@ -1,96 +1,53 @@
-use Rattle.std.proofs.Common.{refl}
-use Rattle.ftd_ports.proofs.WritingFacts.{begins, goes_on, breaks_off, prefix_more, last_piece}
-use Rattle.ftd_ports.proofs.WritingFacts.{last_broken, on_err}
+use Rattle.ftd_ports.proofs.WritingFacts.{then_writes, stops_in}
 use Rattle.ftd_formats.specs.Fields.{object_told}
 use Rattle.ftd_listings.proofs.explanation_objects.write_members.Goals as goal
 
-pub returns-in_err-write_object_member-clause-err :
-    goal.returns-in_err-write_object_member-clause-err
+pub returns-in_err-write_object_member : goal.returns-in_err-write_object_member
 unfolding object_told
-returns-in_err-write_object_member-clause-err g c =
-    on_err c.from_residual.result
-    (prefix_more _ _ _ _ _ refl
-    (rw c.obligation_members-obligation.ensures at c.in_err-write_object_member.ensures.err))
+returns-in_err-write_object_member g c =
+    stops_in _ c.from_residual.ensures.0 (rw c.obligation_members-obligation.ensures at
+    c.in_err-write_object_member.ensures)
 
-pub returns-in_err-write_object_member-2-clause-err :
-    goal.returns-in_err-write_object_member-2-clause-err
+pub returns-in_err-write_object_member-2 : goal.returns-in_err-write_object_member-2
 unfolding object_told
-returns-in_err-write_object_member-2-clause-err g c =
-    let so_1 = goes_on _ _ _ _ _ _ _ (begins _ _) refl
-    (rw c.obligation_members-obligation.ensures at c.in_ok-write_object_member.ensures.ok) in
-    on_err c.from_residual-in_err-write_object_member-2.result
-    (breaks_off _ _ _ _ _ so_1
-    (prefix_more _ _ _ _ _ refl
-    (rw c.status_members-status.ensures at c.in_err-write_object_member-2.ensures.err)))
+returns-in_err-write_object_member-2 g c =
+    then_writes (rw c.obligation_members-obligation.ensures at c.in_ok-write_object_member.ensures)
+    (stops_in _ c.from_residual-in_err-write_object_member-2.ensures.0
+    (rw c.status_members-status.ensures at c.in_err-write_object_member-2.ensures))
 
-pub returns-in_err-write_array_member-clause-err : goal.returns-in_err-write_array_member-clause-err
+pub returns-in_err-write_array_member : goal.returns-in_err-write_array_member
 unfolding object_told
-returns-in_err-write_array_member-clause-err g c =
-    let so_1 = goes_on _ _ _ _ _ _ _ (begins _ _) refl
-    (rw c.obligation_members-obligation.ensures at c.in_ok-write_object_member.ensures.ok) in
-    let so_2 = goes_on _ _ _ _ _ _ _ so_1 refl
-    (rw c.status_members-status.ensures at c.in_ok-write_object_member-2.ensures.ok) in
-    on_err c.from_residual-in_err-write_array_member.result
-    (breaks_off _ _ _ _ _ so_2
-    (prefix_more _ _ _ _ _ refl (rw c.as_slice.ensures at c.in_err-write_array_member.ensures.err)))
+returns-in_err-write_array_member g c =
+    then_writes (rw c.obligation_members-obligation.ensures at c.in_ok-write_object_member.ensures)
+    (then_writes (rw c.status_members-status.ensures at c.in_ok-write_object_member-2.ensures)
+    (stops_in _ c.from_residual-in_err-write_array_member.ensures.0
+    (rw c.as_slice.ensures at c.in_err-write_array_member.ensures)))
 
-pub returns-in_err-write_array_member-2-clause-err :
-    goal.returns-in_err-write_array_member-2-clause-err
+pub returns-in_err-write_array_member-2 : goal.returns-in_err-write_array_member-2
 unfolding object_told
-returns-in_err-write_array_member-2-clause-err g c =
-    let so_1 = goes_on _ _ _ _ _ _ _ (begins _ _) refl
-    (rw c.obligation_members-obligation.ensures at c.in_ok-write_object_member.ensures.ok) in
-    let so_2 = goes_on _ _ _ _ _ _ _ so_1 refl
-    (rw c.status_members-status.ensures at c.in_ok-write_object_member-2.ensures.ok) in
-    let so_3 = goes_on _ _ _ _ _ _ _ so_2 refl
-    (rw c.as_slice.ensures at c.in_ok-write_array_member.ensures.ok) in
-    on_err c.from_residual-in_err-write_array_member-2.result
-    (breaks_off _ _ _ _ _ so_3
-    (prefix_more _ _ _ _ _ refl
-    (rw c.as_slice-2.ensures at c.in_err-write_array_member-2.ensures.err)))
+returns-in_err-write_array_member-2 g c =
+    then_writes (rw c.obligation_members-obligation.ensures at c.in_ok-write_object_member.ensures)
+    (then_writes (rw c.status_members-status.ensures at c.in_ok-write_object_member-2.ensures)
+    (then_writes (rw c.as_slice.ensures at c.in_ok-write_array_member.ensures)
+    (stops_in _ c.from_residual-in_err-write_array_member-2.ensures.0
+    (rw c.as_slice-2.ensures at c.in_err-write_array_member-2.ensures))))
 
-pub returns-in_err-write_return_due-clause-err : goal.returns-in_err-write_return_due-clause-err
+pub returns-in_err-write_return_due : goal.returns-in_err-write_return_due
 unfolding object_told
-returns-in_err-write_return_due-clause-err g c =
-    let so_1 = goes_on _ _ _ _ _ _ _ (begins _ _) refl
-    (rw c.obligation_members-obligation.ensures at c.in_ok-write_object_member.ensures.ok) in
-    let so_2 = goes_on _ _ _ _ _ _ _ so_1 refl
-    (rw c.status_members-status.ensures at c.in_ok-write_object_member-2.ensures.ok) in
-    let so_3 = goes_on _ _ _ _ _ _ _ so_2 refl
-    (rw c.as_slice.ensures at c.in_ok-write_array_member.ensures.ok) in
-    let so_4 = goes_on _ _ _ _ _ _ _ so_3 refl
-    (rw c.as_slice-2.ensures at c.in_ok-write_array_member-2.ensures.ok) in
-    on_err c.from_residual-in_err-write_return_due.result
-    (breaks_off _ _ _ _ _ so_4 (prefix_more _ _ _ _ _ refl c.in_err-write_return_due.ensures.err))
+returns-in_err-write_return_due g c =
+    then_writes (rw c.obligation_members-obligation.ensures at c.in_ok-write_object_member.ensures)
+    (then_writes (rw c.status_members-status.ensures at c.in_ok-write_object_member-2.ensures)
+    (then_writes (rw c.as_slice.ensures at c.in_ok-write_array_member.ensures)
+    (then_writes (rw c.as_slice-2.ensures at c.in_ok-write_array_member-2.ensures)
+    (stops_in _ c.from_residual-in_err-write_return_due.ensures.0
+    c.in_err-write_return_due.ensures))))
 
-pub returns-clause-ok : goal.returns-clause-ok
+pub returns : goal.returns
 unfolding object_told
-returns-clause-ok g c =
-    let so_1 = goes_on _ _ _ _ _ _ _ (begins _ _) refl
-    (rw c.obligation_members-obligation.ensures at c.in_ok-write_object_member.ensures.ok) in
-    let so_2 = goes_on _ _ _ _ _ _ _ so_1 refl
-    (rw c.status_members-status.ensures at c.in_ok-write_object_member-2.ensures.ok) in
-    let so_3 = goes_on _ _ _ _ _ _ _ so_2 refl
-    (rw c.as_slice.ensures at c.in_ok-write_array_member.ensures.ok) in
-    let so_4 = goes_on _ _ _ _ _ _ _ so_3 refl
-    (rw c.as_slice-2.ensures at c.in_ok-write_array_member-2.ensures.ok) in
-    let so_5 = goes_on _ _ _ _ _ _ _ so_4 refl
-    c.in_ok-write_return_due.ensures.ok in
-    last_piece c.write_array_member-3.result _ _ _ _ _ so_5
-    (rw c.as_slice-3.ensures at c.write_array_member-3.ensures.ok)
-
-pub returns-clause-err : goal.returns-clause-err
-unfolding object_told
-returns-clause-err g c =
-    let so_1 = goes_on _ _ _ _ _ _ _ (begins _ _) refl
-    (rw c.obligation_members-obligation.ensures at c.in_ok-write_object_member.ensures.ok) in
-    let so_2 = goes_on _ _ _ _ _ _ _ so_1 refl
-    (rw c.status_members-status.ensures at c.in_ok-write_object_member-2.ensures.ok) in
-    let so_3 = goes_on _ _ _ _ _ _ _ so_2 refl
-    (rw c.as_slice.ensures at c.in_ok-write_array_member.ensures.ok) in
-    let so_4 = goes_on _ _ _ _ _ _ _ so_3 refl
-    (rw c.as_slice-2.ensures at c.in_ok-write_array_member-2.ensures.ok) in
-    let so_5 = goes_on _ _ _ _ _ _ _ so_4 refl
-    c.in_ok-write_return_due.ensures.ok in
-    last_broken c.write_array_member-3.result _ _ _ _ _ so_5
-    (rw c.as_slice-3.ensures at c.write_array_member-3.ensures.err)
+returns g c =
+    then_writes (rw c.obligation_members-obligation.ensures at c.in_ok-write_object_member.ensures)
+    (then_writes (rw c.status_members-status.ensures at c.in_ok-write_object_member-2.ensures)
+    (then_writes (rw c.as_slice.ensures at c.in_ok-write_array_member.ensures)
+    (then_writes (rw c.as_slice-2.ensures at c.in_ok-write_array_member-2.ensures)
+    (then_writes c.in_ok-write_return_due.ensures
+    (rw c.as_slice-3.ensures at c.write_array_member-3.ensures)))))

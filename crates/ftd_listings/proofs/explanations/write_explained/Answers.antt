@@ -1,15 +1,52 @@
-use Rattle.std.proofs.Common.{refl}
-use Rattle.ftd_ports.proofs.WritingFacts.{begins, goes_on, prefix_more, last_broken, on_err}
+use Rattle.ftd_ports.proofs.WritingFacts.{then_writes, stops_in}
 use Rattle.ftd_listings.specs.Explanations.{explanation_text}
 use Rattle.ftd_listings.proofs.explanations.write_explained.Goals as goal
 
-pub returns-in_err-write_why-clause-err : goal.returns-in_err-write_why-clause-err
+pub returns-in_err-write_obligation : goal.returns-in_err-write_obligation
 unfolding explanation_text
-returns-in_err-write_why-clause-err g c = on_err c.from_residual.result
-    (prefix_more _ _ _ _ _ refl c.in_err-write_why.ensures.err)
+returns-in_err-write_obligation g c =
+    stops_in _ c.from_residual.ensures.0 c.in_err-write_obligation.ensures
 
-pub returns-clause-err : goal.returns-clause-err
+pub returns-in_err-write_schedule : goal.returns-in_err-write_schedule
 unfolding explanation_text
-returns-clause-err g c = last_broken c.write_rest.result _ _ _ _ _
-    (goes_on _ _ _ _ _ _ _ (begins _ _) refl c.in_ok-write_why.ensures.ok)
-    c.write_rest.ensures.err
+returns-in_err-write_schedule g c =
+    then_writes c.in_ok-write_obligation.ensures
+    (stops_in _ c.from_residual-in_err-write_schedule.ensures.0
+    c.in_err-write_schedule.ensures)
+
+pub returns-in_err-write_table : goal.returns-in_err-write_table
+unfolding explanation_text
+returns-in_err-write_table g c =
+    then_writes c.in_ok-write_obligation.ensures
+    (then_writes c.in_ok-write_schedule.ensures
+    (stops_in _ c.from_residual-in_err-write_table.ensures.0
+    (rw c.as_slice.ensures at c.in_err-write_table.ensures)))
+
+pub returns-in_err-write_table-2 : goal.returns-in_err-write_table-2
+unfolding explanation_text
+returns-in_err-write_table-2 g c =
+    then_writes c.in_ok-write_obligation.ensures
+    (then_writes c.in_ok-write_schedule.ensures
+    (then_writes (rw c.as_slice.ensures at c.in_ok-write_table.ensures)
+    (stops_in _ c.from_residual-in_err-write_table-2.ensures.0
+    (rw c.as_slice-2.ensures at c.in_err-write_table-2.ensures))))
+
+pub returns-in_err-write_return : goal.returns-in_err-write_return
+unfolding explanation_text
+returns-in_err-write_return g c =
+    then_writes c.in_ok-write_obligation.ensures
+    (then_writes c.in_ok-write_schedule.ensures
+    (then_writes (rw c.as_slice.ensures at c.in_ok-write_table.ensures)
+    (then_writes (rw c.as_slice-2.ensures at c.in_ok-write_table-2.ensures)
+    (stops_in _ c.from_residual-in_err-write_return.ensures.0
+    c.in_err-write_return.ensures))))
+
+pub returns : goal.returns
+unfolding explanation_text
+returns g c =
+    then_writes c.in_ok-write_obligation.ensures
+    (then_writes c.in_ok-write_schedule.ensures
+    (then_writes (rw c.as_slice.ensures at c.in_ok-write_table.ensures)
+    (then_writes (rw c.as_slice-2.ensures at c.in_ok-write_table-2.ensures)
+    (then_writes c.in_ok-write_return.ensures
+    (rw c.as_slice-3.ensures at c.write_table-3.ensures)))))

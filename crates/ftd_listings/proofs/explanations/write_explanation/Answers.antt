@@ -1,15 +1,11 @@
-use Rattle.std.proofs.Common.{refl}
-use Rattle.ftd_ports.proofs.WritingFacts.{begins, goes_on, prefix_more, last_broken, on_err}
+use Rattle.ftd_ports.proofs.WritingFacts.{then_writes, stops_in}
 use Rattle.ftd_listings.specs.Explanations.{explanation_told}
 use Rattle.ftd_listings.proofs.explanations.write_explanation.Goals as goal
 
-pub returns-in_err-write_head-clause-err : goal.returns-in_err-write_head-clause-err
+pub returns-in_err-write_head : goal.returns-in_err-write_head
 unfolding explanation_told
-returns-in_err-write_head-clause-err g c = on_err c.from_residual.result
-    (prefix_more _ _ _ _ _ refl c.in_err-write_head.ensures.err)
+returns-in_err-write_head g c = stops_in _ c.from_residual.ensures.0 c.in_err-write_head.ensures
 
-pub returns-clause-err : goal.returns-clause-err
+pub returns : goal.returns
 unfolding explanation_told
-returns-clause-err g c = last_broken c.write_found.result _ _ _ _ _
-    (goes_on _ _ _ _ _ _ _ (begins _ _) refl c.in_ok-write_head.ensures.ok)
-    c.write_found.ensures.err
+returns g c = then_writes c.in_ok-write_head.ensures c.write_found.ensures

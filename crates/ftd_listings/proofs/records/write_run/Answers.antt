@@ -2,10 +2,6 @@ use Rattle.ftd_formats.specs.Fields.{record_told}
 use Rattle.ftd_listings.specs.KeptForms.{run_record}
 use Rattle.ftd_listings.proofs.records.write_run.Goals as goal
 
-pub returns-clause-ok : goal.returns-clause-ok
+pub returns : goal.returns
 unfolding run_record record_told
-returns-clause-ok g c = rw c.run_fields.ensures.plain at c.write_record.ensures.ok
-
-pub returns-clause-err : goal.returns-clause-err
-unfolding run_record record_told
-returns-clause-err g c = rw c.run_fields.ensures.plain at c.write_record.ensures.err
+returns g c = rw c.run_fields.ensures.plain at c.write_record.ensures

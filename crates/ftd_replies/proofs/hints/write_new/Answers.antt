@@ -1,7 +1,4 @@
 use Rattle.ftd_replies.proofs.hints.write_new.Goals as goal
 
-pub returns-clause-ok : goal.returns-clause-ok
-returns-clause-ok g c = rw c.in-Some.is (rw c.day_bytes-text.ensures at c.write_on.ensures.ok)
-
-pub returns-clause-err : goal.returns-clause-err
-returns-clause-err g c = rw c.in-Some.is (rw c.day_bytes-text.ensures at c.write_on.ensures.err)
+pub returns : goal.returns
+returns g c = rw c.in-Some.is (rw c.day_bytes-text.ensures at c.write_on.ensures)

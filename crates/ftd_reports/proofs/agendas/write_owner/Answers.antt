@@ -20,8 +20,4 @@ returns g c =
       c.day_bytes-due.ensures,
       c.form_bytes-form.ensures,
     ) at c.write_pieces.ensures in
-    record {
-      ok = rw line told.ok;
-      err = rw line told.err;
-      fault = told.fault;
-    }
+    rw line told

@@ -1,15 +1,11 @@
-use Rattle.std.proofs.Common.{refl}
-use Rattle.ftd_ports.proofs.WritingFacts.{begins, goes_on, prefix_more, last_broken, on_err}
+use Rattle.ftd_ports.proofs.WritingFacts.{then_writes, stops_in}
 use Rattle.ftd_reports.specs.Agendas.{agenda_line}
 use Rattle.ftd_reports.proofs.agendas.write_row.Goals as goal
 
-pub returns-in_err-write_owner-clause-err : goal.returns-in_err-write_owner-clause-err
+pub returns-in_err-write_owner : goal.returns-in_err-write_owner
 unfolding agenda_line
-returns-in_err-write_owner-clause-err g c = on_err c.from_residual.result
-    (prefix_more _ _ _ _ _ refl c.in_err-write_owner.ensures.err)
+returns-in_err-write_owner g c = stops_in _ c.from_residual.ensures.0 c.in_err-write_owner.ensures
 
-pub returns-clause-err : goal.returns-clause-err
+pub returns : goal.returns
 unfolding agenda_line
-returns-clause-err g c = last_broken c.write_deposit.result _ _ _ _ _
-    (goes_on _ _ _ _ _ _ _ (begins _ _) refl c.in_ok-write_owner.ensures.ok)
-    c.write_deposit.ensures.err
+returns g c = then_writes c.in_ok-write_owner.ensures c.write_deposit.ensures

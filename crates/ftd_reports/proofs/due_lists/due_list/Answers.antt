@@ -1,15 +1,13 @@
 use Rattle.std.proofs.Common.{refl, arith}
 use Rattle.ftd_rules.specs.Verdicts.{amount_of}
 use Rattle.ftd_reports.specs.DueLists.{due_line, total_line, due_text}
-use Rattle.ftd_ports.proofs.WritingFacts.{begins, goes_on, breaks_off, prefix_more, last_piece}
-use Rattle.ftd_ports.proofs.WritingFacts.{last_broken, on_err}
+use Rattle.ftd_ports.proofs.WritingFacts.{begins, goes_on, stops_in, stops_after, ends_in}
 use Rattle.ftd_reports.proofs.LineFacts.{rows_at, amounts_at, rows_end}
 use Rattle.ftd_reports.proofs.due_lists.due_list.Goals as goal
 
-pub returns-in_err-write_head-clause-err : goal.returns-in_err-write_head-clause-err
+pub returns-in_err-write_head : goal.returns-in_err-write_head
 unfolding due_text
-returns-in_err-write_head-clause-err g c = on_err c.from_residual.result
-    (prefix_more _ _ _ _ _ refl c.in_err-write_head.ensures.err)
+returns-in_err-write_head g c = stops_in _ c.from_residual.ensures.0 c.in_err-write_head.ensures
 
 pub loop-row-init : goal.loop-row-init
 unfolding due_text
@@ -19,12 +17,11 @@ loop-row-init g c =
       total = omega arith;
     }
 
-pub returns-in_err-write_row-clause-err : goal.returns-in_err-write_row-clause-err
-returns-in_err-write_row-clause-err g c =
-    on_err c.from_residual-in_err-write_row.result
-    (breaks_off _ _ _ _ _ c.loop-row.invariant.written
-    (prefix_more _ _ _ _ _ (rows_at due_line c.args.rows.now c.loop-row.row-index
-    c.row-item.result _ c.loop-row-test.true c.row-item.is) c.in_err-write_row.ensures.err))
+pub returns-in_err-write_row : goal.returns-in_err-write_row
+returns-in_err-write_row g c =
+    stops_after _ c.from_residual-in_err-write_row.ensures.0 c.loop-row.invariant.written
+    (rows_at due_line c.args.rows.now c.loop-row.row-index c.row-item.result _ c.loop-row-test.true
+    c.row-item.is) c.in_err-write_row.ensures
 
 pub loop-row-preserved : goal.loop-row-preserved
 loop-row-preserved g c =
@@ -37,16 +34,9 @@ loop-row-preserved g c =
           omega arith;
     }
 
-pub returns-clause-ok : goal.returns-clause-ok
-returns-clause-ok g c =
-    last_piece c.write_total.result _ _ _ _ _
+pub returns : goal.returns
+returns g c =
+    ends_in
     (rw (← rows_end due_line amount_of total_line c.args.rows.now c.loop-row.row-index
     c.loop-row.total c.loop-row-test.false c.loop-row.invariant.total) c.loop-row.invariant.written)
-    c.write_total.ensures.ok
-
-pub returns-clause-err : goal.returns-clause-err
-returns-clause-err g c =
-    last_broken c.write_total.result _ _ _ _ _
-    (rw (← rows_end due_line amount_of total_line c.args.rows.now c.loop-row.row-index
-    c.loop-row.total c.loop-row-test.false c.loop-row.invariant.total) c.loop-row.invariant.written)
-    c.write_total.ensures.err
+    c.write_total.ensures

@@ -29,8 +29,4 @@ returns g c =
       c.day_bytes-4.ensures,
       c.verdict_name.ensures,
     ) at c.write_pieces.ensures in
-    record {
-      ok = rw line told.ok;
-      err = rw line told.err;
-      fault = told.fault;
-    }
+    rw line told

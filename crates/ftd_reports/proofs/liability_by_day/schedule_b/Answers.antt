@@ -1,50 +1,44 @@
 use Rattle.std.proofs.Common.{refl}
-use Rattle.ftd_ports.proofs.WritingFacts.{begins, goes_on, breaks_off, prefix_more, last_piece}
-use Rattle.ftd_ports.proofs.WritingFacts.{last_broken, on_err}
+use Rattle.ftd_ports.proofs.WritingFacts.{begins, goes_on, stops_in, stops_after, ends_in}
 use Rattle.ftd_reports.specs.SchedulesB.{b_text}
 use Rattle.ftd_reports.proofs.MonthFacts.{months_rest}
 use Rattle.ftd_reports.proofs.liability_by_day.schedule_b.Goals as goal
 
-pub returns-in_err-write_head-clause-err : goal.returns-in_err-write_head-clause-err
+pub returns-in_err-write_head : goal.returns-in_err-write_head
 unfolding b_text
-returns-in_err-write_head-clause-err g c = on_err c.from_residual.result
-    (prefix_more _ _ _ _ _ refl c.in_err-write_head.ensures.err)
+returns-in_err-write_head g c = stops_in _ c.from_residual.ensures.0 c.in_err-write_head.ensures
 
-pub returns-in_err-write_month-clause-err : goal.returns-in_err-write_month-clause-err
+pub returns-in_err-write_month : goal.returns-in_err-write_month
 unfolding b_text
-returns-in_err-write_month-clause-err g c =
+returns-in_err-write_month g c =
     let head = goes_on _ _ _ _ _ _ _ (begins _ _) refl c.in_ok-write_head.ensures.ok in
-    on_err c.from_residual-in_err-write_month.result
-    (breaks_off _ _ _ _ _ head (prefix_more _ _ _ _ _ (months_rest c.args.sums.now c.args.quarter _)
-    (rw c.quarters-first.ensures.value at c.in_err-write_month.ensures.err)))
+    stops_after _ c.from_residual-in_err-write_month.ensures.0 head
+    (months_rest c.args.sums.now c.args.quarter _)
+    (rw c.quarters-first.ensures.value at c.in_err-write_month.ensures)
 
-pub returns-in_err-write_month-2-clause-err : goal.returns-in_err-write_month-2-clause-err
+pub returns-in_err-write_month-2 : goal.returns-in_err-write_month-2
 unfolding b_text
-returns-in_err-write_month-2-clause-err g c =
+returns-in_err-write_month-2 g c =
     let head = goes_on _ _ _ _ _ _ _ (begins _ _) refl c.in_ok-write_head.ensures.ok in
     let first = goes_on _ _ _ _ _ _ _ head (months_rest c.args.sums.now c.args.quarter _)
     (rw c.quarters-first.ensures.value at c.in_ok-write_month.ensures.ok) in
-    on_err c.from_residual-in_err-write_month-2.result
-    (breaks_off _ _ _ _ _ first
-    (prefix_more _ _ _ _ _ refl
-    (rw c.quarters-first.ensures.value at c.in_err-write_month-2.ensures.err)))
+    stops_after _ c.from_residual-in_err-write_month-2.ensures.0 first refl
+    (rw c.quarters-first.ensures.value at c.in_err-write_month-2.ensures)
 
-pub returns-in_err-write_month-3-clause-err : goal.returns-in_err-write_month-3-clause-err
+pub returns-in_err-write_month-3 : goal.returns-in_err-write_month-3
 unfolding b_text
-returns-in_err-write_month-3-clause-err g c =
+returns-in_err-write_month-3 g c =
     let head = goes_on _ _ _ _ _ _ _ (begins _ _) refl c.in_ok-write_head.ensures.ok in
     let first = goes_on _ _ _ _ _ _ _ head (months_rest c.args.sums.now c.args.quarter _)
     (rw c.quarters-first.ensures.value at c.in_ok-write_month.ensures.ok) in
     let second = goes_on _ _ _ _ _ _ _ first refl
     (rw c.quarters-first.ensures.value at c.in_ok-write_month-2.ensures.ok) in
-    on_err c.from_residual-in_err-write_month-3.result
-    (breaks_off _ _ _ _ _ second
-    (prefix_more _ _ _ _ _ refl
-    (rw c.quarters-first.ensures.value at c.in_err-write_month-3.ensures.err)))
+    stops_after _ c.from_residual-in_err-write_month-3.ensures.0 second refl
+    (rw c.quarters-first.ensures.value at c.in_err-write_month-3.ensures)
 
-pub returns-clause-ok : goal.returns-clause-ok
+pub returns : goal.returns
 unfolding b_text
-returns-clause-ok g c =
+returns g c =
     let head = goes_on _ _ _ _ _ _ _ (begins _ _) refl c.in_ok-write_head.ensures.ok in
     let first = goes_on _ _ _ _ _ _ _ head (months_rest c.args.sums.now c.args.quarter _)
     (rw c.quarters-first.ensures.value at c.in_ok-write_month.ensures.ok) in
@@ -52,18 +46,4 @@ returns-clause-ok g c =
     (rw c.quarters-first.ensures.value at c.in_ok-write_month-2.ensures.ok) in
     let third = goes_on _ _ _ _ _ _ _ second refl
     (rw c.quarters-first.ensures.value at c.in_ok-write_month-3.ensures.ok) in
-    last_piece c.write_line.result _ _ _ _ _ third
-    (rw (c.quarter_bytes.ensures, c.total_of.ensures) at c.write_line.ensures.ok)
-
-pub returns-clause-err : goal.returns-clause-err
-unfolding b_text
-returns-clause-err g c =
-    let head = goes_on _ _ _ _ _ _ _ (begins _ _) refl c.in_ok-write_head.ensures.ok in
-    let first = goes_on _ _ _ _ _ _ _ head (months_rest c.args.sums.now c.args.quarter _)
-    (rw c.quarters-first.ensures.value at c.in_ok-write_month.ensures.ok) in
-    let second = goes_on _ _ _ _ _ _ _ first refl
-    (rw c.quarters-first.ensures.value at c.in_ok-write_month-2.ensures.ok) in
-    let third = goes_on _ _ _ _ _ _ _ second refl
-    (rw c.quarters-first.ensures.value at c.in_ok-write_month-3.ensures.ok) in
-    last_broken c.write_line.result _ _ _ _ _ third
-    (rw (c.quarter_bytes.ensures, c.total_of.ensures) at c.write_line.ensures.err)
+    ends_in third (rw (c.quarter_bytes.ensures, c.total_of.ensures) at c.write_line.ensures)

@@ -1,7 +1,6 @@
 use Rattle.std.proofs.Common.{◌∙◌, sym, arith}
 use Rattle.ftd_reports.specs.SchedulesB.{month_lines}
-use Rattle.ftd_ports.proofs.WritingFacts.{begins, goes_on, breaks_off, prefix_more, last_piece}
-use Rattle.ftd_ports.proofs.WritingFacts.{last_broken, on_err}
+use Rattle.ftd_ports.proofs.WritingFacts.{begins, goes_on, stops_after, ends_in}
 use Rattle.ftd_reports.proofs.MonthFacts.{of_this, of_other, lines_at, sums_at, month_within}
 use Rattle.ftd_reports.proofs.MonthFacts.{month_end}
 use Rattle.ftd_reports.proofs.liability_by_day.write_month.Goals as goal
@@ -12,14 +11,13 @@ pub loop-sum-init : goal.loop-sum-init
 unfolding month_lines
 loop-sum-init g c = record { written = begins _ _; total = omega arith }
 
-pub returns-in_err-write_day-clause-err : goal.returns-in_err-write_day-clause-err
-returns-in_err-write_day-clause-err g c =
+pub returns-in_err-write_day : goal.returns-in_err-write_day
+returns-in_err-write_day g c =
     let this = of_this c.args.month c.args.sums.now c.loop-sum.sum-index c.sum-item.result
     c.loop-sum-test.true c.sum-item.is (sym c.month_number.ensures.value
     ∙ c.if-month_number-month.true) in
-    on_err c.from_residual.result
-    (breaks_off _ _ _ _ _ c.loop-sum.invariant.written
-    (prefix_more _ _ _ _ _ (lines_at _ _ _ _ this) c.in_err-write_day.ensures.err))
+    stops_after _ c.from_residual.ensures.0 c.loop-sum.invariant.written (lines_at _ _ _ _ this)
+    c.in_err-write_day.ensures
 
 pub overflow_add-total : goal.overflow_add-total
 overflow_add-total g c =
@@ -59,16 +57,9 @@ loop-sum-preserved g c = elim c.if-month_number-month.branch [
       }))
 ]
 
-pub returns-clause-ok : goal.returns-clause-ok
-returns-clause-ok g c =
+pub returns : goal.returns
+returns g c =
     let rest = month_end c.args.month c.args.sums.now c.loop-sum.sum-index c.loop-sum.total
     c.loop-sum-test.false c.loop-sum.invariant.total in
-    last_piece c.write_line.result _ _ _ _ _ (rw rest at c.loop-sum.invariant.written)
-    (rw c.month_bytes.ensures at c.write_line.ensures.ok)
-
-pub returns-clause-err : goal.returns-clause-err
-returns-clause-err g c =
-    let rest = month_end c.args.month c.args.sums.now c.loop-sum.sum-index c.loop-sum.total
-    c.loop-sum-test.false c.loop-sum.invariant.total in
-    last_broken c.write_line.result _ _ _ _ _ (rw rest at c.loop-sum.invariant.written)
-    (rw c.month_bytes.ensures at c.write_line.ensures.err)
+    ends_in (rw rest at c.loop-sum.invariant.written)
+    (rw c.month_bytes.ensures at c.write_line.ensures)

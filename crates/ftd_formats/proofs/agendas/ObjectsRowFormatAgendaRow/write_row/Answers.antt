@@ -1,10 +1,6 @@
 use Rattle.ftd_formats.specs.Fields.{object_told}
 use Rattle.ftd_formats.proofs.agendas.ObjectsRowFormatAgendaRow.write_row.Goals as goal
 
-pub returns-clause-ok : goal.returns-clause-ok
+pub returns : goal.returns
 unfolding object_told
-returns-clause-ok g c = rw c.fields_of.ensures.members at c.write_object.ensures.ok
-
-pub returns-clause-err : goal.returns-clause-err
-unfolding object_told
-returns-clause-err g c = rw c.fields_of.ensures.members at c.write_object.ensures.err
+returns g c = rw c.fields_of.ensures.members at c.write_object.ensures

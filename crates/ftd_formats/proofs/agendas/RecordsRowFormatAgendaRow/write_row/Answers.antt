@@ -1,10 +1,6 @@
 use Rattle.ftd_formats.specs.Fields.{record_told}
 use Rattle.ftd_formats.proofs.agendas.RecordsRowFormatAgendaRow.write_row.Goals as goal
 
-pub returns-clause-ok : goal.returns-clause-ok
+pub returns : goal.returns
 unfolding record_told
-returns-clause-ok g c = rw c.fields_of.ensures.plain at c.write_record.ensures.ok
-
-pub returns-clause-err : goal.returns-clause-err
-unfolding record_told
-returns-clause-err g c = rw c.fields_of.ensures.plain at c.write_record.ensures.err
+returns g c = rw c.fields_of.ensures.plain at c.write_record.ensures

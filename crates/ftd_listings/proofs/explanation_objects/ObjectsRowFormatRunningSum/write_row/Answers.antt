@@ -1,10 +1,6 @@
 use Rattle.ftd_formats.specs.Fields.{object_told}
 use Rattle.ftd_listings.proofs.explanation_objects.ObjectsRowFormatRunningSum.write_row.Goals as goal
 
-pub returns-clause-ok : goal.returns-clause-ok
+pub returns : goal.returns
 unfolding object_told
-returns-clause-ok g c = rw c.payday_members.ensures at c.write_object.ensures.ok
-
-pub returns-clause-err : goal.returns-clause-err
-unfolding object_told
-returns-clause-err g c = rw c.payday_members.ensures at c.write_object.ensures.err
+returns g c = rw c.payday_members.ensures at c.write_object.ensures

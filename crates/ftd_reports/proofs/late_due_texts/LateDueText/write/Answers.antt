@@ -1,11 +1,9 @@
-use Rattle.std.proofs.Common.{refl}
-use Rattle.ftd_ports.proofs.WritingFacts.{begins, goes_on, last_broken, on_err, prefix_more}
+use Rattle.ftd_ports.proofs.WritingFacts.{then_writes, stops_in}
 use Rattle.ftd_reports.proofs.late_due_texts.LateDueText.write.Goals as goal
 
-pub returns-in_err-begin-clause-err : goal.returns-in_err-begin-clause-err
-returns-in_err-begin-clause-err g c = on_err c.from_residual.result
-    (prefix_more _ _ _ _ _ refl c.in_err-begin.ensures.err)
+pub returns-in_err-begin-clause-writes : goal.returns-in_err-begin-clause-writes
+returns-in_err-begin-clause-writes g c =
+    stops_in _ c.from_residual.ensures.0 c.in_err-begin.ensures.writes
 
-pub returns-clause-err : goal.returns-clause-err
-returns-clause-err g c = last_broken c.write_row.result _ _ _ _ _
-    (goes_on _ _ _ _ _ _ _ (begins _ _) refl c.in_ok-begin.ensures.ok) c.write_row.ensures.err
+pub returns-clause-writes : goal.returns-clause-writes
+returns-clause-writes g c = then_writes c.in_ok-begin.ensures.writes c.write_row.ensures

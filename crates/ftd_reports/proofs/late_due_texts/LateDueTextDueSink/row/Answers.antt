@@ -20,15 +20,15 @@ returns-in-Err-clause-broke g c = λ start account quarter as_of rows others has
     record {
       part = breaks_off _ _ _ _ _ (more_left g.W.Target.taken start account quarter as_of rows
           c.args.self.now has c.args.row.now others)
-          (prefix_more _ _ _ _ _ refl c.in-Err.ensures.err);
-      reason = inl c.in-Err.ensures.fault;
+          (prefix_more _ _ _ _ _ refl c.in-Err.ensures.writes.err);
+      reason = inl c.in-Err.ensures.writes.fault;
     }
 
 pub returns-in-Ok-clause-took : goal.returns-in-Ok-clause-took
 returns-in-Ok-clause-took g c = λ start account quarter as_of rows has.
     let sum = c.in-Some.ensures.counts in
     let made = one_more g.W.Target.taken start account quarter as_of rows c.args.self.now has
-    c.args.row.now _ c.in-Ok.ensures.ok in
+    c.args.row.now _ c.in-Ok.ensures.writes.ok in
     subst (λ text. HasRows g.W.Target.taken start account quarter as_of
     (rows ++ c.args.row.now ∷ []) (record text { total = c.in-Some.total }))
     (sym c.in-Ok.ensures.begun)

@@ -1,5 +1,5 @@
-//! Tests of the desk, of imports and of `serve`: what texts of examples can't say, since a socket,
-//! a reader or a writer fails, or rows were made or changed under the desk.
+//! Tests of what texts of examples can't say, since a socket, a reader or a writer fails, rows were
+//! made or changed under the desk, or the program words a fault otherwise.
 #![tactic(auto)]
 
 #[cfg(test)]
@@ -10,6 +10,8 @@ mod changed;
 mod desks;
 #[cfg(test)]
 mod exchanges;
+#[cfg(test)]
+mod fault_texts;
 #[cfg(test)]
 mod faults;
 #[cfg(test)]
@@ -22,3 +24,5 @@ mod sockets;
 mod tables;
 #[cfg(test)]
 mod taker;
+#[cfg(test)]
+mod writers;

@@ -1,12 +1,12 @@
 use Rattle.std.proofs.Common.{◌+◌, ◌*◌, ◌≤◌, ◌≡◌, drop}
 use Rattle.std.specs.List.{sum_by}
-use Rattle.ftd_machine.specs.Agenda.{left_of}
-use Rattle.ftd_formats.proofs.due_lists.total_left.Given as goal
+use Rattle.ftd_reports.proofs.totals.total.Given as goal
 
 -- the amounts of the other rows make up the sum; and each row so far added less than 2 ^ 64
 abbrev pub invariant-loop-row : goal.invariant-loop-row
-invariant-loop-row l =
+invariant-loop-row g l =
     record {
-      total : l.total + sum_by left_of (drop l.row-index l.rows) ≡ sum_by left_of l.rows;
+      total : l.total + sum_by (g.A.Counted.counted l.counts) (drop l.row-index l.rows)
+          ≡ sum_by (g.A.Counted.counted l.counts) l.rows;
       bound : l.total ≤ 18_446_744_073_709_551_615 * l.row-index;
     }

@@ -1,0 +1,15 @@
+use Rattle.ftd_ports.proofs.WritingFacts.{then_writes, stops_in}
+use Rattle.ftd_formats.proofs.rows.write_enclosed.Goals as goal
+
+pub returns-in_err-write_all : goal.returns-in_err-write_all
+returns-in_err-write_all g c = stops_in _ c.from_residual.ensures.0 c.in_err-write_all.ensures
+
+pub returns-in_err-write_joined : goal.returns-in_err-write_joined
+returns-in_err-write_joined g c =
+    then_writes c.in_ok-write_all.ensures (stops_in _ c.from_residual-in_err-write_joined.ensures.0
+    c.in_err-write_joined.ensures)
+
+pub returns : goal.returns
+returns g c =
+    then_writes c.in_ok-write_all.ensures (then_writes c.in_ok-write_joined.ensures
+    c.write_all-2.ensures)
