@@ -6,8 +6,8 @@
 It needs Rattle's kit. Each crate is proved by `rattle`, once those that it stands on are, and the program is built by LLVM alone; the test
 command asks for more: the layout of the files, the edits that the prover must refuse, the tests, and a second compiler.
 
-The longest chain of crates that stand on one another sets the time. So each check may use half of the processors, as many checks run side by side
-as there are processors and memory, and a crate gets a lower priority the shorter the chain is that waits for it.
+The longest chain of crates that stand on one another sets the time. So each check may use all processors, as many checks run side by side as there
+are processors and memory, and a crate gets a lower priority the shorter the chain is that waits for it.
 """
 
 import os
@@ -24,8 +24,6 @@ PROGRAM = "ftd"
 # The memory that has to be free before one more check begins, in bytes.
 ROOM = 4_000_000_000
 PROCESSORS = len(os.sched_getaffinity(0))
-# How many processors a check may use: with more, it takes a quarter more processor time.
-JOBS = max(1, PROCESSORS // 2)
 
 
 def kit():
@@ -80,7 +78,7 @@ class Build:
         words = ["build", "--crate-name", name, "src/main.rt" if name == PROGRAM else "src/lib.rt"]
         for it in [*self.below[name], "std"]:
             words += ["--extern", f"{it}={self.room if it in self.below else f'{self.kit}/rlibs'}/{it}.rlib"]
-        words += ["-L", f"dependency={self.kit}/rlibs", "-L", f"dependency={self.room}", "--jobs", str(JOBS)]
+        words += ["-L", f"dependency={self.kit}/rlibs", "-L", f"dependency={self.room}", "--jobs", str(PROCESSORS)]
         words += ["--antt-project", f"{self.kit}/rattle/logic/antt-project.json", "--logic-built", f"{self.kit}/logic_built"]
         if name == PROGRAM:
             return [*words, "--toolchain", f"{self.kit}/toolchain", "--backend", "llvm", "-o", f"{self.room}/{name}.o"]
@@ -128,7 +126,7 @@ class Build:
                     self.turn.wait()
                     continue
                 self.running.add(name)
-                threads.append(threading.Thread(target=self.prove, args=(name, min(19, self.slack(name) // 300))))
+                threads.append(threading.Thread(target=self.prove, args=(name, min(19, self.slack(name) // 100))))
                 threads[-1].start()
         for it in threads:
             it.join()
