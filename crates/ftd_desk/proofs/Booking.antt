@@ -159,7 +159,7 @@ module _ {S : Type 0} (g : store.Ghosts S) where
       → Calls g mid new result (ServesKnown later request)
       → Calls g old new result (ServesKnown known request)
   serves_read old mid new found (Ok served) known later name year request same takes r c = record {
-    frame = then_call g old mid new found (Ok served) r.frame c.frame;
+    frame = then_call r.frame c.frame;
     does = λ clean t stands s stands_for sound right.
         let told = r.does (omega (arith, c.frame.crash.clean)) t stands in
         c.does clean t (subst (λ db. Stands db t) (sym told.1.0.now_is) stands) s stands_for sound
@@ -171,6 +171,6 @@ module _ {S : Type 0} (g : store.Ghosts S) where
   }
   serves_read old mid new found (Err fault) known later name year request same takes r c =
       record {
-        frame = then_call g old mid new found (Err fault) r.frame c.frame;
+        frame = then_call r.frame c.frame;
         does = λ clean. tt;
       }

@@ -196,7 +196,7 @@ module _ {S : Type 0} (g : store.Ghosts S) where
           does = λ clean. tt;
         })
     known_fails new count fault result Does is (inr read) frame =
-        fails_after g old mid new count fault result Does is read.frame frame
+        fails_after is read.frame frame
 
     -- what is told where the request goes by the number
     pub known_then : {A B : Type 0} (new : Tx S) (count : ℕ) (x : A) (y : B)
@@ -220,7 +220,7 @@ module _ {S : Type 0} (g : store.Ghosts S) where
               so (shown g new) t (inl is_kept) (d.does clean t stands);
         }
     known_then new count x y First Then so (inr read) c = record {
-      frame = then_goes g old mid new count x y read.frame c.frame;
+      frame = then_goes y read.frame c.frame;
       does = λ clean t stands.
           let told = read.does (omega (arith, c.frame.crash.clean)) t stands in
           so (shown g new) t (inr told.0)

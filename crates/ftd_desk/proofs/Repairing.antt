@@ -239,7 +239,7 @@ module _ {S : Type 0} (g : store.Ghosts S) where
       → Reads g old mid (Ok x) Fact → Calls g mid new result (Told Does)
       → Calls g old new result (Told Does)
   read_repairs old mid new x (Ok served) Fact Does r c = record {
-    frame = then_call g old mid new x (Ok served) r.frame c.frame;
+    frame = then_call r.frame c.frame;
     does = λ clean t stands.
         let told = r.does (omega (arith, c.frame.crash.clean)) t stands in
         let same = told.1.0.now_is in
@@ -247,7 +247,7 @@ module _ {S : Type 0} (g : store.Ghosts S) where
         (c.does clean t (subst (λ db. Stands db t) (sym same) stands));
   }
   read_repairs old mid new x (Err e) Fact Does r c =
-      record { frame = then_call g old mid new x (Err e) r.frame c.frame; does = λ clean. tt }
+      record { frame = then_call r.frame c.frame; does = λ clean. tt }
 
   -- so where a number was known before, that was kept or read
   pub known_repairs : (old mid new : Tx S) (known : Option ℕ) (IsCount : ℕ → Tables → Type 0)

@@ -74,7 +74,7 @@ module _ {S : Type 0} (g : store.Ghosts S) (known : Known) where
       (ServesKnown before.known request)
       → Calls g old new (Ok all) (ServesAll known (requests ++ request ∷ []))
   serves_more old mid new requests before request served all answers later p q = record {
-    frame = then_goes g old mid new before served all p.frame q.frame;
+    frame = then_goes all p.frame q.frame;
     does = λ clean t stands s stands_for sound counted.
         let first = p.does (omega (arith, q.frame.crash.clean)) t stands s stands_for sound
         counted in

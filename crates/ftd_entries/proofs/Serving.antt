@@ -1,11 +1,12 @@
 -- What follows of the calls of a request, one after the other.
-use Rattle.std.proofs.Common.{◌≡◌, Ok, refl, sym, subst, arith}
+use Rattle.std.proofs.Common.{Ok, sym, subst, arith}
 use Rattle.sqlite.specs.State as database
 use Rattle.sqlite.specs.Store as store
 use Rattle.ftd_schema.specs.Standing.{Tables, Stands}
 use Rattle.ftd_store.specs.declared.tx.Tx.{Tx}
 use Rattle.ftd_store.specs.Frame.{Calls, Reads, Writes, Rewrites}
 use Rattle.ftd_store.proofs.Going.{goes_on, then_goes}
+use Rattle.ftd_store.proofs.Turning.{writes_turn}
 use Rattle.ftd_machine.specs.State.{State}
 use Rattle.ftd_machine.specs.Sound.{IsSound}
 use Rattle.ftd_machine.specs.Checks.{Answer}
@@ -20,13 +21,13 @@ abbrev pub ServesWhere : (Tables → Type 0) → Request → Answer → database
     → Tables → Type 0
 ServesWhere Where request answer before after t = Where t → Serves request answer before after t
 
-module _ {S : Type 0} (g : store.Ghosts S) (Where : Tables → Type 0) (request : Request) where
+module _ {S : Type 0} {g : store.Ghosts S} (Where : Tables → Type 0) (request : Request) where
   -- what was read decides, and the state stays
-  pub served_looked_where : {A : Type 0} (old new : Tx S) (x : A) (answer : Answer)
-      (Fact : A → Tables → Type 0) → Reads g old new (Ok x) Fact
+  pub served_looked_where : {A : Type 0} {old new : Tx S} {x : A} {Fact : A → Tables → Type 0}
+      (answer : Answer) → Reads g old new (Ok x) Fact
       → ((t : Tables) (s : State) → StandsFor t s → IsSound s → Where t → Fact x t
       → Step s request answer s) → Calls g old new (Ok answer) (ServesWhere Where request)
-  served_looked_where old new x answer Fact r decides = record {
+  served_looked_where {old = old} {new = new} {x = x} answer r decides = record {
     frame = goes_on g old new x answer r.frame;
     does = λ clean t stands known s stands_for sound.
         let told = r.does clean t stands in (
@@ -43,14 +44,14 @@ module _ {S : Type 0} (g : store.Ghosts S) (Where : Tables → Type 0) (request 
 
   -- what was read lets the change pass, which makes other rows, and these stand for the machine's
   -- next state
-  pub served_turned_where : {A B : Type 0} (old mid new : Tx S) (x : A) (y : B) (answer : Answer)
-      (Fact : A → Tables → Type 0) (So : B → Tables → Tables → Type 0)
+  pub served_turned_where : {A B : Type 0} {old mid new : Tx S} {x : A} {y : B}
+      {Fact : A → Tables → Type 0} {So : B → Tables → Tables → Type 0} (answer : Answer)
       → Reads g old mid (Ok x) Fact → Rewrites g mid new (Ok y) So
       → ((t u : Tables) (s : State) → StandsFor t s → IsSound s → Where t → Fact x t → So y t u
       → (next : State) × Step s request answer next × StandsFor u next)
       → Calls g old new (Ok answer) (ServesWhere Where request)
-  served_turned_where old mid new x y answer Fact So r w makes = record {
-    frame = then_goes g old mid new x y answer r.frame w.frame;
+  served_turned_where answer r w makes = record {
+    frame = then_goes answer r.frame w.frame;
     does = λ clean t stands known s stands_for sound.
         let told = r.does (omega (arith, w.frame.crash.clean)) t stands in
         let made = w.does clean t (subst (λ db. Stands db t) (sym told.1.0.now_is) stands) in
@@ -67,52 +68,51 @@ module _ {S : Type 0} (g : store.Ghosts S) (Where : Tables → Type 0) (request 
   }
 
   -- so where the rows that it makes are a function of those before
-  pub served_changed_where : {A B : Type 0} (old mid new : Tx S) (x : A) (y : B) (answer : Answer)
-      (Fact : A → Tables → Type 0) (change : Tables → Tables)
+  pub served_changed_where : {A B : Type 0} {old mid new : Tx S} {x : A} {y : B}
+      {Fact : A → Tables → Type 0} {change : Tables → Tables} (answer : Answer)
       → Reads g old mid (Ok x) Fact → Writes g mid new (Ok y) change
       → ((t : Tables) (s : State) → StandsFor t s → IsSound s → Where t → Fact x t → (next : State)
       × Step s request answer next × StandsFor (change t) next)
       → Calls g old new (Ok answer) (ServesWhere Where request)
-  served_changed_where old mid new x y answer Fact change r w makes =
-      served_turned_where old mid new x y answer Fact (λ _ t u. u ≡ change t) r
-      (record { frame = w.frame; does = λ clean t stands. (change t, refl, w.does clean t stands) })
+  served_changed_where answer r w makes =
+      served_turned_where answer r (writes_turn w)
       (λ t u s stands sound known told is. let step = makes t s stands sound known told in
       (step.0, step.1, subst (λ v. StandsFor v step.0) (sym is) step.2))
 
 -- the same, whatever the tables are
-module _ {S : Type 0} (g : store.Ghosts S) (request : Request) where
-  abbrev Always : Tables → Type 0
-  Always t = Unit {0}
+abbrev Always : Tables → Type 0
+Always t = Unit {0}
 
+module _ {S : Type 0} {g : store.Ghosts S} (request : Request) where
   always : (old new : Tx S) (answer : Answer) → Calls g old new (Ok answer)
       (ServesWhere Always request) → Calls g old new (Ok answer) (Serves request)
   always old new answer c =
       record { frame = c.frame; does = λ clean t stands. c.does clean t stands tt }
 
-  pub served_looked : {A : Type 0} (old new : Tx S) (x : A) (answer : Answer) (Fact : A → Tables
-      → Type 0) → Reads g old new (Ok x) Fact
+  pub served_looked : {A : Type 0} {old new : Tx S} {x : A} {Fact : A → Tables → Type 0}
+      (answer : Answer) → Reads g old new (Ok x) Fact
       → ((t : Tables) (s : State) → StandsFor t s → IsSound s → Fact x t → Step s request answer s)
       → Calls g old new (Ok answer) (Serves request)
-  served_looked old new x answer Fact r decides =
-      always old new answer (served_looked_where g Always request old new x answer Fact r
+  served_looked answer r decides =
+      always _ _ answer (served_looked_where Always request answer r
       (λ t s stands sound _. decides t s stands sound))
 
-  pub served_changed : {A B : Type 0} (old mid new : Tx S) (x : A) (y : B) (answer : Answer)
-      (Fact : A → Tables → Type 0) (change : Tables → Tables)
+  pub served_changed : {A B : Type 0} {old mid new : Tx S} {x : A} {y : B}
+      {Fact : A → Tables → Type 0} {change : Tables → Tables} (answer : Answer)
       → Reads g old mid (Ok x) Fact → Writes g mid new (Ok y) change
       → ((t : Tables) (s : State) → StandsFor t s → IsSound s → Fact x t → (next : State)
       × Step s request answer next × StandsFor (change t) next)
       → Calls g old new (Ok answer) (Serves request)
-  served_changed old mid new x y answer Fact change r w makes =
-      always old new answer (served_changed_where g Always request old mid new x y answer Fact
-      change r w (λ t s stands sound _. makes t s stands sound))
+  served_changed answer r w makes =
+      always _ _ answer (served_changed_where Always request answer r w
+      (λ t s stands sound _. makes t s stands sound))
 
-  pub served_turned : {A B : Type 0} (old mid new : Tx S) (x : A) (y : B) (answer : Answer)
-      (Fact : A → Tables → Type 0) (So : B → Tables → Tables → Type 0)
+  pub served_turned : {A B : Type 0} {old mid new : Tx S} {x : A} {y : B}
+      {Fact : A → Tables → Type 0} {So : B → Tables → Tables → Type 0} (answer : Answer)
       → Reads g old mid (Ok x) Fact → Rewrites g mid new (Ok y) So
       → ((t u : Tables) (s : State) → StandsFor t s → IsSound s → Fact x t → So y t u
       → (next : State) × Step s request answer next × StandsFor u next)
       → Calls g old new (Ok answer) (Serves request)
-  served_turned old mid new x y answer Fact So r w makes =
-      always old new answer (served_turned_where g Always request old mid new x y answer Fact So r w
+  served_turned answer r w makes =
+      always _ _ answer (served_turned_where Always request answer r w
       (λ t u s stands sound _. makes t u s stands sound))

@@ -6,8 +6,8 @@ use Rattle.std.specs.Prelude.{Option, Result, Ok, Err, Bool}
 use Rattle.std.specs.List.{flat_map}
 use Rattle.std.specs.Result.{IsErr}
 use denote.Bor.{Bor}
-use Rattle.std.specs.Io.KnownBytes.{Appends, Keeps}
-use Rattle.std.proofs.KnownBytes.{Appends-nil, Appends-trans, Appends-kept}
+use Rattle.std.specs.Io.KnownBytes.{Appends}
+use Rattle.std.proofs.KnownBytes.{Appends-nil, Appends-trans}
 use Rattle.ftd_ports.specs.Writing.{WritesPrefix, Writes}
 
 -- so much of a text is written, and the rest is not
@@ -16,14 +16,14 @@ pub record HasWritten (before now : Option (List ℕ)) (text rest : List ℕ) : 
   pub parts : text ≡ written ++ rest
   pub appends : Appends before now written
 
-pub begins : (before : Option (List ℕ)) (text : List ℕ) → HasWritten before before text text
-begins before text = record { written = []; parts = refl; appends = Appends-nil before }
+pub begins : {before : Option (List ℕ)} {text : List ℕ} → HasWritten before before text text
+begins {before = before} = record { written = []; parts = refl; appends = Appends-nil before }
 
 -- one more piece
-pub goes_on : (before now later : Option (List ℕ)) (text rest piece others : List ℕ)
-    → HasWritten before now text rest
+pub goes_on : {before now later : Option (List ℕ)} {text rest : List ℕ}
+    (piece others : List ℕ) → HasWritten before now text rest
     → rest ≡ piece ++ others → Appends now later piece → HasWritten before later text others
-goes_on before now later text rest piece others h e a =
+goes_on {before = before} {now = now} {later = later} piece others h e a =
     record {
       written = h.written ++ piece;
       parts = h.parts ∙ (ap (λ z. h.written ++ z) e ∙ sym (append_assoc h.written piece others));
@@ -31,18 +31,17 @@ goes_on before now later text rest piece others h e a =
     }
 
 -- all of it
-pub ends : (before now : Option (List ℕ)) (text : List ℕ) → HasWritten before now text []
+pub ends : {before now : Option (List ℕ)} {text : List ℕ} → HasWritten before now text []
     → Appends before now text
-ends before now text h =
-    let whole : h.written ≡ text = sym (h.parts ∙ append-nil h.written) in
+ends {before = before} {now = now} h =
     let P : List ℕ → Type 0 = λ z. Appends before now z in
-    subst P whole h.appends
+    subst P (sym (h.parts ∙ append-nil h.written)) h.appends
 
 -- a fault in the middle
-pub breaks_off : (before now later : Option (List ℕ)) (text rest : List ℕ)
+pub breaks_off : {before now later : Option (List ℕ)} {text rest : List ℕ}
     → HasWritten before now text rest
     → WritesPrefix now later rest → WritesPrefix before later text
-breaks_off before now later text rest h p =
+breaks_off {before = before} {now = now} {later = later} h p =
     record {
       written = h.written ++ p.written;
       unwritten = p.unwritten;
@@ -52,25 +51,14 @@ breaks_off before now later text rest h p =
     }
 
 -- a prefix of the first piece is one of the whole
-pub prefix_more : (before now : Option (List ℕ)) (piece others text : List ℕ)
+pub prefix_more : {before now : Option (List ℕ)} {piece text : List ℕ} (others : List ℕ)
     → text ≡ piece ++ others → WritesPrefix before now piece → WritesPrefix before now text
-prefix_more before now piece others text e p =
+prefix_more others e p =
     record {
       written = p.written;
       unwritten = p.unwritten ++ others;
       parts = e ∙ (ap (λ z. z ++ others) p.parts ∙ append_assoc p.written p.unwritten others);
       appends = p.appends;
-    }
-
--- a fault that took nothing
-pub nothing_more : (before now later : Option (List ℕ)) (text rest : List ℕ)
-    → HasWritten before now text rest → Keeps now later → WritesPrefix before later text
-nothing_more before now later text rest h k =
-    record {
-      written = h.written;
-      unwritten = rest;
-      parts = h.parts;
-      appends = Appends-kept before now later h.written h.appends k;
     }
 
 -- the pieces from the index on are the one at the index and those after it
@@ -90,8 +78,7 @@ nothing_written {before = before} = record { ok = Appends-nil before; err = tt; 
 pub all_written : {T E : Type 0} {x : T} {before now : Option (List ℕ)} {end : Bool}
     {text : List ℕ} → HasWritten before now text []
     → Writes {T = T} {E = E} (Ok x) before now end text
-all_written {before = before} {now = now} {text = text} h =
-    record { ok = ends before now text h; err = tt; fault = tt }
+all_written h = record { ok = ends h; err = tt; fault = tt }
 
 -- a text is written after one that was written
 pub then_writes : {T U E F : Type 0} {x : U} {r : Result T E} {before now later : Option (List ℕ)}
@@ -121,9 +108,9 @@ pub stops_in : {T U E F : Type 0} {e : F} {r : Result T E} {before later : Optio
     → Writes {T = U} {E = F} (Err e) before later end first
     → Writes r before later end (first ++ rest)
 stops_in {r = Ok x} rest is w = absurd (true≢false (sym is))
-stops_in {r = Err x} {before = before} {later = later} {first = first} rest is w = record {
+stops_in {r = Err x} rest is w = record {
   ok = tt;
-  err = prefix_more before later first rest (first ++ rest) refl w.err;
+  err = prefix_more rest refl w.err;
   fault = w.fault;
 }
 
@@ -131,19 +118,13 @@ stops_in {r = Err x} {before = before} {later = later} {first = first} rest is w
 pub ends_in : {T E : Type 0} {r : Result T E} {before now later : Option (List ℕ)} {end : Bool}
     {text rest : List ℕ} → HasWritten before now text rest → Writes r now later end rest
     → Writes r before later end text
-ends_in {r = Ok x} {before = before} {now = now} {later = later} {text = text} {rest = rest} h w =
+ends_in {r = Ok x} {rest = rest} h w =
     record {
-      ok = ends before later text
-          (goes_on before now later text rest rest [] h (sym (append-nil rest)) w.ok);
+      ok = ends (goes_on rest [] h (sym (append-nil rest)) w.ok);
       err = tt;
       fault = tt;
     }
-ends_in {r = Err e} {before = before} {now = now} {later = later} {text = text} {rest = rest} h w =
-    record {
-      ok = tt;
-      err = breaks_off before now later text rest h w.err;
-      fault = w.fault;
-    }
+ends_in {r = Err e} h w = record { ok = tt; err = breaks_off h w.err; fault = w.fault }
 
 -- a part of a text that is not written whole, after those that are written
 pub stops_after : {T U E F : Type 0} {e : F} {r : Result T E} {before now later : Option (List ℕ)}

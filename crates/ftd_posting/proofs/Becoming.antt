@@ -28,7 +28,7 @@ module _ {S : Type 0} (g : store.Ghosts S) (So : Answer → Tables → Tables �
       → Rewrites g mid new (Ok y) Turn → Calls g old new (Ok answer)
       (λ given before after. Becoming So given before.now after.now)
   becomes_turned old mid new x y answer Fact Turn so r w = record {
-    frame = then_goes g old mid new x y answer r.frame w.frame;
+    frame = then_goes answer r.frame w.frame;
     does = λ clean t stands change.
         let told = r.does (omega (arith, w.frame.crash.clean)) t stands in
         let same = told.1.0.now_is in

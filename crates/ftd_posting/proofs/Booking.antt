@@ -459,7 +459,7 @@ module _ {S : Type 0} (g : store.Ghosts S) (name : List ℕ) (number : ℕ) (run
         → Rewrites g mid new (Ok difference) Reposts
         → Calls g old new (Ok (Ok reply)) (PostsWhere name number run count book later)
     added_by old mid new r w = record {
-      frame = then_goes g old mid new kept difference (Ok reply) r.frame w.frame;
+      frame = then_goes (Ok reply) r.frame w.frame;
       does = λ clean t stands.
           let read = r.does (omega (arith, w.frame.crash.clean)) t stands in
           let made = w.does clean t (subst (λ db. Stands db t) (sym read.1.0.now_is) stands) in

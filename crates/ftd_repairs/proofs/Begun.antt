@@ -20,16 +20,14 @@ module _ {S : Type 0} (g : store.Ghosts S) where
       → IsBegun g old mid Fact → Reads g mid new (Ok x) More → Reads g old new (Ok y) Both
   begun_reads old mid new x y Fact More Both tells (inl none) r =
       subst (λ m. Reads g m new (Ok y) Both) none.0
-      (reads_on g mid new x y More Both (λ t more. tells t (none.1 t) more) r)
-  begun_reads old mid new x y Fact More Both tells (inr read) r = then_reads g old mid new tt x y
-      (λ done. Fact) More Both tells read r
+      (reads_on y Both r (λ t more. tells t (none.1 t) more))
+  begun_reads old mid new x y Fact More Both tells (inr read) r = then_reads y Both read r tells
 
   pub begun_goes : {A : Type 0} (old mid new : Tx S) (result : Result A StoreFault) (Fact : Tables
       → Type 0) → IsBegun g old mid Fact → Frame g mid new result → Frame g old new result
   begun_goes old mid new result Fact (inl none) frame = subst (λ m. Frame g m new result) none.0
       frame
-  begun_goes old mid new result Fact (inr read) frame = then_call g old mid new tt result read.frame
-      frame
+  begun_goes old mid new result Fact (inr read) frame = then_call read.frame frame
 
   -- a last reading, which may fail
   pub begun_ends : {A : Type 0} (old mid new : Tx S) (result : Result A StoreFault) (Fact : Tables

@@ -57,12 +57,9 @@ module _ {S A : Type 0} (g : store.Ghosts S) (account : List ℕ) (form : Form) 
       let Changed : Tables → Tables → Type 0 = λ t u. KnowsYears account day known t
       × (u ≡ change t) in
       let begun : Rewrites g old mid (Ok known) (λ k. Changed) =
-      turns_then g old read mid known x known (λ k t u. KnowsYears account day k t × (u ≡ t))
-      (λ y t u. u ≡ change t) (λ k. Changed)
-      (λ t u v told is. (told.0, subst (λ (z : Tables). v ≡ change z) told.1 is))
-      (reads_turn g old read known (KnowsYears account day) p) q in
-      turns_then g old mid new known d d (λ k. Changed) (RepairsRows account form day known)
-      (λ e t u. IsReposted account form day t (change t) u e)
+      turns_then known (λ k. Changed) (reads_turn p) q
+      (λ t u v told is. (told.0, subst (λ (z : Tables). v ≡ change z) told.1 is)) in
+      turns_then d (λ e t u. IsReposted account form day t (change t) u e) begun r
       (λ t u v told repairs. record {
         lines = known.lines;
         listed = told.0.listed;
@@ -74,4 +71,3 @@ module _ {S A : Type 0} (g : store.Ghosts S) (account : List ℕ) (form : Form) 
             (repairs (has_lines account day known t u told.0 (ap (λ (z : Tables). z Years) told.1
             ∙ keeps t)));
       })
-      begun r

@@ -1,6 +1,6 @@
 -- A line in the place of the one of its year, over the rows of the open years.
 use Rattle.std.proofs.Common.{◌≡◌, ◌≢◌, ℕ, ℤ, pos, ◌+◌, inl, inr, List, [], ◌∷◌, ◌++◌, map, Bool}
-use Rattle.std.proofs.Common.{true, false, ◌||◌, refl, sym, ap, ◌∙◌, subst, arith}
+use Rattle.std.proofs.Common.{true, false, refl, sym, ap, ◌∙◌, subst, arith}
 use Rattle.std.specs.Prelude.{filter, bytes_eq}
 use Rattle.std.specs.Ordering.{int_eq}
 use Rattle.std.specs.List.{list_any}

@@ -1,5 +1,5 @@
 -- How the rows of a patch differ from those that they replace.
-use Rattle.std.specs.Prelude.{ℕ, ◌≤◌, List, ◌++◌, Bool, ◌&&◌, nat_lt, map, filter}
+use Rattle.std.specs.Prelude.{ℕ, ◌≤◌, List, ◌++◌, Bool, nat_lt, map, filter}
 use Rattle.std.specs.List.Sorted.{IsPermutation}
 use Rattle.ftd_rules.specs.declared.Obligation.{Obligation}
 use Rattle.ftd_rules.specs.Obligations.{ByFirstDay, begins_on}

@@ -84,8 +84,8 @@ pub row_broken : {W : Type 0} (taken : W → Option (List ℕ)) (start after : O
     → WritesPrefix (taken (writer_of text)) after (due_line row)
     → WritesPrefix start after (due_text account quarter as_of (rows ++ row ∷ others))
 row_broken taken start after account quarter as_of rows others row text has broken =
-    breaks_off _ _ _ _ _ (text_begun taken start account quarter as_of rows others row text has)
-    (prefix_more _ _ _ _ _ refl broken)
+    breaks_off (text_begun taken start account quarter as_of rows others row text has)
+    (prefix_more _ refl broken)
 
 -- with all rows written, the last line is left
 pub all_but_last : {W : Type 0} (taken : W → Option (List ℕ)) (start : Option (List ℕ))

@@ -59,9 +59,9 @@ fails {A = A} g old new left result e is untouched failed same sound kept crash 
     })
 
 -- two calls, one after the other
-pub then_goes : {S A B C : Type 0} (g : store.Ghosts S) (old mid new : Tx S) (x : A) (y : B) (z : C)
+pub then_goes : {S A B C : Type 0} {g : store.Ghosts S} {old mid new : Tx S} {x : A} {y : B} (z : C)
     → Frame g old mid (Ok x) → Frame g mid new (Ok y) → Frame g old new (Ok z)
-then_goes g old mid new x y z p q = record {
+then_goes {g = g} {old = old} {mid = mid} {new = new} z p q = record {
   same = q.same ∙ p.same;
   told = (p.told.0, q.told.1);
   stopped = λ failed. absurd (false≢true (sym p.told.0 ∙ failed));
@@ -81,10 +81,10 @@ then_goes g old mid new x y z p q = record {
   crash = crash_then (shown g old) (shown g mid) (shown g new) p.crash q.crash;
 }
 
-pub then_fails : {S A B C : Type 0} (g : store.Ghosts S) (old mid new : Tx S) (x : A)
-    (e : StoreFault) → Frame g old mid (Ok x) → Frame {A = B} g mid new (Err e)
+pub then_fails : {S A B C : Type 0} {g : store.Ghosts S} {old mid new : Tx S} {x : A}
+    {e : StoreFault} → Frame g old mid (Ok x) → Frame {A = B} g mid new (Err e)
     → Frame {A = C} g old new (Err e)
-then_fails g old mid new x e p q = record {
+then_fails {g = g} {old = old} {mid = mid} {new = new} p q = record {
   same = q.same ∙ p.same;
   told = q.told;
   stopped = λ failed. absurd (false≢true (sym p.told.0 ∙ failed));
@@ -95,27 +95,28 @@ then_fails g old mid new x e p q = record {
 }
 
 -- two calls, whatever comes of the second
-pub then_call : {S A B : Type 0} (g : store.Ghosts S) (old mid new : Tx S) (x : A)
-    (result : Result B StoreFault) → Frame g old mid (Ok x) → Frame g mid new result
+pub then_call : {S A B : Type 0} {g : store.Ghosts S} {old mid new : Tx S} {x : A}
+    {result : Result B StoreFault} → Frame g old mid (Ok x) → Frame g mid new result
     → Frame g old new result
-then_call g old mid new x (Ok y) p q = then_goes g old mid new x y y p q
-then_call g old mid new x (Err e) p q = then_fails g old mid new x e p q
+then_call {result = Ok y} p q = then_goes y p q
+then_call {result = Err e} p q = then_fails p q
 
 -- a call that fails after another
-pub fails_after : {S A B C : Type 0} (g : store.Ghosts S) (old mid new : Tx S) (x : A)
-    (e : StoreFault) (result : Result C StoreFault) (Does : C → State → State → Tables → Type 0)
+pub fails_after : {S A B C : Type 0} {g : store.Ghosts S} {old mid new : Tx S} {x : A}
+    {e : StoreFault} {result : Result C StoreFault} {Does : C → State → State → Tables → Type 0}
     → result ≡ Err e → Frame g old mid (Ok x) → Frame {A = B} g mid new (Err e)
     → Calls g old new result Does
-fails_after {C = C} g old mid new x e result Does is p q =
+fails_after {C = C} {g = g} {old = old} {new = new} {Does = Does} is p q =
     subst (λ r. Calls {A = C} g old new r Does) (sym is)
-    (record { frame = then_fails g old mid new x e p q; does = λ clean. tt })
+    (record { frame = then_fails p q; does = λ clean. tt })
 
 -- two changes, one after the other
-pub then_writes : {S A B C : Type 0} (g : store.Ghosts S) (old mid new : Tx S) (x : A) (y : B)
-    (z : C) (f h both : Tables → Tables) → ((t : Tables) (n : TableName) → h (f t) n ≡ both t n)
-    → Writes g old mid (Ok x) f → Writes g mid new (Ok y) h → Writes g old new (Ok z) both
-then_writes g old mid new x y z f h both same p q = record {
-  frame = then_goes g old mid new x y z p.frame q.frame;
+pub then_writes : {S A B C : Type 0} {g : store.Ghosts S} {old mid new : Tx S} {x : A} {y : B}
+    {f h : Tables → Tables} (z : C) (both : Tables → Tables)
+    → Writes g old mid (Ok x) f → Writes g mid new (Ok y) h
+    → ((t : Tables) (n : TableName) → h (f t) n ≡ both t n) → Writes g old new (Ok z) both
+then_writes {g = g} {old = old} {mid = mid} {new = new} {f = f} {h = h} z both p q same = record {
+  frame = then_goes z p.frame q.frame;
   does = λ clean t stands.
       let one = p.does (omega (arith, q.frame.crash.clean)) t stands in
       let two = q.does clean (f t) one.0 in (
@@ -125,10 +126,10 @@ then_writes g old mid new x y z f h both same p q = record {
 }
 
 -- the same change in other words
-pub writes_same : {S A : Type 0} (g : store.Ghosts S) (old new : Tx S) (x : A)
-    (f h : Tables → Tables) → ((t : Tables) (n : TableName) → f t n ≡ h t n)
-    → Writes g old new (Ok x) f → Writes g old new (Ok x) h
-writes_same g old new x f h same p = record {
+pub writes_same : {S A : Type 0} {g : store.Ghosts S} {old new : Tx S} {x : A}
+    {f : Tables → Tables} (h : Tables → Tables) → Writes g old new (Ok x) f
+    → ((t : Tables) (n : TableName) → f t n ≡ h t n) → Writes g old new (Ok x) h
+writes_same {g = g} {new = new} {f = f} h p same = record {
   frame = p.frame;
   does = λ clean t stands. let one = p.does clean t stands in
       (stands_same (shown g new).now (f t) (h t) (same t) one.0, one.1);

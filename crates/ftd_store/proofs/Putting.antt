@@ -34,7 +34,7 @@ pub puts_after : {S A : Type 0} (g : store.Ghosts S) (old mid new : Tx S) (x : A
     → Writes g old new result
     (λ t. with_rows Years (put_among (filter (is_year y.account y.year) (t Years)) y (t Years)) t)
 puts_after g old mid new x (Ok z) y p ran q = record {
-  frame = then_goes g old mid new x z z p q.frame;
+  frame = then_goes z p q.frame;
   does = λ clean t stands.
       let one = (figures_set y (shown g old) (shown g mid) t stands).1
       (ran (omega (arith, q.frame.crash.clean))) in
@@ -45,4 +45,4 @@ puts_after g old mid new x (Ok z) y p ran q = record {
       );
 }
 puts_after g old mid new x (Err e) y p ran q =
-    record { frame = then_fails g old mid new x e p q.frame; does = λ clean. tt }
+    record { frame = then_fails p q.frame; does = λ clean. tt }

@@ -60,21 +60,23 @@ module _ {S A : Type 0} (g : store.Ghosts S) (old new : Tx S) where
   reads_by (Err e) sql params IsRead Fact tells q = record { frame = q.frame; does = λ clean. tt }
 
 -- what follows from what was read
-pub reads_on : {S A B : Type 0} (g : store.Ghosts S) (old new : Tx S) (x : A) (y : B)
-    (Fact : A → Tables → Type 0) (More : B → Tables → Type 0) → ((t : Tables) → Fact x t → More y t)
-    → Reads g old new (Ok x) Fact → Reads g old new (Ok y) More
-reads_on g old new x y Fact More tells r = record {
+pub reads_on : {S A B : Type 0} {g : store.Ghosts S} {old new : Tx S} {x : A}
+    {Fact : A → Tables → Type 0} (y : B) (More : B → Tables → Type 0)
+    → Reads g old new (Ok x) Fact → ((t : Tables) → Fact x t → More y t)
+    → Reads g old new (Ok y) More
+reads_on {g = g} {old = old} {new = new} {x = x} y More r tells = record {
   frame = goes_on g old new x y r.frame;
   does = λ clean t stands. let read = r.does clean t stands in (tells t read.0, read.1);
 }
 
 -- two readings, one after the other
-pub then_reads : {S A B C : Type 0} (g : store.Ghosts S) (old mid new : Tx S) (x : A) (y : B)
-    (z : C) (First : A → Tables → Type 0) (Second : B → Tables → Type 0) (Both : C → Tables
-    → Type 0) → ((t : Tables) → First x t → Second y t → Both z t)
-    → Reads g old mid (Ok x) First → Reads g mid new (Ok y) Second → Reads g old new (Ok z) Both
-then_reads g old mid new x y z First Second Both tells p q = record {
-  frame = then_goes g old mid new x y z p.frame q.frame;
+pub then_reads : {S A B C : Type 0} {g : store.Ghosts S} {old mid new : Tx S} {x : A} {y : B}
+    {First : A → Tables → Type 0} {Second : B → Tables → Type 0} (z : C)
+    (Both : C → Tables → Type 0)
+    → Reads g old mid (Ok x) First → Reads g mid new (Ok y) Second
+    → ((t : Tables) → First x t → Second y t → Both z t) → Reads g old new (Ok z) Both
+then_reads {g = g} {old = old} {mid = mid} {new = new} z Both p q tells = record {
+  frame = then_goes z p.frame q.frame;
   does = λ clean t stands.
       let one = p.does (omega (arith, q.frame.crash.clean)) t stands in
       let two = q.does clean t (subst (λ db. Stands db t) (sym one.1.0.now_is) stands) in

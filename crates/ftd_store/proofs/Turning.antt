@@ -11,7 +11,7 @@ use Rattle.ftd_store.specs.Seen.{shown}
 use Rattle.ftd_store.specs.Frame.{Frame, Calls, Reads, Writes, WritesOne, Rewrites}
 use Rattle.ftd_store.proofs.Going.{goes_on, then_goes, then_call, then_fails}
 
-module _ {S : Type 0} (g : store.Ghosts S) where
+module _ {S : Type 0} {g : store.Ghosts S} where
   -- a call that gives up
   pub gave_up : {A : Type 0} (old new : Tx S) (result : Result A StoreFault) (Does : A → State
       → State → Tables → Type 0) → Frame g old new result → is_err result ≡ true
@@ -20,16 +20,16 @@ module _ {S : Type 0} (g : store.Ghosts S) where
   gave_up old new (Err e) Does frame fails = record { frame = frame; does = λ clean. tt }
 
   -- a call that gives up after another
-  pub gave_up_after : {A B : Type 0} (old mid new : Tx S) (x : A) (result : Result B StoreFault)
-      (Does : B → State → State → Tables → Type 0) → Frame g old mid (Ok x) → Frame g mid new result
-      → is_err result ≡ true → Calls g old new result Does
-  gave_up_after old mid new x result Does first frame fails = gave_up old new result Does
-      (then_call g old mid new x result first frame) fails
+  pub gave_up_after : {A B : Type 0} {old mid new : Tx S} {x : A} {result : Result B StoreFault}
+      {Does : B → State → State → Tables → Type 0} → Frame g old mid (Ok x)
+      → Frame g mid new result → is_err result ≡ true → Calls g old new result Does
+  gave_up_after {old = old} {new = new} {result = result} {Does = Does} first frame fails =
+      gave_up old new result Does (then_call first frame) fails
 
   -- a reading leaves the rows
-  pub reads_turn : {A : Type 0} (old new : Tx S) (x : A) (Fact : A → Tables → Type 0)
+  pub reads_turn : {A : Type 0} {old new : Tx S} {x : A} {Fact : A → Tables → Type 0}
       → Reads g old new (Ok x) Fact → Rewrites g old new (Ok x) (λ y t u. Fact y t × (u ≡ t))
-  reads_turn old new x Fact r = record {
+  reads_turn {old = old} r = record {
     frame = r.frame;
     does = λ clean t stands.
         let told = r.does clean t stands in
@@ -45,38 +45,38 @@ module _ {S : Type 0} (g : store.Ghosts S) where
   }
 
   -- a change makes the rows that it says
-  pub writes_turn : {A : Type 0} (old new : Tx S) (x : A) (change : Tables → Tables)
+  pub writes_turn : {A : Type 0} {old new : Tx S} {x : A} {change : Tables → Tables}
       → Writes g old new (Ok x) change → Rewrites g old new (Ok x) (λ y t u. u ≡ change t)
-  writes_turn old new x change w =
+  writes_turn {change = change} w =
       record { frame = w.frame; does = λ clean t stands. (change t, refl, w.does clean t stands) }
 
-  pub one_turns : {A X : Type 0} (old new : Tx S) (x : A) (found : Tables → List X) (change : Tables
-      → Tables) → WritesOne g old new (Ok x) found change
+  pub one_turns : {A X : Type 0} {old new : Tx S} {x : A} {found : Tables → List X}
+      {change : Tables → Tables} → WritesOne g old new (Ok x) found change
       → Rewrites g old new (Ok x) (λ y t u. u ≡ change t)
-  one_turns old new x found change w =
+  one_turns {change = change} w =
       record {
         frame = w.frame;
         does = λ clean t stands. (change t, refl, (w.does clean t stands).1);
       }
 
   -- what follows of a change
-  pub turns_on : {A B : Type 0} (old new : Tx S) (x : A) (y : B) (So : A → Tables → Tables → Type 0)
-      (More : B → Tables → Tables → Type 0) → ((t u : Tables) → So x t u → More y t u)
-      → Rewrites g old new (Ok x) So → Rewrites g old new (Ok y) More
-  turns_on old new x y So More tells p = record {
+  pub turns_on : {A B : Type 0} {old new : Tx S} {x : A} {So : A → Tables → Tables → Type 0}
+      (y : B) (More : B → Tables → Tables → Type 0) → Rewrites g old new (Ok x) So
+      → ((t u : Tables) → So x t u → More y t u) → Rewrites g old new (Ok y) More
+  turns_on {old = old} {new = new} {x = x} y More p tells = record {
     frame = goes_on g old new x y p.frame;
     does = λ clean t stands. let one = p.does clean t stands in (one.0, tells t one.0 one.1, one.2);
   }
 
   -- two changes, one after the other
-  pub turns_then : {A B C : Type 0} (old mid new : Tx S) (x : A) (y : B) (z : C) (First : A → Tables
-      → Tables → Type 0) (Second : B → Tables → Tables → Type 0) (Both : C → Tables → Tables
-      → Type 0)
+  pub turns_then : {A B C : Type 0} {old mid new : Tx S} {x : A} {y : B}
+      {First : A → Tables → Tables → Type 0} {Second : B → Tables → Tables → Type 0} (z : C)
+      (Both : C → Tables → Tables → Type 0) → Rewrites g old mid (Ok x) First
+      → Rewrites g mid new (Ok y) Second
       → ((t u v : Tables) → First x t u → Second y u v → Both z t v)
-      → Rewrites g old mid (Ok x) First
-      → Rewrites g mid new (Ok y) Second → Rewrites g old new (Ok z) Both
-  turns_then old mid new x y z First Second Both tells p q = record {
-    frame = then_goes g old mid new x y z p.frame q.frame;
+      → Rewrites g old new (Ok z) Both
+  turns_then {old = old} {mid = mid} {new = new} z Both p q tells = record {
+    frame = then_goes z p.frame q.frame;
     does = λ clean t stands.
         let one = p.does (omega (arith, q.frame.crash.clean)) t stands in
         let two = q.does clean one.0 one.2.0 in (
@@ -91,13 +91,13 @@ module _ {S : Type 0} (g : store.Ghosts S) where
   }
 
   -- rows are read, and then others made of them
-  pub read_then_turn : {A B : Type 0} (old mid new : Tx S) (x : A) (result : Result B StoreFault)
-      (Fact : A → Tables → Type 0) (So All : B → Tables → Tables → Type 0)
-      → ((y : B) (t u : Tables) → Fact x t → So y t u → All y t u) → Reads g old mid (Ok x) Fact
-      → Rewrites g mid new result So → Rewrites g old new result All
-  read_then_turn old mid new x (Ok y) Fact So All tells r w =
-      turns_then old mid new x y y (λ z t u. Fact z t × (u ≡ t)) So All
+  pub read_then_turn : {A B : Type 0} {old mid new : Tx S} {x : A} {result : Result B StoreFault}
+      {Fact : A → Tables → Type 0} {So : B → Tables → Tables → Type 0}
+      (All : B → Tables → Tables → Type 0) → Reads g old mid (Ok x) Fact
+      → Rewrites g mid new result So
+      → ((y : B) (t u : Tables) → Fact x t → So y t u → All y t u) → Rewrites g old new result All
+  read_then_turn {result = Ok y} {So = So} All r w tells =
+      turns_then y All (reads_turn r) w
       (λ t u v known so. tells y t v known.0 (subst (λ (z : Tables). So y z v) known.1 so))
-      (reads_turn old mid x Fact r) w
-  read_then_turn old mid new x (Err e) Fact So All tells r w =
-      record { frame = then_fails g old mid new x e r.frame w.frame; does = λ clean. tt }
+  read_then_turn {result = Err e} All r w tells =
+      record { frame = then_fails r.frame w.frame; does = λ clean. tt }

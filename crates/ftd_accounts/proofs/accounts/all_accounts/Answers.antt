@@ -1,7 +1,7 @@
 use Rattle.std.proofs.Common.{rules, ◌≡◌, true}
 use Rattle.ftd_rules.specs.Lists.{are_in_order}
 use Rattle.ftd_store.proofs.Telling.{reads_on}
-use Rattle.ftd_accounts.specs.Accounts.{AreToldAccounts, KnowsAccounts, is_account_before}
+use Rattle.ftd_accounts.specs.Accounts.{KnowsAccounts, is_account_before}
 use Rattle.ftd_accounts.proofs.KeptEnrolled.{knows_accounts}
 use Rattle.ftd_accounts.proofs.AccountOrder.{accounts_in_order}
 use Rattle.ftd_accounts.proofs.accounts.all_accounts.Goals as goal
@@ -11,8 +11,6 @@ returns g c =
     let rows = c.in_ok-rows.rows in
     let order : are_in_order is_account_before rows.items ≡ true = search rules in
     record {
-      call = reads_on g.S.Store c.args.tx.now c.accounts_in_force.new.tx rows rows
-          (λ xs. AreToldAccounts xs.items) (λ xs. KnowsAccounts xs.items)
-          (λ t told. knows_accounts rows.items t (accounts_in_order rows.items order) told)
-          c.in_ok-rows.ensures.call;
+      call = reads_on rows (λ xs. KnowsAccounts xs.items) c.in_ok-rows.ensures.call
+          (λ t told. knows_accounts rows.items t (accounts_in_order rows.items order) told);
     }

@@ -1,7 +1,6 @@
 use Rattle.std.proofs.Common.{◌≡◌, ◌∙◌, subst}
 use Rattle.std.specs.List.{sum_by}
 use Rattle.ftd_rules.specs.Liability.{cents_of}
-use Rattle.ftd_store.specs.Finds.{ListsLiability}
 use Rattle.ftd_store.proofs.Telling.{reads_on}
 use Rattle.ftd_accounts.specs.Returns.{KnowsLiability}
 use Rattle.ftd_accounts.proofs.LiabilityRead.{liability_known}
@@ -15,9 +14,7 @@ returns-in-Some g c =
     let is : total.0 ≡ sum_by cents_of sums.items = subst (λ xs. total.0 ≡ sum_by cents_of xs)
     c.deref.ensures.value c.in-Some.ensures in
     record {
-      call = reads_on g.S.Store c.args.tx.now c.day_sums.new.self sums total
-          (ListsLiability name c.args.first c.args.last)
-          (KnowsLiability name c.args.first c.args.last)
+      call = reads_on total (KnowsLiability name c.args.first c.args.last) c.in_ok-sums.ensures.call
           (λ t lists s stands. is ∙ liability_known name c.args.first c.args.last sums t lists s
-          stands) c.in_ok-sums.ensures.call;
+          stands);
     }

@@ -1,4 +1,3 @@
-use Rattle.ftd_store.specs.Finds.{ListsPayments}
 use Rattle.ftd_store.proofs.Telling.{reads_on}
 use Rattle.ftd_accounts.specs.Returns.{KnowsPayments}
 use Rattle.ftd_accounts.proofs.PaymentsRead.{payments_known}
@@ -8,8 +7,6 @@ pub returns-clause-call : goal.returns-clause-call
 returns-clause-call g c =
     let name = c.args.name.now in
     let payments = c.in_ok-payments.payments in
-    reads_on g.S.Store c.args.tx.now c.payments_for.new.self payments payments
-    (ListsPayments name c.args.first c.args.last)
-    (λ ps. KnowsPayments name c.args.first c.args.last ps.items)
-    (λ t lists. payments_known name c.args.first c.args.last payments t lists)
+    reads_on payments (λ ps. KnowsPayments name c.args.first c.args.last ps.items)
     c.in_ok-payments.ensures.call
+    (λ t lists. payments_known name c.args.first c.args.last payments t lists)

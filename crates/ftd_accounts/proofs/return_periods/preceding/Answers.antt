@@ -1,6 +1,5 @@
 use Rattle.std.proofs.Common.{◌≡◌, ◌-◌, None, arith}
 use Rattle.ftd_store.proofs.Telling.{reads_on}
-use Rattle.ftd_entries.specs.Known.{KnowsFigure}
 use Rattle.ftd_accounts.specs.Returns.{KnowsPreceding}
 use Rattle.ftd_accounts.proofs.Preceding.{on_941, on_943}
 use Rattle.ftd_accounts.proofs.return_periods.preceding.Goals as goal
@@ -14,10 +13,8 @@ returns-in-F941 g c =
     let before : c.at.result ≡ quarter - 1 = (let at = c.at.ensures in
     let count = c.quarters.ensures.value in omega arith) in
     record {
-      call = reads_on g.S.Store c.args.tx.now c.figure.new.tx found found
-          (KnowsFigure name c.at.result) (KnowsPreceding name form quarter)
-          (λ t knows. on_941 name form quarter c.at.result found t c.in-F941.is before knows)
-          c.in_ok-found.ensures.call;
+      call = reads_on found (KnowsPreceding name form quarter) c.in_ok-found.ensures.call
+          (λ t knows. on_941 name form quarter c.at.result found t c.in-F941.is before knows);
     }
 
 pub returns-in-F943 : goal.returns-in-F943
@@ -25,9 +22,7 @@ returns-in-F943 g c =
     let name = c.args.name.now in
     let form = c.args.form in
     let quarter = c.args.quarter in
-    let found = c.in_ok-found.found in
     record {
-      call = reads_on g.S.Store c.args.tx.now c.figure.new.tx found None
-          (KnowsFigure name c.at.result) (KnowsPreceding name form quarter)
-          (λ t knows. on_943 name form quarter t c.in-F943.is) c.in_ok-found.ensures.call;
+      call = reads_on None (KnowsPreceding name form quarter) c.in_ok-found.ensures.call
+          (λ t knows. on_943 name form quarter t c.in-F943.is);
     }

@@ -1,7 +1,7 @@
 use Rattle.std.proofs.Common.{ap, ◌∙◌}
 use Rattle.ftd_rules.specs.Periods.{return_period_of, return_period_first, return_period_last}
 use Rattle.ftd_store.proofs.Telling.{then_reads}
-use Rattle.ftd_accounts.specs.Returns.{KnowsLiability, KnowsPayments, KnowsPreceding, KnowsPeriod}
+use Rattle.ftd_accounts.specs.Returns.{KnowsLiability, KnowsPayments, KnowsPeriod}
 use Rattle.ftd_accounts.proofs.return_periods.return_period.Goals as goal
 
 pub returns-clause-call : goal.returns-clause-call
@@ -9,19 +9,14 @@ returns-clause-call g c =
     let name = c.args.name.now in
     let form = c.args.form in
     let quarter = c.args.quarter in
-    let start = c.args.tx.now in
     let from = c.return_period-first.result.0 in
     let to = c.return_period-first.result.1 in
     let payments = c.in_ok-payments.payments in
     let total = c.in_ok-total.total in
-    let two = then_reads g.S.Store start c.payments_of.new.tx c.liability_of.new.tx payments total
-    total (λ ps. KnowsPayments name from to ps.items) (KnowsLiability name from to)
+    let two = then_reads total
     (λ n t. KnowsPayments name from to payments.items t × KnowsLiability name from to n t)
-    (λ t counts owes. (counts, owes)) c.in_ok-payments.ensures.call c.in_ok-total.ensures.call in
-    then_reads g.S.Store start c.liability_of.new.tx c.preceding.new.tx total
-    c.in_ok-preceding.preceding _ (λ n t. KnowsPayments name from to payments.items t
-    × KnowsLiability name from to n t) (KnowsPreceding name form quarter)
-    (KnowsPeriod name form quarter)
+    c.in_ok-payments.ensures.call c.in_ok-total.ensures.call (λ t counts owes. (counts, owes)) in
+    then_reads _ (KnowsPeriod name form quarter) two c.in_ok-preceding.ensures.call
     (λ t told before. record {
       first = c.return_period-first.ensures.first
           ∙ ap (λ d. return_period_first form (return_period_of form d)) c.first.ensures;
@@ -30,4 +25,4 @@ returns-clause-call g c =
       payments = told.0;
       total = told.1;
       preceding = before;
-    }) two c.in_ok-preceding.ensures.call
+    })

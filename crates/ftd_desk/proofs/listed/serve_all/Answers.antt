@@ -53,9 +53,8 @@ loop-request-preserved g c =
 
 pub returns-in_err-served-2-clause-call : goal.returns-in_err-served-2-clause-call
 returns-in_err-served-2-clause-call g c =
-    fails_after g.S.Store c.args.tx.now c.loop-request.tx c.serve_sure-in-loop-request.new.tx _
-    c.in_err-served-2.field-0.0 c.from_residual-in_err-served-2.result _
-    (search rules) c.loop-request.invariant.serves.frame c.in_err-served-2.ensures.call.frame
+    fails_after (search rules) c.loop-request.invariant.serves.frame
+    c.in_err-served-2.ensures.call.frame
 
 -- the loop has come to the end of the list
 at_end : (xs : List Request) (i : ℕ) → length xs ≤ i → i ≤ length xs → take i xs ≡ xs

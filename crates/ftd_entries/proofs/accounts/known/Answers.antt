@@ -1,4 +1,3 @@
-use Rattle.ftd_store.specs.Finds.{FindsForm, FindsInForce}
 use Rattle.ftd_store.proofs.Telling.{then_reads}
 use Rattle.ftd_entries.specs.Known.{KnowsAccount, HasForm}
 use Rattle.ftd_entries.proofs.Corrected.{in_force_known}
@@ -11,12 +10,10 @@ returns g c =
     let found = c.in_ok-found.found in
     let form = c.in_ok-form.form in
     record {
-      call = then_reads g.S.Store c.args.tx.now c.account_in_force.new.self c.form.new.self found
-          form c.joined.result (FindsInForce name) (FindsForm name) (KnowsAccount name)
-          (λ t account its. rw c.joined.ensures (in_force_known name found form t account its))
-          c.in_ok-found.ensures.call c.in_ok-form.ensures.call;
-      form = then_reads g.S.Store c.args.tx.now c.account_in_force.new.self c.form.new.self found
-          form c.joined.result (FindsInForce name) (FindsForm name) (HasForm name)
-          (λ t account its. rw c.joined.ensures (has_form name found form t its))
-          c.in_ok-found.ensures.call c.in_ok-form.ensures.call;
+      call = then_reads c.joined.result (KnowsAccount name) c.in_ok-found.ensures.call
+          c.in_ok-form.ensures.call
+          (λ t account its. rw c.joined.ensures (in_force_known name found form t account its));
+      form = then_reads c.joined.result (HasForm name) c.in_ok-found.ensures.call
+          c.in_ok-form.ensures.call
+          (λ t account its. rw c.joined.ensures (has_form name found form t its));
     }

@@ -1,8 +1,6 @@
 use Rattle.std.proofs.Common.{rules, Ok}
-use Rattle.ftd_store.specs.Changes.{with_account_correction}
 use Rattle.ftd_machine.specs.declared.replies.Reply.TheVariants.{Done}
 use Rattle.ftd_machine.specs.declared.requests.Request.TheVariants.{CorrectAccount}
-use Rattle.ftd_entries.specs.Correcting.{KnowsForCorrection, correction_of}
 use Rattle.ftd_entries.proofs.Serving.{served_looked, served_changed}
 use Rattle.ftd_entries.proofs.PutRight.{put_right_decided, put_right_done}
 use Rattle.ftd_entries.proofs.beginnings.correct_account.Goals as goal
@@ -14,9 +12,8 @@ returns-in-Some g c =
     let beginning = c.args.beginning in
     let before = c.in_ok-before.before in
     record {
-      call = served_looked g.S.Store (CorrectAccount name number beginning.start beginning.carried)
-          c.args.tx.now c.known_for_correction.new.tx before c.in-Some.answer
-          (KnowsForCorrection name number) c.in_ok-before.ensures.call
+      call = served_looked (CorrectAccount name number beginning.start beginning.carried)
+          c.in-Some.answer c.in_ok-before.ensures.call
           (put_right_decided name number beginning before c.in-Some.answer (search rules));
     }
 
@@ -27,10 +24,7 @@ returns g c =
     let beginning = c.args.beginning in
     let before = c.in_ok-before.before in
     record {
-      call = served_changed g.S.Store (CorrectAccount name number beginning.start beginning.carried)
-          c.args.tx.now c.known_for_correction.new.tx c.add_account_correction.new.self before _
-          (Ok Done) (KnowsForCorrection name number)
-          (with_account_correction name (correction_of number beginning))
+      call = served_changed (CorrectAccount name number beginning.start beginning.carried) (Ok Done)
           c.in_ok-before.ensures.call
           (rw c.correction_of.ensures at c.in_ok-add_account_correction.ensures.call)
           (put_right_done name number beginning before (search rules));

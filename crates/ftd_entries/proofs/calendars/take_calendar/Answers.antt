@@ -1,6 +1,4 @@
 use Rattle.std.proofs.Common.{◌≡◌, None, Some, option_map, rules}
-use Rattle.ftd_store.specs.Changes.{with_calendar}
-use Rattle.ftd_store.specs.Finds.{FindsCalendar}
 use Rattle.ftd_machine.specs.Checks.{first_of}
 use Rattle.ftd_machine.specs.Requests.{calendar_checks}
 use Rattle.ftd_machine.specs.declared.requests.Request.TheVariants.{Calendar}
@@ -17,9 +15,7 @@ returns-in-Some g c =
     let decided : first_of (calendar_checks year days (option_map days_found found))
     ≡ Some c.in-Some.answer = search rules in
     record {
-      call = served_looked g.S.Store (Calendar year days) c.args.tx.now c.calendar.new.self found
-          c.in-Some.answer
-          (FindsCalendar year) c.in_ok-known.ensures.call
+      call = served_looked (Calendar year days) c.in-Some.answer c.in_ok-known.ensures.call
           (λ t s stands sound finds. calendar_decided year days (option_map days_found found)
           c.in-Some.answer decided s (calendar_known year found t s stands sound finds));
     }
@@ -32,9 +28,7 @@ returns g c =
     let passed : first_of (calendar_checks year days (option_map days_found found)) ≡ None =
     search rules in
     record {
-      call = served_changed g.S.Store (Calendar year days) c.args.tx.now c.calendar.new.self
-          c.add_calendar.new.self found _ _
-          (FindsCalendar year) (with_calendar year days) c.in_ok-known.ensures.call
+      call = served_changed (Calendar year days) _ c.in_ok-known.ensures.call
           c.in_ok-add_calendar.ensures.call
           (λ t s stands sound finds. calendar_done year days (option_map days_found found) passed t
           s stands sound (calendar_known year found t s stands sound finds));

@@ -1,5 +1,3 @@
-use Rattle.ftd_store.specs.Corrections.{ListsCorrections}
-use Rattle.ftd_store.specs.Finds.{FindsReported}
 use Rattle.ftd_store.proofs.Telling.{then_reads}
 use Rattle.ftd_entries.specs.Known.{KnowsFigure}
 use Rattle.ftd_entries.proofs.Corrected.{figure_known}
@@ -12,10 +10,8 @@ returns g c =
     let reported = c.in_ok-reported.reported in
     let corrections = c.in_ok-corrections.corrections in
     record {
-      call = then_reads g.S.Store c.args.tx.now c.reported.new.self c.corrections.new.self
-          reported corrections c.in_force.result
-          (FindsReported name quarter) (ListsCorrections name quarter) (KnowsFigure name quarter)
+      call = then_reads c.in_force.result (KnowsFigure name quarter) c.in_ok-reported.ensures.call
+          c.in_ok-corrections.ensures.call
           (λ t finds lists. rw (c.in_force.ensures, c.deref.ensures.value)
-          (figure_known name quarter reported corrections t finds lists))
-          c.in_ok-reported.ensures.call c.in_ok-corrections.ensures.call;
+          (figure_known name quarter reported corrections t finds lists));
     }

@@ -1,5 +1,3 @@
-use Rattle.ftd_store.specs.Corrections.{ListsYearCorrections}
-use Rattle.ftd_store.specs.Finds.{FindsReportedYear}
 use Rattle.ftd_store.proofs.Telling.{then_reads}
 use Rattle.ftd_entries.specs.Known.{KnowsYearFigure}
 use Rattle.ftd_entries.proofs.Corrected.{year_figure_known}
@@ -12,10 +10,8 @@ returns g c =
     let reported = c.in_ok-reported.reported in
     let corrections = c.in_ok-corrections.corrections in
     record {
-      call = then_reads g.S.Store c.args.tx.now c.reported_year.new.self c.year_corrections.new.self
-          reported corrections c.in_force.result
-          (FindsReportedYear name year) (ListsYearCorrections name year) (KnowsYearFigure name year)
+      call = then_reads c.in_force.result (KnowsYearFigure name year) c.in_ok-reported.ensures.call
+          c.in_ok-corrections.ensures.call
           (λ t finds lists. rw (c.in_force.ensures, c.deref.ensures.value)
-          (year_figure_known name year reported corrections t finds lists))
-          c.in_ok-reported.ensures.call c.in_ok-corrections.ensures.call;
+          (year_figure_known name year reported corrections t finds lists));
     }

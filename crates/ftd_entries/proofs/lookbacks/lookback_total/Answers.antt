@@ -1,5 +1,5 @@
 use Rattle.ftd_machine.specs.State.{entries_of}
-use Rattle.ftd_entries.specs.Totals.{KnowsTotal, KnowsTotalOn941, KnowsTotalOn943}
+use Rattle.ftd_entries.specs.Totals.{KnowsTotal}
 use Rattle.ftd_entries.proofs.Reading.{reads_as}
 use Rattle.ftd_entries.proofs.Totals.{on_941, on_943}
 use Rattle.ftd_entries.proofs.lookbacks.lookback_total.Goals as goal
@@ -10,10 +10,9 @@ returns-in-F941 g c =
     let account = c.args.account in
     let year = c.args.year in
     record {
-      call = reads_as g.S.Store c.args.tx.now c.total_941.new.tx c.total_941.result
-          (KnowsTotalOn941 name account.start year) (KnowsTotal name account year)
+      call = reads_as (KnowsTotal name account year) c.total_941.ensures.call
           (λ total t knows s keeps once is. on_941 (entries_of s name) account year is total
-          c.in-F941.is (knows s keeps once)) c.total_941.ensures.call;
+          c.in-F941.is (knows s keeps once));
     }
 
 pub returns-in-F943 : goal.returns-in-F943
@@ -22,8 +21,7 @@ returns-in-F943 g c =
     let account = c.args.account in
     let year = c.args.year in
     record {
-      call = reads_as g.S.Store c.args.tx.now c.total_943.new.tx c.total_943.result
-          (KnowsTotalOn943 name account.start year) (KnowsTotal name account year)
+      call = reads_as (KnowsTotal name account year) c.total_943.ensures.call
           (λ total t knows s keeps once is. on_943 (entries_of s name) account year is total
-          c.in-F943.is (knows s keeps once)) c.total_943.ensures.call;
+          c.in-F943.is (knows s keeps once));
     }

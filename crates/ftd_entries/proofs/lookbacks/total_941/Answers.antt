@@ -1,7 +1,6 @@
 use Rattle.std.proofs.Common.{◌≡◌, Err, rules}
 use Rattle.ftd_store.proofs.Telling.{reads_on}
 use Rattle.ftd_machine.specs.State.{entries_of}
-use Rattle.ftd_entries.specs.Known.{KnowsFigure}
 use Rattle.ftd_entries.specs.Totals.{KnowsTotalOn941}
 use Rattle.ftd_entries.proofs.Reading.{three_read, four_read}
 use Rattle.ftd_store.proofs.Going.{fails_after}
@@ -11,20 +10,12 @@ use Rattle.ftd_entries.proofs.lookbacks.total_941.Goals as goal
 
 pub returns-in_err-figure-4 : goal.returns-in_err-figure-4
 returns-in_err-figure-4 g c =
-    let name = c.args.name.now in
-    let read = three_read g.S.Store c.args.tx.now c.figure.new.tx c.figure-2.new.tx
-    c.figure-3.new.tx c.in_ok-figure.field-0 c.in_ok-figure-2.field-0
-    c.in_ok-figure-3.field-0
-    (KnowsFigure name c.at-third.result) (KnowsFigure name c.at-fourth.result)
-    (KnowsFigure name c.at-first.result)
-    c.in_ok-figure.ensures.call c.in_ok-figure-2.ensures.call c.in_ok-figure-3.ensures.call in
+    let read = three_read c.in_ok-figure.ensures.call c.in_ok-figure-2.ensures.call
+    c.in_ok-figure-3.ensures.call in
     let failed : c.from_residual-in_err-figure-4.result ≡ Err c.in_err-figure-4.field-0.0 =
     search rules in
     record {
-      call = fails_after g.S.Store c.args.tx.now c.figure-3.new.tx c.figure-4.new.tx
-          c.in_ok-figure-3.field-0 c.in_err-figure-4.field-0.0
-          c.from_residual-in_err-figure-4.result _
-          failed read.frame c.in_err-figure-4.ensures.call.frame;
+      call = fails_after failed read.frame c.in_err-figure-4.ensures.call.frame;
     }
 
 pub returns-in-Ok : goal.returns-in-Ok
@@ -37,17 +28,10 @@ returns-in-Ok g c =
     let d = c.in_ok-figure-3.field-0 in
     let e = c.in_ok-figure-4.field-0 in
     let total = c.in-Ok.total in
-    let read = four_read g.S.Store c.args.tx.now c.figure.new.tx c.figure-2.new.tx
-    c.figure-3.new.tx a b d
-    (KnowsFigure name c.at-third.result) (KnowsFigure name c.at-fourth.result)
-    (KnowsFigure name c.at-first.result)
-    c.in_ok-figure.ensures.call c.in_ok-figure-2.ensures.call c.in_ok-figure-3.ensures.call
-    c.figure-4.new.tx e (KnowsFigure name c.at-second.result)
-    c.in_ok-figure-4.ensures.call in
+    let read = four_read c.in_ok-figure.ensures.call c.in_ok-figure-2.ensures.call
+    c.in_ok-figure-3.ensures.call c.in_ok-figure-4.ensures.call in
     record {
-      call = reads_on g.S.Store c.args.tx.now c.figure-4.new.tx e total _
-          (KnowsTotalOn941 name start year)
-          (λ t told s keeps once.
+      call = reads_on total (KnowsTotalOn941 name start year) read (λ t told s keeps once.
           quarters_known (entries_of s name).reported (entries_of s name).corrected start year
           once.0
           c.at-third.result c.at-fourth.result c.at-first.result c.at-second.result a b d e
@@ -56,23 +40,13 @@ returns-in-Ok g c =
           (told.2 s keeps)
           (told.3 s keeps)
           c.at-third.ensures c.at-fourth.ensures c.at-first.ensures c.at-second.ensures total
-          c.in-Ok.ensures)
-          read;
+          c.in-Ok.ensures);
     }
 
 pub returns-in-Err : goal.returns-in-Err
 returns-in-Err g c =
-    let name = c.args.name.now in
-    let read = four_read g.S.Store c.args.tx.now c.figure.new.tx c.figure-2.new.tx
-    c.figure-3.new.tx c.in_ok-figure.field-0 c.in_ok-figure-2.field-0
-    c.in_ok-figure-3.field-0
-    (KnowsFigure name c.at-third.result) (KnowsFigure name c.at-fourth.result)
-    (KnowsFigure name c.at-first.result)
-    c.in_ok-figure.ensures.call c.in_ok-figure-2.ensures.call c.in_ok-figure-3.ensures.call
-    c.figure-4.new.tx c.in_ok-figure-4.field-0 (KnowsFigure name c.at-second.result)
-    c.in_ok-figure-4.ensures.call in
+    let read = four_read c.in_ok-figure.ensures.call c.in_ok-figure-2.ensures.call
+    c.in_ok-figure-3.ensures.call c.in_ok-figure-4.ensures.call in
     record {
-      call = gave_up_after g.S.Store c.args.tx.now c.figure-4.new.tx c.give_up.new.self
-          c.in_ok-figure-4.field-0 c.give_up.result _ read.frame c.give_up.ensures.frame
-          c.give_up.ensures.fails;
+      call = gave_up_after read.frame c.give_up.ensures.frame c.give_up.ensures.fails;
     }

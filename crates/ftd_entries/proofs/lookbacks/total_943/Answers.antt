@@ -1,8 +1,6 @@
-use Rattle.std.proofs.Common.{◌-◌}
 use Rattle.ftd_store.proofs.Telling.{reads_on}
 use Rattle.ftd_machine.specs.State.{entries_of}
 use Rattle.ftd_entries.specs.Totals.{KnowsTotalOn943}
-use Rattle.ftd_entries.specs.Known.{KnowsYearFigure}
 use Rattle.ftd_entries.proofs.Totals.{total_known}
 use Rattle.ftd_entries.proofs.lookbacks.total_943.Goals as goal
 
@@ -13,10 +11,8 @@ returns g c =
     let found = c.in_ok-found.found in
     let total = c.total_of_year.result in
     record {
-      call = reads_on g.S.Store c.args.tx.now c.year_figure.new.tx found total
-          (KnowsYearFigure name (year - 2)) (KnowsTotalOn943 name c.args.start year)
+      call = reads_on total (KnowsTotalOn943 name c.args.start year) c.in_ok-found.ensures.call
           (λ t finds s keeps once. total_known (entries_of s name).reported_years
           (entries_of s name).corrected_years c.args.start year found total
-          once.1 (finds s keeps) c.total_of_year.ensures)
-          c.in_ok-found.ensures.call;
+          once.1 (finds s keeps) c.total_of_year.ensures);
     }

@@ -19,18 +19,15 @@ returns g c =
     let after = c.in_ok-next.next in
     let two : Reads g.S.Store c.args.tx.now c.years.new.self (Ok account)
     (λ (x : Option Account) (t : Tables). KnowsAccount name account t × ListsYears name lines t) =
-    then_reads g.S.Store c.args.tx.now c.known.new.tx c.years.new.self account lines account _ _ _
-    (λ t knows lists. (knows, lists)) c.in_ok-account.ensures.call c.in_ok-lines.ensures.call in
+    then_reads account _ c.in_ok-account.ensures.call c.in_ok-lines.ensures.call
+    (λ t knows lists. (knows, lists)) in
     let three : Reads g.S.Store c.args.tx.now c.calendar.new.self (Ok account)
     (λ (x : Option Account) (t : Tables). KnowsAccount name account t × ListsYears name lines t
     × FindsCalendar year here t) =
-    then_reads g.S.Store c.args.tx.now c.years.new.self c.calendar.new.self account here account _ _
-    _ (λ t told finds. (told.0, told.1, finds)) two c.in_ok-given.ensures.call in
+    then_reads account _ two c.in_ok-given.ensures.call (λ t told finds. (told.0, told.1, finds)) in
     record {
-      call = then_reads g.S.Store c.args.tx.now c.calendar.new.self c.calendar-2.new.self account
-          after _ _ _ (KnowsToOpen name year)
+      call = then_reads _ (KnowsToOpen name year) three c.in_ok-next.ensures.call
           (λ t told finds. year_known name year c.saturating_add.result account lines here after
           c.is_some.result c.is_some-2.result t c.is_some.ensures c.is_some-2.ensures
-          c.saturating_add.ensures told.0 told.1 told.2 finds)
-          three c.in_ok-next.ensures.call;
+          c.saturating_add.ensures told.0 told.1 told.2 finds);
     }

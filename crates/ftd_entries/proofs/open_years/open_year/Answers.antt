@@ -1,13 +1,11 @@
 use Rattle.std.proofs.Common.{◌≡◌, ◌-◌, ◌==◌, ◌||◌, rules, Bool, true, false, length, None, Ok, Err}
 use Rattle.std.proofs.Common.{refl, sym, subst}
 use Rattle.std.specs.List.{list_any}
-use Rattle.ftd_store.specs.Changes.{with_year}
 use Rattle.ftd_store.proofs.Telling.{then_reads}
 use Rattle.ftd_machine.specs.declared.requests.Request.TheVariants.{OpenYear}
 use Rattle.ftd_machine.specs.declared.replies.Reply.TheVariants.{Done}
 use Rattle.ftd_machine.specs.declared.replies.Refusal.TheVariants.{YearNotOpen}
-use Rattle.ftd_entries.specs.Opening.{IsNextLine, KnowsToOpen, is_line_of}
-use Rattle.ftd_entries.specs.Totals.{KnowsTotal}
+use Rattle.ftd_entries.specs.Opening.{IsNextLine, is_line_of}
 use Rattle.ftd_entries.proofs.Deciding.{checks, Knows, year_decided, year_lacks, year_waits}
 use Rattle.ftd_entries.proofs.Deciding.{year_done}
 use Rattle.ftd_entries.proofs.NextLine.{or_then, or_else}
@@ -25,8 +23,7 @@ returns-in-Some g c =
     let is_there : c.has_year-there.result ≡ list_any (is_line_of year) known.lines.items =
     search rules in
     record {
-      call = served_looked g.S.Store (OpenYear name year) c.args.tx.now c.known_year.new.tx known
-          answer (KnowsToOpen name year) c.in_ok-known.ensures.call
+      call = served_looked (OpenYear name year) answer c.in_ok-known.ensures.call
           (year_decided name year known c.has_year-there.result is_there answer (search rules));
     }
 
@@ -41,12 +38,10 @@ returns-in-Err g c =
     let is_there : there ≡ list_any (is_line_of year) known.lines.items = search rules in
     let passed : checks name year known there is_there ≡ None = search rules in
     let fact = Knows name year known there is_there account c.in-Some-account.is passed in
-    let read = then_reads g.S.Store c.args.tx.now c.known_year.new.tx c.lookback_total.new.tx known
-    total total (KnowsToOpen name year) (KnowsTotal name account year) fact
-    (λ t told of_total. (told, of_total)) c.in_ok-known.ensures.call c.in_ok-total.ensures.call in
+    let read = then_reads total fact c.in_ok-known.ensures.call c.in_ok-total.ensures.call
+    (λ t told of_total. (told, of_total)) in
     record {
-      call = served_looked g.S.Store (OpenYear name year) c.args.tx.now c.lookback_total.new.tx
-          total (Err c.in-Err.refusal) fact read
+      call = served_looked (OpenYear name year) (Err c.in-Err.refusal) read
           (λ t s stands sound knows.
           year_lacks name year known there is_there account c.in-Some-account.is passed t s stands
           sound c.in-Err.refusal (subst (λ r. fact r t) c.in-Err.is knows));
@@ -63,17 +58,15 @@ returns-then-not-has_year g c =
     let is_there : there ≡ list_any (is_line_of year) known.lines.items = search rules in
     let passed : checks name year known there is_there ≡ None = search rules in
     let fact = Knows name year known there is_there account c.in-Some-account.is passed in
-    let read = then_reads g.S.Store c.args.tx.now c.known_year.new.tx c.lookback_total.new.tx known
-    total total (KnowsToOpen name year) (KnowsTotal name account year) fact
-    (λ t told of_total. (told, of_total)) c.in_ok-known.ensures.call c.in_ok-total.ensures.call in
+    let read = then_reads total fact c.in_ok-known.ensures.call c.in_ok-total.ensures.call
+    (λ t told of_total. (told, of_total)) in
     let some : (length known.lines.items == 0) ≡ false = search rules in
     let before : list_any (is_line_of (year - 1)) known.lines.items ≡ false = search rules in
     let may_not =
     sym (or_else (length known.lines.items == 0)
     (list_any (is_line_of (year - 1)) known.lines.items) false some (sym before)) in
     record {
-      call = served_looked g.S.Store (OpenYear name year) c.args.tx.now c.lookback_total.new.tx
-          total (Err (YearNotOpen (year - 1))) fact read
+      call = served_looked (OpenYear name year) (Err (YearNotOpen (year - 1))) read
           (λ t s stands sound knows.
           year_waits name year known there is_there account c.in-Some-account.is passed t s stands
           sound c.in-Ok.total may_not (subst (λ r. fact r t) c.in-Ok.is knows));
@@ -91,9 +84,8 @@ returns g c =
     let is_there : there ≡ list_any (is_line_of year) known.lines.items = search rules in
     let passed : checks name year known there is_there ≡ None = search rules in
     let fact = Knows name year known there is_there account c.in-Some-account.is passed in
-    let read = then_reads g.S.Store c.args.tx.now c.known_year.new.tx c.lookback_total.new.tx known
-    total total (KnowsToOpen name year) (KnowsTotal name account year) fact
-    (λ t told of_total. (told, of_total)) c.in_ok-known.ensures.call c.in_ok-total.ensures.call in
+    let read = then_reads total fact c.in_ok-known.ensures.call c.in_ok-total.ensures.call
+    (λ t told of_total. (told, of_total)) in
     let first : Bool = length known.lines.items == 0 in
     let before : Bool = list_any (is_line_of (year - 1)) known.lines.items in
     let may : (first || before) ≡ true = elim c.else-not-is_empty.branch [
@@ -103,9 +95,7 @@ returns g c =
           sym (or_then first before true (search rules) refl)
     ] in
     record {
-      call = served_changed g.S.Store (OpenYear name year) c.args.tx.now c.lookback_total.new.tx
-          c.put_year.new.self total _ (Ok Done) fact (with_year name line) read
-          c.in_ok-put_year.ensures.call
+      call = served_changed (OpenYear name year) (Ok Done) read c.in_ok-put_year.ensures.call
           (λ t s stands sound knows.
           year_done name year known there is_there account c.in-Some-account.is passed t s stands
           sound c.in-Ok.total line may

@@ -1,11 +1,10 @@
 use Rattle.std.proofs.Common.{subst, Ok}
 use Rattle.ftd_days.specs.Calendar.{year_of}
-use Rattle.ftd_store.specs.Finds.{FindsPayment}
 use Rattle.ftd_store.specs.Frame.{Reads}
 use Rattle.ftd_store.proofs.Telling.{then_reads}
-use Rattle.ftd_entries.specs.Known.{KnowsAccount, KnowsYear}
+use Rattle.ftd_entries.specs.Known.{KnowsYear}
 use Rattle.ftd_entries.specs.Payments.{KnowsForPay}
-use Rattle.ftd_entries.proofs.Reading.{Both, both_read}
+use Rattle.ftd_entries.proofs.Reading.{both_read}
 use Rattle.ftd_entries.proofs.payments.known_for_pay.Goals as goal
 
 pub returns : goal.returns
@@ -17,15 +16,8 @@ returns g c =
     (KnowsYear name year) =
     subst (λ y. Reads g.S.Store c.payment.new.self c.is_open.new.tx (Ok c.in_ok-is_open.is_open)
     (KnowsYear name y)) c.year.ensures c.in_ok-is_open.ensures.call in
-    let account = both_read g.S.Store c.args.tx.now c.known.new.tx c.payment.new.self
-    c.in_ok-account.account c.in_ok-payment.payment
-    (KnowsAccount name) (FindsPayment name number) c.in_ok-account.ensures.call
-    c.in_ok-payment.ensures.call in
+    let account = both_read c.in_ok-account.ensures.call c.in_ok-payment.ensures.call in
     record {
-      call = then_reads g.S.Store c.args.tx.now c.payment.new.self c.is_open.new.tx _
-          c.in_ok-is_open.is_open _
-          (Both (KnowsAccount name) (FindsPayment name number)) (KnowsYear name year)
-          (KnowsForPay name number year)
-          (λ t told year_is. record { account = told.0; payment = told.1; is_open = year_is })
-          account opened;
+      call = then_reads _ (KnowsForPay name number year) account opened
+          (λ t told year_is. record { account = told.0; payment = told.1; is_open = year_is });
     }

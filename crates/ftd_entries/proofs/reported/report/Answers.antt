@@ -1,12 +1,9 @@
 use Rattle.std.proofs.Common.{rules, Option, Ok}
 use Rattle.ftd_days.specs.declared.cents.Cents.{Cents}
-use Rattle.ftd_store.specs.Changes.{with_reported}
-use Rattle.ftd_store.specs.Finds.{FindsReported}
 use Rattle.ftd_machine.specs.declared.entries.Account.{Account}
 use Rattle.ftd_machine.specs.declared.replies.Reply.TheVariants.{Done}
 use Rattle.ftd_machine.specs.declared.requests.Request.TheVariants.{Report}
-use Rattle.ftd_entries.specs.Known.{KnowsAccount}
-use Rattle.ftd_entries.proofs.Reading.{Both, both_read}
+use Rattle.ftd_entries.proofs.Reading.{both_read}
 use Rattle.ftd_entries.proofs.Serving.{served_looked, served_changed}
 use Rattle.ftd_entries.proofs.Reporting.{report_decided, report_done}
 use Rattle.ftd_entries.proofs.reported.report.Goals as goal
@@ -17,14 +14,9 @@ returns-in-Some g c =
     let quarter = c.args.quarter in
     let known : Option Account × Option Cents =
     (c.in_ok-account.account, c.in_ok-reported.reported) in
-    let read = both_read g.S.Store c.args.tx.now c.known.new.tx c.reported.new.self
-    c.in_ok-account.account c.in_ok-reported.reported
-    (KnowsAccount name) (FindsReported name quarter) c.in_ok-account.ensures.call
-    c.in_ok-reported.ensures.call in
+    let read = both_read c.in_ok-account.ensures.call c.in_ok-reported.ensures.call in
     record {
-      call = served_looked g.S.Store (Report name quarter c.args.cents) c.args.tx.now
-          c.reported.new.self known c.in-Some.answer
-          (Both (KnowsAccount name) (FindsReported name quarter)) read
+      call = served_looked (Report name quarter c.args.cents) c.in-Some.answer read
           (report_decided name quarter c.args.cents known c.in-Some.answer (search rules));
     }
 
@@ -34,14 +26,9 @@ returns g c =
     let quarter = c.args.quarter in
     let known : Option Account × Option Cents =
     (c.in_ok-account.account, c.in_ok-reported.reported) in
-    let read = both_read g.S.Store c.args.tx.now c.known.new.tx c.reported.new.self
-    c.in_ok-account.account c.in_ok-reported.reported
-    (KnowsAccount name) (FindsReported name quarter) c.in_ok-account.ensures.call
-    c.in_ok-reported.ensures.call in
+    let read = both_read c.in_ok-account.ensures.call c.in_ok-reported.ensures.call in
     record {
-      call = served_changed g.S.Store (Report name quarter c.args.cents) c.args.tx.now
-          c.reported.new.self c.add_reported.new.self known _ (Ok Done)
-          (Both (KnowsAccount name) (FindsReported name quarter))
-          (with_reported name quarter c.args.cents) read c.in_ok-add_reported.ensures.call
+      call = served_changed (Report name quarter c.args.cents) (Ok Done) read
+          c.in_ok-add_reported.ensures.call
           (report_done name quarter c.args.cents known (search rules));
     }

@@ -1,4 +1,3 @@
-use Rattle.ftd_store.specs.Finds.{ListsYears}
 use Rattle.ftd_store.proofs.Telling.{reads_on}
 use Rattle.ftd_entries.specs.Known.{KnowsYear}
 use Rattle.ftd_entries.proofs.Opened.{knows_year}
@@ -9,8 +8,7 @@ returns g c =
     let name = c.args.name.now in
     let year = c.args.year in
     record {
-      call = reads_on g.S.Store c.args.tx.now c.years.new.self c.in_ok-lines.lines c.has_year.result
-          (ListsYears name) (KnowsYear name year)
+      call = reads_on c.has_year.result (KnowsYear name year) c.in_ok-lines.ensures.call
           (λ t lists. rw (c.has_year.ensures, c.deref.ensures.value)
-          (knows_year year name c.in_ok-lines.lines t lists)) c.in_ok-lines.ensures.call;
+          (knows_year year name c.in_ok-lines.lines t lists));
     }

@@ -9,10 +9,10 @@ returns-in_default g c =
 
 pub returns-in_err-write_row : goal.returns-in_err-write_row
 returns-in_err-write_row g c =
-    stops_after _ c.from_residual.ensures.0 (begins _ _)
+    stops_after _ c.from_residual.ensures.0 begins
     (joined_from _ _ _ _ c.in-Some.ensures.cases.0) c.in_err-write_row.ensures
 
 pub returns : goal.returns
 returns g c =
-    ends_in (goes_on _ _ _ _ _ _ _ (begins _ _) (joined_from _ _ _ _ c.in-Some.ensures.cases.0)
+    ends_in (goes_on _ _ begins (joined_from _ _ _ _ c.in-Some.ensures.cases.0)
     c.in_ok-write_row.ensures.ok) c.write_others.ensures

@@ -5,7 +5,7 @@ use Rattle.ftd_formats.proofs.RowFacts.{texts_at, texts_end}
 use Rattle.ftd_formats.proofs.rows.write_others.Goals as goal
 
 pub loop-row-init : goal.loop-row-init
-loop-row-init g c = begins _ _
+loop-row-init g c = begins
 
 pub returns-in_err-write_next : goal.returns-in_err-write_next
 returns-in_err-write_next g c =
@@ -16,7 +16,7 @@ returns-in_err-write_next g c =
 
 pub loop-row-preserved : goal.loop-row-preserved
 loop-row-preserved g c =
-    goes_on _ _ _ _ _ _ _ c.loop-row.invariant
+    goes_on _ _ c.loop-row.invariant
     (texts_at (λ row. comma ∷ g.F.RowFormat.row_text c.args.format.now row) c.args.rows.now
     c.loop-row.row-index c.row-item.result c.loop-row-test.true c.row-item.is)
     c.in_ok-write_next.ensures.ok

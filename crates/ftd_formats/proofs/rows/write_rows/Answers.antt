@@ -3,7 +3,7 @@ use Rattle.ftd_formats.proofs.RowFacts.{texts_at, texts_end}
 use Rattle.ftd_formats.proofs.rows.write_rows.Goals as goal
 
 pub loop-row-init : goal.loop-row-init
-loop-row-init g c = begins _ _
+loop-row-init g c = begins
 
 pub returns-in_err-write_row : goal.returns-in_err-write_row
 returns-in_err-write_row g c =
@@ -13,7 +13,7 @@ returns-in_err-write_row g c =
 
 pub loop-row-preserved : goal.loop-row-preserved
 loop-row-preserved g c =
-    goes_on _ _ _ _ _ _ _ c.loop-row.invariant
+    goes_on _ _ c.loop-row.invariant
     (texts_at (g.F.RowFormat.row_text c.args.format.now) c.args.rows.now c.loop-row.row-index
     c.row-item.result c.loop-row-test.true c.row-item.is) c.in_ok-write_row.ensures.ok
 

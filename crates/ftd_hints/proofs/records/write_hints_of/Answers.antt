@@ -7,7 +7,7 @@ use Rattle.ftd_hints.proofs.Left.{none_left, none_wanted, past_bad}
 use Rattle.ftd_hints.proofs.records.write_hints_of.Goals as goal
 
 pub loop-left-init : goal.loop-left-init
-loop-left-init g c = record { can = c.requires; written = begins _ _ }
+loop-left-init g c = record { can = c.requires; written = begins }
 
 pub returns-in_err-write_hint-clause-err : goal.returns-in_err-write_hint-clause-err
 returns-in_err-write_hint-clause-err g c =
@@ -26,7 +26,7 @@ loop-left-preserved-in-Malformed g c =
     let bad = sym c.entry.ensures ∙ ap entry_said c.in-Malformed.is in
     record {
       can = goes.can;
-      written = goes_on _ _ _ _ _ _ _ c.loop-left.invariant.written
+      written = goes_on _ _ c.loop-left.invariant.written
           (past_bad _ (c.loop-left.left - 1) _ _ _ goes bad (omega arith))
           c.in_ok-write_hint.ensures.ok;
     }
@@ -40,4 +40,4 @@ returns-clause-ok g c =
       | goal.else-loop-left-test w ↦ none_wanted c.loop-left.left c.loop-left.records
           w.loop-left-test.false
     ] in
-    ends _ _ _ (rw nothing at c.loop-left.invariant.written)
+    ends (rw nothing at c.loop-left.invariant.written)

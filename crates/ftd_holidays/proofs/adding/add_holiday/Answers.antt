@@ -1,11 +1,8 @@
 use Rattle.std.proofs.Common.{◌≡◌, None, Some, Ok, rules}
-use Rattle.ftd_store.specs.Finds.{FindsCalendar, ListsAdded}
 use Rattle.ftd_machine.specs.declared.replies.Reply.TheVariants.{Done}
 use Rattle.ftd_machine.specs.declared.requests.Request.TheVariants.{AddHoliday}
-use Rattle.ftd_entries.proofs.Reading.{Both, both_read}
+use Rattle.ftd_entries.proofs.Reading.{both_read}
 use Rattle.ftd_entries.proofs.Serving.{served_looked}
-use Rattle.ftd_holidays.specs.Moved.{EntersDay}
-use Rattle.ftd_holidays.specs.declared.moving.DayEntry.TheVariants.{Added}
 use Rattle.ftd_holidays.proofs.AddedDay.{checks, added_decided, added_done}
 use Rattle.ftd_entries.proofs.Serving.{served_turned}
 use Rattle.ftd_holidays.proofs.adding.add_holiday.Goals as goal
@@ -16,14 +13,11 @@ returns-in-Some g c =
     let year = c.year-year.result in
     let found = c.in_ok-calendar.calendar in
     let added = c.in_ok-added.added in
-    let read = both_read g.S.Store c.args.tx.now c.calendar.new.self c.added.new.self found added
-    (FindsCalendar year) (ListsAdded year) c.in_ok-calendar.ensures.call
-    c.in_ok-added.ensures.call in
+    let read = both_read c.in_ok-calendar.ensures.call c.in_ok-added.ensures.call in
     let decided : checks day year c.year-year.ensures found added ≡ Some c.in-Some.answer =
     search rules in
     record {
-      call = served_looked g.S.Store (AddHoliday day) c.args.tx.now c.added.new.self
-          (found, added) c.in-Some.answer (Both (FindsCalendar year) (ListsAdded year)) read
+      call = served_looked (AddHoliday day) c.in-Some.answer read
           (λ t s stands sound knows. added_decided day year c.year-year.ensures found added
           c.in-Some.answer decided t s stands sound knows.0 knows.1);
     }
@@ -34,14 +28,10 @@ returns g c =
     let year = c.year-year.result in
     let found = c.in_ok-calendar.calendar in
     let added = c.in_ok-added.added in
-    let read = both_read g.S.Store c.args.tx.now c.calendar.new.self c.added.new.self found added
-    (FindsCalendar year) (ListsAdded year) c.in_ok-calendar.ensures.call
-    c.in_ok-added.ensures.call in
+    let read = both_read c.in_ok-calendar.ensures.call c.in_ok-added.ensures.call in
     let passed : checks day year c.year-year.ensures found added ≡ None = search rules in
     record {
-      call = served_turned g.S.Store (AddHoliday day) c.args.tx.now c.added.new.self
-          c.enter_and_move.new.tx (found, added) _ (Ok Done)
-          (Both (FindsCalendar year) (ListsAdded year)) (λ done. EntersDay (Added day))
-          read c.in_ok-enter_and_move.ensures.call (λ t u s stands sound knows adds.
+      call = served_turned (AddHoliday day) (Ok Done) read c.in_ok-enter_and_move.ensures.call
+          (λ t u s stands sound knows adds.
           added_done day year c.year-year.ensures found added passed t u s stands sound knows adds);
     }

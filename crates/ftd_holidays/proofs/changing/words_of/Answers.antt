@@ -1,6 +1,4 @@
 use Rattle.std.proofs.Common.{◌≡◌, ◌∙◌, ap}
-use Rattle.ftd_days.specs.Calendar.{year_of}
-use Rattle.ftd_store.specs.Corrections.{ListsHolidayChanges}
 use Rattle.ftd_store.specs.Holidays.{words_on}
 use Rattle.ftd_store.proofs.Telling.{reads_on}
 use Rattle.ftd_entries.proofs.DayChanges.{words_known}
@@ -15,9 +13,7 @@ returns-in-Ok g c =
     let said : words.items ≡ words_on day changes.items =
     c.in-Ok.ensures ∙ ap (words_on day) c.deref.ensures.value in
     record {
-      call = reads_on g.S.Store c.args.tx.now c.holiday_changes.new.self changes words
-          (ListsHolidayChanges (year_of day)) (λ x. KnowsWords day x.items)
-          (λ t listed s stands. said
-          ∙ words_known day changes t s.changed_days stands.entries.days.changed_days listed)
-          (rw c.year.ensures at c.in_ok-changes.ensures.call);
+      call = reads_on words (λ x. KnowsWords day x.items)
+          (rw c.year.ensures at c.in_ok-changes.ensures.call) (λ t listed s stands. said
+          ∙ words_known day changes t s.changed_days stands.entries.days.changed_days listed);
     }

@@ -17,22 +17,15 @@ returns g c =
     × (u ≡ With t) in
     let known : Rewrites g.S.Store c.args.tx.now c.holidays_about.new.tx (Ok (tt {0}))
     (λ done. Known) =
-    turns_then g.S.Store c.args.tx.now c.enter.new.tx c.holidays_about.new.tx _ _ tt
-    (λ done t u. u ≡ With t) (λ x t u. KnowsHolidays (day_of entry) (holidays_of x) t × (u ≡ t))
-    (λ done. Known)
-    (λ t u v is read. (subst (KnowsHolidays (day_of entry) hs) is read.0, read.1 ∙ is))
-    (writes_turn g.S.Store c.args.tx.now c.enter.new.tx _ With c.in_ok-enter.ensures.call)
-    (reads_turn g.S.Store c.enter.new.tx c.holidays_about.new.tx _
-    (λ x. KnowsHolidays (day_of entry) (holidays_of x))
-    (rw c.day.ensures at c.in_ok-holidays.ensures.call)) in
+    turns_then tt (λ done. Known)
+    (writes_turn c.in_ok-enter.ensures.call)
+    (reads_turn (rw c.day.ensures at c.in_ok-holidays.ensures.call))
+    (λ t u v is read. (subst (KnowsHolidays (day_of entry) hs) is read.0, read.1 ∙ is)) in
     let moved = rw c.day-2.ensures at c.move_over.ensures.call in
     record {
-      call = turn_then_turn g.S.Store c.args.tx.now c.holidays_about.new.tx c.move_over.new.tx tt
-          c.move_over.result (λ done. Known) (λ done. MovesOver (day_of entry) hs)
-          (λ done. EntersDay entry)
-          (λ y t u v so moves. record {
-            holidays = hs;
-            known = so.0;
-            moved = subst (λ (z : Tables). MovesOver (day_of entry) hs z v) so.1 moves;
-          }) known moved;
+      call = turn_then_turn (λ done. EntersDay entry) known moved (λ y t u v so moves. record {
+        holidays = hs;
+        known = so.0;
+        moved = subst (λ (z : Tables). MovesOver (day_of entry) hs z v) so.1 moves;
+      });
     }

@@ -24,23 +24,19 @@ loop-owed-init g c =
     let day = c.args.day in
     let hs : List ℕ = holidays_of c.args.holidays.now in
     let given = c.in_ok-obligations.obligations in
-    rw c.deref-owed-items.ensures.value (turns_on g.S.Store c.args.tx.now c.due_over.new.self given
-    tt (λ listed t u. ListsDueOver day listed t × (u ≡ t))
+    rw c.deref-owed-items.ensures.value (turns_on tt
     (λ done t u. ListsDueOver day given t × MovesDue hs (take 0 given.items) t u)
-    (λ t u read. (
+    (reads_turn c.in_ok-obligations.ensures.call) (λ t u read. (
       read.0,
       subst (MovesDue hs (take 0 given.items) t) (sym read.1) (moves_none hs given.items t),
-    ))
-    (reads_turn g.S.Store c.args.tx.now c.due_over.new.self given (ListsDueOver day)
-    c.in_ok-obligations.ensures.call))
+    )))
 
 pub returns-in_err-move_row : goal.returns-in_err-move_row
 returns-in_err-move_row g c =
     let is : c.from_residual-in_err-move_row.result ≡ Err c.in_err-move_row.field-0.0 =
     search rules in
     record {
-      call = fails_after g.S.Store c.args.tx.now c.loop-owed.tx c.move_row.new.tx _ _ _ _
-          is c.loop-owed.invariant.frame c.in_err-move_row.ensures.call.frame;
+      call = fails_after is c.loop-owed.invariant.frame c.in_err-move_row.ensures.call.frame;
     }
 
 pub loop-owed-preserved : goal.loop-owed-preserved
@@ -60,23 +56,18 @@ loop-owed-preserved g c =
           let is : IsDueThen hs x due = w.in-Some.ensures.0 in
           let change : Tables → Tables = with_due_date (string_bytes x.account) x.obligation.first
           due in
-          rw w.tx-is (turns_then g.S.Store c.args.tx.now c.loop-owed.tx w.move_row.new.tx tt _ tt
-          (λ done. So i) (λ done t u. u ≡ change t) (λ done. So (i + 1))
-          (λ t u v so_far made. (
+          rw w.tx-is (turns_then tt (λ done. So (i + 1)) c.loop-owed.invariant
+          (one_turns w.in_ok-move_row.ensures.call) (λ t u v so_far made. (
             so_far.0,
             subst (MovesDue hs (take (i + 1) given) t) (sym made)
                 (moves_more hs given i x some c.owed-item.is due is t u so_far.1),
-          ))
-          c.loop-owed.invariant (one_turns g.S.Store c.loop-owed.tx w.move_row.new.tx _ _ change
-          w.in_ok-move_row.ensures.call)))
+          ))))
       | in_default w ↦
-          rw w.tx-is (turns_on g.S.Store c.args.tx.now c.loop-owed.tx tt tt (λ done. So i)
-          (λ done. So (i + 1))
-          (λ t u so_far. (
+          rw w.tx-is (turns_on tt (λ done. So (i + 1)) c.loop-owed.invariant (λ t u so_far. (
             so_far.0,
             moves_same hs given i x some c.owed-item.is
                 w.in_default.ensures t u so_far.1,
-          )) c.loop-owed.invariant)
+          )))
     ]
 
 pub returns : goal.returns
@@ -93,13 +84,10 @@ returns g c =
     Lists AccountsRise IsAccountObligation
     (filter (is_due_over (day_number day)) (t Obligations)) os in
     record {
-      call = turns_on g.S.Store c.args.tx.now c.loop-owed.tx tt _
-          (λ done t u. Listed given t × MovesDue hs (take i given) t u)
-          (λ done. MovesOver day hs)
-          (λ t u so_far. record {
-            obligations = obligations;
-            listed = subst (λ os. Listed os t) same so_far.0;
-            moves = subst (λ (os : List AccountObligation). MovesDue hs os t u) (all ∙ same)
-                so_far.1;
-          }) c.loop-owed.invariant;
+      call = turns_on _ (λ done. MovesOver day hs) c.loop-owed.invariant (λ t u so_far. record {
+        obligations = obligations;
+        listed = subst (λ os. Listed os t) same so_far.0;
+        moves = subst (λ (os : List AccountObligation). MovesDue hs os t u) (all ∙ same)
+            so_far.1;
+      });
     }

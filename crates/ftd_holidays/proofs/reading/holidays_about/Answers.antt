@@ -2,7 +2,6 @@ use Rattle.std.proofs.Common.{◌+◌, ◌-◌, ℕ, List, Ok, ap, arith}
 use Rattle.ftd_days.specs.Holidays.{holidays_of}
 use Rattle.ftd_schema.specs.Standing.{Tables}
 use Rattle.ftd_store.specs.Frame.{Reads}
-use Rattle.ftd_store.specs.Holidays.{AddsIfGiven}
 use Rattle.ftd_store.proofs.Telling.{then_reads}
 use Rattle.ftd_holidays.specs.Known.{KnowsHolidays}
 use Rattle.ftd_holidays.proofs.ReadYears.{AddsKeptYear, adds_kept, three_years}
@@ -20,19 +19,15 @@ returns g c =
     let Two : Tables → Type 0 = λ t. AddsKeptYear (year - 1) none before t
     × AddsKeptYear year before here t in
     let two : Reads g.S.Store c.args.tx.now c.add_holidays-2.new.self (Ok (tt {0})) (λ done. Two) =
-    then_reads g.S.Store c.args.tx.now c.add_holidays.new.self c.add_holidays-2.new.self
-    c.in_ok-add_holidays.field-0 c.in_ok-add_holidays-2.field-0 tt
-    (AddsIfGiven (year - 1) none before) (AddsIfGiven year before here) (λ done. Two)
-    (λ t a b. (
+    then_reads tt (λ done. Two) c.in_ok-add_holidays.ensures.call
+    c.in_ok-add_holidays-2.ensures.call (λ t a b. (
       adds_kept (year - 1) none before c.in_ok-add_holidays.field-0 t a,
       adds_kept year before here c.in_ok-add_holidays-2.field-0 t b,
-    )) c.in_ok-add_holidays.ensures.call c.in_ok-add_holidays-2.ensures.call in
+    )) in
     record {
-      call = then_reads g.S.Store c.args.tx.now c.add_holidays-2.new.self c.add_holidays-3.new.self
-          tt c.in_ok-add_holidays-3.field-0 _ (λ done. Two) (AddsIfGiven (year + 1) here after)
-          (λ x t. KnowsHolidays day (holidays_of x) t)
+      call = then_reads _ (λ x t. KnowsHolidays day (holidays_of x) t) two
+          c.in_ok-add_holidays-3.ensures.call
           (λ t k three. three_years day year none before here after t is (omega arith)
           (ap holidays_of c.new-holidays.ensures) k.0 k.1
-          (adds_kept (year + 1) here after c.in_ok-add_holidays-3.field-0 t three)) two
-          c.in_ok-add_holidays-3.ensures.call;
+          (adds_kept (year + 1) here after c.in_ok-add_holidays-3.field-0 t three));
     }

@@ -1,6 +1,4 @@
 use Rattle.std.proofs.Common.{◌≡◌, rules, true}
-use Rattle.ftd_store.specs.Corrections.{ListsHolidayChanges}
-use Rattle.ftd_store.specs.Finds.{ListsAdded}
 use Rattle.ftd_store.proofs.Telling.{then_reads}
 use Rattle.ftd_machine.specs.Limits.{are_rising}
 use Rattle.ftd_kept.specs.Kept.{KnowsHolidays, told_days}
@@ -17,9 +15,7 @@ returns-in-Ok g c =
     let rise : are_rising added.items ≡ true = search rules in
     let told : rows.items ≡ told_days changes.items given added.items = search rules in
     record {
-      call = then_reads g.S.Store c.args.tx.now c.added.new.self c.holiday_changes.new.self added
-          changes rows (ListsAdded year) (ListsHolidayChanges year)
-          (λ xs. KnowsHolidays year given xs.items)
-          (λ t lists all. knows_holidays year given added changes rows.items t rise told lists all)
-          c.in_ok-added.ensures.call c.in_ok-changes.ensures.call;
+      call = then_reads rows (λ xs. KnowsHolidays year given xs.items) c.in_ok-added.ensures.call
+          c.in_ok-changes.ensures.call
+          (λ t lists all. knows_holidays year given added changes rows.items t rise told lists all);
     }

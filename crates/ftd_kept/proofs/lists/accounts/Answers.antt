@@ -6,7 +6,6 @@ use Rattle.ftd_machine.specs.declared.requests.Question.TheVariants as questions
 use Rattle.ftd_machine.specs.declared.requests.Request.TheVariants.{Question}
 use Rattle.ftd_machine.proofs.Deciding.{passed}
 use Rattle.ftd_entries.proofs.Serving.{served_looked}
-use Rattle.ftd_accounts.specs.Accounts.{KnowsAccounts}
 use Rattle.ftd_kept.proofs.lists.accounts.Goals as goal
 
 pub returns : goal.returns
@@ -14,8 +13,7 @@ returns g c =
     let listed = c.in_ok-rows.rows in
     let answer = told_rows (rows.Accounts c.from_vec.result) in
     record {
-      call = served_looked g.S.Store (Question (questions.Kept kept.Accounts)) c.args.tx.now
-          c.all_accounts.new.tx listed answer (λ told. KnowsAccounts told.items)
+      call = served_looked (Question (questions.Kept kept.Accounts)) answer
           c.in_ok-rows.ensures.call (λ t s stands sound knows. passed _ s answer s _ refl (
             refl,
             record {

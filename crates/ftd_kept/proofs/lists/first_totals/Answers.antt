@@ -1,6 +1,5 @@
 use Rattle.std.proofs.Common.{◌≡◌, ◌∙◌, ap, map, subst, sym, Vec, Global}
 use Rattle.std.specs.Prelude.{IfOk}
-use Rattle.ftd_store.specs.Kept.{ListsReported, ListsReportedYears}
 use Rattle.ftd_store.proofs.Telling.{then_reads}
 use Rattle.ftd_machine.specs.Agenda.{EachToLater}
 use Rattle.ftd_machine.specs.Kept.{IsTotalBefore}
@@ -17,9 +16,8 @@ returns-in-Ok g c =
     let years = c.in_ok-years.years in
     let rows = c.in-Ok.rows in
     record {
-      call = then_reads g.S.Store c.args.tx.now c.reported_totals.new.self
-          c.reported_year_totals.new.self quarters years rows (ListsReported name)
-          (ListsReportedYears name) (λ told. KnowsFirstTotals name c.args.form told.items)
+      call = then_reads rows (λ told. KnowsFirstTotals name c.args.form told.items)
+          c.in_ok-quarters.ensures.call c.in_ok-years.ensures.call
           (λ t of_quarters of_years. elim c.match-form.branch [
             | in-F941 w ↦
                 let is = sym w.told-is ∙ c.in-Ok.is in
@@ -45,6 +43,5 @@ returns-in-Ok g c =
                 subst (λ f. KnowsFirstTotals name f rows.items t) (sym w.in-F943.is)
                 (knows_years name rows.items rise t years.items of_years
                 (told ∙ ap (map kept_year) w.deref-in-F943.ensures.value))
-          ])
-          c.in_ok-quarters.ensures.call c.in_ok-years.ensures.call;
+          ]);
     }

@@ -24,10 +24,8 @@ returns-in-Some g c =
     let is : first_of (holidays_checks year (is_some given)) ≡ Some c.in-Some.answer =
     search rules in
     record {
-      call = served_looked g.S.Store (Question (questions.Kept (kept.Holidays year)))
-          c.args.tx.now c.calendar.new.self given c.in-Some.answer (λ o. FindsCalendar year o)
-          c.in_ok-given.ensures.call
-          (λ t s stands sound finds. decided _ s c.in-Some.answer _
+      call = served_looked (Question (questions.Kept (kept.Holidays year))) c.in-Some.answer
+          c.in_ok-given.ensures.call (λ t s stands sound finds. decided _ s c.in-Some.answer _
           (ap (λ b. first_of (holidays_checks year b))
           (ap is_some (calendar_known year given t s stands sound finds)
           ∙ mapped_some days_found given) ∙ is));
@@ -39,20 +37,16 @@ returns g c =
     let given = c.in_ok-given.given in
     let days = c.in-Some-given.days in
     let listed = c.in_ok-rows.rows in
-    let read = then_reads g.S.Store c.args.tx.now c.calendar.new.self c.all_holidays.new.tx given
-    listed given (FindsCalendar year)
-    (λ xs. KnowsHolidays year c.deref.result.now xs.items)
+    let read = then_reads given
     (λ o t. FindsCalendar year o t × KnowsHolidays year days.items listed.items t)
-    (λ t finds knows. (
+    c.in_ok-given.ensures.call c.in_ok-rows.ensures.call (λ t finds knows. (
       finds,
       subst (λ ds. KnowsHolidays year ds listed.items t) c.deref.ensures.value knows,
-    )) c.in_ok-given.ensures.call c.in_ok-rows.ensures.call in
+    )) in
     let is : first_of (holidays_checks year (is_some given)) ≡ None = search rules in
     let answer = told_rows (rows.Holidays c.from_vec.result) in
     record {
-      call = served_looked g.S.Store (Question (questions.Kept (kept.Holidays year)))
-          c.args.tx.now c.all_holidays.new.tx given answer
-          (λ o t. FindsCalendar year o t × KnowsHolidays year days.items listed.items t) read
+      call = served_looked (Question (questions.Kept (kept.Holidays year))) answer read
           (λ t s stands sound knows.
           (let known = calendar_known year given t s stands sound knows.0 in
           let found : calendar_at s year ≡ Some days.items =

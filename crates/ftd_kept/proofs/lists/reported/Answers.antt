@@ -22,10 +22,8 @@ returns-in-Some g c =
     let account = c.in_ok-found.found in
     let is : first_of (kept_of_checks name account) ≡ Some c.in-Some.answer = search rules in
     record {
-      call = served_looked g.S.Store (Question (questions.Kept (kept.Reported name)))
-          c.args.tx.now c.known.new.tx account c.in-Some.answer (λ a. KnowsAccount name a)
-          c.in_ok-found.ensures.call
-          (λ t s stands sound knows. decided _ s c.in-Some.answer _
+      call = served_looked (Question (questions.Kept (kept.Reported name))) c.in-Some.answer
+          c.in_ok-found.ensures.call (λ t s stands sound knows. decided _ s c.in-Some.answer _
           (ap (λ a. first_of (kept_of_checks name a)) (knows s stands) ∙ is));
     }
 
@@ -35,18 +33,14 @@ returns g c =
     let found = c.in_ok-found.found in
     let account = c.in-Some-found.account in
     let listed = c.in_ok-rows.rows in
-    let read = then_reads g.S.Store c.args.tx.now c.known.new.tx c.totals.new.tx found listed
-    found (KnowsAccount name) (λ told. KnowsTotals name account.form told.items)
+    let read = then_reads found
     (λ a t. KnowsAccount name a t × KnowsTotals name account.form listed.items t)
-    (λ t knows totals. (knows, totals))
-    c.in_ok-found.ensures.call c.in_ok-rows.ensures.call in
+    c.in_ok-found.ensures.call c.in_ok-rows.ensures.call (λ t knows totals. (knows, totals)) in
     let is : first_of (kept_of_checks name found) ≡ None = search rules in
     let answer = told_rows (rows.Reported c.from_vec.result) in
     record {
-      call = served_looked g.S.Store (Question (questions.Kept (kept.Reported name)))
-          c.args.tx.now c.totals.new.tx found answer
-          (λ a t. KnowsAccount name a t × KnowsTotals name account.form listed.items t)
-          read (λ t s stands sound knows. passed _ s answer s _
+      call = served_looked (Question (questions.Kept (kept.Reported name))) answer read
+          (λ t s stands sound knows. passed _ s answer s _
           (ap (λ a. first_of (kept_of_checks name a)) (knows.0 s stands) ∙ is) (
             refl,
             record {

@@ -23,16 +23,12 @@ returns-in-Some g c =
     let name = c.args.name.now in
     let quarter = c.args.quarter in
     let account = c.in_ok-account.account in
-    let found = c.in_ok-found.found in
-    let read = then_reads g.S.Store c.args.tx.now c.known.new.tx c.kept_runs.new.self account found
-    account (KnowsAccount name) (ListsKeptRuns name c.first.result c.last.result)
-    (λ a. KnowsAccount name a) (λ t knows lists. knows)
-    c.in_ok-account.ensures.call c.in_ok-found.ensures.call in
+    let read = then_reads account (λ a. KnowsAccount name a) c.in_ok-account.ensures.call
+    c.in_ok-found.ensures.call (λ t knows lists. knows) in
     let is : first_of (kept_in_quarter_checks name quarter account) ≡ Some c.in-Some.answer =
     search rules in
     record {
-      call = served_looked g.S.Store (Question (questions.Kept (kept.Runs name quarter)))
-          c.args.tx.now c.kept_runs.new.self account c.in-Some.answer (λ a. KnowsAccount name a)
+      call = served_looked (Question (questions.Kept (kept.Runs name quarter))) c.in-Some.answer
           read (λ t s stands sound knows. decided _ s c.in-Some.answer _
           (ap (λ a. first_of (kept_in_quarter_checks name quarter a)) (knows s stands) ∙ is));
     }
@@ -43,20 +39,16 @@ returns-in-Ok g c =
     let quarter = c.args.quarter in
     let account = c.in_ok-account.account in
     let found = c.in_ok-found.found in
-    let read = then_reads g.S.Store c.args.tx.now c.known.new.tx c.kept_runs.new.self account found
-    account (KnowsAccount name) (ListsKeptRuns name c.first.result c.last.result)
+    let read = then_reads account
     (λ a t. KnowsAccount name a t × ListsKeptRuns name c.first.result c.last.result found t)
-    (λ t knows lists. (knows, lists))
-    c.in_ok-account.ensures.call c.in_ok-found.ensures.call in
+    c.in_ok-account.ensures.call c.in_ok-found.ensures.call (λ t knows lists. (knows, lists)) in
     let is : first_of (kept_in_quarter_checks name quarter account) ≡ None = search rules in
     let early = early_quarter name quarter account is in
     let told = c.in-Ok.ensures in
     let answer = told_rows (rows.Runs c.from_vec.result) in
     record {
-      call = served_looked g.S.Store (Question (questions.Kept (kept.Runs name quarter)))
-          c.args.tx.now c.kept_runs.new.self account answer
-          (λ a t. KnowsAccount name a t × ListsKeptRuns name c.first.result c.last.result found t)
-          read (λ t s stands sound knows. passed _ s answer s _
+      call = served_looked (Question (questions.Kept (kept.Runs name quarter))) answer read
+          (λ t s stands sound knows. passed _ s answer s _
           (ap (λ a. first_of (kept_in_quarter_checks name quarter a)) (knows.0 s stands) ∙ is) (
             refl,
             record {

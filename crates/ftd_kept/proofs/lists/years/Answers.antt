@@ -19,10 +19,8 @@ returns-in-Some g c =
     let found = c.in_ok-found.found in
     let is : first_of (kept_of_checks name found) ≡ Some c.in-Some.answer = search rules in
     record {
-      call = served_looked g.S.Store (Question (questions.Kept (kept.Years name))) c.args.tx.now
-          c.known.new.tx found c.in-Some.answer (λ a. KnowsAccount name a)
-          c.in_ok-found.ensures.call
-          (λ t s stands sound knows. decided _ s c.in-Some.answer _
+      call = served_looked (Question (questions.Kept (kept.Years name))) c.in-Some.answer
+          c.in_ok-found.ensures.call (λ t s stands sound knows. decided _ s c.in-Some.answer _
           (ap (λ a. first_of (kept_of_checks name a)) (knows s stands) ∙ is));
     }
 
@@ -32,17 +30,13 @@ returns g c =
     let found = c.in_ok-found.found in
     let account = c.in-Some-found.account in
     let listed = c.in_ok-rows.rows in
-    let read = then_reads g.S.Store c.args.tx.now c.known.new.tx c.open_years.new.tx found listed
-    found (KnowsAccount name) (λ told. KnowsYears name account told.items)
+    let read = then_reads found
     (λ a t. KnowsAccount name a t × KnowsYears name account listed.items t)
-    (λ t knows years. (knows, years))
-    c.in_ok-found.ensures.call c.in_ok-rows.ensures.call in
+    c.in_ok-found.ensures.call c.in_ok-rows.ensures.call (λ t knows years. (knows, years)) in
     let is : first_of (kept_of_checks name found) ≡ None = search rules in
     let answer = told_rows (rows.Years c.from_vec.result) in
     record {
-      call = served_looked g.S.Store (Question (questions.Kept (kept.Years name))) c.args.tx.now
-          c.open_years.new.tx found answer
-          (λ a t. KnowsAccount name a t × KnowsYears name account listed.items t) read
+      call = served_looked (Question (questions.Kept (kept.Years name))) answer read
           (λ t s stands sound knows.
           (let years = knows.1 s stands sound (knows.0 s stands ∙ c.in-Some-found.is) in
           passed _ s answer s _

@@ -7,5 +7,5 @@ pub loop-rest-preserved : goal.loop-rest-preserved
 loop-rest-preserved g c =
     let rest = c.loop-rest.rest.now in
     let parts = sym (take-append-drop c.in-Ok.count rest) in
-    rw c.split_at.ensures.back (goes_on _ _ _ _ _ (take c.in-Ok.count rest)
-    (drop c.in-Ok.count rest) c.loop-rest.invariant parts c.in-Ok.ensures.takes)
+    rw c.split_at.ensures.back (goes_on (take c.in-Ok.count rest) (drop c.in-Ok.count rest)
+    c.loop-rest.invariant parts c.in-Ok.ensures.takes)

@@ -9,6 +9,6 @@ returns-in_err-write_all g c =
 
 pub loop-piece-preserved : goal.loop-piece-preserved
 loop-piece-preserved g c =
-    goes_on _ _ _ _ _ _ _ c.loop-piece.invariant
+    goes_on _ _ c.loop-piece.invariant
     (pieces_at c.args.pieces.now c.loop-piece.piece-index _ c.loop-piece-test.true)
     c.in_ok-write_all.ensures.ok

@@ -21,8 +21,7 @@ returns-in-Some-clause-call g c =
     let cents = c.args.cents in
     let year = c.year_counting-year.result in
     let before = c.in_ok-before.before in
-    served_looked g.S.Store (CorrectReport name quarter number cents) c.args.tx.now
-    c.known_for_report.new.tx before c.in-Some.answer (KnowsForReport name quarter number year)
+    served_looked (CorrectReport name quarter number cents) c.in-Some.answer
     c.in_ok-before.ensures.call
     (quarter_decided name quarter number cents year c.year_counting-year.ensures before
     c.in-Some.answer (search rules))
@@ -38,10 +37,7 @@ returns-clause-call g c =
     let account = c.unwrap-account.result in
     let difference = c.in_ok-difference.difference in
     let entry = OfQuarter quarter (record { number = number; cents = cents }) in
-    let served = served_turned g.S.Store (CorrectReport name quarter number cents) c.args.tx.now
-    c.known_for_report.new.tx c.enter_and_follow.new.tx before difference (told difference)
-    (KnowsForReport name quarter number year)
-    (EntersFigure name account before.is_open (quarter_start quarter) year entry)
+    let served = served_turned (CorrectReport name quarter number cents) (told difference)
     c.in_ok-before.ensures.call (rw c.first-first.ensures at c.in_ok-difference.ensures.call)
     (λ t u s stands sound knows enters. quarter_done name quarter number cents year
     c.year_counting-year.ensures before account difference (search rules) c.unwrap-account.ensures t

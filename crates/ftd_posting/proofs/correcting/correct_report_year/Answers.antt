@@ -21,10 +21,8 @@ returns-in-Some-clause-call g c =
     let cents = c.args.cents in
     let counting = c.saturating_add-counting.result in
     let before = c.in_ok-before.before in
-    served_looked g.S.Store (CorrectReportYear name year number cents) c.args.tx.now
-    c.known_for_year.new.tx before c.in-Some.answer (KnowsForYear name year number counting)
-    c.in_ok-before.ensures.call
-    (year_decided name year number cents counting before
+    served_looked (CorrectReportYear name year number cents) c.in-Some.answer
+    c.in_ok-before.ensures.call (year_decided name year number cents counting before
     c.in-Some.answer (search rules))
 
 pub returns-clause-call : goal.returns-clause-call
@@ -40,10 +38,7 @@ returns-clause-call g c =
     let difference = c.in_ok-difference.difference in
     let first = c.in-Some-days_from.ensures.first in
     let entry = OfYear year (record { number = number; cents = cents }) in
-    let served = served_turned g.S.Store (CorrectReportYear name year number cents) c.args.tx.now
-    c.known_for_year.new.tx c.enter_and_follow.new.tx before difference (told difference)
-    (KnowsForYear name year number counting)
-    (EntersFigure name account before.is_open (year_start year) counting entry)
+    let served = served_turned (CorrectReportYear name year number cents) (told difference)
     c.in_ok-before.ensures.call (rw first at c.in_ok-difference.ensures.call)
     (λ t u s stands sound knows enters. year_done name year number cents counting is before account
     difference (search rules) c.unwrap-account.ensures t u s stands

@@ -1,40 +1,23 @@
 use Rattle.std.proofs.Common.{◌≡◌, ◌∙◌, ap, sym, length, rules, Option}
 use Rattle.std.proofs.lemmas.List.{length-map}
 use Rattle.ftd_schema.specs.Standing.{Tables}
-use Rattle.ftd_store.specs.Corrections.{ListsYearCorrections}
-use Rattle.ftd_store.specs.Finds.{FindsReportedYear}
 use Rattle.ftd_store.proofs.Telling.{then_reads}
 use Rattle.ftd_store.proofs.Turning.{gave_up_after}
 use Rattle.ftd_machine.specs.State.{numbered}
 use Rattle.ftd_machine.specs.declared.entries.Account.{Account}
-use Rattle.ftd_entries.specs.Known.{KnowsAccount, HasForm, KnowsYear, amounts_of, cents_of}
+use Rattle.ftd_entries.specs.Known.{KnowsAccount, HasForm, amounts_of, cents_of}
 use Rattle.ftd_entries.proofs.Corrected.{year_corrections_known}
-use Rattle.ftd_entries.proofs.Reading.{Both, both_read, reads_too}
+use Rattle.ftd_entries.proofs.Reading.{both_read, reads_too}
 use Rattle.ftd_posting.specs.Correcting.{KnowsForYear}
 use Rattle.ftd_posting.proofs.correcting.known_for_year.Goals as goal
 
 pub returns-in_default : goal.returns-in_default
 returns-in_default g c =
-    let name = c.args.name.now in
-    let key = c.args.reported_year in
-    let year = c.args.year in
-    let two = both_read g.S.Store c.args.tx.now c.known.new.tx c.reported_year.new.self
-    c.in_ok-account.account c.in_ok-reported.reported (KnowsAccount name)
-    (FindsReportedYear name key)
-    c.in_ok-account.ensures.call c.in_ok-reported.ensures.call in
-    let three = both_read g.S.Store c.args.tx.now c.reported_year.new.self c.is_open.new.tx
-    (c.in_ok-account.account, c.in_ok-reported.reported) c.in_ok-is_open.is_open
-    (Both (KnowsAccount name) (FindsReportedYear name key)) (KnowsYear name year) two
-    c.in_ok-is_open.ensures.call in
-    let four = both_read g.S.Store c.args.tx.now c.is_open.new.tx c.year_corrections.new.self
-    ((c.in_ok-account.account, c.in_ok-reported.reported), c.in_ok-is_open.is_open)
-    c.in_ok-corrections.corrections
-    (Both (Both (KnowsAccount name) (FindsReportedYear name key)) (KnowsYear name year))
-    (ListsYearCorrections name key) three c.in_ok-corrections.ensures.call in
+    let two = both_read c.in_ok-account.ensures.call c.in_ok-reported.ensures.call in
+    let three = both_read two c.in_ok-is_open.ensures.call in
+    let four = both_read three c.in_ok-corrections.ensures.call in
     record {
-      call = gave_up_after g.S.Store c.args.tx.now c.year_corrections.new.self c.give_up.new.self _
-          c.give_up.result _
-          four.frame c.give_up.ensures.frame c.give_up.ensures.fails;
+      call = gave_up_after four.frame c.give_up.ensures.frame c.give_up.ensures.fails;
     }
 
 pub returns : goal.returns
@@ -46,21 +29,13 @@ returns g c =
     let corrections = c.in_ok-corrections.corrections in
     let Named : Option Account → Tables → Type 0 = λ found t. KnowsAccount name found t
     × HasForm name found t in
-    let named = reads_too g.S.Store c.args.tx.now c.known.new.tx c.in_ok-account.account
-    (KnowsAccount name) (HasForm name) c.in_ok-account.ensures.call c.in_ok-account.ensures.form in
-    let two = both_read g.S.Store c.args.tx.now c.known.new.tx c.reported_year.new.self
-    c.in_ok-account.account c.in_ok-reported.reported Named (FindsReportedYear name key) named
-    c.in_ok-reported.ensures.call in
-    let three = both_read g.S.Store c.args.tx.now c.reported_year.new.self c.is_open.new.tx
-    (c.in_ok-account.account, c.in_ok-reported.reported) c.in_ok-is_open.is_open
-    (Both Named (FindsReportedYear name key)) (KnowsYear name year) two c.in_ok-is_open.ensures.call
+    let named = reads_too c.in_ok-account.ensures.call c.in_ok-account.ensures.form in
+    let two = both_read named c.in_ok-reported.ensures.call in
+    let three = both_read two c.in_ok-is_open.ensures.call
     in
     let count : length corrections.items ≡ c.in-Ok.count = search rules in
     record {
-      call = then_reads g.S.Store c.args.tx.now c.is_open.new.tx c.year_corrections.new.self
-          ((c.in_ok-account.account, c.in_ok-reported.reported), c.in_ok-is_open.is_open)
-          corrections _ (Both (Both Named (FindsReportedYear name key)) (KnowsYear name year))
-          (ListsYearCorrections name key) (KnowsForYear name key number year)
+      call = then_reads _ (KnowsForYear name key number year) three c.in_ok-corrections.ensures.call
           (λ t told listed. record {
             account = told.0.0.0;
             form = told.0.0.1;
@@ -77,6 +52,5 @@ returns g c =
                   ∙ length-map corrections.items cents_of ∙ count;
             };
             is_open = told.1;
-          })
-          three c.in_ok-corrections.ensures.call;
+          });
     }

@@ -22,11 +22,10 @@ returns-then-not-is_open g c =
       | inr (inr k) ↦ (let high = followed.2 in let more = k.2 in omega (arith, high, more))
     ] in
     record {
-      call = turns_on g.S.Store c.args.tx.now c.enter.new.tx _ c.unchanged.result
-          (λ done t u. u ≡ With t)
+      call = turns_on c.unchanged.result
           (EntersFigure name c.args.account c.args.is_open c.args.first c.args.year entry)
-          (λ t u is. inl (not, is, c.unchanged.ensures))
-          (writes_turn g.S.Store c.args.tx.now c.enter.new.tx _ With c.in_ok-enter.ensures.call);
+          (writes_turn c.in_ok-enter.ensures.call)
+          (λ t u is. inl (not, is, c.unchanged.ensures));
     }
 
 pub returns : goal.returns
@@ -43,22 +42,16 @@ returns g c =
     × (u ≡ With t) in
     let read : Rewrites g.S.Store c.args.tx.now c.lookback_total.new.tx (Ok (tt {0}))
     (λ done. Known) =
-    turns_then g.S.Store c.args.tx.now c.enter.new.tx c.lookback_total.new.tx _ _ tt
-    (λ done t u. u ≡ With t) (λ x t u. KnowsTotal name account year x t × (u ≡ t)) (λ done. Known)
-    (λ t u v is knows. (
+    turns_then tt (λ done. Known)
+    (writes_turn c.in_ok-enter.ensures.call)
+    (reads_turn c.in_ok-total.ensures.call) (λ t u v is knows. (
       subst (KnowsTotal name account year (Ok total)) is
           (subst (λ x. KnowsTotal name account year x u) c.in-Ok.is knows.0),
       knows.1 ∙ is,
-    ))
-    (writes_turn g.S.Store c.args.tx.now c.enter.new.tx _ With c.in_ok-enter.ensures.call)
-    (reads_turn g.S.Store c.enter.new.tx c.lookback_total.new.tx _ (KnowsTotal name account year)
-    c.in_ok-total.ensures.call) in
+    )) in
     record {
-      call = turn_then_turn g.S.Store c.args.tx.now c.lookback_total.new.tx
-          c.correct_lookback.new.tx tt c.correct_lookback.result (λ done. Known)
-          (λ d t u. IsRetotaled name account.form c.args.first year total t u d)
-          (EntersFigure name account c.args.is_open c.args.first year entry)
-          (λ d t u v known retotals. inr (
+      call = turn_then_turn (EntersFigure name account c.args.is_open c.args.first year entry) read
+          c.correct_lookback.ensures.call (λ d t u v known retotals. inr (
             followed,
             (
               total,
@@ -66,6 +59,5 @@ returns g c =
               subst (λ (z : Tables). IsRetotaled name account.form c.args.first year total z v d)
                   known.1 retotals,
             ),
-          ))
-          read c.correct_lookback.ensures.call;
+          ));
     }

@@ -18,10 +18,9 @@ returns-in-Some g c =
     let run = c.args.run in
     let before = c.in_ok-before.before in
     record {
-      call = served_looked_where g.S.Store (CountsRuns name c.args.count)
-          (Post name number run.payday run.fit run.ss run.medicare) c.args.tx.now
-          c.known_for_post.new.tx before c.in-Some.answer
-          (KnowsAll name number run c.args.count) c.in_ok-before.ensures.call
+      call = served_looked_where (CountsRuns name c.args.count)
+          (Post name number run.payday run.fit run.ss run.medicare) c.in-Some.answer
+          c.in_ok-before.ensures.call
           (post_decided name number run c.args.count before c.in-Some.answer (search rules));
       repairs = becomes_none g.S.Store (PostsRun name number run) c.args.tx.now
           c.known_for_post.new.tx before c.in-Some.answer (KnowsAll name number run c.args.count)
@@ -37,11 +36,8 @@ returns g c =
     let before = c.in_ok-before.before in
     let account = c.unwrap-form.result in
     let difference = c.in_ok-difference.difference in
-    let served = served_turned_where g.S.Store (CountsRuns name c.args.count)
-    (Post name number run.payday run.fit run.ss run.medicare) c.args.tx.now c.known_for_post.new.tx
-    c.add_repaired.new.tx before difference (told difference)
-    (KnowsAll name number run c.args.count) (λ d t u. IsReposted name account.form run.payday t
-    (with_run name number run t) u d)
+    let served = served_turned_where (CountsRuns name c.args.count)
+    (Post name number run.payday run.fit run.ss run.medicare) (told difference)
     c.in_ok-before.ensures.call c.in_ok-difference.ensures.call
     (λ t u s stands sound counted knows turned. post_done name number run c.args.count before
     account difference (search rules) c.unwrap-form.ensures t u s stands sound counted knows

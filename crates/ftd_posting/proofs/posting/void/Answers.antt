@@ -20,9 +20,7 @@ returns-in-Some g c =
     let number = c.args.number in
     let before = c.in_ok-before.before in
     record {
-      call = served_looked g.S.Store (Void name number) c.args.tx.now c.known_for_void.new.tx before
-          c.in-Some.answer
-          (KnowsForVoid name number) c.in_ok-before.ensures.call
+      call = served_looked (Void name number) c.in-Some.answer c.in_ok-before.ensures.call
           (void_decided name number before c.in-Some.answer (search rules));
       repairs = becomes_none g.S.Store (VoidsRun name number) c.args.tx.now c.known_for_void.new.tx
           before c.in-Some.answer (KnowsForVoid name number)
@@ -38,11 +36,8 @@ returns g c =
     let account = c.unwrap-form.result in
     let kept = c.unwrap-payday.result in
     let difference = c.in_ok-difference.difference in
-    let served = served_turned g.S.Store (Void name number) c.args.tx.now c.known_for_void.new.tx
-    c.void_repaired.new.tx before difference (told difference)
-    (KnowsForVoid name number) (λ d t u. IsReposted name account.form kept.value.payday t
-    (with_void_run name number t) u d)
-    c.in_ok-before.ensures.call c.in_ok-difference.ensures.call
+    let served = served_turned (Void name number) (told difference) c.in_ok-before.ensures.call
+    c.in_ok-difference.ensures.call
     (λ t u s stands sound knows turned. void_done name number before account kept difference
     (search rules) c.unwrap-form.ensures c.unwrap-payday.ensures t u s stands sound knows turned) in
     record {

@@ -11,7 +11,7 @@ returns-in_err-write_counts g c = stops_in _ c.from_residual.ensures.0 c.in_err-
 pub loop-note-init : goal.loop-note-init
 unfolding summary_text
 loop-note-init g c =
-    record { written = goes_on _ _ _ _ _ _ _ (begins _ _) refl c.in_ok-write_counts.ensures.ok }
+    record { written = goes_on _ _ begins refl c.in_ok-write_counts.ensures.ok }
 
 pub returns-in_err-write_note : goal.returns-in_err-write_note
 returns-in_err-write_note g c =
@@ -22,7 +22,7 @@ returns-in_err-write_note g c =
 
 pub loop-note-preserved : goal.loop-note-preserved
 loop-note-preserved g c = record {
-  written = goes_on _ _ _ _ _ _ _ c.loop-note.invariant.written
+  written = goes_on _ _ c.loop-note.invariant.written
       (rw c.deref-note-items.ensures.value at
       (note_on c.deref-note-items.result.now c.loop-note.note-index c.note-item.result
       c.loop-note-test.true c.note-item.is)) c.in_ok-write_note.ensures.ok;

@@ -11,32 +11,26 @@ pub returns-in-Some-last_years : goal.returns-in-Some-last_years
 returns-in-Some-last_years g c =
     let name = c.args.name.now in
     let last = c.args.last in
-    let found = c.in_ok-account.field-0 in
     record {
-      call = reads_on g.S.Store c.args.tx.now c.known.new.tx found _ (KnowsAccount name)
-          (λ of t. KnowsAccount name (Some of.0) t
-          × (KnowsLastYears last t → KnowsYears c.args.quarter of.1 t))
+      call = reads_on _ (λ of t. KnowsAccount name (Some of.0) t
+          × (KnowsLastYears last t → KnowsYears c.args.quarter of.1 t)) c.in_ok-account.ensures.call
           (λ t known. (
             subst (λ a. KnowsAccount name a t) c.in-Some.is known,
             c.in-Some-last_years.ensures t,
-          )) c.in_ok-account.ensures.call;
+          ));
     }
 
 pub returns : goal.returns
 returns g c =
     let name = c.args.name.now in
     let last = c.args.last in
-    let found = c.in_ok-account.field-0 in
     let given = c.in_ok-holidays.holidays in
     record {
-      call = then_reads g.S.Store c.args.tx.now c.known.new.tx c.holidays.new.self found given _
-          (KnowsAccount name) (λ hs. HasYears c.year-year.result (c.year-year.result + 1)
-          (holidays_of hs))
-          (λ of t. KnowsAccount name (Some of.0) t
-          × (KnowsLastYears last t → KnowsYears c.args.quarter of.1 t))
-          (λ t known years. (
+      call = then_reads _ (λ of t. KnowsAccount name (Some of.0) t
+          × (KnowsLastYears last t → KnowsYears c.args.quarter of.1 t)) c.in_ok-account.ensures.call
+          c.in_ok-holidays.ensures.call (λ t known years. (
             subst (λ a. KnowsAccount name a t) c.in-Some.is known,
             (λ last_is. subst (λ year. HasYears year (year + 1) (holidays_of given) t)
                 c.year-year.ensures years),
-          )) c.in_ok-account.ensures.call c.in_ok-holidays.ensures.call;
+          ));
     }

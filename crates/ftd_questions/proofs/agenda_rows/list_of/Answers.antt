@@ -1,10 +1,8 @@
-use Rattle.std.proofs.Common.{refl, ap, sym, subst, Some}
+use Rattle.std.proofs.Common.{refl, ap, sym, subst}
 use Rattle.ftd_store.proofs.Telling.{then_reads}
 use Rattle.ftd_machine.specs.History.{form_of}
-use Rattle.ftd_entries.specs.Known.{KnowsAccount}
 use Rattle.ftd_questions.specs.Agendas.{KnowsLastYears, KnowsList}
 use Rattle.ftd_questions.specs.DueRows.{KnowsYears}
-use Rattle.ftd_questions.specs.Shown.{KnowsQuarter}
 use Rattle.ftd_questions.proofs.agenda_rows.list_of.Goals as goal
 
 pub returns : goal.returns
@@ -14,17 +12,10 @@ returns g c =
     let as_of = c.args.as_of in
     let last = c.args.last in
     let account = c.in_ok-account.account in
-    let given = c.in_ok-account.years in
-    let found = c.in_ok-return_due.field-0 in
     record {
-      call = then_reads g.S.Store c.args.tx.now c.account_and_years.new.tx c.rows_of_quarter.new.tx
-          (account, given) found _
-          (λ of t. KnowsAccount name (Some of.0) t
-          × (KnowsLastYears last t → KnowsYears quarter of.1 t))
-          (λ q t. KnowsYears quarter given t → KnowsQuarter name account.form quarter as_of q t)
-          (λ of t. KnowsLastYears last t
+      call = then_reads _ (λ of t. KnowsLastYears last t
           → KnowsList name quarter as_of of.0 t × KnowsYears quarter of.1 t)
-          (λ t before lists last_is.
+          c.in_ok-account.ensures.call c.in_ok-return_due.ensures.call (λ t before lists last_is.
           (let years = before.1 last_is in (
             (λ s stands sound.
                 (let is = before.0 s stands in
@@ -36,6 +27,5 @@ returns g c =
                   return_due = (lists years).1 s stands sound;
                 })),
             subst (λ hs. KnowsYears quarter hs t) (sym c.in_ok-return_due.ensures.same) years,
-          )))
-          c.in_ok-account.ensures.call c.in_ok-return_due.ensures.call;
+          )));
     }

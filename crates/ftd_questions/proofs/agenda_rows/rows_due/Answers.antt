@@ -1,4 +1,4 @@
-use Rattle.std.proofs.Common.{◌<◌, ℕ, List, [], take, length, None, Ok, rules, sym, subst}
+use Rattle.std.proofs.Common.{◌<◌, ℕ, List, [], length, None, Ok, rules, sym, subst}
 use Rattle.std.proofs.Common.{arith}
 use Rattle.ftd_rows.specs.Lists.{Pairs}
 use Rattle.ftd_rows.specs.declared.obligations.AccountObligation.{AccountObligation}
@@ -22,29 +22,25 @@ loop-owed-init g c =
     let to = c.args.to in
     let items : List AccountObligation = c.deref-owed-items.result.now in
     rw c.new-rows.ensures.items
-    (reads_on g.S.Store c.args.tx.now c.due_between.new.tx c.in_ok-listed.listed tt
-    (λ listed. KnowsDue unpaid from to listed.items)
-    (λ done. SoFar unpaid from to c.args.as_of items [] [] None)
-    (λ t lists. record {
+    (reads_on tt (λ done. SoFar unpaid from to c.args.as_of items [] [] None)
+    c.in_ok-listed.ensures.call (λ t lists. record {
       lists = subst (λ xs. KnowsDue unpaid from to xs t) (sym c.deref-owed-items.ensures.value)
           lists;
       are_rows = tt;
       last_is = tt;
       years_are = tt;
-    }) c.in_ok-listed.ensures.call)
+    }))
 
 pub returns-in-Err : goal.returns-in-Err
 returns-in-Err g c =
     let frame : Frame g.S.Store c.args.tx.now c.if-not-is_last.tx (Ok (tt {0})) =
     elim c.if-not-is_last.branch [
       | then-not-is_last+in_ok-last w ↦
-          rw w.tx-is (then_goes g.S.Store c.args.tx.now c.loop-owed.tx w.its_list.new.tx tt _ tt
-          c.loop-owed.invariant.frame w.in_ok-last.ensures.call.frame)
+          rw w.tx-is (then_goes tt c.loop-owed.invariant.frame w.in_ok-last.ensures.call.frame)
       | else-not-is_last w ↦ rw w.tx-is c.loop-owed.invariant.frame
     ] in
     record {
-      call = gave_up_after g.S.Store c.args.tx.now c.if-not-is_last.tx c.give_up.new.self tt
-          c.give_up.result _ frame c.give_up.ensures.frame c.give_up.ensures.fails;
+      call = gave_up_after frame c.give_up.ensures.frame c.give_up.ensures.fails;
     }
 
 pub loop-owed-preserved : goal.loop-owed-preserved
@@ -63,24 +59,19 @@ loop-owed-preserved g c =
     elim c.if-not-is_last.branch [
       | then-not-is_last+in_ok-last w ↦
           (let its : IsLast x new = subst (IsLast x) (sym w.last-is) w.in_ok-last.ensures.is in
-          rw w.tx-is (then_reads g.S.Store c.args.tx.now c.loop-owed.tx w.its_list.new.tx tt _ tt
-          (λ done. SoFar unpaid from to as_of items (take i items) before last)
-          (λ l t. KnowsLastYears last t → KnowsLast as_of l t × KnowsLastYears l t) _
+          rw w.tx-is (then_reads tt _ c.loop-owed.invariant w.in_ok-last.ensures.call
           (λ t so_far knows. so_far_more unpaid from to as_of items i x before _ last new t some
           c.owed-item.is its c.in_default.ensures so_far
           (subst (λ l. KnowsLast as_of l t × KnowsLastYears l t) (sym w.last-is)
-          (knows so_far.years_are)))
-          c.loop-owed.invariant w.in_ok-last.ensures.call))
+          (knows so_far.years_are)))))
       | else-not-is_last w ↦
           (let its : IsLast x new = subst (IsLast x) (sym w.last-is)
           (c.is_last.ensures (search (rules, w.if-not-is_last.false))) in
-          rw w.tx-is (reads_on g.S.Store c.args.tx.now c.loop-owed.tx tt tt
-          (λ done. SoFar unpaid from to as_of items (take i items) before last) _
+          rw w.tx-is (reads_on tt _ c.loop-owed.invariant
           (λ t so_far. so_far_more unpaid from to as_of items i x before _ last new t some
           c.owed-item.is its c.in_default.ensures so_far
           (subst (λ l. KnowsLast as_of l t × KnowsLastYears l t) (sym w.last-is)
-          (so_far.last_is, so_far.years_are)))
-          c.loop-owed.invariant))
+          (so_far.last_is, so_far.years_are)))))
     ]
 
 pub returns : goal.returns
@@ -94,14 +85,11 @@ returns g c =
     let end = c.loop-owed-test.false in
     let all = all_taken items i (omega arith) in
     record {
-      call = reads_on g.S.Store c.args.tx.now c.loop-owed.tx tt c.loop-owed.rows
-          (λ done. SoFar unpaid from to as_of items (take i items) c.loop-owed.rows.items
-          c.loop-owed.last)
-          (λ rows. KnowsRowsDue unpaid from to as_of rows.items)
-          (λ t so_far. record {
+      call = reads_on c.loop-owed.rows (λ rows. KnowsRowsDue unpaid from to as_of rows.items)
+          c.loop-owed.invariant (λ t so_far. record {
             owed = items;
             listed = so_far.lists;
             are_rows = subst (λ os. Pairs (KnowsRow as_of t) os c.loop-owed.rows.items) all
                 so_far.are_rows;
-          }) c.loop-owed.invariant;
+          });
     }

@@ -6,7 +6,6 @@ use Rattle.ftd_machine.specs.declared.requests.Request.TheVariants.{Question}
 use Rattle.ftd_machine.specs.declared.facts.Facts.TheVariants.{Agenda}
 use Rattle.ftd_machine.specs.declared.replies.Reply.TheVariants.{Told}
 use Rattle.ftd_entries.proofs.Serving.{served_looked}
-use Rattle.ftd_questions.specs.Agendas.{KnowsRowsDue}
 use Rattle.ftd_questions.proofs.AgendaTold.{owed_answered, owed_refused}
 use Rattle.ftd_questions.proofs.agendas.owed.Goals as goal
 
@@ -15,10 +14,7 @@ returns-in-Some g c =
     let until = c.args.until in
     let as_of = c.args.as_of in
     record {
-      call = served_looked g.S.Store (Question (Owed until as_of)) c.args.tx.now
-          c.rows_due.new.tx c.in_ok-rows.rows c.in-Some.answer
-          (λ rows. KnowsRowsDue (Some as_of) c.first_of_month-from.result until as_of rows.items)
-          c.in_ok-rows.ensures.call
+      call = served_looked (Question (Owed until as_of)) c.in-Some.answer c.in_ok-rows.ensures.call
           (λ t s stands sound knows. owed_refused until as_of c.in-Some.answer (search rules) s);
     }
 
@@ -30,11 +26,8 @@ returns-in-Ok g c =
     let first : c.first_of_month-from.result ≡ 0 =
     c.first_of_month-from.ensures.value ∙ month_start-zero in
     record {
-      call = served_looked g.S.Store (Question (Owed until as_of)) c.args.tx.now
-          c.rows_due.new.tx rows (Ok (Told (Agenda c.from_vec.result)))
-          (λ rs. KnowsRowsDue (Some as_of) c.first_of_month-from.result until as_of rs.items)
-          c.in_ok-rows.ensures.call
-          (λ t s stands sound knows. rw (sym c.from_vec.ensures) at
+      call = served_looked (Question (Owed until as_of)) (Ok (Told (Agenda c.from_vec.result)))
+          c.in_ok-rows.ensures.call (λ t s stands sound knows. rw (sym c.from_vec.ensures) at
           (owed_answered (Some as_of) c.first_of_month-from.result until as_of rows.items t s stands
           sound knows refl first (search rules) c.in-Ok.rows.items c.in-Ok.ensures.same
           c.in-Ok.ensures.in_order));
@@ -42,7 +35,6 @@ returns-in-Ok g c =
 
 pub returns-in-Err : goal.returns-in-Err
 returns-in-Err g c = record {
-  call = gave_up_after g.S.Store c.args.tx.now c.rows_due.new.tx c.give_up.new.self
-      c.in_ok-rows.rows c.give_up.result _ c.in_ok-rows.ensures.call.frame c.give_up.ensures.frame
+  call = gave_up_after c.in_ok-rows.ensures.call.frame c.give_up.ensures.frame
       c.give_up.ensures.fails;
 }

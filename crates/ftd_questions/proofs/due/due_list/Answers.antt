@@ -21,9 +21,8 @@ returns-in-Some g c =
     let known = c.in_ok-before.before in
     let answer = c.in-Some.answer in
     record {
-      call = served_looked g.S.Store (Question (DueList name quarter as_of)) c.args.tx.now
-          c.known_for_due.new.tx known answer (KnowsForDue name quarter) c.in_ok-before.ensures.call
-          (due_decided name quarter as_of known answer (search rules));
+      call = served_looked (Question (DueList name quarter as_of)) answer
+          c.in_ok-before.ensures.call (due_decided name quarter as_of known answer (search rules));
       shows = shown_by g.S.Store c.args.tx.now c.known_for_due.new.tx known answer
           (DueList name quarter as_of) (KnowsForDue name quarter) c.in_ok-before.ensures.call
           (λ t knows rows is. absurd ((due_list_refuses name quarter as_of known).never
@@ -41,23 +40,18 @@ returns g c =
     let found = c.in_ok-found.found in
     let rows = found.rows in
     let passed : checks name quarter as_of known ≡ None = search rules in
-    let years = then_reads g.S.Store c.args.tx.now c.known_for_due.new.tx c.holidays.new.self known
-    given given (KnowsForDue name quarter) (λ hs. HasYears c.year-year.result
-    (c.year-year.result + 1) (holidays_of hs))
-    (λ hs t. KnowsForDue name quarter known t × KnowsYears quarter hs t)
-    (λ t knows has. (
+    let years = then_reads given
+    (λ hs t. KnowsForDue name quarter known t × KnowsYears quarter hs t) c.in_ok-before.ensures.call
+    c.in_ok-holidays.ensures.call (λ t knows has. (
       knows,
       subst (λ year. HasYears year (year + 1) (holidays_of given) t) c.year-year.ensures has,
-    )) c.in_ok-before.ensures.call c.in_ok-holidays.ensures.call in
-    let read = then_reads g.S.Store c.args.tx.now c.holidays.new.self c.rows_of_quarter.new.tx
-    given found found (λ hs t. KnowsForDue name quarter known t × KnowsYears quarter hs t)
-    (λ q t. KnowsYears quarter given t → KnowsQuarter name account.form quarter as_of q t)
+    )) in
+    let read = then_reads found
     (λ q t. KnowsForDue name quarter known t × KnowsQuarter name account.form quarter as_of q t)
-    (λ t knows lists. (knows.0, lists knows.1)) years c.in_ok-found.ensures.call in
+    years c.in_ok-found.ensures.call (λ t knows lists. (knows.0, lists knows.1)) in
     record {
-      call = served_looked g.S.Store (Question (DueList name quarter as_of)) c.args.tx.now
-          c.rows_of_quarter.new.tx found (Ok (Told (Due c.from_vec.result))) _ read
-          (λ t s stands sound knows.
+      call = served_looked (Question (DueList name quarter as_of))
+          (Ok (Told (Due c.from_vec.result))) read (λ t s stands sound knows.
           rw (sym c.from_vec.ensures) at
           (due_told name quarter as_of known account rows.items c.in-Some-account.is passed t s
           stands sound (knows.0, knows.1.0.0)));

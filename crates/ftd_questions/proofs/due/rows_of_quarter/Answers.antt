@@ -4,11 +4,9 @@ use Rattle.std.specs.List.{list_any}
 use Rattle.ftd_days.specs.Holidays.{holidays_of}
 use Rattle.ftd_rules.specs.declared.Obligation.{Obligation}
 use Rattle.ftd_rows.specs.Lists.{Pairs}
-use Rattle.ftd_store.specs.Finds.{ListsObligations}
 use Rattle.ftd_store.proofs.Going.{then_goes}
 use Rattle.ftd_store.proofs.Telling.{then_reads}
 use Rattle.ftd_store.proofs.Turning.{gave_up_after}
-use Rattle.ftd_accounts.specs.Returns.{KnowsPeriod}
 use Rattle.ftd_questions.specs.DueRows.{IsRowBy, KnowsYears, begins_in, is_next_day_row}
 use Rattle.ftd_questions.specs.Shown.{KnowsQuarter}
 use Rattle.ftd_questions.proofs.DueListed.{return_known}
@@ -36,12 +34,9 @@ returns-in-Ok g c =
     subst (λ (os : List Obligation). Pairs (IsRowBy of_return as_of) (filter (begins_in quarter) os)
     rows.items) c.deref-2.ensures.value c.in-Ok.ensures in
     record {
-      call = then_reads g.S.Store c.args.tx.now c.return_period.new.tx c.obligations.new.self period
-          found _ (KnowsPeriod name form quarter)
-          (ListsObligations name period.first period.last)
-          (λ quarter_rows t. KnowsYears quarter given t
-          → KnowsQuarter name form quarter as_of quarter_rows t)
-          (λ t knows lists years. (
+      call = then_reads _ (λ quarter_rows t. KnowsYears quarter given t
+          → KnowsQuarter name form quarter as_of quarter_rows t) c.in_ok-period.ensures.call
+          c.in_ok-obligations.ensures.call (λ t knows lists years. (
             (
               due_known name form quarter as_of given period c.has_next_day-next_day.result
                   found.items of_return rows.items c.requires.from c.requires.to
@@ -53,16 +48,13 @@ returns-in-Ok g c =
             ),
             return_known form quarter (holidays_of given) of_return.due c.requires.from
                 c.requires.to c.quarter_return-of_return.ensures.stands.due t years,
-          ))
-          c.in_ok-period.ensures.call c.in_ok-obligations.ensures.call;
+          ));
       same = c.quarter_return-of_return.ensures.stands.holidays_are;
     }
 
 pub returns-clause-call : goal.returns-clause-call
 returns-clause-call g c =
-    let period = c.in_ok-period.period in
     let found = c.in_ok-obligations.obligations in
-    let two = then_goes g.S.Store c.args.tx.now c.return_period.new.tx c.obligations.new.self
-    period found found c.in_ok-period.ensures.call.frame c.in_ok-obligations.ensures.call.frame in
-    gave_up_after g.S.Store c.args.tx.now c.obligations.new.self c.give_up.new.self found
-    c.give_up.result _ two c.give_up.ensures.frame c.give_up.ensures.fails
+    let two = then_goes found c.in_ok-period.ensures.call.frame
+    c.in_ok-obligations.ensures.call.frame in
+    gave_up_after two c.give_up.ensures.frame c.give_up.ensures.fails

@@ -1,13 +1,11 @@
 use Rattle.std.proofs.Common.{◌≡◌, ◌∙◌, subst}
 use Rattle.std.specs.Prelude.{filter}
 use Rattle.ftd_days.proofs.Months.{month_start-zero}
-use Rattle.ftd_store.specs.Finds.{ListsObligations}
 use Rattle.ftd_store.proofs.Going.{then_goes}
 use Rattle.ftd_store.proofs.Telling.{reads_on, then_reads}
 use Rattle.ftd_store.proofs.Turning.{gave_up_after}
 use Rattle.ftd_entries.proofs.OwedRows.{obligations_known}
 use Rattle.ftd_questions.specs.Listing.{KnowsOwn, is_unpaid}
-use Rattle.ftd_accounts.specs.Returns.{KnowsPayments}
 use Rattle.ftd_questions.proofs.OwnDue.{own_read, own_unpaid}
 use Rattle.ftd_questions.proofs.listing.own_due.Goals as goal
 
@@ -19,11 +17,11 @@ returns-in_default g c =
     let first = c.year_before.result in
     let found = c.in_ok-owed.owed in
     record {
-      call = reads_on g.S.Store c.args.tx.now c.obligations.new.self found found
-          (ListsObligations name first to) (λ xs. KnowsOwn c.args.unpaid.now from to name xs.items)
+      call = reads_on found (λ xs. KnowsOwn c.args.unpaid.now from to name xs.items)
+          c.in_ok-owed.ensures.call
           (λ t lists. own_read c.args.unpaid.now from to name first found.items t
           c.in_default.not-Some c.year_before.ensures
-          (obligations_known name first to found t lists)) c.in_ok-owed.ensures.call;
+          (obligations_known name first to found t lists));
     }
 
 pub returns-in-Ok : goal.returns-in-Ok
@@ -42,24 +40,19 @@ returns-in-Ok g c =
     (subst (λ os. left.items ≡ filter (is_unpaid c.deref-2.result.now as_of) os)
     c.deref.ensures.value c.in-Ok.ensures) in
     record {
-      call = then_reads g.S.Store c.args.tx.now c.obligations.new.self c.payments_of.new.tx found
-          payments left (ListsObligations name first to)
-          (λ ps. KnowsPayments name zeroth to ps.items)
-          (λ xs. KnowsOwn c.args.unpaid.now from to name xs.items)
+      call = then_reads left (λ xs. KnowsOwn c.args.unpaid.now from to name xs.items)
+          c.in_ok-owed.ensures.call c.in_ok-payments.ensures.call
           (λ t lists counts. own_unpaid c.args.unpaid.now from to name first zeroth as_of
           found.items left.items payments.items t c.in-Some.is c.year_before.ensures
           (c.first_of_month.ensures.value ∙ month_start-zero) left_is
-          (obligations_known name first to found t lists) counts)
-          c.in_ok-owed.ensures.call c.in_ok-payments.ensures.call;
+          (obligations_known name first to found t lists) counts);
     }
 
 pub returns : goal.returns
 returns g c =
     let payments = c.in_ok-payments.payments in
-    let two = then_goes g.S.Store c.args.tx.now c.obligations.new.self c.payments_of.new.tx
-    c.in_ok-owed.owed payments payments c.in_ok-owed.ensures.call.frame
+    let two = then_goes payments c.in_ok-owed.ensures.call.frame
     c.in_ok-payments.ensures.call.frame in
     record {
-      call = gave_up_after g.S.Store c.args.tx.now c.payments_of.new.tx c.give_up.new.self payments
-          c.give_up.result _ two c.give_up.ensures.frame c.give_up.ensures.fails;
+      call = gave_up_after two c.give_up.ensures.frame c.give_up.ensures.fails;
     }

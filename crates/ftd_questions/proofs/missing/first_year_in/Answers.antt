@@ -1,6 +1,4 @@
-use Rattle.ftd_store.specs.Finds.{ListsYears}
 use Rattle.ftd_store.proofs.Telling.{then_reads}
-use Rattle.ftd_entries.specs.Known.{KnowsAccount}
 use Rattle.ftd_questions.specs.Missing.{KnowsFirstYear}
 use Rattle.ftd_questions.proofs.FirstYears.{first_known}
 use Rattle.ftd_questions.proofs.missing.first_year_in.Goals as goal
@@ -11,9 +9,8 @@ returns g c =
     let account = c.in_ok-account.account in
     let lines = c.in_ok-lines.lines in
     record {
-      call = then_reads g.S.Store c.args.tx.now c.known.new.tx c.years.new.self account lines
-          c.first_among.result (KnowsAccount name) (ListsYears name) (KnowsFirstYear name)
+      call = then_reads c.first_among.result (KnowsFirstYear name) c.in_ok-account.ensures.call
+          c.in_ok-lines.ensures.call
           (λ t knows lists s stands sound. rw (c.first_among.ensures, c.deref.ensures.value)
-          (first_known name account lines t s stands knows lists))
-          c.in_ok-account.ensures.call c.in_ok-lines.ensures.call;
+          (first_known name account lines t s stands knows lists));
     }

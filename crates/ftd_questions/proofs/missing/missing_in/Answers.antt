@@ -1,5 +1,4 @@
 use Rattle.std.proofs.Common.{◌≡◌, ◌∙◌, Err, rules}
-use Rattle.ftd_store.specs.Finds.{FindsReported}
 use Rattle.ftd_store.proofs.Telling.{reads_on}
 use Rattle.ftd_store.proofs.Going.{fails_after}
 use Rattle.ftd_store.proofs.Turning.{gave_up_after}
@@ -12,20 +11,12 @@ use Rattle.ftd_questions.proofs.missing.missing_in.Goals as goal
 
 pub returns-in_err-reported-4 : goal.returns-in_err-reported-4
 returns-in_err-reported-4 g c =
-    let name = c.args.name.now in
-    let read = three_read g.S.Store c.args.tx.now c.reported.new.self c.reported-2.new.self
-    c.reported-3.new.self c.in_ok-reported.field-0 c.in_ok-reported-2.field-0
-    c.in_ok-reported-3.field-0
-    (FindsReported name c.at-third.result) (FindsReported name c.at-fourth.result)
-    (FindsReported name c.at-next.result)
-    c.in_ok-reported.ensures.call c.in_ok-reported-2.ensures.call c.in_ok-reported-3.ensures.call in
+    let read = three_read c.in_ok-reported.ensures.call c.in_ok-reported-2.ensures.call
+    c.in_ok-reported-3.ensures.call in
     let failed : c.from_residual-in_err-reported-4.result ≡ Err c.in_err-reported-4.field-0.0 =
     search rules in
     record {
-      call = fails_after g.S.Store c.args.tx.now c.reported-3.new.self c.reported-4.new.self
-          c.in_ok-reported-3.field-0 c.in_err-reported-4.field-0.0
-          c.from_residual-in_err-reported-4.result _
-          failed read.frame c.in_err-reported-4.ensures.call.frame;
+      call = fails_after failed read.frame c.in_err-reported-4.ensures.call.frame;
     }
 
 pub returns-in-Ok : goal.returns-in-Ok
@@ -36,16 +27,10 @@ returns-in-Ok g c =
     let d = c.in_ok-reported-3.field-0 in
     let e = c.in_ok-reported-4.field-0 in
     let quarters = c.in-Ok.quarters in
-    let read = four_read g.S.Store c.args.tx.now c.reported.new.self c.reported-2.new.self
-    c.reported-3.new.self a b d
-    (FindsReported name c.at-third.result) (FindsReported name c.at-fourth.result)
-    (FindsReported name c.at-next.result)
-    c.in_ok-reported.ensures.call c.in_ok-reported-2.ensures.call c.in_ok-reported-3.ensures.call
-    c.reported-4.new.self e (FindsReported name c.at-last.result)
-    c.in_ok-reported-4.ensures.call in
+    let read = four_read c.in_ok-reported.ensures.call c.in_ok-reported-2.ensures.call
+    c.in_ok-reported-3.ensures.call c.in_ok-reported-4.ensures.call in
     record {
-      call = reads_on g.S.Store c.args.tx.now c.reported-4.new.self e quarters _
-          (KnowsMissing name c.args.first c.args.year)
+      call = reads_on quarters (KnowsMissing name c.args.first c.args.year) read
           (λ t told s stands sound.
           c.in-Ok.ensures
           ∙ missing_known (entries_of s name) c.args.first c.args.year
@@ -54,23 +39,13 @@ returns-in-Ok g c =
           (kept_reported name t s stands c.at-fourth.result b told.1)
           (kept_reported name t s stands c.at-next.result d told.2)
           (kept_reported name t s stands c.at-last.result e told.3)
-          c.at-third.ensures c.at-fourth.ensures c.at-next.ensures c.at-last.ensures)
-          read;
+          c.at-third.ensures c.at-fourth.ensures c.at-next.ensures c.at-last.ensures);
     }
 
 pub returns-in-Err : goal.returns-in-Err
 returns-in-Err g c =
-    let name = c.args.name.now in
-    let read = four_read g.S.Store c.args.tx.now c.reported.new.self c.reported-2.new.self
-    c.reported-3.new.self c.in_ok-reported.field-0 c.in_ok-reported-2.field-0
-    c.in_ok-reported-3.field-0
-    (FindsReported name c.at-third.result) (FindsReported name c.at-fourth.result)
-    (FindsReported name c.at-next.result)
-    c.in_ok-reported.ensures.call c.in_ok-reported-2.ensures.call c.in_ok-reported-3.ensures.call
-    c.reported-4.new.self c.in_ok-reported-4.field-0 (FindsReported name c.at-last.result)
-    c.in_ok-reported-4.ensures.call in
+    let read = four_read c.in_ok-reported.ensures.call c.in_ok-reported-2.ensures.call
+    c.in_ok-reported-3.ensures.call c.in_ok-reported-4.ensures.call in
     record {
-      call = gave_up_after g.S.Store c.args.tx.now c.reported-4.new.self c.give_up.new.self
-          c.in_ok-reported-4.field-0 c.give_up.result _ read.frame c.give_up.ensures.frame
-          c.give_up.ensures.fails;
+      call = gave_up_after read.frame c.give_up.ensures.frame c.give_up.ensures.fails;
     }

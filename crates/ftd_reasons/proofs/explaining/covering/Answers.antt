@@ -3,7 +3,6 @@ use Rattle.std.specs.Prelude.{MatchOption}
 use Rattle.ftd_days.proofs.Months.{month_start-zero}
 use Rattle.ftd_rules.specs.declared.Obligation.{Obligation}
 use Rattle.ftd_rules.specs.Lists.{Has}
-use Rattle.ftd_store.specs.Finds.{ListsObligations}
 use Rattle.ftd_store.proofs.Telling.{reads_on}
 use Rattle.ftd_entries.specs.Owed.{KnowsObligations}
 use Rattle.ftd_entries.proofs.OwedRows.{obligations_known}
@@ -25,10 +24,8 @@ returns g c =
     ((o : Obligation) → Has os o → day ≤ o.last → ⊥) (λ o. Has os o × (day ≤ o.last)))
     c.deref.ensures.value c.ends_from.ensures in
     record {
-      call = reads_on g.S.Store c.args.tx.now c.obligations.new.self begun found
-          (ListsObligations name c.first_of_month.result day) (KnowsCovering name day)
+      call = reads_on found (KnowsCovering name day) c.in_ok-begun.ensures.call
           (λ t lists. covering_known name day begun.items found ends t
           (subst (λ n. KnowsObligations name n day begun.items t) first
-          (obligations_known name c.first_of_month.result day begun t lists)))
-          c.in_ok-begun.ensures.call;
+          (obligations_known name c.first_of_month.result day begun t lists)));
     }

@@ -1,7 +1,6 @@
 use Rattle.std.proofs.Common.{◌≡◌, ◌∙◌, Some, None, Ok, refl, rules, ap, subst}
 use Rattle.std.specs.List.{list_any}
 use Rattle.ftd_days.specs.Calendar.{year_of}
-use Rattle.ftd_store.specs.Finds.{ListsYears}
 use Rattle.ftd_store.proofs.Telling.{then_reads}
 use Rattle.ftd_machine.specs.Checks.{first_of}
 use Rattle.ftd_machine.specs.History.{form_of}
@@ -11,7 +10,7 @@ use Rattle.ftd_machine.specs.declared.replies.Reply.TheVariants.{Told}
 use Rattle.ftd_machine.specs.declared.requests.Question.TheVariants.{Explain}
 use Rattle.ftd_machine.specs.declared.requests.Request.TheVariants.{Question}
 use Rattle.ftd_machine.proofs.Deciding.{decided, passed}
-use Rattle.ftd_entries.specs.Known.{KnowsAccount, KnowsLines}
+use Rattle.ftd_entries.specs.Known.{KnowsLines}
 use Rattle.ftd_entries.specs.Opening.{is_line_of}
 use Rattle.ftd_entries.proofs.Lines.{lines_known}
 use Rattle.ftd_entries.proofs.Serving.{served_looked}
@@ -26,19 +25,17 @@ returns-in-Some g c =
     let account = c.in_ok-account.account in
     let lines = c.in_ok-lines.lines in
     let fact = KnowsLines name account lines.items in
-    let read = then_reads g.S.Store c.args.tx.now c.known.new.tx c.years.new.self account lines
-    account (KnowsAccount name) (ListsYears name) (λ a. fact)
-    (λ t knows lists s stands. (
+    let read = then_reads account (λ a. fact) c.in_ok-account.ensures.call
+    c.in_ok-lines.ensures.call (λ t knows lists s stands. (
       knows s stands,
       lines_known name lines t s stands lists
           (stands.settled name),
-    )) c.in_ok-account.ensures.call c.in_ok-lines.ensures.call in
+    )) in
     let is : first_of
     (status_checks name day account (list_any (is_line_of (year_of day)) lines.items))
     ≡ Some c.in-Some.answer = search rules in
     record {
-      call = served_looked g.S.Store (Question (Explain name day)) c.args.tx.now c.years.new.self
-          account c.in-Some.answer (λ a. fact) read
+      call = served_looked (Question (Explain name day)) c.in-Some.answer read
           (λ t s stands sound knows. (let told = knows s stands in
           decided _ s c.in-Some.answer _
           (checks_are name day account lines.items t s stands told.0 told.1 ∙ is)));
@@ -53,27 +50,24 @@ returns g c =
     let its = c.in-Some-account.account in
     let explained = c.in_ok-explained.explained in
     let fact = KnowsLines name account lines.items in
-    let read = then_reads g.S.Store c.args.tx.now c.known.new.tx c.years.new.self account lines
-    account (KnowsAccount name) (ListsYears name) (λ a. fact)
-    (λ t knows lists s stands. (
+    let read = then_reads account (λ a. fact) c.in_ok-account.ensures.call
+    c.in_ok-lines.ensures.call (λ t knows lists s stands. (
       knows s stands,
       lines_known name lines t s stands lists
           (stands.settled name),
-    )) c.in_ok-account.ensures.call c.in_ok-lines.ensures.call in
-    let all = then_reads g.S.Store c.args.tx.now c.years.new.self c.explained.new.tx account
-    explained explained (λ a. fact) (KnowsExplained name its.form c.deref-2.result.now day)
-    (λ x t. fact t × KnowsExplained name its.form lines.items day x t)
-    (λ t first second. (
+    )) in
+    let all = then_reads explained
+    (λ x t. fact t × KnowsExplained name its.form lines.items day x t) read
+    c.in_ok-explained.ensures.call (λ t first second. (
       first,
       subst (λ xs. KnowsExplained name its.form xs day explained t) c.deref-2.ensures.value second,
-    )) read c.in_ok-explained.ensures.call in
+    )) in
     let is : first_of
     (status_checks name day account (list_any (is_line_of (year_of day)) lines.items)) ≡ None =
     search rules in
     let answer = Ok (Told (Explained explained)) in
     record {
-      call = served_looked g.S.Store (Question (Explain name day)) c.args.tx.now c.explained.new.tx
-          explained answer (λ x t. fact t × KnowsExplained name its.form lines.items day x t) all
+      call = served_looked (Question (Explain name day)) answer all
           (λ t s stands sound knows. (let told = knows.0 s stands in
           passed _ s answer s _
           (checks_are name day account lines.items t s stands told.0 told.1 ∙ is) (

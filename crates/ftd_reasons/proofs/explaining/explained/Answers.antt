@@ -2,7 +2,7 @@ use Rattle.std.proofs.Common.{None, Some, subst, sym}
 use Rattle.ftd_store.proofs.Telling.{reads_on, then_reads}
 use Rattle.ftd_rules.specs.declared.Obligation.{Obligation}
 use Rattle.ftd_rules.specs.Laws.{Covers}
-use Rattle.ftd_reasons.specs.Explained.{KnowsCovering, KnowsExplained, KnowsExplanation}
+use Rattle.ftd_reasons.specs.Explained.{KnowsCovering, KnowsExplained}
 use Rattle.ftd_reasons.proofs.explaining.explained.Goals as goal
 
 pub returns-in_default : goal.returns-in_default
@@ -12,10 +12,9 @@ returns-in_default g c =
     let lines = c.args.lines.now in
     let day = c.args.day in
     record {
-      call = reads_on g.S.Store c.args.tx.now c.covering.new.tx c.in_ok-obligation.field-0 None
-          (KnowsCovering name day) (KnowsExplained name form lines day)
+      call = reads_on None (KnowsExplained name form lines day) c.in_ok-obligation.ensures.call
           (λ t knows s stands sound form_is lines_are. subst (λ o. KnowsCovering name day o t)
-          c.in_default.is knows s stands) c.in_ok-obligation.ensures.call;
+          c.in_default.is knows s stands);
     }
 
 pub returns : goal.returns
@@ -24,16 +23,13 @@ returns g c =
     let form = c.args.form in
     let lines = c.args.lines.now in
     let day = c.args.day in
-    let o = c.in-Some.obligation in
     let explanation = c.in_ok-explanation.explanation in
     record {
-      call = then_reads g.S.Store c.args.tx.now c.covering.new.tx c.explanation.new.tx
-          c.in_ok-obligation.field-0 explanation (Some explanation) (KnowsCovering name day)
-          (KnowsExplanation name form lines o) (KnowsExplained name form lines day)
+      call = then_reads (Some explanation) (KnowsExplained name form lines day)
+          c.in_ok-obligation.ensures.call c.in_ok-explanation.ensures.call
           (λ t covers knows s stands sound form_is lines_are.
           (let its = subst (λ found. KnowsCovering name day found t) c.in-Some.is covers s
           stands in
           let told = knows s stands sound form_is lines_are its.0 in
-          (told.1, subst (λ (p : Obligation). Covers p day) (sym told.0) its.1)))
-          c.in_ok-obligation.ensures.call c.in_ok-explanation.ensures.call;
+          (told.1, subst (λ (p : Obligation). Covers p day) (sym told.0) its.1)));
     }

@@ -13,27 +13,18 @@ returns-in-Ok g c =
     let form = c.args.form in
     let lines = c.args.lines.now in
     let o = c.args.obligation in
-    let year = c.in-Some.year in
     let paydays = c.in_ok-paydays.paydays in
     let payments = c.in_ok-payments.payments in
     let given = c.in_ok-holidays.holidays in
     let explanation = c.in-Ok.explanation in
-    let two = then_reads g.S.Store c.args.tx.now c.paydays.new.tx c.obligation_payments.new.tx
-    paydays
-    payments payments (λ rows. KnowsPaydays name o rows.items)
-    (λ rows. KnowsPaymentsOf name o rows.items)
+    let two = then_reads payments
     (λ rows t. KnowsPaydays name o paydays.items t × KnowsPaymentsOf name o rows.items t)
-    (λ t first second. (first, second)) c.in_ok-paydays.ensures.call
-    c.in_ok-payments.ensures.call in
+    c.in_ok-paydays.ensures.call c.in_ok-payments.ensures.call
+    (λ t first second. (first, second)) in
     record {
-      call = then_reads g.S.Store c.args.tx.now c.obligation_payments.new.tx c.holidays.new.self
-          payments
-          given explanation
-          (λ rows t. KnowsPaydays name o paydays.items t × KnowsPaymentsOf name o rows.items t)
-          (λ read. HasYears year (year + 1) (holidays_of read))
-          (KnowsExplanation name form lines o)
+      call = then_reads explanation (KnowsExplanation name form lines o) two
+          c.in_ok-holidays.ensures.call
           (λ t knows years. told_known name form lines (holidays_of given) o paydays.items
           payments.items explanation c.in-Ok.ensures t knows.0 knows.1
-          (subst (λ y. HasYears y (y + 1) (holidays_of given) t) c.in-Some.ensures.0 years))
-          two c.in_ok-holidays.ensures.call;
+          (subst (λ y. HasYears y (y + 1) (holidays_of given) t) c.in-Some.ensures.0 years));
     }

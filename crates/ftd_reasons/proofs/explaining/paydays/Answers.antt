@@ -1,5 +1,4 @@
 use Rattle.std.proofs.Common.{subst}
-use Rattle.ftd_store.specs.Finds.{ListsLiability}
 use Rattle.ftd_store.proofs.Telling.{reads_on}
 use Rattle.ftd_reasons.specs.Explained.{AreRunning, KnowsPaydays}
 use Rattle.ftd_reasons.proofs.Paydays.{paydays_are, paydays_rise}
@@ -14,10 +13,9 @@ returns-in-Ok g c =
     let running : AreRunning 0 sums.items rows.items =
     subst (λ xs. AreRunning 0 xs rows.items) c.deref.ensures.value c.in-Ok.ensures in
     record {
-      call = reads_on g.S.Store c.args.tx.now c.day_sums.new.self sums rows
-          (ListsLiability name o.first o.last) (λ told. KnowsPaydays name o told.items)
+      call = reads_on rows (λ told. KnowsPaydays name o told.items) c.in_ok-sums.ensures.call
           (λ t lists. record {
             rise = λ s stands. paydays_rise name o sums rows.items t s stands lists running;
             all = λ s stands. paydays_are name o sums rows.items t s stands lists running;
-          }) c.in_ok-sums.ensures.call;
+          });
     }

@@ -7,7 +7,7 @@ use Rattle.ftd_machine.specs.declared.requests.Question.TheVariants.{ScheduleB}
 use Rattle.ftd_machine.specs.declared.requests.Request.TheVariants.{Question}
 use Rattle.ftd_machine.specs.declared.facts.Facts.TheVariants.{Days}
 use Rattle.ftd_machine.specs.declared.replies.Reply.TheVariants.{Told}
-use Rattle.ftd_entries.specs.Known.{KnowsAccount, KnowsYear}
+use Rattle.ftd_entries.specs.Known.{KnowsYear}
 use Rattle.ftd_entries.proofs.Reading.{both_read}
 use Rattle.ftd_entries.proofs.Serving.{served_looked}
 use Rattle.ftd_reasons.proofs.Billing.{Knows, days_decided, days_told}
@@ -18,14 +18,9 @@ returns-in-Some g c =
     let name = c.args.name.now in
     let quarter = c.args.quarter in
     let known : Option Account × Bool = (c.in_ok-account.account, c.in_ok-there.there) in
-    let read = both_read g.S.Store c.args.tx.now c.known.new.tx c.is_open.new.tx
-    c.in_ok-account.account c.in_ok-there.there
-    (KnowsAccount name) (KnowsYear name c.year.result) c.in_ok-account.ensures.call
-    c.in_ok-there.ensures.call in
+    let read = both_read c.in_ok-account.ensures.call c.in_ok-there.ensures.call in
     record {
-      call = served_looked g.S.Store (Question (ScheduleB name quarter)) c.args.tx.now
-          c.is_open.new.tx known
-          c.in-Some.answer _ read
+      call = served_looked (Question (ScheduleB name quarter)) c.in-Some.answer read
           (λ t s stands sound knows. days_decided name quarter known c.in-Some.answer
           (search rules) t s stands sound
           (knows.0, subst (λ year. KnowsYear name year known.1 t) c.year.ensures knows.1));
@@ -37,24 +32,16 @@ returns g c =
     let quarter = c.args.quarter in
     let sums = c.in_ok-sums.sums in
     let known : Option Account × Bool = (c.in_ok-account.account, c.in_ok-there.there) in
-    let read = both_read g.S.Store c.args.tx.now c.known.new.tx c.is_open.new.tx
-    c.in_ok-account.account c.in_ok-there.there
-    (KnowsAccount name) (KnowsYear name c.year.result) c.in_ok-account.ensures.call
-    c.in_ok-there.ensures.call in
-    let all = then_reads g.S.Store c.args.tx.now c.is_open.new.tx c.day_sums.new.self known sums
-    known _ (ListsLiability name c.first.result c.last.result)
+    let read = both_read c.in_ok-account.ensures.call c.in_ok-there.ensures.call in
+    let all = then_reads known
     (λ k t. Knows name quarter known t × ListsLiability name (quarter_start quarter) c.last.result
-    sums t)
-    (λ t knows lists. (
+    sums t) read c.in_ok-sums.ensures.call (λ t knows lists. (
       (knows.0, subst (λ year. KnowsYear name year known.1 t) c.year.ensures knows.1),
       subst (λ from. ListsLiability name from c.last.result sums t) c.first.ensures lists,
-    ))
-    read c.in_ok-sums.ensures.call in
+    )) in
     record {
-      call = served_looked g.S.Store (Question (ScheduleB name quarter)) c.args.tx.now
-          c.day_sums.new.self
-          known (Ok (Told (Days c.from_vec.result))) _ all
-          (λ t s stands sound knows.
+      call = served_looked (Question (ScheduleB name quarter)) (Ok (Told (Days c.from_vec.result)))
+          all (λ t s stands sound knows.
           rw (sym c.from_vec.ensures) at
           (days_told name quarter known c.last.result sums c.last.ensures (search rules) t s stands
           sound knows));

@@ -1,7 +1,6 @@
 use Rattle.std.proofs.Common.{◌≡◌, ◌∙◌, None, Some, ap, arith, refl, rules, subst}
 use Rattle.ftd_days.proofs.Months.{month_start-zero}
 use Rattle.ftd_rows.specs.Lists.{Pairs}
-use Rattle.ftd_store.specs.Finds.{ListsObligations}
 use Rattle.ftd_store.specs.Kept.{ListsKeptPayments}
 use Rattle.ftd_store.proofs.Telling.{then_reads}
 use Rattle.ftd_machine.specs.Checks.{first_of}
@@ -26,23 +25,15 @@ returns-in-Some g c =
     let name = c.args.name.now in
     let quarter = c.args.quarter in
     let account = c.in_ok-account.account in
-    let found = c.in_ok-found.found in
-    let owed = c.in_ok-owed.owed in
-    let paid = then_reads g.S.Store c.args.tx.now c.known.new.tx c.kept_payments.new.self account
-    found account (KnowsAccount name) (ListsKeptPayments name c.first.result c.last.result)
-    (λ a. KnowsAccount name a) (λ t knows lists. knows)
-    c.in_ok-account.ensures.call c.in_ok-found.ensures.call in
-    let read = then_reads g.S.Store c.args.tx.now c.kept_payments.new.self c.obligations.new.self
-    account owed account (λ a. KnowsAccount name a)
-    (ListsObligations name c.first_of_month.result c.last-2.result) (λ a. KnowsAccount name a)
-    (λ t knows lists. knows) paid c.in_ok-owed.ensures.call in
+    let paid = then_reads account (λ a. KnowsAccount name a) c.in_ok-account.ensures.call
+    c.in_ok-found.ensures.call (λ t knows lists. knows) in
+    let read = then_reads account (λ a. KnowsAccount name a) paid c.in_ok-owed.ensures.call
+    (λ t knows lists. knows) in
     let is : first_of (kept_in_quarter_checks name quarter account) ≡ Some c.in-Some.answer =
     search rules in
     record {
-      call = served_looked g.S.Store (Question (questions.Kept (kept.Payments name quarter)))
-          c.args.tx.now c.obligations.new.self account c.in-Some.answer
-          (λ a. KnowsAccount name a) read
-          (λ t s stands sound knows. decided _ s c.in-Some.answer _
+      call = served_looked (Question (questions.Kept (kept.Payments name quarter))) c.in-Some.answer
+          read (λ t s stands sound knows. decided _ s c.in-Some.answer _
           (ap (λ a. first_of (kept_in_quarter_checks name quarter a)) (knows s stands) ∙ is));
     }
 
@@ -57,26 +48,20 @@ returns-in-Ok g c =
     let last = c.last.result in
     let lists = ListsKeptPayments name c.first.result last found in
     let begun = KnowsObligations name 0 last owed.items in
-    let paid = then_reads g.S.Store c.args.tx.now c.known.new.tx c.kept_payments.new.self account
-    found account (KnowsAccount name) (ListsKeptPayments name c.first.result last)
-    (λ a t. KnowsAccount name a t × lists t) (λ t knows has. (knows, has))
-    c.in_ok-account.ensures.call c.in_ok-found.ensures.call in
+    let paid = then_reads account (λ a t. KnowsAccount name a t × lists t)
+    c.in_ok-account.ensures.call c.in_ok-found.ensures.call (λ t knows has. (knows, has)) in
     let first_is : c.first_of_month.result ≡ 0 =
     c.first_of_month.ensures.value ∙ month_start-zero in
     let last_is : c.last-2.result ≡ last =
     (let a = c.last-2.ensures in let b = c.last.ensures in omega arith) in
-    let read = then_reads g.S.Store c.args.tx.now c.kept_payments.new.self c.obligations.new.self
-    account owed account (λ a t. KnowsAccount name a t × lists t)
-    (ListsObligations name c.first_of_month.result c.last-2.result)
-    (λ a t. KnowsAccount name a t × lists t × begun t)
-    (λ t knows has. (
+    let read = then_reads account (λ a t. KnowsAccount name a t × lists t × begun t) paid
+    c.in_ok-owed.ensures.call (λ t knows has. (
       knows.0,
       knows.1,
       subst (λ n. KnowsObligations name n last owed.items t) first_is
           (subst (λ n. KnowsObligations name c.first_of_month.result n owed.items t) last_is
           (obligations_known name c.first_of_month.result c.last-2.result owed t has)),
-    ))
-    paid c.in_ok-owed.ensures.call in
+    )) in
     let is : first_of (kept_in_quarter_checks name quarter account) ≡ None = search rules in
     let early = early_quarter name quarter account is in
     let pairs = subst (λ xs. Pairs (IsKeptPayment owed.items) xs told.items) c.deref.ensures.value
@@ -84,9 +69,7 @@ returns-in-Ok g c =
     c.in-Ok.ensures.told) in
     let answer = told_rows (rows.Payments c.from_vec.result) in
     record {
-      call = served_looked g.S.Store (Question (questions.Kept (kept.Payments name quarter)))
-          c.args.tx.now c.obligations.new.self account answer
-          (λ a t. KnowsAccount name a t × lists t × begun t) read
+      call = served_looked (Question (questions.Kept (kept.Payments name quarter))) answer read
           (λ t s stands sound knows. passed _ s answer s _
           (ap (λ a. first_of (kept_in_quarter_checks name quarter a)) (knows.0 s stands) ∙ is) (
             refl,

@@ -5,7 +5,7 @@ use Rattle.ftd_rules.specs.Obligations.{ByFirstDay}
 use Rattle.ftd_store.proofs.Turning.{turns_on}
 use Rattle.ftd_machine.specs.Posting.{Differ}
 use Rattle.ftd_repairs.specs.Replaced.{AreBetween}
-use Rattle.ftd_repairs.specs.Rescheduled.{HasLines, PutsInto}
+use Rattle.ftd_repairs.specs.Rescheduled.{HasLines}
 use Rattle.ftd_repairs.specs.Reposted.{Places}
 use Rattle.ftd_repairs.proofs.patching.place_patch.Goals as goal
 
@@ -22,11 +22,8 @@ returns g c =
     → Differ gone patch.rows day d.from d.to d.removed d.added =
     rw c.as_slice-2.ensures at c.in-Ok.ensures in
     record {
-      call = turns_on g.S.Store c.args.tx.now c.put_patch.new.tx _ d
-          (λ done t u. AreBetween name patch.from patch.to gone t → HasLines name lines t
-          → PutsInto name lines patch after t u)
-          (λ e t u. AreBetween name patch.from patch.to gone t → HasLines name lines t
-          → Places name day lines patch after e t u)
+      call = turns_on d (λ e t u. AreBetween name patch.from patch.to gone t → HasLines name lines t
+          → Places name day lines patch after e t u) c.in_ok-put_patch.ensures.call
           (λ t u puts between had. record {
             compared = record {
               gone = gone;
@@ -34,6 +31,5 @@ returns g c =
               differ = differ between.by_first_day;
             };
             put = puts between had;
-          })
-          c.in_ok-put_patch.ensures.call;
+          });
     }

@@ -1,14 +1,13 @@
-use Rattle.std.proofs.Common.{◌≡◌, ◌<◌, ◌+◌, ℕ, List, length, set, ap, sym, subst, arith}
+use Rattle.std.proofs.Common.{◌<◌, ◌+◌, ℕ, List, length, set, ap, sym, subst, arith}
 use Rattle.std.proofs.Math.ListN.{drop_of_length-le}
 use Rattle.std.proofs.lemmas.List.Elements.{All-set, All-get_or}
 use Rattle.ftd_days.specs.declared.cents.Cents.{Cents}
 use Rattle.ftd_rules.specs.declared.YearLine.{YearLine}
 use Rattle.ftd_rows.specs.Amounts.{IsStorable}
 use Rattle.ftd_schema.specs.Standing.{Tables}
-use Rattle.ftd_store.specs.Changes.{with_year}
 use Rattle.ftd_store.proofs.Replaced.{all_taken}
 use Rattle.ftd_repairs.specs.Replaced.{AreBetween}
-use Rattle.ftd_repairs.specs.Rescheduled.{HasLines, IsRescheduled, IsUnnamed, PutsRows, PutsInto}
+use Rattle.ftd_repairs.specs.Rescheduled.{HasLines, IsRescheduled, IsUnnamed, PutsInto}
 use Rattle.ftd_store.proofs.Turning.{writes_turn, turns_on, turns_then}
 use Rattle.ftd_repairs.proofs.Putting.{PutSoFar, put_none, put_more, put_same, put_all}
 use Rattle.ftd_repairs.proofs.patching.put_patch.Goals as goal
@@ -21,13 +20,10 @@ loop-i-init g c =
     let patch = c.args.patch.now in
     record {
       lookbacks = c.requires.lookbacks;
-      call = turns_on g.S.Store c.args.tx.now c.put_rows.new.tx tt tt
-          (λ done t u. AreBetween name patch.from patch.to c.args.gone.now t
-          → PutsRows name patch t u)
+      call = turns_on tt
           (λ done t u. AreBetween name patch.from patch.to c.args.gone.now t → HasLines name lines t
-          → PutSoFar name lines patch 0 lines t u)
-          (λ t u puts gone had. put_none name lines patch t u (puts gone) had)
-          c.in_ok-put_rows.ensures.call;
+          → PutSoFar name lines patch 0 lines t u) c.in_ok-put_rows.ensures.call
+          (λ t u puts gone had. put_none name lines patch t u (puts gone) had);
     }
 
 pub loop-i-preserved : goal.loop-i-preserved
@@ -56,25 +52,21 @@ loop-i-preserved g c =
           (sym (ap (λ (l : YearLine). l.lookback) scheduled.3)) holds in
           rw (w.tx-is, w.lines-is, w.put_line.ensures.line) (record {
             lookbacks = All-set Holds now i after still c.loop-i.invariant.lookbacks;
-            call = turns_then g.S.Store c.args.tx.now c.loop-i.tx w.put_line.new.tx tt _ tt
-                (λ done. So i now) (λ done t u. u ≡ with_year name after t)
-                (λ done. So (i + 1) (set now i after))
+            call = turns_then tt (λ done. So (i + 1) (set now i after)) c.loop-i.invariant.call
+                (writes_turn w.in_ok-put_line.ensures.call)
                 (λ t u v so_far is gone had. subst (λ (z : Tables). PutSoFar name lines patch
                 (i + 1) (set now i after) t z) (sym is)
                 (put_more name lines patch i now x after t u some c.index-lines-i.is scheduled
-                (so_far gone had)))
-                c.loop-i.invariant.call (writes_turn g.S.Store c.loop-i.tx w.put_line.new.tx _
-                (with_year name after) w.in_ok-put_line.ensures.call);
+                (so_far gone had)));
           }))
       | in_default w ↦
           (let unnamed : IsUnnamed patch.years x = rw (c.as_slice.ensures, ← c.index-lines-i.is) at
           w.in_default.ensures in
           rw (w.tx-is, w.lines-is) (record {
             lookbacks = c.loop-i.invariant.lookbacks;
-            call = turns_on g.S.Store c.args.tx.now c.loop-i.tx tt tt (λ done. So i now)
-                (λ done. So (i + 1) now)
+            call = turns_on tt (λ done. So (i + 1) now) c.loop-i.invariant.call
                 (λ t u so_far gone had. put_same name lines patch i now x t u some
-                c.index-lines-i.is unnamed (so_far gone had)) c.loop-i.invariant.call;
+                c.index-lines-i.is unnamed (so_far gone had));
           }))
     ]
 
@@ -87,12 +79,10 @@ returns g c =
     let i : ℕ = c.loop-i.i in
     let end = c.loop-i-test.false in
     record {
-      call = turns_on g.S.Store c.args.tx.now c.loop-i.tx tt _
+      call = turns_on _
           (λ done t u. AreBetween name patch.from patch.to c.args.gone.now t → HasLines name lines t
-          → PutSoFar name lines patch i now t u)
-          (λ done t u. AreBetween name patch.from patch.to c.args.gone.now t → HasLines name lines t
-          → PutsInto name lines patch now t u)
+          → PutsInto name lines patch now t u) c.loop-i.invariant.call
           (λ t u so_far gone had. put_all name lines patch i now t u
           (all_taken lines i (omega arith)) (drop_of_length-le lines (omega arith))
-          (so_far gone had)) c.loop-i.invariant.call;
+          (so_far gone had));
     }

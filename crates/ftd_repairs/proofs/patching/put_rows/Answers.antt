@@ -27,14 +27,12 @@ returns-in-Some g c =
     let told = c.in-Some.ensures in
     let change : Tables → Tables = with_obligation name row in
     record {
-      call = turns_on g.S.Store c.args.tx.now c.set_obligation.new.self _ tt
-          (λ done t u. u ≡ change t) (λ done t u. AreBetween name patch.from patch.to gone t
+      call = turns_on tt (λ done t u. AreBetween name patch.from patch.to gone t
           → PutsRows name patch t u)
+          (one_turns c.in_ok-set_obligation.ensures.call)
           (λ t u is between. subst (λ (v : Tables). PutsRows name patch t v) (sym is)
           (changed_puts name gone patch told.0 row t told.1 (rw c.as_slice.ensures at told.2) told.3
-          between))
-          (one_turns g.S.Store c.args.tx.now c.set_obligation.new.self _ _ change
-          c.in_ok-set_obligation.ensures.call);
+          between));
     }
 
 pub returns : goal.returns
@@ -44,11 +42,9 @@ returns g c =
     let patch = c.args.patch.now in
     let change : Tables → Tables = with_obligations name patch.from patch.to patch.rows in
     record {
-      call = turns_on g.S.Store c.args.tx.now c.replace_obligations.new.self _ tt
-          (λ done t u. u ≡ change t) (λ done t u. AreBetween name patch.from patch.to gone t
+      call = turns_on tt (λ done t u. AreBetween name patch.from patch.to gone t
           → PutsRows name patch t u)
+          (writes_turn (rw c.as_slice-2.ensures at c.in_ok-replace_obligations.ensures.call))
           (λ t u is between. subst (λ (v : Tables). PutsRows name patch t v) (sym is)
-          (replaced_puts name patch t))
-          (writes_turn g.S.Store c.args.tx.now c.replace_obligations.new.self _ change
-          (rw c.as_slice-2.ensures at c.in_ok-replace_obligations.ensures.call));
+          (replaced_puts name patch t));
     }

@@ -1,4 +1,4 @@
-use Rattle.std.proofs.Common.{◌≡◌, ◌++◌, ℕ, List, Vec, Global, Ok}
+use Rattle.std.proofs.Common.{◌≡◌, ◌++◌, ℕ, List, Vec, Global}
 use Rattle.ftd_days.specs.Holidays.{holidays_of}
 use Rattle.ftd_rules.specs.declared.Obligation.{Obligation}
 use Rattle.ftd_rules.specs.declared.YearLine.{YearLine}
@@ -7,7 +7,7 @@ use Rattle.ftd_schema.specs.Standing.{Tables}
 use Rattle.ftd_repairs.specs.Repaired.{Repairs}
 use Rattle.ftd_repairs.specs.Replaced.{AreBetween}
 use Rattle.ftd_repairs.specs.Rescheduled.{HasLines}
-use Rattle.ftd_repairs.specs.Reposted.{Places, Repatches}
+use Rattle.ftd_repairs.specs.Reposted.{Repatches}
 use Rattle.ftd_repairs.proofs.Fed.{repairs_all}
 use Rattle.ftd_repairs.proofs.Reposting.{repatched}
 use Rattle.ftd_store.proofs.Telling.{then_reads}
@@ -23,7 +23,6 @@ returns g c =
     let rest : List YearLine = c.in-Some.rest.now in
     let holidays : List ℕ = holidays_of c.args.known.holidays in
     let patch = c.in_ok-patch.patch in
-    let difference = c.in_ok-difference.difference in
     let from : (earlier : List YearLine) × (lines ≡ earlier ++ rest) =
     rw c.deref.ensures.value at c.in-Some.ensures.rest in
     let right : Patch → Tables → Type 0 = λ p t. Repairs name form day lines holidays p t in
@@ -32,18 +31,13 @@ returns g c =
     let read = λ (q : Patch × Vec Obligation Global) (t : Tables).
     Repairs name form day rest holidays q.0 t × AreBetween name patch.from patch.to q.1.items t in
     record {
-      call = read_then_turn g.S.Store c.args.tx.now c.known_obligations.new.tx c.place_patch.new.tx
-          (patch, c.in_ok-gone.gone) (Ok difference) read
-          (λ d t u. AreBetween name patch.from patch.to gone t → HasLines name lines t
-          → Places name day lines patch after d t u)
+      call = read_then_turn
           (λ d t u. HasLines name lines t → Repatches name day lines (λ p. right p t) d t u)
+          (then_reads (patch, c.in_ok-gone.gone) read c.in_ok-patch.ensures.call
+          c.in_ok-gone.ensures.call (λ t one two. (one, two)))
+          (rw (c.deref_mut.ensures.value, c.deref-2.ensures.value) at
+          c.in_ok-difference.ensures.call)
           (λ d t u told places had. (repatched name day lines after (λ p. right p t) patch d t u
           (repairs_all name form day lines from.0 rest holidays patch t from.1 told.0)
-          (places told.1 had)).0)
-          (then_reads g.S.Store c.args.tx.now c.repaired.new.tx c.known_obligations.new.tx patch
-          c.in_ok-gone.gone (patch, c.in_ok-gone.gone) (Repairs name form day rest holidays)
-          (λ rows. AreBetween name patch.from patch.to rows.items) read
-          (λ t one two. (one, two)) c.in_ok-patch.ensures.call c.in_ok-gone.ensures.call)
-          (rw (c.deref_mut.ensures.value, c.deref-2.ensures.value) at
-          c.in_ok-difference.ensures.call);
+          (places told.1 had)).0);
     }

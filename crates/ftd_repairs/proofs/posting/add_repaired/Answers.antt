@@ -12,6 +12,5 @@ returns g c =
           c.known_years.new.tx c.add_run.new.self c.repair_rows.new.tx c.in_ok-known.known _
           c.in_ok-difference.difference
           (λ t. refl) c.in_ok-known.ensures.call
-          (writes_turn g.S.Store c.known_years.new.tx c.add_run.new.self _ change
-          c.in_ok-add_run.ensures.call) c.in_ok-difference.ensures.call;
+          (writes_turn c.in_ok-add_run.ensures.call) c.in_ok-difference.ensures.call;
     }

@@ -12,6 +12,5 @@ returns g c =
           c.known_years.new.tx c.void_run.new.self c.repair_rows.new.tx c.in_ok-known.known _
           c.in_ok-difference.difference
           (λ t. refl) c.in_ok-known.ensures.call
-          (one_turns g.S.Store c.known_years.new.tx c.void_run.new.self _ _ change
-          c.in_ok-void_run.ensures.call) c.in_ok-difference.ensures.call;
+          (one_turns c.in_ok-void_run.ensures.call) c.in_ok-difference.ensures.call;
     }

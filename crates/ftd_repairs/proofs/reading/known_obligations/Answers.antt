@@ -3,7 +3,6 @@ use Rattle.ftd_rules.specs.declared.Obligation.{Obligation}
 use Rattle.ftd_rules.specs.Obligations.{ByFirstDay}
 use Rattle.ftd_schema.specs.Orders.{ObligationsRise}
 use Rattle.ftd_rows.specs.Rows.{obligation_row}
-use Rattle.ftd_store.specs.Finds.{ListsObligations}
 use Rattle.ftd_store.proofs.Telling.{reads_on}
 use Rattle.ftd_repairs.specs.Replaced.{AreBetween}
 use Rattle.ftd_repairs.proofs.Differing.{are_listed}
@@ -18,12 +17,10 @@ returns g c =
     let rise : ByFirstDay rows = subst ByFirstDay c.deref.ensures.value
     (c.rise.ensures c.if-not-rise.false) in
     record {
-      call = reads_on g.S.Store c.args.tx.now c.obligations.new.self c.in_ok-rows.rows
-          c.in_ok-rows.rows (ListsObligations name from to)
-          (λ rows. AreBetween name from to rows.items)
-          (λ t listed. record {
+      call = reads_on c.in_ok-rows.rows (λ rows. AreBetween name from to rows.items)
+          c.in_ok-rows.ensures.call (λ t listed. record {
             by_first_day = rise;
             are = are_listed ObligationsRise
                 (obligation_row name) _ rows listed;
-          }) c.in_ok-rows.ensures.call;
+          });
     }

@@ -33,11 +33,9 @@ returns g c =
     let before : (line : YearLine) → Has lines.items line → line.year ≤ 2098 → line.year < end =
     rw c.deref.ensures.value at c.year_after.ensures in
     record {
-      call = then_reads g.S.Store c.args.tx.now c.years.new.self c.holidays.new.self lines
-          c.in_ok-holidays.holidays _ (ListsYears name)
-          (λ read. HasYears first end (holidays_of read)) (KnowsYears name day)
-          (λ t listed read. record {
+      call = then_reads _ (KnowsYears name day) c.in_ok-lines.ensures.call
+          c.in_ok-holidays.ensures.call (λ t listed read. record {
             listed = listed;
             read = of_lines name day first end lines holidays t c.year.ensures before listed read;
-          }) c.in_ok-lines.ensures.call c.in_ok-holidays.ensures.call;
+          });
     }

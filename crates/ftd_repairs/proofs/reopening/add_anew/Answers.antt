@@ -18,12 +18,9 @@ returns-in-Ok-clause-call g c =
     let is : window ≡ all_year line.year = rw (c.first_day.ensures, c.last_day.ensures) refl in
     let adds : AddsYear c.args.form line holidays sums c.args.known c.in-Ok.later =
     rw c.deref.ensures.value at c.in-Ok.ensures.adds in
-    reads_on g.S.Store c.args.tx.now c.window_sums.new.tx c.in_ok-read.read c.in-Ok.later
-    (λ read t. AreLiveIn name t window read.sums.items)
-    (AddsYearOf name c.args.form line holidays c.args.known)
-    (λ t live. record {
+    reads_on c.in-Ok.later (AddsYearOf name c.args.form line holidays c.args.known)
+    c.in_ok-read.ensures.call (λ t live. record {
       sums = sums;
       are_live = subst (λ w. AreLiveIn name t w sums) is live;
       adds = adds;
     })
-    c.in_ok-read.ensures.call

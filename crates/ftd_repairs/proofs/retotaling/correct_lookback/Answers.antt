@@ -1,10 +1,9 @@
-use Rattle.std.proofs.Common.{ℕ, List, Ok, refl, subst}
+use Rattle.std.proofs.Common.{ℕ, List, refl, subst}
 use Rattle.ftd_days.specs.Holidays.{holidays_of}
 use Rattle.ftd_rules.specs.declared.YearLine.{YearLine}
 use Rattle.ftd_store.proofs.Turning.{read_then_turn}
-use Rattle.ftd_repairs.specs.Calendars.{HasHolidaysFrom, KnowsYears}
-use Rattle.ftd_repairs.specs.Rescheduled.{HasLines}
-use Rattle.ftd_repairs.specs.Reopened.{IsRetotaled, Retotals}
+use Rattle.ftd_repairs.specs.Calendars.{HasHolidaysFrom}
+use Rattle.ftd_repairs.specs.Reopened.{IsRetotaled}
 use Rattle.ftd_repairs.proofs.Reposting.{has_lines}
 use Rattle.ftd_repairs.proofs.retotaling.correct_lookback.Goals as goal
 
@@ -18,12 +17,10 @@ returns g c =
     let known = c.in_ok-lines.field-0 in
     let lines : List YearLine = known.lines.items in
     let holidays : List ℕ = holidays_of known.holidays in
-    let d = c.in_ok-difference.difference in
     record {
-      call = read_then_turn g.S.Store c.args.tx.now c.known_years.new.tx c.put_total.new.tx known
-          (Ok d) (KnowsYears name c.first_day.result)
-          (λ e t u. HasLines name lines t → Retotals name form day year total lines holidays e t u)
-          (λ e t u. IsRetotaled name form day year total t u e)
+      call = read_then_turn (λ e t u. IsRetotaled name form day year total t u e)
+          c.in_ok-lines.ensures.call
+          (rw c.deref_mut.ensures.value at c.in_ok-difference.ensures.call)
           (λ e t u told retotals. record {
             lines = known.lines;
             listed = told.listed;
@@ -31,7 +28,5 @@ returns g c =
             read = subst (λ first. HasHolidaysFrom first lines holidays t) c.first_day.ensures
                 told.read;
             retotals = retotals (has_lines name c.first_day.result known t t told refl);
-          })
-          c.in_ok-lines.ensures.call
-          (rw c.deref_mut.ensures.value at c.in_ok-difference.ensures.call);
+          });
     }

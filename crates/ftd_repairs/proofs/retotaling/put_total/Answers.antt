@@ -6,11 +6,9 @@ use Rattle.ftd_store.specs.Changes.{with_year}
 use Rattle.ftd_store.specs.Frame.{Writes}
 use Rattle.ftd_store.proofs.Turning.{read_then_turn, turns_then, writes_turn}
 use Rattle.ftd_repairs.specs.declared.Difference.{Difference}
-use Rattle.ftd_repairs.specs.Replaced.{AreBetween}
 use Rattle.ftd_repairs.specs.Reopened.{IsAt, Retotals}
-use Rattle.ftd_repairs.specs.Anew.{ReopensRows}
 use Rattle.ftd_repairs.specs.Reopening.{Reopens, with_total}
-use Rattle.ftd_repairs.specs.Reposted.{Places, Repatches}
+use Rattle.ftd_repairs.specs.Reposted.{Repatches}
 use Rattle.ftd_repairs.specs.Rescheduled.{HasLines}
 use Rattle.ftd_repairs.proofs.Reposting.{repatched}
 use Rattle.ftd_repairs.proofs.Totaled.{line_at, retotaled, still_at}
@@ -47,22 +45,14 @@ returns g c =
     let Right : Difference → Tables → Tables → Type 0 = λ e t u. HasLines name now t
     → Repatches name day now (λ p. Reopens name form year now holidays p t) e t u in
     record {
-      call = turns_then g.S.Store c.args.tx.now c.put_line.new.tx c.place_patch.new.tx
-          c.in_ok-put_line.field-0 d d
-          (λ done t u. u ≡ with_year name line t) Right
+      call = turns_then d
           (λ e t u. HasLines name lines t → Retotals name form day year total lines holidays e t u)
-          (λ t u v made repairs. retotaled year lines i at name form total day holidays line d t u v
-          line_is made repairs)
-          (writes_turn g.S.Store c.args.tx.now c.put_line.new.tx _ (with_year name line)
-          (subst (λ (l : YearLine). Writes g.S.Store c.args.tx.now c.put_line.new.tx
+          (writes_turn (subst (λ (l : YearLine). Writes g.S.Store c.args.tx.now c.put_line.new.tx
           (Ok c.in_ok-put_line.field-0) (with_year name l)) (sym c.put_line.ensures.line) put))
-          (read_then_turn g.S.Store c.put_line.new.tx c.reopened.new.tx c.place_patch.new.tx found
-          (Ok d) (ReopensRows name form year now holidays)
-          (λ e t u. AreBetween name found.patch.from found.patch.to found.gone.items t
-          → HasLines name now t → Places name day now found.patch after e t u)
-          Right
+          (read_then_turn Right c.in_ok-patch.ensures.call (rw c.deref.ensures.value at placed)
           (λ e t u told places had. (repatched name day now after
           (λ p. Reopens name form year now holidays p t) found.patch e t u told.0
-          (places told.1 had)).0)
-          c.in_ok-patch.ensures.call (rw c.deref.ensures.value at placed));
+          (places told.1 had)).0))
+          (λ t u v made repairs. retotaled year lines i at name form total day holidays line d t u v
+          line_is made repairs);
     }

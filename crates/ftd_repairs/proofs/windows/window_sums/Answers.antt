@@ -8,7 +8,6 @@ pub returns-in-Some-clause-call : goal.returns-in-Some-clause-call
 returns-in-Some-clause-call g c =
     let name = c.args.account.now in
     let w = c.args.window in
-    reads_on g.S.Store c.args.tx.now c.day_sums.new.self c.in_ok-sums.sums c.in-Some.read _
-    (λ read t. AreLiveIn name t w read.sums.items)
+    reads_on c.in-Some.read (λ read t. AreLiveIn name t w read.sums.items) c.in_ok-sums.ensures.call
     (λ t live. subst (λ (ds : List DaySum). AreLiveIn name t w ds) (sym c.in-Some.ensures.same)
-    live) c.in_ok-sums.ensures.call
+    live)

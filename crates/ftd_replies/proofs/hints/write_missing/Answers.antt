@@ -12,7 +12,7 @@ returns-in_err-write_quarter g c =
 
 pub loop-quarter-preserved : goal.loop-quarter-preserved
 loop-quarter-preserved g c =
-    goes_on _ _ _ _ _ _ _ c.loop-quarter.invariant
+    goes_on _ _ c.loop-quarter.invariant
     (texts_at (quarter_hint c.args.db.now c.args.account.now) c.args.quarters.now
     c.loop-quarter.quarter-index c.quarter-item.result c.loop-quarter-test.true
     c.quarter-item.is)

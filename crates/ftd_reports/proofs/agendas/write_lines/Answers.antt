@@ -5,7 +5,7 @@ use Rattle.ftd_reports.proofs.agendas.write_lines.Goals as goal
 
 pub loop-row-init : goal.loop-row-init
 unfolding lines_text
-loop-row-init g c = begins _ _
+loop-row-init g c = begins
 
 pub returns-in_err-write_row : goal.returns-in_err-write_row
 returns-in_err-write_row g c =
@@ -15,7 +15,7 @@ returns-in_err-write_row g c =
 
 pub loop-row-preserved : goal.loop-row-preserved
 loop-row-preserved g c =
-    goes_on _ _ _ _ _ _ _ c.loop-row.invariant
+    goes_on _ _ c.loop-row.invariant
     (rows_at agenda_line c.args.rows.now c.loop-row.row-index c.row-item.result _
     c.loop-row-test.true c.row-item.is) c.in_ok-write_row.ensures.ok
 

@@ -13,7 +13,7 @@ pub loop-row-init : goal.loop-row-init
 unfolding due_text
 loop-row-init g c =
     record {
-      written = goes_on _ _ _ _ _ _ _ (begins _ _) refl c.in_ok-write_head.ensures.ok;
+      written = goes_on _ _ begins refl c.in_ok-write_head.ensures.ok;
       total = omega arith;
     }
 
@@ -26,7 +26,7 @@ returns-in_err-write_row g c =
 pub loop-row-preserved : goal.loop-row-preserved
 loop-row-preserved g c =
     record {
-      written = goes_on _ _ _ _ _ _ _ c.loop-row.invariant.written
+      written = goes_on _ _ c.loop-row.invariant.written
           (rows_at due_line c.args.rows.now c.loop-row.row-index c.row-item.result _
           c.loop-row-test.true c.row-item.is) c.in_ok-write_row.ensures.ok;
       total = let more = amounts_at amount_of c.args.rows.now c.loop-row.row-index c.row-item.result

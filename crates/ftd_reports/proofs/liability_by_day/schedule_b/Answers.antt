@@ -11,7 +11,7 @@ returns-in_err-write_head g c = stops_in _ c.from_residual.ensures.0 c.in_err-wr
 pub returns-in_err-write_month : goal.returns-in_err-write_month
 unfolding b_text
 returns-in_err-write_month g c =
-    let head = goes_on _ _ _ _ _ _ _ (begins _ _) refl c.in_ok-write_head.ensures.ok in
+    let head = goes_on _ _ begins refl c.in_ok-write_head.ensures.ok in
     stops_after _ c.from_residual-in_err-write_month.ensures.0 head
     (months_rest c.args.sums.now c.args.quarter _)
     (rw c.quarters-first.ensures.value at c.in_err-write_month.ensures)
@@ -19,8 +19,8 @@ returns-in_err-write_month g c =
 pub returns-in_err-write_month-2 : goal.returns-in_err-write_month-2
 unfolding b_text
 returns-in_err-write_month-2 g c =
-    let head = goes_on _ _ _ _ _ _ _ (begins _ _) refl c.in_ok-write_head.ensures.ok in
-    let first = goes_on _ _ _ _ _ _ _ head (months_rest c.args.sums.now c.args.quarter _)
+    let head = goes_on _ _ begins refl c.in_ok-write_head.ensures.ok in
+    let first = goes_on _ _ head (months_rest c.args.sums.now c.args.quarter _)
     (rw c.quarters-first.ensures.value at c.in_ok-write_month.ensures.ok) in
     stops_after _ c.from_residual-in_err-write_month-2.ensures.0 first refl
     (rw c.quarters-first.ensures.value at c.in_err-write_month-2.ensures)
@@ -28,10 +28,10 @@ returns-in_err-write_month-2 g c =
 pub returns-in_err-write_month-3 : goal.returns-in_err-write_month-3
 unfolding b_text
 returns-in_err-write_month-3 g c =
-    let head = goes_on _ _ _ _ _ _ _ (begins _ _) refl c.in_ok-write_head.ensures.ok in
-    let first = goes_on _ _ _ _ _ _ _ head (months_rest c.args.sums.now c.args.quarter _)
+    let head = goes_on _ _ begins refl c.in_ok-write_head.ensures.ok in
+    let first = goes_on _ _ head (months_rest c.args.sums.now c.args.quarter _)
     (rw c.quarters-first.ensures.value at c.in_ok-write_month.ensures.ok) in
-    let second = goes_on _ _ _ _ _ _ _ first refl
+    let second = goes_on _ _ first refl
     (rw c.quarters-first.ensures.value at c.in_ok-write_month-2.ensures.ok) in
     stops_after _ c.from_residual-in_err-write_month-3.ensures.0 second refl
     (rw c.quarters-first.ensures.value at c.in_err-write_month-3.ensures)
@@ -39,11 +39,11 @@ returns-in_err-write_month-3 g c =
 pub returns : goal.returns
 unfolding b_text
 returns g c =
-    let head = goes_on _ _ _ _ _ _ _ (begins _ _) refl c.in_ok-write_head.ensures.ok in
-    let first = goes_on _ _ _ _ _ _ _ head (months_rest c.args.sums.now c.args.quarter _)
+    let head = goes_on _ _ begins refl c.in_ok-write_head.ensures.ok in
+    let first = goes_on _ _ head (months_rest c.args.sums.now c.args.quarter _)
     (rw c.quarters-first.ensures.value at c.in_ok-write_month.ensures.ok) in
-    let second = goes_on _ _ _ _ _ _ _ first refl
+    let second = goes_on _ _ first refl
     (rw c.quarters-first.ensures.value at c.in_ok-write_month-2.ensures.ok) in
-    let third = goes_on _ _ _ _ _ _ _ second refl
+    let third = goes_on _ _ second refl
     (rw c.quarters-first.ensures.value at c.in_ok-write_month-3.ensures.ok) in
     ends_in third (rw (c.quarter_bytes.ensures, c.total_of.ensures) at c.write_line.ensures)

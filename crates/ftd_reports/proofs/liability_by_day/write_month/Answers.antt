@@ -9,7 +9,7 @@ use Rattle.ftd_reports.proofs.liability_by_day.write_month.Goals.{else-month_num
 
 pub loop-sum-init : goal.loop-sum-init
 unfolding month_lines
-loop-sum-init g c = record { written = begins _ _; total = omega arith }
+loop-sum-init g c = record { written = begins; total = omega arith }
 
 pub returns-in_err-write_day : goal.returns-in_err-write_day
 returns-in_err-write_day g c =
@@ -41,7 +41,7 @@ loop-sum-preserved g c = elim c.if-month_number-month.branch [
       let total = w.total-is in
       rw w.target-is
       (record {
-        written = goes_on _ _ _ _ _ _ _ c.loop-sum.invariant.written (lines_at _ _ _ _ this)
+        written = goes_on _ _ c.loop-sum.invariant.written (lines_at _ _ _ _ this)
             w.in_ok-write_day.ensures.ok;
         total = omega arith;
       }))

@@ -4,10 +4,10 @@ use Rattle.ftd_formats.proofs.fields.MembersRowFormatTuple2RefStrValue.write_row
 
 pub returns-in_err-write_pieces : goal.returns-in_err-write_pieces
 returns-in_err-write_pieces g c =
-    stops_after _ c.from_residual.ensures.0 (begins _ _) (member_parts _ _)
+    stops_after _ c.from_residual.ensures.0 begins (member_parts _ _)
     (rw c.as_bytes.ensures.value at c.in_err-write_pieces.ensures)
 
 pub returns : goal.returns
 returns g c =
-    ends_in (goes_on _ _ _ _ _ _ _ (begins _ _) (member_parts _ _)
+    ends_in (goes_on _ _ begins (member_parts _ _)
     (rw c.as_bytes.ensures.value at c.in_ok-write_pieces.ensures.ok)) c.write_json.ensures

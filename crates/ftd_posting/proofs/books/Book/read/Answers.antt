@@ -1,17 +1,14 @@
 use Rattle.std.proofs.Common.{◌∙◌, None, Some, Ok, inr, sym}
 use Rattle.ftd_store.specs.Frame.{Reads}
 use Rattle.ftd_store.proofs.Telling.{then_reads}
-use Rattle.ftd_entries.specs.Known.{KnowsAccount, KnowsYear}
-use Rattle.ftd_repairs.specs.Reposted.{KnowsLedger}
+use Rattle.ftd_entries.specs.Known.{KnowsAccount}
 use Rattle.ftd_posting.proofs.Booking.{book_known}
 use Rattle.ftd_posting.proofs.books.Book.read.Goals as goal
 
 pub returns-then-not-there-clause-call : goal.returns-then-not-there-clause-call
 returns-then-not-there-clause-call g c =
-    then_reads g.S.Store c.args.tx.now c.known.new.tx c.is_open.new.tx c.in_ok-account.field-0
-    c.in_ok-there.there None (KnowsAccount c.args.name.now) (KnowsYear c.args.name.now c.args.year)
-    _ (λ t one two s stands sound. inr (two s stands ∙ c.if-not-there.true))
-    c.in_ok-account.ensures.call c.in_ok-there.ensures.call
+    then_reads None _ c.in_ok-account.ensures.call c.in_ok-there.ensures.call
+    (λ t one two s stands sound. inr (two s stands ∙ c.if-not-there.true))
 
 pub returns-clause-call : goal.returns-clause-call
 returns-clause-call g c =
@@ -24,12 +21,8 @@ returns-clause-call g c =
     (KnowsAccount name) = rw (sym c.in-Some.is) c.in_ok-account.ensures.call in
     let opened : Reads g.S.Store c.args.tx.now c.is_open.new.tx (Ok (Some account))
     (KnowsAccount name) =
-    then_reads g.S.Store c.args.tx.now c.known.new.tx c.is_open.new.tx
-    (Some account) c.in_ok-there.there (Some account) (KnowsAccount name)
-    (KnowsYear name c.args.year) (KnowsAccount name) (λ t one two. one) found
-    c.in_ok-there.ensures.call in
-    then_reads g.S.Store c.args.tx.now c.is_open.new.tx c.read.new.tx (Some account) ledger _
-    (KnowsAccount name) (KnowsLedger name days) _
+    then_reads (Some account) (KnowsAccount name) found c.in_ok-there.ensures.call
+    (λ t one two. one) in
+    then_reads _ _ opened c.in_ok-ledger.ensures.call
     (λ t knows knows_ledger s stands sound. book_known name account c.args.year days ledger t
     told.of_year told.first told.last knows knows_ledger s stands sound)
-    opened c.in_ok-ledger.ensures.call

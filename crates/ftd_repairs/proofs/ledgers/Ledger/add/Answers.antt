@@ -46,11 +46,9 @@ returns-clause-call g c =
     let same = c.place_patch.auto.lines in
     let long = c.deref_mut.ensures.len in
     let count : length after ≡ was.years.lines.len = omega arith in
-    turns_then g.S.Store c.args.tx.now c.add_run.new.self c.place_patch.new.tx _ difference
-    difference
-    (λ done t u. u ≡ change t) (λ d t u. AreBetween name patch.from patch.to gone t
-    → HasLines name lines t → Places name day lines patch after d t u) _
-    (λ t u v is places had.
+    turns_then difference _
+    (writes_turn c.in_ok-add_run.ensures.call)
+    placed (λ t u v is places had.
     let own : AreBetween name patch.from patch.to gone t =
     subst (λ (os : List Obligation). AreBetween name patch.from patch.to os t) (sym went)
     (had.rows patch.from patch.to since) in
@@ -64,5 +62,3 @@ returns-clause-call g c =
       lines_are = all_of was.years.lines.len after _ count ∙ put.put.1;
       rows_are = rows_are;
     })
-    (writes_turn g.S.Store c.args.tx.now c.add_run.new.self _ change c.in_ok-add_run.ensures.call)
-    placed

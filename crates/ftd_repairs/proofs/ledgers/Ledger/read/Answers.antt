@@ -4,7 +4,6 @@ use Rattle.ftd_schema.specs.Standing.{Tables}
 use Rattle.ftd_store.specs.Finds.{ListsLiability}
 use Rattle.ftd_store.proofs.Telling.{then_reads}
 use Rattle.ftd_repairs.specs.Calendars.{KnowsYears}
-use Rattle.ftd_repairs.specs.Replaced.{AreBetween}
 use Rattle.ftd_repairs.specs.Reposted.{KnowsLedger}
 use Rattle.ftd_repairs.proofs.ledgers.Ledger.read.Goals as goal
 
@@ -19,11 +18,9 @@ returns g c =
     let summed = λ (k : Vec DaySum Global) (t : Tables). KnowsYears name first years t
     × ListsLiability name first last k t in
     record {
-      call = then_reads g.S.Store c.args.tx.now c.day_sums.new.self c.known_obligations.new.tx sums
-          rows _ summed (λ os. AreBetween name first last os.items) (KnowsLedger name c.args.days)
-          (λ t told owed. record { years = told.0; since = refl; sums = told.1; rows = owed })
-          (then_reads g.S.Store c.args.tx.now c.known_years.new.tx c.day_sums.new.self years sums
-          sums (KnowsYears name first) (ListsLiability name first last) summed
-          (λ t one two. (one, two)) c.in_ok-years.ensures.call c.in_ok-sums.ensures.call)
-          c.in_ok-rows.ensures.call;
+      call = then_reads _ (KnowsLedger name c.args.days)
+          (then_reads sums summed c.in_ok-years.ensures.call c.in_ok-sums.ensures.call
+          (λ t one two. (one, two)))
+          c.in_ok-rows.ensures.call
+          (λ t told owed. record { years = told.0; since = refl; sums = told.1; rows = owed });
     }

@@ -5,11 +5,11 @@ use Rattle.ftd_reports.proofs.late_due_texts.LateDueText.end.Goals as goal
 
 pub returns-in-Ok-clause-text : goal.returns-in-Ok-clause-text
 returns-in-Ok-clause-text g c = λ start account quarter as_of rows has.
-    ends _ _ _
-    (goes_on _ _ _ _ _ _ _ (last_left g.W.Target.taken start account quarter as_of rows c.args.self
+    ends
+    (goes_on _ _ (last_left g.W.Target.taken start account quarter as_of rows c.args.self
     has) (sym (append-nil _)) c.in-Ok.ensures.ok)
 
 pub returns-in-Err-clause-prefix : goal.returns-in-Err-clause-prefix
 returns-in-Err-clause-prefix g c = λ start account quarter as_of rows has.
-    breaks_off _ _ _ _ _ (last_left g.W.Target.taken start account quarter as_of rows c.args.self
+    breaks_off (last_left g.W.Target.taken start account quarter as_of rows c.args.self
     has) c.in-Err.ensures.err

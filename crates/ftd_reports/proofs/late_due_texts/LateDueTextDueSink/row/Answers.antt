@@ -8,7 +8,7 @@ use Rattle.ftd_reports.proofs.late_due_texts.LateDueTextDueSink.row.Goals as goa
 pub returns-in_default-clause-broke : goal.returns-in_default-clause-broke
 returns-in_default-clause-broke g c = λ start account quarter as_of rows others has.
     record {
-      part = breaks_off _ _ _ _ _ (more_left g.W.Target.taken start account quarter as_of rows
+      part = breaks_off (more_left g.W.Target.taken start account quarter as_of rows
           c.args.self.now has c.args.row.now others)
           (record { written = []; unwritten = _; parts = refl; appends = Appends-nil _ });
       reason = let over = c.in_default.ensures.full refl in let before = has.total in
@@ -18,9 +18,9 @@ returns-in_default-clause-broke g c = λ start account quarter as_of rows others
 pub returns-in-Err-clause-broke : goal.returns-in-Err-clause-broke
 returns-in-Err-clause-broke g c = λ start account quarter as_of rows others has.
     record {
-      part = breaks_off _ _ _ _ _ (more_left g.W.Target.taken start account quarter as_of rows
+      part = breaks_off (more_left g.W.Target.taken start account quarter as_of rows
           c.args.self.now has c.args.row.now others)
-          (prefix_more _ _ _ _ _ refl c.in-Err.ensures.writes.err);
+          (prefix_more _ refl c.in-Err.ensures.writes.err);
       reason = inl c.in-Err.ensures.writes.fault;
     }
 

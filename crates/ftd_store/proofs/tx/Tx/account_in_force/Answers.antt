@@ -9,15 +9,12 @@ returns g c =
     let enrolled = c.in_ok-enrolled.enrolled in
     let corrections = c.in_ok-corrections.corrections in
     record {
-      call = then_reads g.S.Store c.args.self.now c.account.new.self c.account_corrections.new.self
-          enrolled corrections c.as_corrected.result
-          (FindsAccount name) (ListsAccountCorrections name) (FindsInForce name)
-          (λ t finds lists. record {
+      call = then_reads c.as_corrected.result (FindsInForce name) c.in_ok-enrolled.ensures.call
+          c.in_ok-corrections.ensures.call (λ t finds lists. record {
             enrolled = enrolled;
             is_enrolled = finds;
             corrections = corrections.items;
             are_all = lists;
             is_last = rw c.deref.ensures.value at c.as_corrected.ensures;
-          })
-          c.in_ok-enrolled.ensures.call c.in_ok-corrections.ensures.call;
+          });
     }

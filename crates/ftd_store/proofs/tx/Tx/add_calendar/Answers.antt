@@ -16,19 +16,17 @@ own t n = refl
 pub loop-day-init : goal.loop-day-init
 loop-day-init g c =
     let row = calendar_year_row c.args.year in
-    writes_same g.S.Store c.args.self.now c.add_calendar_year.new.self _ (adding CalendarYears row)
-    (with_calendar c.args.year [])
+    writes_same (with_calendar c.args.year []) c.in_ok-add_calendar_year.ensures.call
     (λ t n. own (adding CalendarYears row t) n
     ∙ ap (λ rows. with_rows Holidays rows (adding CalendarYears row t) n)
-    (rw (append-nil (t Holidays)) refl)) c.in_ok-add_calendar_year.ensures.call
+    (rw (append-nil (t Holidays)) refl))
 
 pub returns-in_err-add_holiday : goal.returns-in_err-add_holiday
 returns-in_err-add_holiday g c =
     let is : c.from_residual-in_err-add_holiday.result ≡ Err c.in_err-add_holiday.field-0.0 =
     search rules in
     record {
-      call = fails_after g.S.Store c.args.self.now c.loop-day.self c.add_holiday.new.self _ _
-          _ _ is c.loop-day.invariant.frame c.in_err-add_holiday.ensures.call.frame;
+      call = fails_after is c.loop-day.invariant.frame c.in_err-add_holiday.ensures.call.frame;
     }
 
 pub loop-day-preserved : goal.loop-day-preserved
@@ -37,17 +35,15 @@ loop-day-preserved g c =
     let i = c.loop-day.day-index in
     let xs : List ℕ = c.args.days.now in
     let x : ℕ = c.day-item.result in
-    then_writes g.S.Store c.args.self.now c.loop-day.self c.add_holiday.new.self _ _ _
-    (with_calendar year (take i xs)) (adding Holidays (holiday_row year x)) _
+    then_writes _ _ c.loop-day.invariant c.in_ok-add_holiday.ensures.call
     (one_more Holidays (λ rows t. refl) (holiday_row year) (λ t. t Holidays)
     (adding CalendarYears (calendar_year_row year)) xs i x c.loop-day-test.true c.day-item.is)
-    c.loop-day.invariant c.in_ok-add_holiday.ensures.call
 
 pub returns : goal.returns
 returns g c =
     let xs : List ℕ = c.args.days.now in
     let all = all_taken xs c.loop-day.day-index (omega (arith, c.loop-day-test.false)) in
     record {
-      call = writes_same g.S.Store c.args.self.now c.loop-day.self _ _ _
-          (λ t n. ap (λ days. with_calendar c.args.year days t n) all) c.loop-day.invariant;
+      call = writes_same _ c.loop-day.invariant
+          (λ t n. ap (λ days. with_calendar c.args.year days t n) all);
     }

@@ -10,7 +10,6 @@ returns-then-branch g c =
     let old : List ℕ = holidays_of c.args.holidays.now in
     let new : List ℕ = holidays_of c.add_holidays.new.holidays in
     record {
-      call = reads_on g.S.Store c.args.self.now c.add_holidays.new.self c.in_ok-add_holidays.field-0
-          _ (AddsIfGiven year old new) (λ done. AddsYear year old new)
-          (λ t adds. rw c.if-branch.true at adds) c.in_ok-add_holidays.ensures.call;
+      call = reads_on _ (λ done. AddsYear year old new) c.in_ok-add_holidays.ensures.call
+          (λ t adds. rw c.if-branch.true at adds);
     }

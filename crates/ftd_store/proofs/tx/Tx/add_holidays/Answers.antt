@@ -14,12 +14,10 @@ returns-in_default g c =
     let found = c.in_ok-given.field-0 in
     let none : found ≡ None = search rules in
     record {
-      call = reads_on g.S.Store c.args.self.now c.calendar.new.self found false
-          (FindsCalendar {A = Global} year) (AddsIfGiven year old old)
-          (λ t finds. (
-            subst (λ (f : Option (Vec ℕ Global)). FindsCalendar year f t) none finds,
-            refl,
-          )) c.in_ok-given.ensures.call;
+      call = reads_on false (AddsIfGiven year old old) c.in_ok-given.ensures.call (λ t finds. (
+        subst (λ (f : Option (Vec ℕ Global)). FindsCalendar year f t) none finds,
+        refl,
+      ));
     }
 
 pub returns-in-Ok : goal.returns-in-Ok
@@ -31,10 +29,10 @@ returns-in-Ok g c =
     let found : Option (Vec ℕ Global) × Vec ℕ Global =
     (c.in_ok-given.field-0, c.in_ok-added.added) in
     record {
-      call = then_reads g.S.Store c.args.self.now c.added.new.self c.holiday_changes.new.self
-          found c.in_ok-changes.changes true
-          (λ found t. FindsCalendar year found.0 t × ListsAdded year found.1 t)
-          (ListsHolidayChanges year) (AddsIfGiven year old new)
+      call = then_reads true (AddsIfGiven year old new)
+          (then_reads found (λ found t. FindsCalendar year found.0 t × ListsAdded year found.1 t)
+          c.in_ok-given.ensures.call c.in_ok-added.ensures.call (λ t finds lists. (finds, lists)))
+          c.in_ok-changes.ensures.call
           (λ t had lists. record {
             to = made.year;
             given = c.in-Some.given;
@@ -50,12 +48,5 @@ returns-in-Ok g c =
               c.deref-2.ensures.value,
               c.deref-3.ensures.value,
             ) at made.elsewhere;
-          })
-          (then_reads g.S.Store c.args.self.now c.calendar.new.self c.added.new.self
-          c.in_ok-given.field-0 c.in_ok-added.added found
-          (FindsCalendar year) (ListsAdded year)
-          (λ found t. FindsCalendar year found.0 t × ListsAdded year found.1 t)
-          (λ t finds lists. (finds, lists))
-          c.in_ok-given.ensures.call c.in_ok-added.ensures.call)
-          c.in_ok-changes.ensures.call;
+          });
     }

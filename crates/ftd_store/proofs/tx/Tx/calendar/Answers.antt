@@ -12,8 +12,7 @@ use Rattle.ftd_store.proofs.tx.Tx.calendar.Goals as goal
 
 pub returns-then-not-branch : goal.returns-then-not-branch
 returns-then-not-branch g c = record {
-  call = reads_on g.S.Store c.args.self.now c.has_calendar.new.self c.in_ok-has_calendar.field-0
-      None _ _ (λ t is. rw c.if-not-branch.true at is) c.in_ok-has_calendar.ensures.call;
+  call = reads_on None _ c.in_ok-has_calendar.ensures.call (λ t is. rw c.if-not-branch.true at is);
 }
 
 pub returns : goal.returns
@@ -25,8 +24,6 @@ returns g c =
     (IsHoliday year) (holidays_in_order (pos year)) (holiday_is year)
     (search rules) in
     record {
-      call = then_reads g.S.Store c.args.self.now c.has_calendar.new.self c.read_all.new.self
-          c.in_ok-has_calendar.field-0 days (Some days) _ _ _
-          (λ t there is. (rw c.if-not-branch.false at there, is)) c.in_ok-has_calendar.ensures.call
-          listed;
+      call = then_reads (Some days) _ c.in_ok-has_calendar.ensures.call listed
+          (λ t there is. (rw c.if-not-branch.false at there, is));
     }

@@ -23,8 +23,8 @@ returns-in-Ok g c =
     (runs_in_order who from to) (live_run_is who from to)
     (search rules) in
     record {
-      call = reads_on g.S.Store c.args.self.now c.read_all.new.self runs c.in-Ok.sums _ _
+      call = reads_on c.in-Ok.sums _ listed
           (λ t is. sums_listed who _ runs.items c.in-Ok.sums.items is
           (rw c.deref.ensures.value at c.in-Ok.ensures.same) c.in-Ok.ensures.positive
-          (rw c.deref.ensures.value at c.in-Ok.ensures.rise)) listed;
+          (rw c.deref.ensures.value at c.in-Ok.ensures.rise));
     }

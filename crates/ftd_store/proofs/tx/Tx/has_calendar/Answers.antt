@@ -21,11 +21,10 @@ pub returns : goal.returns
 returns g c =
     let year = c.args.year in
     record {
-      call = reads_on g.S.Store c.args.self.now c.read_only.new.self c.in_ok-found.found
-          c.is_some.result _ _ (λ t is. there (calendar_year_row year) _ c.in_ok-found.found
-          c.is_some.result c.is_some.ensures is)
+      call = reads_on c.is_some.result _
           (finds g.S.Store c.args.self.now c.read_only.new.self (Ok c.in_ok-found.found)
           CalendarYears READ_CALENDAR_YEAR.now _ _ calendar_year_shown count_cells
           (λ n. calendar_year_row year) (shows_calendar_year (pos year)) (calendar_year_is year)
-          (search rules));
+          (search rules)) (λ t is. there (calendar_year_row year) _ c.in_ok-found.found
+          c.is_some.result c.is_some.ensures is);
     }

@@ -13,15 +13,13 @@ loop-year-init g c =
     let none : List ℕ = holidays_of c.new-holidays.result in
     let holidays : List ℕ = holidays_of c.add_given.new.holidays in
     record {
-      call = reads_on g.S.Store c.args.self.now c.add_given.new.self tt tt
-          (λ done. AddsYear first none holidays) (λ done. ReadSoFar first year holidays)
+      call = reads_on tt (λ done. ReadSoFar first year holidays) c.in_ok-add_given.ensures.call
           (λ t adds.
           let to = adds.to in
           let is : year ≡ first + 1 = omega arith in
           subst (λ (y : ℕ). ReadSoFar first y holidays t) (sym is)
           (one_more_read first first none holidays t
-          (none_read first none t (omega arith) (ap holidays_of c.new-holidays.ensures)) adds))
-          c.in_ok-add_given.ensures.call;
+          (none_read first none t (omega arith) (ap holidays_of c.new-holidays.ensures)) adds));
     }
 
 pub loop-year-preserved : goal.loop-year-preserved
@@ -31,11 +29,9 @@ loop-year-preserved g c =
     let old : List ℕ = holidays_of c.loop-year.holidays in
     let new : List ℕ = holidays_of c.add_given-in-loop-year.new.holidays in
     record {
-      call = then_reads g.S.Store c.args.self.now c.loop-year.self c.add_given-in-loop-year.new.self
-          tt tt tt (λ done. ReadSoFar first year old) (λ done. AddsYear year old new)
-          (λ done. ReadSoFar first (year + 1) new)
-          (λ t so_far adds. one_more_read first year old new t so_far adds)
-          c.loop-year.invariant.call c.in_ok-add_given-2.ensures.call;
+      call = then_reads tt (λ done. ReadSoFar first (year + 1) new) c.loop-year.invariant.call
+          c.in_ok-add_given-2.ensures.call
+          (λ t so_far adds. one_more_read first year old new t so_far adds);
     }
 
 pub returns : goal.returns
@@ -47,8 +43,7 @@ returns g c =
     let end = c.saturating_add-year-end.ensures in
     let through = c.loop-year-test.false in
     record {
-      call = reads_on g.S.Store c.args.self.now c.loop-year.self tt _
-          (λ done. ReadSoFar first year holidays) (λ hs. HasYears first last (holidays_of hs))
+      call = reads_on _ (λ hs. HasYears first last (holidays_of hs)) c.loop-year.invariant.call
           (λ t so_far. let early = so_far.early in
-          all_read first last year holidays t (omega arith) so_far) c.loop-year.invariant.call;
+          all_read first last year holidays t (omega arith) so_far);
     }

@@ -14,8 +14,7 @@ returns-in_err-add_obligation g c =
     let is : c.from_residual-in_err-add_obligation.result ≡ Err c.in_err-add_obligation.field-0.0 =
     search rules in
     record {
-      call = fails_after g.S.Store c.args.self.now c.loop-obligation.self
-          c.add_obligation.new.self _ _ _ _ is c.loop-obligation.invariant.frame
+      call = fails_after is c.loop-obligation.invariant.frame
           c.in_err-add_obligation.ensures.call.frame;
     }
 
@@ -25,14 +24,11 @@ loop-obligation-preserved g c =
     let i = c.loop-obligation.obligation-index in
     let xs : List Obligation = c.args.given.now in
     let x : Obligation = c.obligation-item.result in
-    then_writes g.S.Store c.args.self.now c.loop-obligation.self c.add_obligation.new.self _ _ _
-    (with_obligations who c.args.from c.args.to (take i xs))
-    (adding Obligations (obligation_row who x)) _
+    then_writes _ _ c.loop-obligation.invariant c.in_ok-add_obligation.ensures.call
     (one_more Obligations (λ rows t. refl) (obligation_row who)
     (λ t. filter
     (λ o. not (is_obligation_between who (day_number c.args.from) (day_number c.args.to) o))
     (t Obligations)) (λ t. t) xs i x c.loop-obligation-test.true c.obligation-item.is)
-    c.loop-obligation.invariant c.in_ok-add_obligation.ensures.call
 
 pub returns : goal.returns
 returns g c =
@@ -40,7 +36,7 @@ returns g c =
     let all = all_taken xs c.loop-obligation.obligation-index
     (omega (arith, c.loop-obligation-test.false)) in
     record {
-      call = writes_same g.S.Store c.args.self.now c.loop-obligation.self _ _ _
+      call = writes_same _ c.loop-obligation.invariant
           (λ t n. ap (λ given. with_obligations c.args.account.now c.args.from c.args.to given t n)
-          all) c.loop-obligation.invariant;
+          all);
     }

@@ -29,21 +29,18 @@ returns-in-Ok g c =
     let is = rw c.deref.ensures.value at c.in-Ok.ensures.lines in
     let there = rw c.deref.ensures.value at c.in-Ok.ensures.there in
     record {
-      call = then_reads g.S.Store c.args.self.now c.account_in_force.new.self c.read_all.new.self
-          found
-          stored lines _ _ _
-          (λ t account years. record {
-            listed = subst (Lists YearsRise (IsYear who) _) (sym is)
-                (lines_listed who (is_carried found) _ stored.items years);
-            whole = c.in-Ok.ensures.whole;
-            turns = c.in-Ok.ensures.turns;
-            first = (
-              found,
-              account,
-              subst (FirstCarriedAs found) (sym is)
-                  (carried_as found stored.items there),
-            );
-            others = subst OnlyFirstCarried (sym is)
-                (only_first_carried (is_carried found) stored.items);
-          }) c.in_ok-found.ensures.call listed;
+      call = then_reads lines _ c.in_ok-found.ensures.call listed (λ t account years. record {
+        listed = subst (Lists YearsRise (IsYear who) _) (sym is)
+            (lines_listed who (is_carried found) _ stored.items years);
+        whole = c.in-Ok.ensures.whole;
+        turns = c.in-Ok.ensures.turns;
+        first = (
+          found,
+          account,
+          subst (FirstCarriedAs found) (sym is)
+              (carried_as found stored.items there),
+        );
+        others = subst OnlyFirstCarried (sym is)
+            (only_first_carried (is_carried found) stored.items);
+      });
     }
