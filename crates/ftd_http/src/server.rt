@@ -6,7 +6,8 @@ use ftd_desk::Desk;
 use ftd_files::{ProgramFault, closed, desk_of, is_new, opened_with_short_log, tell_made};
 use ftd_ports::Port;
 use ftd_words::ServeTask;
-use sqlite::{File, FileStore};
+use sqlite::{Alter, Connection, FileStore};
+use sqlite_disk::Disk;
 use std::io;
 use std::net::TcpListener;
 
@@ -20,7 +21,8 @@ pub fn serve_file(rt: &HostRuntime, task: &ServeTask) -> Result<u8, ProgramFault
         return Err(ProgramFault::Net);
     };
     let is_new = is_new(rt, &task.db)?;
-    let Some(mut taken) = serve_first(rt, task, &listener, is_new)? else {
+    let conn = opened_with_short_log(rt, &task.db, task.wait)?;
+    let Some(mut taken) = serve_first(rt, task, &listener, conn, is_new)? else {
         return Ok(3);
     };
     // Each turn takes one connection at least.
@@ -28,20 +30,22 @@ pub fn serve_file(rt: &HostRuntime, task: &ServeTask) -> Result<u8, ProgramFault
         if taken >= task.connections {
             break;
         }
-        taken = serve_again(rt, task, &listener, taken)?;
+        let conn = opened_with_short_log(rt, &task.db, task.wait.max(REOPENING))?;
+        taken = serve_again(rt, task, &listener, taken, conn)?;
     }
     Ok(0)
 }
 
-/// Opens the file, tells at which port the server listens, and serves connections; how many were
-/// taken. None where the port could not be told.
-fn serve_first(
+/// Tells at which port the server listens, and serves connections over the tables in files, which
+/// are closed; how many were taken. None where the port could not be told.
+fn serve_first<D: Disk + Drop>(
     rt: &HostRuntime,
     task: &ServeTask,
     listener: &TcpListener,
+    conn: Connection<FileStore<D>>,
     is_new: bool,
 ) -> Result<Option<u32>, ProgramFault> {
-    let mut desk = opened_desk(rt, task, task.wait)?;
+    let mut desk = desk_of(rt, conn)?;
     if is_new {
         tell_made(rt, &task.db);
     }
@@ -53,14 +57,16 @@ fn serve_first(
     Ok(taken)
 }
 
-/// Opens the file again, and serves connections after so many others; how many were taken in all.
-fn serve_again(
+/// Serves connections after so many others over the tables in files that were opened again, which
+/// are closed; how many were taken in all.
+fn serve_again<D: Disk + Drop>(
     rt: &HostRuntime,
     task: &ServeTask,
     listener: &TcpListener,
     taken: u32,
+    conn: Connection<FileStore<D>>,
 ) -> Result<u32, ProgramFault> {
-    let mut desk = opened_desk(rt, task, task.wait.max(REOPENING))?;
+    let mut desk = desk_of(rt, conn)?;
     let taken = serve_until(rt, task, listener, taken, &mut desk);
     closed(desk);
     Ok(taken)
@@ -74,12 +80,12 @@ fn is_announced(rt: &HostRuntime, listener: &TcpListener) -> bool {
 
 /// Serves connections after so many others, until all are served or the desk does not answer any
 /// more, and answers how many were taken in all.
-fn serve_until(
+fn serve_until<S: Alter>(
     rt: &HostRuntime,
     task: &ServeTask,
     listener: &TcpListener,
     taken: u32,
-    desk: &mut Desk<FileStore<File>>,
+    desk: &mut Desk<S>,
 ) -> u32 {
     let limits = Limits {
         connections: task.connections,
@@ -96,13 +102,4 @@ fn serve_until(
         desk,
         &mut Port::new(rt.stderr()),
     )
-}
-
-/// The desk of the database file, whose log is copied into it before it is long.
-fn opened_desk(
-    rt: &HostRuntime,
-    task: &ServeTask,
-    wait: u32,
-) -> Result<Desk<FileStore<File>>, ProgramFault> {
-    desk_of(rt, opened_with_short_log(rt, &task.db, wait)?)
 }

@@ -1,0 +1,9 @@
+//! What a command does with a desk's file: it opens the file, does the job, tells what came of it,
+//! and closes the file.
+#![tactic(auto)]
+
+mod jobs;
+mod progress;
+mod ready;
+
+pub use crate::jobs::{local, told};
