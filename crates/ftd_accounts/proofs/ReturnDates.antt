@@ -1,5 +1,5 @@
 -- The dates of a return and of a makeup, by holidays that agree in the year and the next.
-use Rattle.std.proofs.Common.{◌≡◌, ℕ, ◌+◌, ◌-◌, ◌*◌, ◌<◌, ◌≤◌, true, not, ◌&&◌, List, sym}
+use Rattle.std.proofs.Common.{◌≡◌, ℕ, ◌+◌, ◌-◌, ◌<◌, ◌≤◌, true, not, ◌&&◌, List, sym}
 use Rattle.std.proofs.Common.{ap, ◌∙◌, subst, arith}
 use Rattle.std.specs.Prelude.{min, nat_lt}
 use Rattle.ftd_days.specs.Business.{is_business, is_holiday, IsOnOrAfter}
@@ -7,26 +7,16 @@ use Rattle.ftd_days.specs.Calendar.{last_day, year_of, year_start, quarter_of, q
 use Rattle.ftd_days.specs.Calendar.{weekday_of}
 use Rattle.ftd_days.specs.Holidays.{AreFew}
 use Rattle.ftd_days.proofs.Business.{some_business}
-use Rattle.ftd_days.proofs.Months.{in_month, month_start-mono, month_start_grows, year_begins}
+use Rattle.ftd_days.proofs.Months.{in_month, year_begins}
 use Rattle.ftd_days.proofs.Months.{year_ends}
 use Rattle.ftd_rules.specs.declared.Form.{Form}
 use Rattle.ftd_rules.specs.declared.Rule.{Rule}
 use Rattle.ftd_rules.specs.declared.Rule.TheVariants.{Monthly, Semiweekly, NextDay}
-use Rattle.ftd_rules.specs.Returns.{return_month, month_after_ends, IsReturnDue}
+use Rattle.ftd_rules.specs.Returns.{month_after_ends, IsReturnDue}
 use Rattle.ftd_rules.specs.Returns.{IsEarlierMakeup, IsMakeup}
-use Rattle.ftd_rules.proofs.Near.{return_near}
-use Rattle.ftd_rules.proofs.ReturnDates.{rolled_before, return_month_is}
+use Rattle.ftd_rules.proofs.Near.{return_near, return_after}
+use Rattle.ftd_rules.proofs.ReturnDates.{rolled_before}
 use Rattle.ftd_rules.proofs.Schedules.{year_start-mono}
-
--- the month after a quarter ends in the year of the quarter or later
-ends_after : (form : Form) (quarter year : ℕ) → year ≡ quarter_year quarter
-    → year_start year ≤ month_after_ends form quarter
-ends_after form quarter year y =
-    let k : ℕ = 12 * (year - 1900) in
-    let month = month_start_grows k 1 in
-    let is = (return_month_is form quarter).0 in
-    let ends = month_start-mono (k + 1) (return_month form quarter + 1) (omega arith) in
-    omega arith
 
 -- of the days of the year and of the next the same are holidays in both
 abbrev pub AgreeIn : ℕ → List ℕ → List ℕ → Type 0
@@ -57,7 +47,7 @@ module _ (read all : List ℕ) (year : ℕ) (from_2001 : 2001 ≤ year) (to_2098
       × (year_start year ≤ day)
   return_same form quarter day its on =
       let from : ℕ = month_after_ends form quarter in
-      let low = ends_after form quarter year (sym its) in
+      let low = return_after form quarter year (sym its) in
       let there = some_business all from in
       let due : ℕ = there.0 in
       let is : IsReturnDue form all quarter due = there.1 in

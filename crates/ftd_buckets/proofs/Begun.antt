@@ -1,7 +1,7 @@
 -- How a repair stands to the histories when it begins.
 use Rattle.ftd_rules.specs.declared.Form.{Form}
 use Rattle.std.proofs.Common.{get_or, length, drop, ◌≡◌, ℕ, ◌+◌, ◌<◌, ◌≤◌, inl, List, [], ◌∷◌, Bool}
-use Rattle.std.proofs.Common.{refl, sym, ap, subst, arith}
+use Rattle.std.proofs.Common.{refl, sym, ap, subst, arith, slice_index_or}
 use Rattle.std.specs.Prelude.{IfSome}
 use Rattle.std.specs.List.{All}
 use Rattle.std.proofs.lemmas.List.Elements.{All-head}
@@ -20,6 +20,7 @@ use Rattle.ftd_rules.proofs.Owed.{has_right}
 use Rattle.ftd_rules.proofs.Bridge.{period_is}
 use Rattle.ftd_rules.proofs.Schedules.{year_facts, year_start-mono, year_divides, years_head}
 use Rattle.ftd_rules.proofs.Pieces.{IsYear}
+use Rattle.ftd_rules.specs.Liability.{liability}
 use Rattle.ftd_rules.proofs.Covering.{line_is}
 use Rattle.ftd_rules.proofs.Earlier.{counterpart}
 use Rattle.ftd_buckets.specs.declared.Window.{Window}
@@ -27,8 +28,8 @@ use Rattle.ftd_buckets.specs.declared.state.Stage.TheVariants as stage
 use Rattle.ftd_buckets.specs.Histories.{History, IsChange, AreLast, BeginWith, TurnsWithin}
 use Rattle.ftd_buckets.specs.Ready.{Repairing, IsReady}
 use Rattle.ftd_buckets.specs.Standing.{Stands, StandsIn}
-use Rattle.ftd_buckets.proofs.Chain.{change_back, early_same}
-use Rattle.ftd_buckets.proofs.Elsewhere.{owed_earlier, owed_earlier_back}
+use Rattle.ftd_buckets.proofs.Chain.{change_back, early_same, year_change}
+use Rattle.ftd_buckets.proofs.Elsewhere.{owed_earlier, before_period}
 
 -- the day's deposit period, in closed form
 pub day_period : (form : Form) → (line : YearLine) (day : ℕ) → IsYear line
@@ -75,6 +76,10 @@ stands_first form day before after r line later known c lines last from to first
     let p = day_period form line day y from to in
     let k = counterpart before.lines after.lines line c.same_years has in
     let year : line.year ≡ k.0.year = ap (λ (z : ℕ × ℕ × Bool). z.0) k.2 in
+    let new = line_is after.lines after.sums k.0 c.is_after k.1 in
+    let same = before_period form (liability before.sums) (liability after.sums) day line k.0
+    (year_change day before after c line k.0 has k.1 year from to) y new in
+    let bounds = subst (λ v. (year_start v ≤ day) × (day ≤ year_last v)) year (from, to) in
     let window : Window = record {
       from = period_first form (semiweekly_from line) day;
       to = period_last form (semiweekly_from line) day;
@@ -93,9 +98,8 @@ stands_first form day before after r line later known c lines last from to first
           omega arith in (
             owed_earlier form day before after r.holidays known c line k.0 has k.1 year from to o
                 less,
-            owed_earlier_back form day before after r.holidays known c line k.0 has k.1 year from to
-                o
-                less,
+            owed_earlier form day after before r.holidays known (change_back day before after c) k.0
+                line k.1 has (sym year) bounds.0 bounds.1 o (rw same.0 less),
           ));
       changed = record {
         by_year = rw years tt;
@@ -174,3 +178,11 @@ ready_line r h =
     let t : All TurnsWithin (h.line ∷ h.later) = subst (λ (z : List YearLine). All TurnsWithin z)
     h.lines_are h.turns in
     (omega arith, omega arith, All-head TurnsWithin h.line h.later t)
+
+pub line_read : {r : Repairing} → (h : IsReady r) → (d : YearLine)
+    → slice_index_or r.lines 0 d ≡ h.line
+line_read h d = rw h.lines_are refl
+
+pub read_to : {r : Repairing} → (h : IsReady r) → (d : YearLine)
+    → (slice_index_or r.lines 0 d).year ≤ 2098
+read_to {r} h d = rw (line_read h d) (ready_line r h).1

@@ -1,6 +1,6 @@
 -- Which obligations a change of one day's runs leaves as they are.
 use Rattle.ftd_rules.specs.declared.Form.{Form}
-use Rattle.std.proofs.Common.{◌≡◌, ℕ, ◌+◌, ◌-◌, ◌<◌, ◌≤◌, ◌⊎◌, inl, inr, List, Bool, refl, sym, ap}
+use Rattle.std.proofs.Common.{◌≡◌, ℕ, ◌+◌, ◌<◌, ◌≤◌, ◌⊎◌, inl, inr, List, Bool, refl, sym, ap}
 use Rattle.std.proofs.Common.{◌∙◌, subst, arith}
 use Rattle.std.specs.Prelude.{Option, None, Some}
 use Rattle.std.specs.List.{All}
@@ -10,7 +10,6 @@ use Rattle.ftd_days.specs.Business.{holidays_end}
 use Rattle.ftd_days.proofs.Months.{month_of_is, month_start-mono, month_start-end}
 use Rattle.ftd_rules.specs.declared.YearLine.{YearLine}
 use Rattle.ftd_rules.specs.declared.Obligation.{Obligation}
-use Rattle.ftd_rules.specs.declared.Rule.TheVariants.{Monthly}
 use Rattle.ftd_rules.specs.declared.Kind.TheVariants as kind
 use Rattle.ftd_rules.specs.Liability.{liability}
 use Rattle.ftd_rules.specs.Lists.{Has}
@@ -28,7 +27,7 @@ use Rattle.ftd_buckets.specs.Patches.{IsOwed}
 use Rattle.ftd_buckets.specs.Private.Turned.{IsYearChange}
 use Rattle.ftd_buckets.proofs.Turns.{turn_one, line_same}
 use Rattle.ftd_buckets.proofs.Places.{IsOwedHere, owed_is_at, owed_moves}
-use Rattle.ftd_buckets.proofs.Chain.{change_back, runs_apart, early_same, year_change}
+use Rattle.ftd_buckets.proofs.Chain.{runs_apart, early_same, year_change}
 
 -- an obligation of a line that stays, for a deposit period without the day, stays
 owed_kept : (form : Form) → (day : ℕ) (g h : History) (holidays : List ℕ) → IsChange day g h
@@ -176,7 +175,7 @@ months_before form s r day d top m n l =
     (a ∙ sym b, omega arith, rule_monthly s d (omega arith) ∙ sym (rule_monthly r d (omega arith)))
 
 -- the day's deposit period begins on the same day under both, and nothing differs before it
-before_period : (form : Form) → (L M : ℕ → ℕ → ℕ) (day : ℕ) (old new : YearLine)
+pub before_period : (form : Form) → (L M : ℕ → ℕ → ℕ) (day : ℕ) (old new : YearLine)
     → IsYearChange L M day old new → IsYear old → IsYear new
     → (period_first form (semiweekly_from new) day ≡ period_first form (semiweekly_from old) day)
     × ((d : ℕ) → d < period_first form (semiweekly_from old) day
@@ -255,22 +254,6 @@ owed_earlier form day g h holidays known c old new m n e from to o before owed =
             (owed_is_at form h holidays o known c.is_after).1 (new, n, (bounds.0, bounds.1, moved))
       ]
     ]
-
-pub owed_earlier_back : (form : Form) → (day : ℕ) (g h : History) (holidays : List ℕ)
-    → All (λ d. d < holidays_end) holidays → IsChange day g h → (old new : YearLine)
-    → Has g.lines old → Has h.lines new → old.year ≡ new.year
-    → year_start old.year ≤ day → day ≤ year_last old.year
-    → (o : Obligation) → o.first < period_first form (semiweekly_from old) day
-    → IsOwed form h holidays o → IsOwed form g holidays o
-owed_earlier_back form day g h holidays known c old new m n e from to o before owed =
-    let y = line_is g.lines g.sums old c.is_before m in
-    let z = line_is h.lines h.sums new c.is_after n in
-    let k = year_change day g h c old new m n e from to in
-    let same = before_period form (liability g.sums) (liability h.sums) day old new k y z in
-    let P : ℕ → Type 0 = λ v. (year_start v ≤ day) × (day ≤ year_last v) in
-    let bounds = subst P e (from, to) in
-    owed_earlier form day h g holidays known (change_back day g h c) new old n m
-    (sym e) bounds.0 bounds.1 o (rw same.0 before) owed
 
 -- an obligation that begins after the day's deposit period stays, where its year's line does
 pub owed_later : (form : Form) → (day : ℕ) (g h : History) (holidays : List ℕ)

@@ -1,6 +1,6 @@
 -- What is settled once the sums of a whole year are fed.
 use Rattle.ftd_rules.specs.declared.Form.{Form}
-use Rattle.std.proofs.Common.{◌≡◌, ℕ, ◌+◌, ◌<◌, ◌≤◌, List, ◌++◌, Bool, sym, ap, ◌∙◌, subst, arith}
+use Rattle.std.proofs.Common.{◌≡◌, ℕ, ◌+◌, ◌<◌, ◌≤◌, List, ◌++◌, Bool, sym, ap, ◌∙◌, subst, arith, rules}
 use Rattle.std.specs.Prelude.{⊤, IsTrue, IfOk, Result, Ok, Err}
 use Rattle.std.specs.List.{All}
 use Rattle.ftd_days.specs.Calendar.{year_start}
@@ -103,13 +103,9 @@ year_settled form day holidays before after s t turned sums new added known0 st 
     let p = st.common.is_period.2.1 in
     let fore : AreRows form after holidays s.from (year_start old.year) s.rows.items =
     rw w_from at st.at.rows in
-    record {
-      old = old;
-      common = rw (lines, from, years) common;
-      calendar = calendar ∙ st.calendar;
-      known = known;
-      differs = λ same. st.at.differs (ap (λ (v : YearLine). v.opening) (sym (one ∙ same)));
-      day_before = omega arith;
-      rows = rw (from, rows) (rows_append form after holidays s.from (year_start old.year)
-          (year_last old.year + 1) s.rows.items added (omega arith) (omega arith) fore here);
-    }
+    let differs : new ≡ old → ⊥ = λ same.
+    st.at.differs (ap (λ (v : YearLine). v.opening) (sym (one ∙ same))) in
+    let kept : AreRows form after holidays s.from (year_last old.year + 1) (s.rows.items ++ added) =
+    rows_append form after holidays s.from (year_start old.year) (year_last old.year + 1)
+    s.rows.items added (omega arith) (omega arith) fore here in
+    search (rules, lines, from, years, rows, calendar ∙ st.calendar)

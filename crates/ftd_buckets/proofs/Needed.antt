@@ -1,7 +1,7 @@
 -- What a repair asks for is needed, and a patch that changes no line is that of one deposit period.
 use Rattle.ftd_rules.specs.declared.Form.{Form}
 use Rattle.std.proofs.Common.{◌≡◌, ℕ, ◌+◌, ◌<◌, ◌≤◌, inl, inr, List, [], ◌∷◌, length, Bool, refl}
-use Rattle.std.proofs.Common.{sym, ap, ◌∙◌, subst, arith}
+use Rattle.std.proofs.Common.{sym, ap, ◌∙◌, subst, arith, rules}
 use Rattle.std.specs.Prelude.{Option, IsSome, map}
 use Rattle.std.proofs.lemmas.Bool.{cases_lt}
 use Rattle.ftd_days.specs.Calendar.{year_start}
@@ -36,28 +36,9 @@ needed_at : (form : Form) (day : ℕ) (holidays : List ℕ) (before after : Hist
 needed_at form day holidays before after r old new stage.Period in_all at =
     inl (old, in_all.year.is_old, at.asked)
 needed_at form day holidays before after r old new (stage.Rest first turn) in_all at =
-    inr (inl (record {
-      period = at.period;
-      is_period = (old, in_all.year.is_old, at.is_period);
-      old = old;
-      new = new;
-      year = in_all.year;
-      of_day = at.of_day;
-      differs = at.differs;
-      from = at.from;
-      to = at.to;
-      some = at.some;
-    }))
+    inr (inl (search rules))
 needed_at form day holidays before after r old new (stage.Year turned) in_all at =
-    inr (inr (record {
-      old = old;
-      new = new;
-      year = in_all.year;
-      later = at.later;
-      differs = at.differs;
-      from = at.from;
-      to = at.to;
-    }))
+    inr (inr (search rules))
 
 -- the window that a repair asks for is one of those needed
 pub fed_needed : (form : Form) (day : ℕ) (holidays : List ℕ) (before after : History)

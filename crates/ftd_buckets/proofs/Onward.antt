@@ -88,6 +88,21 @@ onward_last form day holidays before after s new patch k r none from to rows yea
     (r.is_to ∙ ap (λ (z : YearLine). year_last z.year) line)
     (none_after before after k.old c.is_before last) from to rows years
 
+-- the lines that are left, where a year goes on to the next
+ahead_of : (form : Form) → (day : ℕ) (holidays : List ℕ) (before after : History)
+    (s : Settled) (new : YearLine) (later : List YearLine) (next : YearLine)
+    → (k : IsSettledYear form day holidays before after s new)
+    → (r : IsAtYearEnd s.lines.now s.asked.to new.year) → later ≡ drop 1 s.lines.now
+    → later ≡ next ∷ drop 1 later
+    → (r.line ≡ k.old) × AreLast before (k.old ∷ next ∷ drop 1 later)
+ahead_of form day holidays before after s new later next k r back e =
+    let n = next_line s.lines.now s.asked.to new.year later next r back e in
+    let line : r.line ≡ k.old = same_line s.lines.now r.line k.old r.later k.common.later
+    r.lines_are k.common.lines_are in
+    let are : s.lines.now ≡ k.old ∷ next ∷ drop 1 later = n.are
+    ∙ ap (λ (z : YearLine). z ∷ next ∷ drop 1 later) line in
+    (line, subst (λ (z : List YearLine). AreLast before z) are k.common.last)
+
 pub onward_done : (form : Form) → (day : ℕ) (holidays : List ℕ) (before after : History)
     (s : Settled) (new : YearLine) (patch : Patch) (later : List YearLine) (next : YearLine)
     (opens : Kind)
@@ -102,17 +117,12 @@ pub onward_done : (form : Form) → (day : ℕ) (holidays : List ℕ) (before af
 onward_done form day holidays before after s new patch later next opens k r back e is same from to
     rows years =
     let c = k.common.change in
-    let n = next_line s.lines.now s.asked.to new.year later next r back e in
-    let line : r.line ≡ k.old = same_line s.lines.now r.line k.old r.later k.common.later
-    r.lines_are k.common.lines_are in
-    let are : s.lines.now ≡ k.old ∷ next ∷ drop 1 later = n.are
-    ∙ ap (λ (z : YearLine). z ∷ next ∷ drop 1 later) line in
-    let last = subst (λ (z : List YearLine). AreLast before z) are k.common.last in
+    let ahead = ahead_of form day holidays before after s new later next k r back e in
     let y = line_is before.lines before.sums k.old c.is_before k.common.year.is_old in
-    let next_is = next_of day before after c k.old new next (drop 1 later) opens k.common.year last
-    is in
+    let next_is = next_of day before after c k.old new next (drop 1 later) opens k.common.year
+    ahead.1 is in
     settled_done form day holidays before after s s.asked new patch k
-    (r.is_to ∙ ap (λ (z : YearLine). year_last z.year) line)
+    (r.is_to ∙ ap (λ (z : YearLine). year_last z.year) ahead.0)
     (same_next day before after c k.old new next (drop 1 later) opens next_is y.0 y.1 k.day_before
     same) from to rows years
 
@@ -132,14 +142,9 @@ pub onward_next : (form : Form) → (day : ℕ) (holidays : List ℕ) (before af
 onward_next form day holidays before after s new later next opens q k r back e is other lines
     calendar from asked rows years at =
     let c = k.common.change in
-    let n = next_line s.lines.now s.asked.to new.year later next r back e in
-    let line : r.line ≡ k.old = same_line s.lines.now r.line k.old r.later k.common.later
-    r.lines_are k.common.lines_are in
-    let are : s.lines.now ≡ k.old ∷ next ∷ drop 1 later = n.are
-    ∙ ap (λ (z : YearLine). z ∷ next ∷ drop 1 later) line in
-    let last = subst (λ (z : List YearLine). AreLast before z) are k.common.last in
-    let next_is = next_of day before after c k.old new next (drop 1 later) opens k.common.year last
-    is in
+    let ahead = ahead_of form day holidays before after s new later next k r back e in
+    let next_is = next_of day before after c k.old new next (drop 1 later) opens k.common.year
+    ahead.1 is in
     settled_next form day holidays before after s s.asked new next (drop 1 later) opens q k
-    (r.is_to ∙ ap (λ (z : YearLine). year_last z.year) line) next_is other
+    (r.is_to ∙ ap (λ (z : YearLine). year_last z.year) ahead.0) next_is other
     (lines ∙ e) calendar from asked rows years at

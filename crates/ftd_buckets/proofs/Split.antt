@@ -1,7 +1,7 @@
 -- The deposit period of the changed day, cut where its year turns after the change.
 use Rattle.ftd_rules.specs.declared.Form.{Form}
 use Rattle.std.proofs.Common.{◌≡◌, ℕ, ◌+◌, ◌-◌, ◌<◌, ◌≤◌, inl, inr, List, ◌++◌, refl, sym, ap, ◌∙◌}
-use Rattle.std.proofs.Common.{subst, arith, take, drop}
+use Rattle.std.proofs.Common.{subst, arith, rules, take, drop, ◌∷◌, slice_index_or}
 use Rattle.std.specs.Prelude.{Option, None, Some}
 use Rattle.std.specs.List.{All}
 use Rattle.std.proofs.lemmas.Bool.{lt-ltb}
@@ -21,7 +21,7 @@ use Rattle.ftd_rules.specs.Years.{year_last}
 use Rattle.ftd_rules.specs.Private.Years.{semiweekly_from}
 use Rattle.ftd_rules.specs.Periods.{IsPeriod}
 use Rattle.ftd_rules.specs.Private.Walk.{due_date, Periods, AreOwed, Divides, periods, period_first}
-use Rattle.ftd_rules.specs.Private.Walk.{period_last}
+use Rattle.ftd_rules.specs.Private.Walk.{period_last, years_end}
 use Rattle.ftd_rules.proofs.Walk.{liability_none}
 use Rattle.ftd_rules.proofs.Along.{upto, cut_here, cut_later, liability-append, liability_over}
 use Rattle.ftd_rules.proofs.Schedules.{year_facts, year_divides, cases_turn, turn_is, from_turn}
@@ -35,13 +35,13 @@ use Rattle.ftd_buckets.specs.declared.turn.TurnNow.TheVariants as now
 use Rattle.ftd_buckets.specs.Histories.{History, TurnsWithin}
 use Rattle.ftd_buckets.specs.Windows.{IsPeriodOf, IsNext}
 use Rattle.ftd_buckets.specs.Patches.{AreRows, AreSumsOf}
-use Rattle.ftd_buckets.specs.Ready.{Repairing, repairing, open_from, ReadyRest}
+use Rattle.ftd_buckets.specs.Ready.{Repairing, repairing, open_from, ReadyRest, IsReady}
 use Rattle.ftd_buckets.specs.Private.Ready.{with_turn, IsWhole}
 use Rattle.ftd_buckets.specs.Private.Turned.{IsTurnNow, IsWithin}
 use Rattle.ftd_buckets.specs.Standing.{Stands, StandsIn}
 use Rattle.ftd_buckets.specs.Private.Answered.{IsSettledYear}
 use Rattle.ftd_buckets.proofs.Turns.{line_same, line_year, period_facts, monthly_facts}
-use Rattle.ftd_buckets.proofs.Begun.{day_period}
+use Rattle.ftd_buckets.proofs.Begun.{day_period, ready_line, line_read}
 use Rattle.ftd_buckets.proofs.Chain.{year_change}
 use Rattle.ftd_buckets.proofs.Places.{rise_within, rows_are}
 use Rattle.ftd_buckets.proofs.Joined.{divides_from, divides_before, first_first}
@@ -65,6 +65,17 @@ whole_period form line a b y p =
           let s0 = same.0 in let s1 = same.1 in let e0 = k.0 in let e1 = k.1 in
           (omega arith, z.1, z.2, omega arith, z.4);
     }
+
+pub ready_whole : (s : Settled) → (h : IsReady (repairing s stage.Period))
+    → IsWhole s.form h.line s.asked.from s.asked.to
+ready_whole s h =
+    let l = ready_line (repairing s stage.Period) h in
+    whole_period s.form h.line s.asked.from s.asked.to (line_year h.line l.0 l.1 l.2).0 h.at.0
+
+pub read_whole : (s : Settled) → (h : IsReady (repairing s stage.Period)) → (d : YearLine)
+    → IsWhole s.form (slice_index_or s.lines.now 0 d) s.asked.from s.asked.to
+read_whole s h d = subst (λ (z : YearLine). IsWhole s.form z s.asked.from s.asked.to)
+    (sym (line_read h d)) (ready_whole s h)
 
 -- the period of a year that was monthly there, and turns otherwise now
 pub record Split (form : Form) (line : YearLine) (a b : ℕ) (turn : Option ℕ) : Type 0 where
@@ -113,18 +124,9 @@ cut_of form line a b turn h =
     let first : period_first form (semiweekly_from n) a ≡ month_start (month_of a) =
     rw (lt-ltb a (semiweekly_from n) monthly) refl in
     let starts : period_first form (semiweekly_from n) a ≡ a = first ∙ sym m.0 in
-    record {
-      from = k3;
-      some = k2;
-      to = k4;
-      year = y;
-      monthly = monthly;
-      month = m.0;
-      month_ends = m.1;
-      starts = starts;
-      divides = divides_from (periods form (semiweekly_from n)) (year_start line.year)
-          (year_last line.year) a (year_divides form n y.0 y.1 y.2) k3 starts;
-    }
+    let divides = divides_from (periods form (semiweekly_from n)) (year_start line.year)
+    (year_last line.year) a (year_divides form n y.0 y.1 y.2) k3 starts in
+    search rules
 
 pub whole_last : (form : Form) → (line : YearLine) (a b : ℕ) (turn : Option ℕ)
     → Cut form line a b turn → b ≡ year_last line.year → IsWhole form (with_turn line turn) a b
@@ -132,6 +134,38 @@ whole_last form line a b turn h e =
     let some = h.some in
     let D : ℕ → Type 0 = λ z. Divides (periods form (semiweekly_from (with_turn line turn))) a z in
     record { from = h.from; to = h.to; some = omega arith; divides = subst D (sym e) h.divides }
+
+-- so it is of the period that a state asks for, where its year turns otherwise
+pub record Turning (s : Settled) (turn : Option ℕ) (line : YearLine) : Type 0 where
+  pub split : Split s.form line s.asked.from s.asked.to turn
+  pub cut : Cut s.form line s.asked.from s.asked.to turn
+  pub early : 7 ≤ s.asked.from
+  pub some : s.asked.from ≤ s.asked.to
+  pub late : s.asked.to < years_end
+
+pub turning : (s : Settled) (turn : Option ℕ) → (h : IsReady (repairing s stage.Period))
+    → ((line : YearLine) (later : List YearLine) → s.lines.now ≡ line ∷ later
+    → IsWithin line s.asked.from s.asked.to (now.Changed turn))
+    → Turning s turn h.line
+turning s turn h within =
+    let l = ready_line (repairing s stage.Period) h in
+    let f = year_facts h.line.year l.0 l.1 in
+    let f0 = f.0 in let f2 = f.2 in
+    let split : Split s.form h.line s.asked.from s.asked.to turn =
+    record {
+      year = (line_year h.line l.0 l.1 l.2).0;
+      period = h.at.0;
+      within = within h.line h.later h.lines_are;
+    } in
+    let cut = cut_of s.form h.line s.asked.from s.asked.to turn split in
+    let from = cut.from in let some = cut.some in let to = cut.to in
+    record {
+      split = split;
+      cut = cut;
+      early = omega arith;
+      some = some;
+      late = omega arith;
+    }
 
 -- the first day of the period that goes on
 pub open_first : (form : Form) → (line : YearLine) (a b : ℕ) (turn : Option ℕ)

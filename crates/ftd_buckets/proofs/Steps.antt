@@ -1,7 +1,7 @@
 -- How a repair goes on from the end of a year whose line differs.
 use Rattle.ftd_rules.specs.declared.Form.{Form}
 use Rattle.std.proofs.Common.{◌≡◌, ℕ, ◌+◌, ◌≤◌, ◌↔◌, inl, inr, List, [], ◌∷◌, ◌++◌, Bool, sym, ap}
-use Rattle.std.proofs.Common.{◌∙◌, subst, arith, append_assoc}
+use Rattle.std.proofs.Common.{◌∙◌, subst, arith, rules, append_assoc}
 use Rattle.std.specs.Prelude.{IsTrue, is_some}
 use Rattle.ftd_days.specs.Calendar.{year_start}
 use Rattle.ftd_rules.specs.declared.YearLine.{YearLine}
@@ -21,7 +21,7 @@ use Rattle.ftd_buckets.specs.declared.state.Settled.{Settled}
 use Rattle.ftd_buckets.specs.declared.state.Stage.TheVariants as stage
 use Rattle.ftd_buckets.specs.Histories.{History, IsChange, AreLast}
 use Rattle.ftd_buckets.specs.Windows.{IsYearOf, IsNeeded, IsNext}
-use Rattle.ftd_buckets.specs.Patches.{AreRows, IsPatch}
+use Rattle.ftd_buckets.specs.Patches.{AreRows, IsPatch, Replaces}
 use Rattle.ftd_buckets.specs.Ready.{Repairing}
 use Rattle.ftd_buckets.specs.Standing.{Stands, AreChangedBefore}
 use Rattle.ftd_buckets.specs.Private.Answered.{IsSettledYear}
@@ -57,28 +57,24 @@ settled_done form day holidays before after s asked new patch k ends same from t
     let changed = one_changed before after old new s.years.items c.is_before.years c.is_after.years
     k.common.year k.differs
     k.common.changed in
-    let last : patch.to ≡ year_last old.year = to ∙ ends in (
-      record {
-        period = k.common.period;
-        is_period = k.common.is_period;
-        from = from ∙ k.common.begins;
-        to = to;
-        replaces = record {
-          rows = rw (from, last, rows) k.rows;
-          years = rw years (all_changed before after old.year (s.years.items ++ (new ∷ []))
-              changed back);
-          elsewhere = λ o out. elim out [
-            | inl less ↦ k.common.earlier o (omega arith)
-            | inr more ↦ (
-              owed_after form day before after holidays old.year k.known c y.0 y.1 k.day_before
-                  same o
-                  (omega arith),
-              owed_after form day after before holidays old.year k.known
-                  (change_back day before after c) y.0 y.1 k.day_before back o (omega arith),
-            )
-          ];
-        };
-      },
+    let last : patch.to ≡ year_last old.year = to ∙ ends in
+    let begins = from ∙ k.common.begins in
+    let replaces : Replaces form before after holidays patch = record {
+      rows = rw (from, last, rows) k.rows;
+      years = rw years (all_changed before after old.year (s.years.items ++ (new ∷ []))
+          changed back);
+      elsewhere = λ o out. elim out [
+        | inl less ↦ k.common.earlier o (omega arith)
+        | inr more ↦ (
+          owed_after form day before after holidays old.year k.known c y.0 y.1 k.day_before
+              same o
+              (omega arith),
+          owed_after form day after before holidays old.year k.known
+              (change_back day before after c) y.0 y.1 k.day_before back o (omega arith),
+        )
+      ];
+    } in (
+      search rules,
       (λ w needed. (let q = none_needed form day before after old.year c y.0 y.1 k.day_before same w
           needed in omega arith)),
     )

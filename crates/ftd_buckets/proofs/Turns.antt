@@ -17,6 +17,7 @@ use Rattle.ftd_rules.specs.Private.Walk.{years_end, period_first, period_last}
 use Rattle.ftd_rules.proofs.Stated.{period_run, cases_kind}
 use Rattle.ftd_rules.proofs.Status.{month_at_least}
 use Rattle.ftd_rules.proofs.Bridge.{period_only}
+use Rattle.ftd_rules.proofs.Lines.{line_same as line_by_parts}
 use Rattle.ftd_rules.proofs.Pieces.{IsYear}
 use Rattle.ftd_rules.proofs.Schedules.{year_facts, year_divides, cases_turn, turn_is}
 use Rattle.ftd_rules.proofs.Schedules.{from_semiweekly, from_turn, from_none}
@@ -59,18 +60,7 @@ turn_none M line h quiet =
 
 pub line_same : (old new : YearLine) → basis_of old ≡ basis_of new → old.opening ≡ new.opening
     → new.turn ≡ old.turn → new ≡ old
-line_same old new e opening turn =
-    let year : new.year ≡ old.year = sym (ap (λ (z : ℕ × ℕ × Bool). z.0) e) in
-    let lookback : new.lookback.0 ≡ old.lookback.0 = sym (ap (λ (z : ℕ × ℕ × Bool). z.1) e) in
-    let carried : new.carried ≡ old.carried = sym (ap (λ (z : ℕ × ℕ × Bool). z.2) e) in
-    let open_same : new.opening ≡ old.opening = sym opening in
-    λ i. record {
-      year = year i;
-      lookback = record { 0 = lookback i };
-      carried = carried i;
-      opening = open_same i;
-      turn = turn i;
-    }
+line_same old new e opening turn = sym (line_by_parts old new e opening (sym turn))
 
 -- what a line's own fields say
 pub line_year : (line : YearLine) → 2001 ≤ line.year → line.year ≤ 2098 → TurnsWithin line

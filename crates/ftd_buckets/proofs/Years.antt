@@ -12,13 +12,14 @@ use Rattle.ftd_rules.specs.Lists.{Has}
 use Rattle.ftd_rules.specs.Obligations.{ByFirstDay}
 use Rattle.ftd_rules.specs.Years.{AreOpenYears, YearsFrom, year_last}
 use Rattle.ftd_rules.proofs.Owed.{has_append, has_left, has_right}
+use Rattle.ftd_rules.proofs.Rising.{rises_push}
 use Rattle.ftd_rules.proofs.Schedules.{year_facts, year_start-mono, year_divides, years_within}
 use Rattle.ftd_rules.proofs.Schedules.{line_one}
 use Rattle.ftd_rules.proofs.Covering.{line_is}
 use Rattle.ftd_buckets.specs.declared.Window.{Window}
 use Rattle.ftd_buckets.specs.Histories.{History, IsHistory, IsChange, AreLast}
 use Rattle.ftd_buckets.specs.Windows.{IsYearOf, IsNeeded}
-use Rattle.ftd_buckets.specs.Patches.{IsOwed, AreRows, ByYear, AreChanged}
+use Rattle.ftd_buckets.specs.Patches.{IsOwed, AreRows, AreChanged}
 use Rattle.ftd_buckets.specs.Standing.{AreChangedBefore}
 use Rattle.ftd_buckets.proofs.Elsewhere.{owed_later}
 
@@ -52,20 +53,6 @@ rows_append form h holidays a c b xs ys l m x y = record {
     ]),
   );
 }
-
--- one line more, of a later year
-pub by_year_push : (xs : List YearLine) (x : YearLine) → ByYear xs
-    → ((y : YearLine) → Has xs y → y.year < x.year) → ByYear (xs ++ (x ∷ []))
-by_year_push [] x h f = ((λ o k. absurd k), tt)
-by_year_push (z ∷ xs) x h f = (
-  (λ o k. elim (has_append xs (x ∷ []) o k) [
-    | inl old ↦ h.0 o old
-    | inr (inl e) ↦ (let y : o.year ≡ x.year = ap (λ (v : YearLine). v.year) e in
-        let a = f z (inl refl) in omega arith)
-    | inr (inr never) ↦ absurd never
-  ]),
-  by_year_push xs x h.1 (λ o k. f o (inr k)),
-)
 
 -- the years of a list: the last one, and the one after a line
 pub last_year : (y : ℕ) (xs : List YearLine) (x : YearLine) → YearsFrom y (xs ++ (x ∷ []))
@@ -196,7 +183,8 @@ pub one_changed : (g h : History) (old new : YearLine) (lines : List YearLine)
 one_changed g h old new lines years afters year differs k =
     let same = year.same in
     record {
-      by_year = by_year_push lines new k.by_year (λ y m. let w = (k.all y).0 m in let w2 = w.2 in
+      by_year = rises_push (λ line. line.year) lines new k.by_year
+          (λ y m. let w = (k.all y).0 m in let w2 = w.2 in
           omega arith);
       all = λ line. (
         (λ m. elim (has_append lines (new ∷ []) line m) [

@@ -89,48 +89,41 @@ module _ {D : Type 0} (serves : D → Outcome → D → Type 0) (asks : D → Bo
     All-nil (λ turn. turn.answers ≡ true),
   )
 
-  -- one connection more was taken
-  pub takes_more : (start now after : D) (told result : Result (Unit {0}) WriteFault)
+  module _ (start now after : D) (told result : Result (Unit {0}) WriteFault)
       (err_before err_now err_after : Option (List ℕ)) (failed_now failed_after : Bool)
       (first taken : ℕ) (turn : Turn)
-      → Going start now told err_before err_now failed_now first taken
-      → IsTurn serves asks now turn after
-      → IsToldMore told result err_now err_after failed_now failed_after
-      (outcome_line (taken + 1) turn.outcome)
-      → HasTaken serves asks start after result err_before err_after failed_after first (taken + 1)
-  takes_more start now after told result err_before err_now err_after failed_now failed_after first
-      taken turn (h, all) t m =
-      let number : (first + 1) + length h.turns ≡ taken + 1 =
-      (let c = h.count in omega arith) in
-      let whole : turn_lines (first + 1) h.turns ++ outcome_line (taken + 1) turn.outcome
-      ≡ turn_lines (first + 1) (h.turns ++ turn ∷ []) =
-      sym (lines_more (first + 1) h.turns turn
-      ∙ ap (λ n. turn_lines (first + 1) h.turns ++ outcome_line n turn.outcome) number) in
-      record {
-        turns = h.turns ++ turn ∷ [];
-        count = (let c = h.count in let l = length-append h.turns (turn ∷ []) in omega arith);
-        desk = more h.turns now turn after h.desk all t;
-        lines = subst (λ z. IsTold result err_before err_after failed_after z) whole
-            (m err_before (turn_lines (first + 1) h.turns) h.lines);
-      }
+      (going : Going start now told err_before err_now failed_now first taken)
+      (took : IsTurn serves asks now turn after)
+      (tells : IsToldMore told result err_now err_after failed_now failed_after
+      (outcome_line (taken + 1) turn.outcome)) where
+    -- one connection more was taken
+    pub takes_more : HasTaken serves asks start after result err_before err_after failed_after first
+        (taken + 1)
+    takes_more =
+        let h = going.0 in
+        let number : (first + 1) + length h.turns ≡ taken + 1 =
+        (let c = h.count in omega arith) in
+        let whole : turn_lines (first + 1) h.turns ++ outcome_line (taken + 1) turn.outcome
+        ≡ turn_lines (first + 1) (h.turns ++ turn ∷ []) =
+        sym (lines_more (first + 1) h.turns turn
+        ∙ ap (λ n. turn_lines (first + 1) h.turns ++ outcome_line n turn.outcome) number) in
+        record {
+          turns = h.turns ++ turn ∷ [];
+          count = (let c = h.count in let l = length-append h.turns (turn ∷ []) in omega arith);
+          desk = more h.turns now turn after h.desk going.1 took;
+          lines = subst (λ z. IsTold result err_before err_after failed_after z) whole
+              (tells err_before (turn_lines (first + 1) h.turns) h.lines);
+        }
 
-  -- one connection more was taken, after which the desk answered
-  pub goes_more : (start now after : D) (told result : Result (Unit {0}) WriteFault)
-      (err_before err_now err_after : Option (List ℕ)) (failed_now failed_after : Bool)
-      (first taken : ℕ) (turn : Turn)
-      → Going start now told err_before err_now failed_now first taken
-      → IsTurn serves asks now turn after
-      → IsToldMore told result err_now err_after failed_now failed_after
-      (outcome_line (taken + 1) turn.outcome) → not turn.answers ≡ false
-      → Going start after result err_before err_after failed_after first (taken + 1)
-  unfolding takes_more
-  goes_more start now after told result err_before err_now err_after failed_now failed_after first
-      taken turn going t m answers = (
-        takes_more start now after told result err_before err_now err_after failed_now failed_after
-            first taken turn going t m,
-        All-push (λ turn. turn.answers ≡ true) going.0.turns turn going.1
-            (not-false turn.answers answers),
-      )
+    -- one connection more was taken, after which the desk answered
+    pub goes_more : not turn.answers ≡ false
+        → Going start after result err_before err_after failed_after first (taken + 1)
+    unfolding takes_more
+    goes_more answers = (
+      takes_more,
+      All-push (λ turn. turn.answers ≡ true) going.0.turns turn going.1
+          (not-false turn.answers answers),
+    )
 
   -- all connections were taken
   pub takes_all : (start now : D) (told : Result (Unit {0}) WriteFault)

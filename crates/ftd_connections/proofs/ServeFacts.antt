@@ -24,11 +24,13 @@ use Rattle.ftd_connections.specs.Replying.{Responds}
 use Rattle.ftd_routes.specs.declared.ask.Asked.{Asked}
 use Rattle.ftd_connections.specs.Serving.{Ends, closed, truncated, bad, asked, limit, idled}
 use Rattle.ftd_connections.specs.Serving.{closes_after, refusal_text, IsAnswer, none, more, Broken}
+use Rattle.ftd_connections.specs.Serving.{refusal_count}
 use Rattle.ftd_connections.specs.Serving.{ServesMessages, BreaksOff, unasked, in_answer, Answered}
 use Rattle.ftd_connections.specs.Serving.{in_refusal, Breaks, HasEnded, HasFailed, Talk}
 use Rattle.ftd_connections.specs.declared.connection.End.{End}
 use Rattle.ftd_connections.specs.declared.connection.End.TheVariants as end
 use Rattle.ftd_connections.specs.declared.connection.Cause.{Cause}
+use Rattle.ftd_connections.specs.declared.connection.Served.{Served}
 use Rattle.ftd_connections.specs.declared.connection.Cause.TheVariants as why
 
 -- one more message of the bytes
@@ -130,99 +132,68 @@ module _ {M : Type 0} (goes : M → Request → Answer → M → Type 0) where
   same_text taken taken' text a = let P : List ℕ → Type 0 = λ z. Appends taken taken' z in
       subst P (sym (append-nil text)) a
 
-  -- the bytes end
-  pub ends_closed : (start now : M) (left left' taken taken' : Option (List ℕ)) (kept : List ℕ)
-      (answered : ℕ) (is_idle : Bool)
-      → Talk goes start now left left' taken taken' kept answered → kept ≡ [] → IsAtEnd left'
-      → ServesMessages (Answered goes start now) left left' is_idle taken taken'
-      (record { answered = answered; end = end.Closed })
-  ends_closed start now left left' taken taken' kept answered is_idle talk none_left at_end =
+  -- the connection ends, where it tells of a refusal at most
+  ends_with : {start now : M} {left left' taken mid taken' : Option (List ℕ)} {kept : List ℕ}
+      {answered : ℕ} {is_idle : Bool} {served : Served} (refusal : Option Status)
+      → (talk : Talk goes start now left left' taken mid kept answered)
+      → Ends kept talk.messages refusal served.end → HasEnded served.end left' is_idle
+      → Appends mid taken' (refusal_text refusal)
+      → served.answered ≡ answered + refusal_count refusal
+      → ServesMessages (Answered goes start now) left left' is_idle taken taken' served
+  ends_with {taken = taken} {mid = mid} {taken' = taken'} {kept = kept} refusal talk ends at_end
+      written count =
       let same = talk.count in
       record {
         read = talk.read;
         messages = talk.messages;
         rest = kept;
-        refusal = None;
+        refusal = refusal;
         text = talk.text;
         gives = talk.gives;
         are = talk.are;
-        ends = closed talk.messages talk.stay none_left;
+        ends = ends;
         at_end = at_end;
         answers = talk.answers;
-        written = same_text taken taken' talk.text talk.written;
+        written = Appends-trans taken mid taken' talk.text (refusal_text refusal) talk.written
+            written;
         count = omega arith;
       }
 
-  -- the peer is idle for too long
-  pub ends_idle : (start now : M) (left left' taken taken' : Option (List ℕ)) (kept : List ℕ)
-      (answered : ℕ) (is_idle : Bool)
-      → Talk goes start now left left' taken taken' kept answered → kept ≡ [] → is_idle ≡ true
-      → ServesMessages (Answered goes start now) left left' is_idle taken taken'
-      (record { answered = answered; end = end.Idle })
-  ends_idle start now left left' taken taken' kept answered is_idle talk none_left is_so =
-      let same = talk.count in
-      record {
-        read = talk.read;
-        messages = talk.messages;
-        rest = kept;
-        refusal = None;
-        text = talk.text;
-        gives = talk.gives;
-        are = talk.are;
-        ends = idled talk.messages talk.stay none_left;
-        at_end = is_so;
-        answers = talk.answers;
-        written = same_text taken taken' talk.text talk.written;
-        count = omega arith;
-      }
+  module _ {start now : M} {left left' taken taken' : Option (List ℕ)} {kept : List ℕ}
+      {answered : ℕ} {is_idle : Bool}
+      (talk : Talk goes start now left left' taken taken' kept answered) where
+    -- the bytes end
+    pub ends_closed : kept ≡ [] → IsAtEnd left'
+        → ServesMessages (Answered goes start now) left left' is_idle taken taken'
+        (record { answered = answered; end = end.Closed })
+    ends_closed none_left at_end =
+        ends_with None talk (closed talk.messages talk.stay none_left) at_end (Appends-nil taken')
+        (omega arith)
 
-  pub ends_truncated : (start now : M) (left left' taken taken' : Option (List ℕ)) (kept : List ℕ)
-      (answered : ℕ) (is_idle : Bool)
-      → Talk goes start now left left' taken taken' kept answered → IsCut kept → IsAtEnd left'
-      → ServesMessages (Answered goes start now) left left' is_idle taken taken'
-      (record { answered = answered; end = end.Truncated })
-  ends_truncated start now left left' taken taken' kept answered is_idle talk cut at_end =
-      let same = talk.count in
-      record {
-        read = talk.read;
-        messages = talk.messages;
-        rest = kept;
-        refusal = None;
-        text = talk.text;
-        gives = talk.gives;
-        are = talk.are;
-        ends = truncated talk.messages talk.stay cut;
-        at_end = at_end;
-        answers = talk.answers;
-        written = same_text taken taken' talk.text talk.written;
-        count = omega arith;
-      }
+    -- the peer is idle for too long
+    pub ends_idle : kept ≡ [] → is_idle ≡ true
+        → ServesMessages (Answered goes start now) left left' is_idle taken taken'
+        (record { answered = answered; end = end.Idle })
+    ends_idle none_left is_so =
+        ends_with None talk (idled talk.messages talk.stay none_left) is_so (Appends-nil taken')
+        (omega arith)
+
+    pub ends_truncated : IsCut kept → IsAtEnd left'
+        → ServesMessages (Answered goes start now) left left' is_idle taken taken'
+        (record { answered = answered; end = end.Truncated })
+    ends_truncated cut at_end =
+        ends_with None talk (truncated talk.messages talk.stay cut) at_end (Appends-nil taken')
+        (omega arith)
 
   -- a message is refused
-  pub ends_refused : (start now : M) (left left' taken mid taken' : Option (List ℕ)) (kept : List ℕ)
-      (answered : ℕ) (is_idle : Bool) (status : Status)
+  pub ends_refused : {start now : M} {left left' taken mid taken' : Option (List ℕ)}
+      {kept : List ℕ} {answered : ℕ} {is_idle : Bool} (status : Status)
       → Talk goes start now left left' taken mid kept answered → IsRefused kept status
       → Appends mid taken' (refusal_text (Some status))
       → ServesMessages (Answered goes start now) left left' is_idle taken taken'
       (record { answered = answered + 1; end = end.BadMessage })
-  ends_refused start now left left' taken mid taken' kept answered is_idle status talk refused
-      written =
-      let same = talk.count in
-      record {
-        read = talk.read;
-        messages = talk.messages;
-        rest = kept;
-        refusal = Some status;
-        text = talk.text;
-        gives = talk.gives;
-        are = talk.are;
-        ends = bad talk.messages status talk.stay refused;
-        at_end = tt;
-        answers = talk.answers;
-        written = Appends-trans taken mid taken' talk.text (refusal_text (Some status)) talk.written
-            written;
-        count = omega arith;
-      }
+  ends_refused status talk refused written =
+      ends_with (Some status) talk (bad talk.messages status talk.stay refused) tt written refl
 
   -- a message is answered, and is the last
   last : (start now later : M) (left left' taken mid taken' : Option (List ℕ)) (buf : List ℕ)
@@ -410,26 +381,4 @@ module _ {M : Type 0} (goes : M → Request → Answer → M → Type 0) where
               is = sym p.parts ∙ ap (λ b. response_text said b) closing;
             }),
         p.appends,
-      )
-
-  -- the answer is written
-  pub whole_answer : (before : ℕ) (buf : List ℕ) (parts : Parts) (message : Message) (what : Asked)
-      (now later : M) (said : Said) (close : Bool) (taken taken' : Option (List ℕ))
-      → IsMessageAt buf parts message
-      → what ≡ asked_of (span_bytes buf parts.method) (span_bytes buf parts.target)
-      (slice_range buf parts.body parts.end)
-      → close ≡ (parts.closes || (before == 99)) → Responds goes now what said later
-      → Appends taken taken' (response_text said close)
-      → (text : List ℕ) × IsAnswer goes before now message text later × Appends taken taken' text
-  whole_answer before buf parts message what now later said close taken taken' at is closing
-      responds a =
-      let closing = closing_at before buf parts message close at closing in (
-        response_text said close,
-        record {
-          said = said;
-          responds = responds_at buf parts message what now later said at is
-              responds;
-          is = ap (λ b. response_text said b) closing;
-        },
-        a,
       )

@@ -22,21 +22,12 @@ start_value d =
     ]
 
 pub close_is : (d : ℕ) → IsClose d (interval_close d)
-close_is d =
-    elim (close_value d) [
-      | inl v ↦ (let v0 = v.0 in let v1 = v.1 in
-          record {
-            not_before = omega arith;
-            holds = inr (omega arith);
-            first = λ e l m h. elim h [ inl a ↦ omega arith | inr b ↦ omega arith ];
-          })
-      | inr v ↦ (let v0 = v.0 in let v1 = v.1 in
-          record {
-            not_before = omega arith;
-            holds = inl (omega arith);
-            first = λ e l m h. elim h [ inl a ↦ omega arith | inr b ↦ omega arith ];
-          })
-    ]
+close_is d = let value = close_value d in
+    record {
+      not_before = omega arith;
+      holds = elim value [ inl v ↦ inr (omega arith) | inr v ↦ inl (omega arith) ];
+      first = λ e l m h. omega arith;
+    }
 
 pub close_only : (d close : ℕ) → IsClose d close → close ≡ interval_close d
 close_only d close h =
@@ -48,21 +39,12 @@ close_only d close h =
     ]
 
 pub start_is : (d : ℕ) → 7 ≤ d → IsIntervalStart d (interval_start d)
-start_is d l =
-    elim (start_value d) [
-      | inl v ↦ (let v0 = v.0 in let v1 = v.1 in
-          record {
-            not_after = omega arith;
-            holds = inl (omega arith);
-            last = λ e a b h. elim h [ inl x ↦ omega arith | inr y ↦ omega arith ];
-          })
-      | inr v ↦ (let v0 = v.0 in let v1 = v.1 in
-          record {
-            not_after = omega arith;
-            holds = inr (omega arith);
-            last = λ e a b h. elim h [ inl x ↦ omega arith | inr y ↦ omega arith ];
-          })
-    ]
+start_is d l = let value = start_value d in
+    record {
+      not_after = omega arith;
+      holds = elim value [ inl v ↦ inl (omega arith) | inr v ↦ inr (omega arith) ];
+      last = λ e a b h. omega arith;
+    }
 
 pub start_only : (d start : ℕ) → 7 ≤ d → IsIntervalStart d start → start ≡ interval_start d
 start_only d start l h =

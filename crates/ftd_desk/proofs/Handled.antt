@@ -9,7 +9,7 @@ use Rattle.sqlite.specs.State.{HasCleanDisk, KeepsCommit, Survives, Shows}
 use Rattle.sqlite.specs.Tree.{Trees}
 use Rattle.sqlite.proofs.StateLemmas.{survives_then, survives_weaker}
 use Rattle.ftd_schema.specs.States.{CrashKeeps}
-use Rattle.ftd_schema.proofs.Controls.{crash_then}
+use Rattle.ftd_schema.proofs.Controls.{crash_none, crash_then}
 use Rattle.ftd_store.specs.Ends.{Begins, LeavesRows, EndsAs, CrashLeaves}
 use Rattle.ftd_machine.specs.State.{State}
 use Rattle.ftd_machine.specs.Checks.{Answer}
@@ -26,7 +26,7 @@ use Rattle.ftd_desk.specs.Desks.{Held, Keeps}
 use Rattle.ftd_desk.specs.Words.{AreSteps, MayLeaveAll, HandlesTogether}
 use Rattle.ftd_desk.specs.declared.known.Known.{Known}
 use Rattle.ftd_desk.proofs.Handling.{rests_again, clean_at, kept_at, undone_rests, before, was_open}
-use Rattle.ftd_desk.proofs.Handling.{committed_rests, crash_still}
+use Rattle.ftd_desk.proofs.Handling.{committed_rests}
 
 -- a fault: there was no memory, or the store failed
 abbrev pub IsRefusedBy : Refusal → Type 0
@@ -53,7 +53,7 @@ together_none old = record {
   answered = λ clean s keeps. (s, refl, λ is_open. keeps);
   shut = λ clean closed. All-nil IsFault;
   crash = survives_weaker old.db old.db (λ _. ⊥) (MayLeaveAllOf old [] (Ok []))
-      (λ clean db none. absurd none) (crash_still old.db);
+      (λ clean db none. absurd none) (crash_none old.db);
   lasts = λ clean change. absurd (true≢false (sym change));
 }
 
@@ -66,7 +66,7 @@ module _ (requests : List Request) (fault : Refusal) (is_fault : IsRefusedBy fau
     answered = λ clean s keeps. (s, (is_fault, refl), λ is_open. keeps);
     shut = λ clean closed. as_answer fault is_fault;
     crash = survives_weaker old.db old.db (λ _. ⊥) (MayLeaveAllOf old requests (Err fault))
-        (λ clean db none. absurd none) (crash_still old.db);
+        (λ clean db none. absurd none) (crash_none old.db);
     lasts = λ clean change. absurd (true≢false (sym change));
   }
 

@@ -9,13 +9,13 @@ use Rattle.sqlite.specs.State.{HasCleanDisk, KeepsCommit, Survives, Shows}
 use Rattle.sqlite.specs.Tree.{Trees}
 use Rattle.sqlite.proofs.StateLemmas.{survives_then, survives_weaker}
 use Rattle.ftd_schema.specs.States.{CrashKeeps}
-use Rattle.ftd_schema.proofs.Controls.{crash_then, undone_all}
+use Rattle.ftd_schema.proofs.Controls.{crash_none, crash_then, undone_all}
 use Rattle.ftd_store.specs.Ends.{Begins, LeavesRows, EndsAs, CrashLeaves}
 use Rattle.ftd_machine.specs.State.{State}
 use Rattle.ftd_machine.specs.Checks.{Answer}
 use Rattle.ftd_machine.specs.Step.{Step}
 use Rattle.ftd_machine.specs.Laws.{is_change, runs_of, payments_of}
-use Rattle.ftd_machine.specs.Runs.{IsFault}
+use Rattle.ftd_machine.specs.Runs.{Goes, IsFault}
 use Rattle.ftd_machine.specs.declared.replies.Refusal.TheVariants as refusal
 use Rattle.ftd_machine.specs.declared.requests.Request.{Request}
 use Rattle.ftd_machine.proofs.Leaving.{leaves}
@@ -86,17 +86,6 @@ pub no_change : (answer : Answer) → IsFault answer → is_change answer ≡ fa
 no_change answer (inl memory) = rw memory refl
 no_change answer (inr store) = rw store refl
 
--- a crash finds what it would have found
-pub crash_still : (old : database.State) → CrashKeeps old old
-crash_still old = record {
-  clean = omega arith;
-  shield = λ h. h;
-  counts = omega arith;
-  limit = refl;
-  closes = λ clean h. inl h;
-  crash = λ clean db h. inl h;
-}
-
 -- nothing was touched
 pub handles_still : (old : Held) (request : Request) (answer : Answer) → IsFault answer
     → Handles old old request answer
@@ -106,9 +95,9 @@ handles_still old request answer fault = record {
   answered = λ clean s keeps. (s, inr (fault, refl), λ is_open. keeps);
   shut = λ clean closed. fault;
   crash = survives_weaker old.db old.db (λ _. ⊥) (MayLeaveOf old request)
-      (λ clean db none. absurd none) (crash_still old.db);
+      (λ clean db none. absurd none) (crash_none old.db);
   lasts = λ clean change. absurd (not_fault answer fault change);
-  keeps = λ same other. crash_still old.db;
+  keeps = λ same other. crash_none old.db;
 }
 
 -- no transaction began, and what was known is forgotten
@@ -221,93 +210,93 @@ module _ (old new : Held) (b m : database.State) (later : Known) (request : Requ
       whole : CrashKeeps old.db new.db
       whole = crash_then old.db b new.db entered (crash_then b m new.db serves.crash left)
 
-  -- what a crash may leave of a commit
-  commit_leaves : Survives m new.db (λ left. left ≡ m.now.trees) → is_change answer ≡ true
-      → Survives old.db new.db (MayLeaveOf old request)
-  commit_leaves commit change =
-      survives_then old.db m new.db (λ _. ⊥) (λ left. left ≡ m.now.trees) (MayLeaveOf old request)
-      (λ clean db none. absurd none)
-      (λ clean db is.
-      let clean_m = clean_at m new.db (λ left. left ≡ m.now.trees) commit clean in (
-        was_open old.db b m new.db entered begun serves.crash serves.kept clean_m,
-        λ s keeps.
-            (elim (done_at clean_m s keeps) [
-              | inl fault ↦ absurd (not_fault answer fault.0 change)
-              | inr x ↦ record {
-                answer = answer;
-                next = x.0;
-                step = x.1;
-                db = m.now;
-                trees = is;
-                kept = x.2;
-              }
-            ]),
-      ))
-      (crash_then old.db b m entered serves.crash) commit
+  -- where a change is answered, and its commit is the last call
+  module _ (commit : Survives m new.db (λ left. left ≡ m.now.trees))
+      (change : is_change answer ≡ true) where
+    clean_m : HasCleanDisk new.db → HasCleanDisk m
+    clean_m clean = clean_at m new.db (λ left. left ≡ m.now.trees) commit clean
+
+    opened : HasCleanDisk new.db → IsTrue old.db.is_open
+    opened clean = was_open old.db b m new.db entered begun serves.crash serves.kept (clean_m clean)
+
+    changed : HasCleanDisk new.db → (s : State) → Keeps old s
+        → (next : State) × Step s request answer next × IsKept m.now next × IsTrue m.is_open
+        × IsKnown later next
+    changed clean s keeps = elim (done_at (clean_m clean) s keeps) [
+      | inl fault ↦ absurd (not_fault answer fault.0 change)
+      | inr x ↦ x
+    ]
+
+    -- so the request is handled as these say, whether the commit failed or not
+    handles_so : (given : Answer) → (HasCleanDisk new.db → (s : State) → Keeps old s
+        → (next : State) × Goes s request given next × (IsTrue new.db.is_open → Keeps new next))
+        → (HasCleanDisk new.db → is_change given ≡ true
+        → IsTrue new.db.is_open × CrashLeaves new.db new.db.now)
+        → (is_change given ≡ false → (given ≡ Err refusal.Store → ⊥) → CrashKeeps old.db new.db)
+        → Handles old new request given
+    handles_so given answered lasts keeps = record {
+      honest = λ clean. before old.db b m new.db entered begun serves.crash serves.kept
+          (clean_m clean);
+      opens = λ clean is_open. opened clean;
+      answered = answered;
+      shut = λ clean closed. absurd (closed (opened clean));
+      crash = survives_then old.db m new.db (λ _. ⊥) (λ left. left ≡ m.now.trees)
+          (MayLeaveOf old request) (λ clean db none. absurd none)
+          (λ clean db is. (
+            opened clean,
+            λ s keeps. (let done = changed clean s keeps in record {
+              answer = answer;
+              next = done.0;
+              step = done.1;
+              db = m.now;
+              trees = is;
+              kept = done.2;
+            }),
+          ))
+          (crash_then old.db b m entered serves.crash) commit;
+      lasts = lasts;
+      keeps = keeps;
+    }
 
   -- the commit failed, and what was known is forgotten
   pub handles_uncommitted : (HasCleanDisk new.db → IsTrue new.db.is_open
       → EndsAs new.db m.committed) → Survives m new.db (λ left. left ≡ m.now.trees)
       → ((s : State) → IsKnown new.known s)
       → is_change answer ≡ true → Handles old new request (Err refusal.Store)
-  handles_uncommitted undone commit forgotten change = record {
-    honest = λ clean. before old.db b m new.db entered begun serves.crash serves.kept
-        (clean_at m new.db (λ left. left ≡ m.now.trees) commit clean);
-    opens = λ clean is_open. was_open old.db b m new.db entered begun serves.crash serves.kept
-        (clean_at m new.db (λ left. left ≡ m.now.trees) commit clean);
-    shut = λ clean closed. absurd (closed (was_open old.db b m new.db entered begun serves.crash
-        serves.kept (clean_at m new.db (λ left. left ≡ m.now.trees) commit clean)));
-    answered = λ clean s keeps.
-        let clean_m = clean_at m new.db (λ left. left ≡ m.now.trees) commit clean in
-        elim (done_at clean_m s keeps) [
-          | inl fault ↦ absurd (not_fault answer fault.0 change)
-          | inr x ↦ (
-            s,
-            inr (inr refl, refl),
-            λ is_open. record {
-              rests = undone_rests old.db b m new.db entered begun serves.crash serves.kept
-                  clean_m x.3 (undone clean is_open) s keeps.rests;
-              known = forgotten s;
-            },
-          )
-        ];
-    crash = commit_leaves commit change;
-    lasts = λ clean none. absurd (true≢false (sym none));
-    keeps = λ same other. absurd (other refl);
-  }
+  handles_uncommitted undone commit forgotten change =
+      handles_so commit change (Err refusal.Store)
+      (λ clean s keeps. (
+        s,
+        inr (inr refl, refl),
+        λ is_open. record {
+          rests = undone_rests old.db b m new.db entered begun serves.crash serves.kept
+              (clean_m commit change clean) (changed commit change clean s keeps).3
+              (undone clean is_open) s keeps.rests;
+          known = forgotten s;
+        },
+      ))
+      (λ clean none. absurd (true≢false (sym none))) (λ same other. absurd (other refl))
 
   -- the commit succeeded
   pub handles_committed : (HasCleanDisk new.db → Shows m new.db m.now m.now false)
       → (HasCleanDisk new.db → CrashLeaves new.db m.now)
       → Survives m new.db (λ left. left ≡ m.now.trees) → new.known ≡ later
       → is_change answer ≡ true → Handles old new request answer
-  handles_committed done last commit known change = record {
-    honest = λ clean. before old.db b m new.db entered begun serves.crash serves.kept
-        (clean_at m new.db (λ left. left ≡ m.now.trees) commit clean);
-    opens = λ clean is_open. was_open old.db b m new.db entered begun serves.crash serves.kept
-        (clean_at m new.db (λ left. left ≡ m.now.trees) commit clean);
-    shut = λ clean closed. absurd (closed (was_open old.db b m new.db entered begun serves.crash
-        serves.kept (clean_at m new.db (λ left. left ≡ m.now.trees) commit clean)));
-    answered = λ clean s keeps.
-        let clean_m = clean_at m new.db (λ left. left ≡ m.now.trees) commit clean in
-        elim (done_at clean_m s keeps) [
-          | inl fault ↦ absurd (not_fault answer fault.0 change)
-          | inr x ↦ (
-            x.0,
-            inl x.1,
-            λ is_open. record {
-              rests = committed_rests m new.db x.0 (done clean) x.2;
-              known = subst (λ c. IsKnown c x.0) (sym known) x.4;
-            },
-          )
-        ];
-    crash = commit_leaves commit change;
-    lasts = λ clean changed. (
-      (done clean).is_open,
-      subst (λ (db : Database). CrashLeaves new.db db) (sym (done clean).now_is) (last clean),
-    );
-    keeps = λ same other. absurd (true≢false (sym change ∙ same));
-  }
+  handles_committed done last commit known change =
+      handles_so commit change answer
+      (λ clean s keeps. (let x = changed commit change clean s keeps in (
+        x.0,
+        inl x.1,
+        λ is_open. record {
+          rests = committed_rests m new.db x.0 (done clean) x.2;
+          known = subst (λ c. IsKnown c x.0) (sym known) x.4;
+        },
+      )))
+      (λ clean changed. (
+        (done clean).is_open,
+        subst (λ (db : Database). CrashLeaves new.db db) (sym (done clean).now_is) (last clean),
+      ))
+      (λ same other. absurd (true≢false (sym change ∙ same)))
 
 -- a clause on the result that it is
 pub at_err : {A E P : Type 0} (r : Result A E) → is_err r ≡ true → OnErr r P → P

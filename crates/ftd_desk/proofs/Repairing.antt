@@ -1,5 +1,5 @@
 -- What a request on a run makes of the rows, from its first call to its last.
-use Rattle.std.proofs.Common.{◌≡◌, ◌⊎◌, Bool, true, false, sym, ap, subst, arith, ℕ, List, Option}
+use Rattle.std.proofs.Common.{◌≡◌, ◌⊎◌, Bool, true, false, refl, sym, ap, subst, arith, ℕ, List, Option}
 use Rattle.std.proofs.Common.{Result, Ok, Err, inl, inr}
 use Rattle.std.proofs.lemmas.Bool.{true≢false}
 use Rattle.sqlite.specs.Effect.{Database}
@@ -27,8 +27,7 @@ use Rattle.ftd_machine.specs.declared.requests.Request.TheVariants.{CorrectRepor
 use Rattle.ftd_machine.specs.declared.requests.Request.TheVariants.{CorrectReportYear}
 use Rattle.ftd_machine.specs.declared.requests.Request.TheVariants.{ChangeHoliday, CorrectAccount}
 use Rattle.ftd_machine.specs.declared.requests.Request.TheVariants.{Question}
-use Rattle.ftd_posting.specs.Repaired.{PostsRun, VoidsRun, Becoming, Repairs}
-use Rattle.ftd_posting.specs.Repaired.{CorrectsQuarter, CorrectsYear}
+use Rattle.ftd_posting.specs.Repaired.{PostsRun, Becoming, Repairs}
 use Rattle.ftd_desk.specs.Counted.{Knows}
 use Rattle.ftd_desk.specs.Private.Reports.{is_report}
 use Rattle.ftd_desk.specs.Words.{RepairsRows}
@@ -52,33 +51,30 @@ Others request =
     × (request ≡ CorrectAccount name number start carried))
     ⊎ ((question : Questions) × (request ≡ Question question))))))))))
 
-pub others_add_none : (request : Request) → Others request → adds_entry request ≡ false
-unfolding adds_entry
-others_add_none request (inl is) = ap adds_entry is.4
-others_add_none request (inr (inl is)) = ap adds_entry is.2
-others_add_none request (inr (inr (inl is))) = ap adds_entry is.1
-others_add_none request (inr (inr (inr (inl is)))) = ap adds_entry is.3
-others_add_none request (inr (inr (inr (inr (inl is))))) = ap adds_entry is.3
-others_add_none request (inr (inr (inr (inr (inr (inl is)))))) = ap adds_entry is.2
-others_add_none request (inr (inr (inr (inr (inr (inr (inl is))))))) = ap adds_entry is.2
-others_add_none request (inr (inr (inr (inr (inr (inr (inr (inl is)))))))) = ap adds_entry is.3
-others_add_none request (inr (inr (inr (inr (inr (inr (inr (inr (inl is))))))))) =
-    ap adds_entry is.4
-others_add_none request (inr (inr (inr (inr (inr (inr (inr (inr (inr is))))))))) =
-    ap adds_entry is.1
+-- what holds of what was asked holds of the request
+asked : (Holds : Request → Type 0) {request other : Request} → request ≡ other → Holds other
+    → Holds request
+asked Holds is holds = subst Holds (sym is) holds
 
-pub others_on_none : (request : Request) → Others request → is_on_run request ≡ false
-unfolding is_on_run
-others_on_none request (inl is) = ap is_on_run is.4
-others_on_none request (inr (inl is)) = ap is_on_run is.2
-others_on_none request (inr (inr (inl is))) = ap is_on_run is.1
-others_on_none request (inr (inr (inr (inl is)))) = ap is_on_run is.3
-others_on_none request (inr (inr (inr (inr (inl is))))) = ap is_on_run is.3
-others_on_none request (inr (inr (inr (inr (inr (inl is)))))) = ap is_on_run is.2
-others_on_none request (inr (inr (inr (inr (inr (inr (inl is))))))) = ap is_on_run is.2
-others_on_none request (inr (inr (inr (inr (inr (inr (inr (inl is)))))))) = ap is_on_run is.3
-others_on_none request (inr (inr (inr (inr (inr (inr (inr (inr (inl is))))))))) = ap is_on_run is.4
-others_on_none request (inr (inr (inr (inr (inr (inr (inr (inr (inr is))))))))) = ap is_on_run is.1
+-- the request adds none, and is on no run
+abbrev pub IsPlain : Request → Type 0
+IsPlain request = (adds_entry request ≡ false) × (is_on_run request ≡ false)
+
+pub others_plain : (request : Request) → Others request → IsPlain request
+unfolding adds_entry is_on_run
+others_plain request (inl is) = asked IsPlain is.4 (refl, refl)
+others_plain request (inr (inl is)) = asked IsPlain is.2 (refl, refl)
+others_plain request (inr (inr (inl is))) = asked IsPlain is.1 (refl, refl)
+others_plain request (inr (inr (inr (inl is)))) = asked IsPlain is.3 (refl, refl)
+others_plain request (inr (inr (inr (inr (inl is))))) = asked IsPlain is.3 (refl, refl)
+others_plain request (inr (inr (inr (inr (inr (inl is)))))) = asked IsPlain is.2 (refl, refl)
+others_plain request (inr (inr (inr (inr (inr (inr (inl is))))))) = asked IsPlain is.2 (refl, refl)
+others_plain request (inr (inr (inr (inr (inr (inr (inr (inl is)))))))) =
+    asked IsPlain is.3 (refl, refl)
+others_plain request (inr (inr (inr (inr (inr (inr (inr (inr (inl is))))))))) =
+    asked IsPlain is.4 (refl, refl)
+others_plain request (inr (inr (inr (inr (inr (inr (inr (inr (inr is))))))))) =
+    asked IsPlain is.1 (refl, refl)
 
 -- the request adds a run or a payment
 abbrev pub AddsOne : Request → Type 0
@@ -113,17 +109,15 @@ RepairsOnly request =
     ⊎ ((name : List ℕ) × (year : ℕ) × (number : ℕ) × (cents : Cents)
     × (request ≡ CorrectReportYear name year number cents)))
 
-pub repair_adds_none : (request : Request) → RepairsOnly request → adds_entry request ≡ false
-unfolding adds_entry
-repair_adds_none request (inl is) = ap adds_entry is.2
-repair_adds_none request (inr (inl is)) = ap adds_entry is.4
-repair_adds_none request (inr (inr is)) = ap adds_entry is.4
+-- the request adds none, and is on runs
+abbrev pub IsRepair : Request → Type 0
+IsRepair request = (adds_entry request ≡ false) × (is_on_run request ≡ true)
 
-pub repair_on_run : (request : Request) → RepairsOnly request → is_on_run request ≡ true
-unfolding is_on_run
-repair_on_run request (inl is) = ap is_on_run is.2
-repair_on_run request (inr (inl is)) = ap is_on_run is.4
-repair_on_run request (inr (inr is)) = ap is_on_run is.4
+pub repairs_only : (request : Request) → RepairsOnly request → IsRepair request
+unfolding adds_entry is_on_run
+repairs_only request (inl is) = asked IsRepair is.2 (refl, refl)
+repairs_only request (inr (inl is)) = asked IsRepair is.4 (refl, refl)
+repairs_only request (inr (inr is)) = asked IsRepair is.4 (refl, refl)
 
 -- nothing is said of a request that is on no run
 pub repairs_none : (request : Request) (answer : Answer) (before after : Database) (t : Tables)
@@ -186,7 +180,7 @@ module _ {S : Type 0} (g : store.Ghosts S) where
   }
   call_repairs old new (Err e) request other c = record { frame = c.frame; does = λ clean. tt }
 
-  -- of a call that posts a run, and of one that voids one
+  -- of a call that posts a run, and of one on what the request asks
   pub post_repairs : (old new : Tx S) (result : Result Served StoreFault) (request : Request)
       (name : List ℕ) (number : ℕ) (run : PayRun) → request ≡ Post name number run.payday run.fit
       run.ss run.medicare
@@ -194,33 +188,13 @@ module _ {S : Type 0} (g : store.Ghosts S) where
       → Calls g old new result (Told (Repairs request))
   unfolding Repairs
   post_repairs old new result request name number run is c =
-      subst (λ r. Calls g old new result (Told (Repairs r))) (sym is) c
+      asked (λ r. Calls g old new result (Told (Repairs r))) is c
 
-  pub void_repairs : (old new : Tx S) (result : Result Answer StoreFault) (request : Request)
-      (name : List ℕ) (number : ℕ) → request ≡ Void name number
-      → Calls g old new result (Repaired (Becoming (VoidsRun name number)))
+  pub asked_repairs : {old new : Tx S} {result : Result Answer StoreFault} {request other : Request}
+      → request ≡ other → Calls g old new result (Repaired (Repairs other))
       → Calls g old new result (Repaired (Repairs request))
-  unfolding Repairs
-  void_repairs old new result request name number is c =
-      subst (λ r. Calls g old new result (Repaired (Repairs r))) (sym is) c
-
-  pub quarter_repairs : (old new : Tx S) (result : Result Answer StoreFault) (request : Request)
-      (name : List ℕ) (quarter number : ℕ) (cents : Cents)
-      → request ≡ CorrectReport name quarter number cents
-      → Calls g old new result (Repaired (Becoming (CorrectsQuarter name quarter number cents)))
-      → Calls g old new result (Repaired (Repairs request))
-  unfolding Repairs
-  quarter_repairs old new result request name quarter number cents is c =
-      subst (λ r. Calls g old new result (Repaired (Repairs r))) (sym is) c
-
-  pub year_repairs : (old new : Tx S) (result : Result Answer StoreFault) (request : Request)
-      (name : List ℕ) (year number : ℕ) (cents : Cents)
-      → request ≡ CorrectReportYear name year number cents
-      → Calls g old new result (Repaired (Becoming (CorrectsYear name year number cents)))
-      → Calls g old new result (Repaired (Repairs request))
-  unfolding Repairs
-  year_repairs old new result request name year number cents is c =
-      subst (λ r. Calls g old new result (Repaired (Repairs r))) (sym is) c
+  asked_repairs {old = old} {new = new} {result = result} is c =
+      asked (λ r. Calls g old new result (Repaired (Repairs r))) is c
 
   -- the counts beside the answer change nothing of it
   pub answer_repairs : (old new : Tx S) (answer : Answer) (served : Served) (Does : Answer

@@ -13,6 +13,7 @@ use Rattle.sqlite.specs.State.{HasCleanDisk, Survives}
 use Rattle.sqlite.specs.Tree.{Trees}
 use Rattle.sqlite.proofs.StateLemmas.{survives_then, survives_weaker}
 use Rattle.ftd_schema.specs.States.{CrashKeeps}
+use Rattle.ftd_schema.proofs.Controls.{crash_none}
 use Rattle.ftd_machine.specs.State.{State}
 use Rattle.ftd_machine.specs.Checks.{Answer}
 use Rattle.ftd_machine.specs.Laws.{is_change}
@@ -21,7 +22,7 @@ use Rattle.ftd_machine.specs.declared.replies.Refusal.TheVariants.{Store}
 use Rattle.ftd_machine.specs.declared.requests.Request.{Request}
 use Rattle.ftd_desk.specs.Desks.{Held, Keeps}
 use Rattle.ftd_desk.specs.Words.{MayLeaveRun, Handles, HandlesAll, HandlesLeaving}
-use Rattle.ftd_desk.proofs.Handling.{MayLeaveOf, crash_still, no_change}
+use Rattle.ftd_desk.proofs.Handling.{MayLeaveOf, no_change}
 
 -- a run goes on with more requests
 pub run_then : (s : State) (xs : List Request) (ps : List Answer) (mid : State) (ys : List Request)
@@ -180,7 +181,7 @@ all_none failed old = record {
   answered = λ clean s keeps. (s, refl, λ is_open. keeps);
   shut = λ clean closed. All-nil IsFault;
   crash = survives_weaker old.db old.db (λ _. ⊥) (MayLeaveRunOf failed old [] [])
-      (λ clean db none. absurd none) (crash_still old.db);
+      (λ clean db none. absurd none) (crash_none old.db);
   lasts = λ clean change. absurd (true≢false (sym change));
 }
 

@@ -4,7 +4,7 @@ use Rattle.std.proofs.lemmas.List.Elements.{All-nil}
 use Rattle.sqlite.specs.State as database
 use Rattle.sqlite.specs.State.{HasCleanDisk, KeepsCommit}
 use Rattle.ftd_schema.specs.States.{CrashKeeps}
-use Rattle.ftd_schema.proofs.Controls.{crash_then}
+use Rattle.ftd_schema.proofs.Controls.{crash_none, crash_then}
 use Rattle.ftd_store.specs.Ends.{Begins, LeavesRows, EndsAs}
 use Rattle.ftd_machine.specs.State.{State}
 use Rattle.ftd_machine.specs.Checks.{Answer}
@@ -21,7 +21,7 @@ use Rattle.ftd_desk.specs.Words.{AreSteps, HandlesTogether}
 use Rattle.ftd_desk.specs.declared.known.Known.{Known}
 use Rattle.ftd_desk.proofs.Handled.{IsRefusedBy, together_dropped, together_still}
 use Rattle.ftd_desk.proofs.Handled.{together_unbegun}
-use Rattle.ftd_desk.proofs.Handling.{clean_at, crash_still, kept_at, was_open}
+use Rattle.ftd_desk.proofs.Handling.{clean_at, kept_at, was_open}
 
 -- a list of which nothing was kept leaves the desk as it was
 as_before : (old new : Held) (requests : List Request) (why : Refusal)
@@ -52,7 +52,7 @@ as_it_was old = record {
   honest = λ clean. clean;
   opens = λ clean is_open. is_open;
   stands = λ clean is_open s keeps. keeps;
-  crash = crash_still old.db;
+  crash = crash_none old.db;
 }
 
 -- there was no request
@@ -67,7 +67,7 @@ module _ (requests : List Request) (fault : Refusal) (is_fault : IsRefusedBy fau
   -- nothing was touched
   pub tries_still : (old : Held) → Tries old old requests (Err fault)
   tries_still old = fault_tried old old requests fault (together_still requests fault is_fault old)
-      (crash_still old.db)
+      (crash_none old.db)
 
   -- no transaction began, and what was known is forgotten
   pub tries_unbegun : (old new : Held) → CrashKeeps old.db new.db

@@ -1,12 +1,16 @@
 -- What is answered to a year that is to be opened, by what was read.
 use Rattle.std.proofs.Common.{◌≡◌, ℕ, ◌-◌, ◌==◌, ◌||◌, Bool, true, false, List, [], ◌∷◌, length}
-use Rattle.std.proofs.Common.{map, Option, None, Some, Result, Ok, Err, sym, ap, subst, ◌∙◌}
+use Rattle.std.proofs.Common.{map, Option, None, Some, Result, Ok, Err, refl, sym, ap, subst, ◌∙◌}
 use Rattle.std.specs.List.{list_any}
 use Rattle.std.proofs.lemmas.List.{length-map}
 use Rattle.ftd_days.specs.declared.cents.Cents.{Cents}
 use Rattle.ftd_rules.specs.declared.YearLine.{YearLine}
+use Rattle.sqlite.specs.Store as store
 use Rattle.ftd_schema.specs.Standing.{Tables}
+use Rattle.ftd_store.specs.declared.tx.Tx.{Tx}
 use Rattle.ftd_store.specs.Changes.{with_year}
+use Rattle.ftd_store.specs.Frame.{Calls, Reads, Writes}
+use Rattle.ftd_store.proofs.Telling.{then_reads}
 use Rattle.ftd_machine.specs.declared.entries.Account.{Account}
 use Rattle.ftd_machine.specs.State.{State, entries_of, is_open}
 use Rattle.ftd_machine.specs.History.{is_carried, year_of_line, year_of_entry}
@@ -21,10 +25,12 @@ use Rattle.ftd_machine.specs.declared.replies.Refusal.TheVariants.{YearNotOpen}
 use Rattle.ftd_entries.specs.Standing.{StandsFor}
 use Rattle.ftd_entries.specs.Opening.{is_line_of, IsNextLine, KeepsYear, KnowsToOpen}
 use Rattle.ftd_entries.specs.Totals.{KnowsTotal}
+use Rattle.ftd_entries.specs.Words.{Serves}
 use Rattle.ftd_entries.specs.declared.open_years.KnownYear.{KnownYear}
 use Rattle.ftd_entries.proofs.Totals.{figures_once}
 use Rattle.ftd_entries.proofs.KnownYears.{open_lines}
 use Rattle.ftd_entries.proofs.Opening.{open_decided, open_lacks, open_waits, open_done}
+use Rattle.ftd_entries.proofs.Serving.{served_looked, served_changed}
 
 module _ (name : List ℕ) (year : ℕ) (known : KnownYear) (there : Bool)
     (is_there : there ≡ list_any (is_line_of year) known.lines.items) where
@@ -103,3 +109,54 @@ module _ (name : List ℕ) (year : ℕ) (known : KnownYear) (there : Bool)
           (sym (ap is_carried (account_is knows.0)))
           (subst (λ lines. IsNextLine account.carried lines year total line)
           (knows.0 s stands sound).1 is_next))
+
+-- ---- the calls
+
+module _ (name : List ℕ) (year : ℕ) (known : KnownYear) (there : Bool)
+    (is_there : there ≡ list_any (is_line_of year) known.lines.items)
+    (account : Account) (found : known.account ≡ Some account)
+    (passed : checks name year known there is_there ≡ None)
+    {S : Type 0} {g : store.Ghosts S} {old mid new : Tx S} where
+  -- what was read, with the lookback total or what lacks for it
+  total_read : {total is : Result Cents Refusal} → total ≡ is
+      → Reads g old mid (Ok known) (KnowsToOpen name year)
+      → Reads g mid new (Ok total) (KnowsTotal name account year)
+      → Reads g old new (Ok is) (Knows name year known there is_there account found passed)
+  total_read {is = is} same p q = then_reads is _ p q
+      (λ t told of_total. (told, subst (λ r. KnowsTotal name account year r t) same of_total))
+
+  -- a figure is missing
+  pub served_lacking : {total : Result Cents Refusal} {refusal : Refusal} → total ≡ Err refusal
+      → Reads g old mid (Ok known) (KnowsToOpen name year)
+      → Reads g mid new (Ok total) (KnowsTotal name account year)
+      → Calls g old new (Ok (Err refusal)) (Serves (OpenYear name year))
+  served_lacking {refusal = refusal} same p q =
+      served_looked (OpenYear name year) (Err refusal) (total_read same p q)
+      (λ t s stands sound knows. year_lacks name year known there is_there account found passed t s
+      stands sound refusal knows)
+
+  -- the year before has to be opened first
+  pub served_waiting : {total : Result Cents Refusal} {cents : Cents} → total ≡ Ok cents
+      → (length known.lines.items == 0) ≡ false
+      → list_any (is_line_of (year - 1)) known.lines.items ≡ false
+      → Reads g old mid (Ok known) (KnowsToOpen name year)
+      → Reads g mid new (Ok total) (KnowsTotal name account year)
+      → Calls g old new (Ok (Err (YearNotOpen (year - 1)))) (Serves (OpenYear name year))
+  served_waiting {cents = cents} same some none p q =
+      served_looked (OpenYear name year) (Err (YearNotOpen (year - 1))) (total_read same p q)
+      (λ t s stands sound knows. year_waits name year known there is_there account found passed t s
+      stands sound cents (rw (some, none) refl) knows)
+
+  -- the year is opened
+  pub served_opened : {B : Type 0} {end : Tx S} {y : B} {total : Result Cents Refusal}
+      {cents : Cents} {line : YearLine} → total ≡ Ok cents
+      → ((length known.lines.items == 0) || list_any (is_line_of (year - 1)) known.lines.items)
+      ≡ true → IsNextLine account.carried known.lines.items year cents line
+      → Reads g old mid (Ok known) (KnowsToOpen name year)
+      → Reads g mid new (Ok total) (KnowsTotal name account year)
+      → Writes g new end (Ok y) (with_year name line)
+      → Calls g old end (Ok (Ok Done)) (Serves (OpenYear name year))
+  served_opened {cents = cents} {line = line} same may next p q w =
+      served_changed (OpenYear name year) (Ok Done) (total_read same p q) w
+      (λ t s stands sound knows. year_done name year known there is_there account found passed t s
+      stands sound cents line may next knows)

@@ -1,6 +1,6 @@
 -- New tables stand for nothing, and migrated ones for what those of version 1 stood for.
 use Rattle.std.proofs.Common.{◌≡◌, ◌∙◌, ℕ, refl, sym, ap, subst, inl, inr, List, [], ◌∷◌, map}
-use Rattle.std.proofs.Common.{arith, false}
+use Rattle.std.proofs.Common.{arith, false, rules}
 use Rattle.std.specs.Prelude.{IsPermutation}
 use Rattle.std.proofs.lemmas.List.Sorted.{IsPermutation-refl, IsPermutation-sym}
 use Rattle.sqlite.specs.Effect.{Database}
@@ -14,7 +14,7 @@ use Rattle.ftd_schema.specs.declared.TableName.TheVariants.{Metas, Payments, Obl
 use Rattle.ftd_schema.specs.declared.TableName.TheVariants.{ReportedYears, AddedHolidays}
 use Rattle.ftd_schema.specs.declared.TableName.TheVariants.{CorrectedQuarters, CorrectedYears}
 use Rattle.ftd_schema.specs.declared.TableName.TheVariants.{ChangedHolidays, CorrectedAccounts}
-use Rattle.ftd_schema.specs.Rows.{FormRow}
+use Rattle.ftd_schema.specs.Rows.{FormRow, RowOf}
 use Rattle.ftd_schema.specs.Names.{since}
 use Rattle.ftd_schema.specs.Standing.{Tables, StandsAs}
 use Rattle.ftd_schema.specs.Beginnings.{new_tables, on_form_941, IsMade, IsMigration, IsMigrated}
@@ -27,28 +27,14 @@ use Rattle.ftd_entries.specs.Standing.{enrolled_form, year_entry, added_entry, w
 use Rattle.ftd_entries.specs.Standing.{correction_entry, year_correction_entry, change_entry}
 use Rattle.ftd_entries.specs.Standing.{account_correction_entry}
 use Rattle.ftd_entries.specs.Words.{IsKept}
+use Rattle.ftd_entries.proofs.Entered.{entered}
 
 -- ---- new tables
 
 nothing_stands : StandsFor new_tables nothing
 nothing_stands = record {
-  entries = record {
-    meta = refl;
-    enrolled = record { accounts = refl; forms = IsPermutation-refl []; moved = refl };
-    figures = record {
-      reported = refl;
-      reported_years = refl;
-      corrected = refl;
-      corrected_years = refl;
-    };
-    days = record {
-      calendars = refl;
-      calendar_days = refl;
-      added_days = refl;
-      changed_days = refl;
-    };
-    paid = record { runs = refl; payments = refl };
-  };
+  entries = entered refl (record { accounts = refl; forms = IsPermutation-refl []; moved = refl })
+      (search rules) (search rules) (search rules);
   settled = λ name. record {
     lines = [];
     are_lines = record {
@@ -95,9 +81,20 @@ module _ (version : ℕ) (before after : Tables) (moved : IsMigration version be
   was n old other = moved.others n
       (elim earlier [ inl is ↦ omega arith | inr is ↦ omega arith ]) other
 
-  none : (n : TableName) → since n ≡ 3 → (n ≡ Forms → ⊥) → after n ≡ []
-  none n new other = moved.later n
+  -- those of version 3 have the rows of no correction
+  none : {X : Type 0} (n : TableName) → since n ≡ 3 → (n ≡ Forms → ⊥) → (entry : List X × X
+      → RowOf n) → {xs : List X} → xs ≡ [] → after n ≡ map entry (with_earlier [] xs)
+  none n new other entry is = moved.later n
       (elim earlier [ inl is ↦ omega arith | inr is ↦ omega arith ]) other
+      ∙ sym (ap (λ xs. map entry (with_earlier [] xs)) is)
+
+  second : (n : TableName) → since n ≡ 2 → (n ≡ Forms → ⊥) → (n ≡ Metas → ⊥)
+      → {rows : List (RowOf n)} → (version ≡ 1 → [] ≡ rows) → (version ≡ 2 → before n ≡ rows)
+      → after n ≡ rows
+  second n new none other first later = elim earlier [
+    | inl is ↦ moved.later n (omega arith) none ∙ first is
+    | inr is ↦ moved.others n (omega arith) other ∙ later is
+  ]
 
   pub migrated_stands : (s : State) → StandsForEarlier version before s → StandsFor after s
   migrated_stands s stands = record {
@@ -117,34 +114,26 @@ module _ (version : ℕ) (before after : Tables) (moved : IsMigration version be
               (λ e. absurd cc) in
               rw same (stands.second is).forms)
         ];
-        moved = none CorrectedAccounts refl (λ e. absurd cc)
-            ∙ sym (ap (λ xs. map account_correction_entry (with_earlier [] xs)) stands.no_moved);
+        moved = none CorrectedAccounts refl (λ e. absurd cc) account_correction_entry
+            stands.no_moved;
       };
       figures = record {
         reported = was ReportedQuarters refl (λ e. absurd cc) ∙ stands.reported;
-        reported_years = elim earlier [
-          | inl is ↦ moved.later ReportedYears (omega arith) (λ e. absurd cc)
-              ∙ sym (ap (map year_entry) (stands.first is).no_years)
-          | inr is ↦ moved.others ReportedYears (omega arith) (λ e. absurd cc)
-              ∙ (stands.second is).reported_years
-        ];
-        corrected = none CorrectedQuarters refl (λ e. absurd cc)
-            ∙ sym (ap (λ xs. map correction_entry (with_earlier [] xs)) stands.no_corrected);
-        corrected_years = none CorrectedYears refl (λ e. absurd cc)
-            ∙ sym (ap (λ xs. map year_correction_entry (with_earlier [] xs))
-            stands.no_corrected_years);
+        reported_years = second ReportedYears refl (λ e. absurd cc) (λ e. absurd cc)
+            (λ is. sym (ap (map year_entry) (stands.first is).no_years))
+            (λ is. (stands.second is).reported_years);
+        corrected = none CorrectedQuarters refl (λ e. absurd cc) correction_entry
+            stands.no_corrected;
+        corrected_years = none CorrectedYears refl (λ e. absurd cc) year_correction_entry
+            stands.no_corrected_years;
       };
       days = record {
         calendars = was CalendarYears refl (λ e. absurd cc) ∙ stands.calendars;
         calendar_days = was Holidays refl (λ e. absurd cc) ∙ stands.calendar_days;
-        added_days = elim earlier [
-          | inl is ↦ moved.later AddedHolidays (omega arith) (λ e. absurd cc)
-              ∙ sym (ap (map added_entry) (stands.first is).no_added)
-          | inr is ↦ moved.others AddedHolidays (omega arith) (λ e. absurd cc)
-              ∙ (stands.second is).added_days
-        ];
-        changed_days = none ChangedHolidays refl (λ e. absurd cc)
-            ∙ sym (ap (λ xs. map change_entry (with_earlier [] xs)) stands.no_changed);
+        added_days = second AddedHolidays refl (λ e. absurd cc) (λ e. absurd cc)
+            (λ is. sym (ap (map added_entry) (stands.first is).no_added))
+            (λ is. (stands.second is).added_days);
+        changed_days = none ChangedHolidays refl (λ e. absurd cc) change_entry stands.no_changed;
       };
       paid = record {
         runs = was Runs refl (λ e. absurd cc) ∙ stands.runs;

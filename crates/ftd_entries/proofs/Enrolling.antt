@@ -25,6 +25,7 @@ use Rattle.ftd_machine.proofs.Deciding.{decided, passed}
 use Rattle.ftd_machine.proofs.Heads.{Gives, gives_new, skip_needs}
 use Rattle.ftd_entries.specs.Standing.{StandsFor, IsSettled, enrolled_row, enrolled_form}
 use Rattle.ftd_entries.specs.Known.{KnowsEnrolled, with_enrolled}
+use Rattle.ftd_entries.proofs.Entered.{entered, row_more}
 use Rattle.ftd_entries.proofs.Settling.{each_name, names_apart, same_rows, settled_as}
 use Rattle.ftd_entries.proofs.Settling.{settled_unopened}
 
@@ -82,22 +83,14 @@ module _ (name : List ℕ) (account : Account) where
         Next s,
         step,
         record {
-          entries = record {
-            meta = stands.entries.meta;
-            enrolled = record {
-              accounts = ap (λ rows. rows ++ enrolled_row new_one ∷ [])
-                  stands.entries.enrolled.accounts
-                  ∙ sym (map-append enrolled_row s.accounts (new_one ∷ []));
-              forms = subst (IsPermutation (t Forms ++ enrolled_form new_one ∷ []))
-                  (sym (map-append enrolled_form s.accounts (new_one ∷ [])))
-                  (IsPermutation-append_left (enrolled_form new_one ∷ []) (t Forms)
-                  (map enrolled_form s.accounts) stands.entries.enrolled.forms);
-              moved = stands.entries.enrolled.moved;
-            };
-            figures = stands.entries.figures;
-            days = stands.entries.days;
-            paid = stands.entries.paid;
-          };
+          entries = (let e = stands.entries in entered e.meta (record {
+            accounts = row_more enrolled_row s.accounts new_one e.enrolled.accounts;
+            forms = subst (IsPermutation (t Forms ++ enrolled_form new_one ∷ []))
+                (sym (map-append enrolled_form s.accounts (new_one ∷ [])))
+                (IsPermutation-append_left (enrolled_form new_one ∷ []) (t Forms)
+                (map enrolled_form s.accounts) e.enrolled.forms);
+            moved = e.enrolled.moved;
+          }) e.figures e.days e.paid);
           settled = each_name (IsSettled after (Next s)) name
               (settled_unopened t after s (Next s) name unopened unopened refl
               (same_rows name t after refl refl) (stands.settled name))

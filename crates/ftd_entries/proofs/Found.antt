@@ -1,8 +1,9 @@
 -- What the rows of an account tell of its entry.
 use Rattle.std.proofs.Common.{◌≡◌, ℕ, Bool, true, false, pos, List, [], ◌∷◌, map, Option, None}
-use Rattle.std.proofs.Common.{Some, refl, sym, ap, subst, ◌∙◌}
+use Rattle.std.proofs.Common.{Some, Ok, refl, sym, ap, subst, ◌∙◌}
 use Rattle.std.proofs.Math.IntN.{◌+ℤ◌, -ℤ-+ℤ_cancel}
 use Rattle.std.specs.Prelude.{filter, find, bytes_eq, option_map, unwrap_or, if◌then◌else◌}
+use Rattle.sqlite.specs.Store as store
 use Rattle.ftd_rules.specs.declared.Form.{Form}
 use Rattle.ftd_rules.specs.declared.Form.TheVariants.{F941, F943}
 use Rattle.ftd_schema.specs.declared.TableName.TheVariants.{Forms}
@@ -14,6 +15,9 @@ use Rattle.ftd_rows.specs.Cells.{day_number, flag_number, form_number}
 use Rattle.ftd_rows.specs.Rows.{account_row, form_row}
 use Rattle.ftd_rows.specs.Reading.{rows_of}
 use Rattle.ftd_store.specs.Finds.{FindsAccount, FindsForm}
+use Rattle.ftd_store.specs.Frame.{Reads}
+use Rattle.ftd_store.specs.declared.tx.Tx.{Tx}
+use Rattle.ftd_store.proofs.Telling.{then_reads}
 use Rattle.ftd_machine.specs.declared.entries.Account.{Account}
 use Rattle.ftd_machine.specs.State.{Enrolled, is_named, account_of}
 use Rattle.ftd_entries.specs.Standing.{enrolled_row, enrolled_form}
@@ -94,6 +98,15 @@ has_form name (Some x) (Some f) t finds a is =
     let known : Account = record { start = x.start; carried = x.carried; form = f } in
     let same : f ≡ a.form = ap (λ (o : Option Account). (unwrap_or o known).form) is in
     subst (λ k. FindsForm name (Some k) t) same finds
+
+pub form_read : {S : Type 0} {g : store.Ghosts S} {old mid new : Tx S}
+    {found : Option StoredAccount} {form : Option Form}
+    {Fact : Option StoredAccount → Tables → Type 0} (name : List ℕ)
+    → Reads g old mid (Ok found) Fact → Reads g mid new (Ok form) (FindsForm name)
+    → Reads g old new (Ok (joined found form)) (HasForm name)
+form_read {found = found} {form = form} name p q =
+    then_reads (joined found form) (HasForm name) p q
+    (λ t account its. has_form name found form t its)
 
 -- ---- without its form
 

@@ -4,7 +4,7 @@ use Rattle.std.proofs.Common.{Option, None, Some, Ok, inl, inr, refl, sym, ap, s
 use Rattle.std.specs.Prelude.{filter, flat_map, is_some, nat_le, ◌||◌, ◌&&◌}
 use Rattle.std.specs.List.{All, list_all}
 use Rattle.std.proofs.lemmas.Bool.{true≢false, eqb-true, and_parts}
-use Rattle.std.proofs.lemmas.List.{append-nil, map-append}
+use Rattle.std.proofs.lemmas.List.{append-nil}
 use Rattle.std.proofs.lemmas.List.Folds.{list_any-append}
 use Rattle.std.proofs.lemmas.Grind.{flat_map-append}
 use Rattle.ftd_days.specs.Calendar.{year_of}
@@ -38,6 +38,7 @@ use Rattle.ftd_machine.specs.Sound.{IsSound}
 use Rattle.ftd_machine.proofs.Heads.{Gives, gives_needs, gives_new, skip_needs}
 use Rattle.ftd_machine.proofs.Members.{has_filtered}
 use Rattle.ftd_entries.specs.Standing.{StandsFor, IsSettled, calendar_entry, holiday_entries}
+use Rattle.ftd_entries.proofs.Entered.{entered, row_more}
 
 -- each line is of an open year of the account
 pub line_opened : (s : State) (name : List ℕ) (lines : List YearLine) → IsSound s
@@ -204,24 +205,15 @@ module _ (year : ℕ) (days : List ℕ) where
         Next s,
         step,
         record {
-          entries = record {
-            meta = stands.entries.meta;
-            enrolled = stands.entries.enrolled;
-            figures = stands.entries.figures;
-            days = record {
-              calendars = ap (λ rows. rows ++ calendar_entry Given ∷ [])
-                  stands.entries.days.calendars
-                  ∙ sym (map-append calendar_entry s.calendars (Given ∷ []));
-              calendar_days = ap (λ rows. rows ++ map (holiday_row year) days)
-                  stands.entries.days.calendar_days
-                  ∙ ap (λ rows. flat_map holiday_entries s.calendars ++ rows)
-                  (sym (append-nil (map (holiday_row year) days)))
-                  ∙ sym (flat_map-append holiday_entries s.calendars (Given ∷ []));
-              added_days = stands.entries.days.added_days;
-              changed_days = stands.entries.days.changed_days;
-            };
-            paid = stands.entries.paid;
-          };
+          entries = (let e = stands.entries in entered e.meta e.enrolled e.figures (record {
+            calendars = row_more calendar_entry s.calendars Given e.days.calendars;
+            calendar_days = ap (λ rows. rows ++ map (holiday_row year) days) e.days.calendar_days
+                ∙ ap (λ rows. flat_map holiday_entries s.calendars ++ rows)
+                (sym (append-nil (map (holiday_row year) days)))
+                ∙ sym (flat_map-append holiday_entries s.calendars (Given ∷ []));
+            added_days = e.days.added_days;
+            changed_days = e.days.changed_days;
+          }) e.paid);
           settled = λ name. settled_still t s name sound none (fits.fact passes)
               (stands.settled name);
         },

@@ -4,6 +4,7 @@ pub mod Kept
 pub mod Opened
 pub mod Reading
 pub mod Serving
+pub mod Entered
 pub mod Growing
 pub mod Settling
 pub mod Enrolling

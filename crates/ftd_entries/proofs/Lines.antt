@@ -3,6 +3,7 @@ use Rattle.std.proofs.Common.{◌≡◌, ℕ, Bool, true, false, pos, ◌+◌, L
 use Rattle.std.proofs.Common.{Some, Vec, inl, inr, refl, sym, ap, ◌∙◌, arith}
 use Rattle.std.specs.Prelude.{option_map, IsTrue}
 use Rattle.std.proofs.lemmas.List.Sorted.{IsPermutation-trans, IsPermutation-sym}
+use Rattle.ftd_rules.proofs.Lines.{line_same}
 use Rattle.ftd_rules.specs.declared.Kind.{Kind}
 use Rattle.ftd_rules.specs.declared.Kind.TheVariants.{Monthly, Semiweekly}
 use Rattle.ftd_rules.specs.declared.YearLine.{YearLine}
@@ -50,13 +51,7 @@ line_is name x y rows carried =
     let total : x.lookback.0 ≡ y.lookback.0 = cc in
     let opening = schedule_is x.opening y.opening (ap (λ (r : YearRow). r.opening) rows) in
     let turn = turn_is x.turn y.turn (ap (λ (r : YearRow). r.turn) rows) in
-    λ i. record {
-      year = year i;
-      lookback = record { 0 = total i };
-      carried = carried i;
-      opening = opening i;
-      turn = turn i;
-    }
+    line_same x y (rw (year, total, carried) refl) opening turn
 
 lines_are : (name : List ℕ) (carried : Bool) (xs ys : List YearLine) → map (year_row name) xs ≡ map
     (year_row name) ys → AreCarried carried xs → AreCarried carried ys → xs ≡ ys

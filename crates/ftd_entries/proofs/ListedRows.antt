@@ -1,10 +1,11 @@
 -- What was listed of a table, and its rows.
-use Rattle.std.proofs.Common.{◌≡◌, Bool, true, List, [], ◌∷◌, inl, inr, refl, sym, ap, ◌∙◌}
+use Rattle.std.proofs.Common.{◌≡◌, Bool, true, List, [], ◌∷◌, map, inl, inr, refl, sym, ap, ◌∙◌}
+use Rattle.std.proofs.Common.{subst}
 use Rattle.std.specs.Prelude.{filter, string_bytes}
 use Rattle.std.proofs.lemmas.List.Sorted.{IsPermutation-sym}
 use Rattle.ftd_rules.specs.Lists.{Has}
 use Rattle.ftd_rules.proofs.Rising.{has_permuted}
-use Rattle.ftd_rules.proofs.Members.{has_kept}
+use Rattle.ftd_rules.proofs.Members.{has_kept, has_mapped}
 use Rattle.ftd_schema.specs.Rows.{ObligationRow}
 use Rattle.ftd_rows.specs.declared.obligations.AccountObligation.{AccountObligation}
 use Rattle.ftd_rows.specs.Lists.{Pairs, Lists}
@@ -52,6 +53,17 @@ module _ {X Y : Type 0} (row_for : Y → X) where
         (has_permuted listed.ordered (filter test rows)
         (IsPermutation-sym (filter test rows) listed.ordered listed.same) r
         (has_kept test rows r has passes))
+
+  -- what was listed is of an entry whose row is that, where the rows are those of entries
+  pub entry_listed : {E : Type 0} (Rise : X → X → Type 0) (test : X → Bool) (given : List Y)
+      (row : E → X) (entries : List E) {rows : List X} → rows ≡ map row entries
+      → Lists Rise IsFor (filter test rows) given → (y : Y) → Has given y
+      → (e : E) × Has entries e × (row e ≡ row_for y) × (test (row_for y) ≡ true)
+  entry_listed Rise test given row entries {rows = rows} are listed y has =
+      let there = value_passes Rise test rows given listed y has in
+      let from = has_mapped row entries (row_for y) (subst (λ rs. Has rs (row_for y)) are there.0)
+      in
+      (from.0, from.1, sym from.2, there.1)
 
 -- ---- obligations with their accounts
 

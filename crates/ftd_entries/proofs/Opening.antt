@@ -26,6 +26,7 @@ use Rattle.ftd_rules.specs.Obligations.{AreObligations}
 use Rattle.ftd_rules.proofs.Walk.{liability-cons, share_before, share_after}
 use Rattle.ftd_rules.proofs.Schedules.{year_facts, month_in_year}
 use Rattle.ftd_rules.proofs.Covering.{within_period}
+use Rattle.ftd_rules.proofs.Resting.{piece_anew}
 use Rattle.ftd_rules.proofs.Stated.{rows_owed, rows_stated}
 use Rattle.ftd_rules.specs.Private.Obligations.{IsOwedPiece}
 use Rattle.ftd_rules.proofs.Rising.{has_permuted}
@@ -61,6 +62,7 @@ use Rattle.ftd_machine.proofs.Lined.{open_years_of, between_is}
 use Rattle.ftd_entries.specs.Standing.{StandsFor, IsSettled}
 use Rattle.ftd_entries.specs.Opening.{HasOpening, IsNextLine, KeepsYear}
 use Rattle.ftd_entries.proofs.CalendarRows.{year_cell}
+use Rattle.ftd_entries.proofs.Entered.{entered}
 use Rattle.ftd_entries.proofs.Settling.{HasRowsOf, each_name, names_apart, same_order, settled_as}
 
 -- ---- lists with one more
@@ -237,19 +239,8 @@ module _ (lines : List YearLine) (line : YearLine) (turnless : line.turn ≡ Non
     where
       moved : (some others : List YearLine) (o : Obligation) (h : IsOwedPiece form some sums days o)
           → Has others h.line → IsOwedPiece form others sums days o
-      moved some others o h has = record {
-        line = h.line;
-        open_year = has;
-        first = h.first;
-        last = h.last;
-        period = h.period;
-        stops = h.stops;
-        are_stops = h.are_stops;
-        piece = h.piece;
-        amount = h.amount;
-        positive = h.positive;
-        due = h.due;
-      }
+      moved some others o h has = piece_anew form some others sums sums days days o
+          h.line.lookback o.due h has (λ a b from to. refl) h.due
 
       nothing : (o : Obligation) (h : IsOwedPiece form More sums days o) → h.line ≡ line → ⊥
       nothing o h is =
@@ -502,13 +493,8 @@ module _ (name : List ℕ) (year : ℕ) where
                 Next s,
                 step,
                 record {
-                  entries = record {
-                    meta = stands.entries.meta;
-                    enrolled = stands.entries.enrolled;
-                    figures = stands.entries.figures;
-                    days = stands.entries.days;
-                    paid = stands.entries.paid;
-                  };
+                  entries = (let e = stands.entries in
+                      entered e.meta e.enrolled e.figures e.days e.paid);
                   settled = each_name (IsSettled After (Next s)) name settled_own
                       (λ other apart. settled_as t After s (Next s) other (others s Asked (Ok Done)
                       (Next s) other step (names_apart name other apart)) refl

@@ -1,9 +1,8 @@
 -- Payments that are taken and voided: what is answered, and the tables stand for the machine's next
 -- state.
-use Rattle.std.proofs.Common.{◌≡◌, ◌∙◌, refl, sym, ap, ℕ, ◌&&◌, pos, List}
-use Rattle.std.proofs.Common.{[], ◌∷◌, ◌++◌, map, length, Option, None, Some, Ok}
+use Rattle.std.proofs.Common.{◌≡◌, ◌∙◌, refl, ap, ℕ, ◌&&◌, pos, List}
+use Rattle.std.proofs.Common.{map, length, Option, None, Some, Ok}
 use Rattle.std.specs.Prelude.{bytes_eq}
-use Rattle.std.proofs.lemmas.List.{map-append}
 use Rattle.ftd_days.specs.Calendar.{year_of}
 use Rattle.ftd_rules.specs.declared.payment.Payment.{Payment}
 use Rattle.ftd_rules.specs.declared.run.Voidable.{Voidable}
@@ -30,6 +29,7 @@ use Rattle.ftd_entries.specs.Known.{KnowsAccount}
 use Rattle.ftd_entries.specs.Payments.{KnowsForPay}
 use Rattle.ftd_entries.proofs.Reading.{Both}
 use Rattle.ftd_entries.proofs.Kept.{kept_payment, counted_payments}
+use Rattle.ftd_entries.proofs.Entered.{entered, row_more}
 use Rattle.ftd_entries.proofs.Growing.{settled_grows}
 use Rattle.ftd_entries.proofs.CalendarRows.{year_cell}
 use Rattle.ftd_entries.proofs.Voiding as voiding
@@ -39,13 +39,8 @@ paid_stands : (t : Tables) (s : State) (rows : List PaymentRow)
     (payments : List (Entry (Voidable Payment))) → rows ≡ map payment_entry payments → StandsFor t s
     → StandsFor (with_rows Payments rows t) (record s { payments = payments })
 paid_stands t s rows payments are stands = record {
-  entries = record {
-    meta = stands.entries.meta;
-    enrolled = stands.entries.enrolled;
-    figures = stands.entries.figures;
-    days = stands.entries.days;
-    paid = record { runs = stands.entries.paid.runs; payments = are };
-  };
+  entries = (let e = stands.entries in entered e.meta e.enrolled e.figures e.days
+      (record { runs = e.paid.runs; payments = are }));
   settled = λ name.
       settled_grows t (with_rows Payments rows t) s (record s { payments = payments }) name refl
       refl refl
@@ -100,8 +95,7 @@ module _ (name : List ℕ) (number : ℕ) (payment : Payment) (count : ℕ) wher
         content = taken payment;
       } in
       paid_stands t s _ (with_entry s.payments name number (taken payment))
-      (ap (λ rows. rows ++ payment_entry more ∷ []) stands.entries.paid.payments
-      ∙ sym (map-append payment_entry s.payments (more ∷ []))) stands
+      (row_more payment_entry s.payments more stands.entries.paid.payments) stands
 
   -- a check decides
   pub pay_decided : (known : KnownForPay) (answer : Answer) → checks known ≡ Some answer

@@ -1,11 +1,11 @@
 -- How an account begins is put right: what is answered, and the tables stand for the machine's next
 -- state.
 use Rattle.std.proofs.Common.{◌≡◌, ◌∙◌, refl, sym, ap, ℕ, ◌+◌, ◌==◌, ◌&&◌, Bool, true}
-use Rattle.std.proofs.Common.{append-nil, append_assoc, false, List, [], ◌∷◌, ◌++◌, map, length}
+use Rattle.std.proofs.Common.{false, List, [], ◌∷◌, map, length}
 use Rattle.std.proofs.Common.{Option, None, Some, Ok, Vec, arith}
 use Rattle.std.specs.Prelude.{filter}
 use Rattle.std.proofs.lemmas.Bool.{eqb-true, and_parts}
-use Rattle.std.proofs.lemmas.List.{map-append, length-map}
+use Rattle.std.proofs.lemmas.List.{length-map}
 use Rattle.std.proofs.lemmas.List.Sorted.{length_permutation}
 use Rattle.ftd_rules.specs.declared.YearLine.{YearLine}
 use Rattle.ftd_schema.specs.Standing.{Tables}
@@ -25,7 +25,7 @@ use Rattle.ftd_machine.specs.Sound.{IsSound}
 use Rattle.ftd_machine.proofs.Deciding.{decided, passed}
 use Rattle.ftd_machine.proofs.Others.{others}
 use Rattle.ftd_entries.specs.Correcting.{KnowsForCorrection}
-use Rattle.ftd_entries.specs.Standing.{StandsFor, IsSettled, with_earlier, account_correction_entry}
+use Rattle.ftd_entries.specs.Standing.{StandsFor, IsSettled, account_correction_entry}
 use Rattle.std.specs.Prelude.{if◌then◌else◌}
 use Rattle.ftd_schema.specs.Orders.{QuartersRise, ReportedYearsRise}
 use Rattle.ftd_schema.specs.Tests.{is_reported_of, is_reported_year_of}
@@ -39,19 +39,11 @@ use Rattle.ftd_machine.proofs.Heads.{Gives, gives_needs, skip_needs, skip_finds,
 use Rattle.ftd_machine.proofs.Soundness.{empty_of}
 use Rattle.ftd_entries.specs.Correcting.{KnowsUnused, correction_of}
 use Rattle.ftd_entries.specs.Standing.{quarter_entry, year_entry}
+use Rattle.ftd_entries.proofs.Entered.{entered, corrected_more}
 use Rattle.ftd_entries.proofs.Settling.{each_name, names_apart, same_rows, settled_as}
 use Rattle.ftd_entries.proofs.Settling.{settled_unopened}
 use Rattle.ftd_entries.proofs.Lines.{lines_known}
 use Rattle.ftd_entries.specs.declared.beginnings.KnownForCorrection.{KnownForCorrection}
-
--- one more, with all that came before it
-pub with_earlier_more : {X : Type 0} (before xs : List X) (x : X)
-    → with_earlier before (xs ++ x ∷ []) ≡ with_earlier before xs ++ (before ++ xs, x) ∷ []
-with_earlier_more before [] x = rw (append-nil before) refl
-with_earlier_more before (y ∷ xs) x =
-    ap (λ ps. (before, y) ∷ ps)
-    (with_earlier_more (before ++ y ∷ []) xs x
-    ∙ ap (λ b. with_earlier (before ++ y ∷ []) xs ++ (b, x) ∷ []) (append_assoc before (y ∷ []) xs))
 
 -- ---- whether nothing rests on the account
 
@@ -75,26 +67,28 @@ as_many : {X Y : Type 0} (Rise : X → X → Type 0) (R : X → Y → Type 0) (r
 as_many Rise R rows listed l =
     sym (length_permutation rows l.ordered l.same) ∙ pairs_length R l.ordered listed l.pairs
 
+-- so of the rows of an account's entries
+entries_counted : {X R Y : Type 0} (test : R → Bool) (mine : X → Bool) (row : X → R)
+    → ((x : X) → test (row x) ≡ mine x) → (Rise : R → R → Type 0) (Is : R → Y → Type 0)
+    (xs : List X) (listed : List Y) {rows : List R} → rows ≡ map row xs
+    → Lists Rise Is (filter test rows) listed → length (filter mine xs) ≡ length listed
+entries_counted test mine row same Rise Is xs listed are lists =
+    sym (length-map (filter mine xs) row) ∙ ap length (sym (filtered_rows test mine row same xs))
+    ∙ ap (λ rows. length (filter test rows)) (sym are) ∙ as_many Rise Is _ listed lists
+
 module _ (name : List ℕ) (t : Tables) (s : State) (stands : StandsFor t s) where
   quarters_counted : {A : Type 0} (listed : Vec QuarterTotal A) → ListsReported name listed t
       → length (entries_of s name).reported ≡ length listed.items
   quarters_counted listed lists =
-      sym (length-map (filter (is_of name) s.reported) quarter_entry)
-      ∙ ap length (sym (filtered_rows (is_reported_of name) (is_of name) quarter_entry
-      (λ e. refl) s.reported))
-      ∙ ap (λ rows. length (filter (is_reported_of name) rows))
-      (sym stands.entries.figures.reported)
-      ∙ as_many QuartersRise (IsQuarterTotal name) _ listed.items lists
+      entries_counted (is_reported_of name) (is_of name) quarter_entry (λ e. refl) QuartersRise
+      (IsQuarterTotal name) s.reported listed.items stands.entries.figures.reported lists
 
   years_counted : {A : Type 0} (listed : Vec YearTotal A) → ListsReportedYears name listed t
       → length (entries_of s name).reported_years ≡ length listed.items
   years_counted listed lists =
-      sym (length-map (filter (is_of name) s.reported_years) year_entry)
-      ∙ ap length (sym (filtered_rows (is_reported_year_of name) (is_of name) year_entry
-      (λ e. refl) s.reported_years))
-      ∙ ap (λ rows. length (filter (is_reported_year_of name) rows))
-      (sym stands.entries.figures.reported_years)
-      ∙ as_many ReportedYearsRise (IsYearTotal name) _ listed.items lists
+      entries_counted (is_reported_year_of name) (is_of name) year_entry (λ e. refl)
+      ReportedYearsRise (IsYearTotal name) s.reported_years listed.items
+      stands.entries.figures.reported_years lists
 
   lines_counted : {A : Type 0} (listed : Vec YearLine A) → ListsYears name listed t
       → length (entries_of s name).open_years ≡ length listed.items
@@ -207,24 +201,13 @@ module _ (name : List ℕ) (number : ℕ) (beginning : Beginning) where
         Next s,
         step,
         record {
-          entries = record {
-            meta = stands.entries.meta;
-            enrolled = record {
-              accounts = stands.entries.enrolled.accounts;
-              forms = stands.entries.enrolled.forms;
-              moved = ap (λ rows. rows
-                  ++ account_correction_row name (correction_of number beginning) ∷ [])
-                  stands.entries.enrolled.moved
-                  ∙ ap (λ r. map account_correction_entry (with_earlier [] s.moved) ++ r ∷ [])
-                  (sym row)
-                  ∙ sym (ap (map account_correction_entry) (with_earlier_more [] s.moved new_one)
-                  ∙ map-append account_correction_entry (with_earlier [] s.moved)
-                  ((s.moved, new_one) ∷ []));
-            };
-            figures = stands.entries.figures;
-            days = stands.entries.days;
-            paid = stands.entries.paid;
-          };
+          entries = (let e = stands.entries in entered e.meta (record {
+            accounts = e.enrolled.accounts;
+            forms = e.enrolled.forms;
+            moved = corrected_more account_correction_entry s.moved new_one
+                (account_correction_row name (correction_of number beginning)) row
+                e.enrolled.moved;
+          }) e.figures e.days e.paid);
           settled = each_name (IsSettled (After t) (Next s)) name
               (settled_unopened t (After t) s (Next s) name (unopened s unused)
               (unopened s unused) refl (same_rows name t (After t) refl refl)

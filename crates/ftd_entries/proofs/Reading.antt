@@ -1,13 +1,15 @@
 -- What two readings tell, one after the other, and a change of a row that is there.
-use Rattle.std.proofs.Common.{List, Result, Ok, Err}
+use Rattle.std.proofs.Common.{◌≡◌, List, Result, Ok, Err, true}
+use Rattle.std.specs.Prelude.{is_err}
+use Rattle.sqlite.specs.State.{State}
 use Rattle.sqlite.specs.Store as store
 use Rattle.ftd_schema.specs.Standing.{Tables}
 use Rattle.ftd_store.specs.declared.tx.Tx.{Tx}
 use Rattle.ftd_rows.specs.declared.faults.StoreFault.{StoreFault}
-use Rattle.ftd_store.specs.Frame.{Reads, Writes, WritesOne, Rewrites}
-use Rattle.ftd_store.proofs.Going.{then_fails}
+use Rattle.ftd_store.specs.Frame.{Calls, Frame, Reads, Writes, WritesOne, Rewrites}
+use Rattle.ftd_store.proofs.Going.{fails_after, then_fails}
 use Rattle.ftd_store.proofs.Telling.{reads_on, then_reads}
-use Rattle.ftd_store.proofs.Turning.{turns_then}
+use Rattle.ftd_store.proofs.Turning.{gave_up_after, turns_then}
 
 abbrev pub Both : {A B : Type 0} → (A → Tables → Type 0) → (B → Tables → Type 0) → A × B → Tables
     → Type 0
@@ -55,19 +57,37 @@ turn_then_turn {result = Ok y} All p q tells = turns_then y All p q (tells y)
 turn_then_turn {result = Err e} All p q tells =
     record { frame = then_fails p.frame q.frame; does = λ clean. tt }
 
--- three readings, and four
-module _ {S A : Type 0} {g : store.Ghosts S} {start one two three : Tx S} {a b c : A}
-    {First Second Third : A → Tables → Type 0} (p : Reads g start one (Ok a) First)
-    (q : Reads g one two (Ok b) Second) (r : Reads g two three (Ok c) Third) where
-  pub three_read : Reads g start three (Ok c) (λ x t. First a t × Second b t × Third x t)
-  three_read =
-      then_reads c (λ x t. First a t × Second b t × Third x t)
-      (then_reads b (λ x t. First a t × Second x t) p q (λ t first second. (first, second))) r
-      (λ t told third. (told.0, told.1, third))
+-- what follows from three readings, one after the other, and from four
+module _ {S A B C : Type 0} {g : store.Ghosts S} {start one two three : Tx S} {a : A} {b : B}
+    {c : C}
+    {First : A → Tables → Type 0} {Second : B → Tables → Type 0} {Third : C → Tables → Type 0}
+    (p : Reads g start one (Ok a) First) (q : Reads g one two (Ok b) Second)
+    (r : Reads g two three (Ok c) Third) where
+  pub three_told : {D : Type 0} (d : D) (More : D → Tables → Type 0)
+      → ((t : Tables) → First a t → Second b t → Third c t → More d t)
+      → Reads g start three (Ok d) More
+  three_told d More tells =
+      then_reads d More (both_read p q) r (λ t told third. tells t told.0 told.1 third)
 
-  pub four_read : {four : Tx S} {d : A} {Fourth : A → Tables → Type 0}
-      → Reads g three four (Ok d) Fourth → Reads g start four (Ok d) (λ x t. First a t × Second b t
-      × Third c t × Fourth x t)
-  four_read {d = d} {Fourth = Fourth} last =
-      then_reads d (λ x t. First a t × Second b t × Third c t × Fourth x t) three_read last
-      (λ t told fourth. (told.0, told.1, told.2, fourth))
+  pub four_told : {D E : Type 0} {four : Tx S} {d : D} {Fourth : D → Tables → Type 0} (e : E)
+      (More : E → Tables → Type 0) → Reads g three four (Ok d) Fourth
+      → ((t : Tables) → First a t → Second b t → Third c t → Fourth d t → More e t)
+      → Reads g start four (Ok e) More
+  four_told e More last tells =
+      then_reads e More (both_read (both_read p q) r) last
+      (λ t told fourth. tells t told.0.0 told.0.1 told.1 fourth)
+
+  -- a call that fails after them
+  pub fails_after_three : {D E : Type 0} {four : Tx S} {e : StoreFault}
+      {result : Result E StoreFault}
+      {Does : E → State → State → Tables → Type 0} → result ≡ Err e
+      → Frame {A = D} g three four (Err e) → Calls g start four result Does
+  fails_after_three is failed = fails_after is (both_read (both_read p q) r).frame failed
+
+  -- and one that gives up after four
+  pub gives_up_after_four : {D E : Type 0} {four five : Tx S} {d : D}
+      {Fourth : D → Tables → Type 0} {result : Result E StoreFault}
+      {Does : E → State → State → Tables → Type 0} → Reads g three four (Ok d) Fourth
+      → Frame g four five result → is_err result ≡ true → Calls g start five result Does
+  gives_up_after_four last frame fails =
+      gave_up_after (both_read (both_read (both_read p q) r) last).frame frame fails

@@ -1,7 +1,6 @@
 -- Figures that are reported: what is answered, and the tables stand for the machine's next state.
-use Rattle.std.proofs.Common.{◌≡◌, ◌∙◌, refl, sym, ap, ℕ, List, [], ◌∷◌, ◌++◌, Option, None, Some}
+use Rattle.std.proofs.Common.{◌≡◌, ◌∙◌, refl, ℕ, List, [], ◌∷◌, Option, None, Some}
 use Rattle.std.proofs.Common.{Ok}
-use Rattle.std.proofs.lemmas.List.{map-append}
 use Rattle.ftd_days.specs.declared.cents.Cents.{Cents}
 use Rattle.ftd_schema.specs.Standing.{Tables}
 use Rattle.ftd_store.specs.Changes.{with_reported, with_reported_year}
@@ -19,6 +18,7 @@ use Rattle.ftd_entries.specs.Standing.{StandsFor, quarter_entry, year_entry}
 use Rattle.ftd_entries.specs.Known.{KnowsAccount}
 use Rattle.ftd_entries.proofs.Reading.{Both}
 use Rattle.ftd_entries.proofs.Kept.{kept_reported, kept_reported_year}
+use Rattle.ftd_entries.proofs.Entered.{entered, row_more}
 use Rattle.ftd_entries.proofs.Growing.{figures_more, settled_grows}
 
 -- ---- of a quarter
@@ -44,19 +44,12 @@ module _ (name : List ℕ) (quarter : ℕ) (cents : Cents) where
   reported_stands t s stands =
       let more : Entry Cents = record { name = name; key = quarter; content = cents } in
       record {
-        entries = record {
-          meta = stands.entries.meta;
-          enrolled = stands.entries.enrolled;
-          figures = record {
-            reported = ap (λ rows. rows ++ quarter_entry more ∷ []) stands.entries.figures.reported
-                ∙ sym (map-append quarter_entry s.reported (more ∷ []));
-            reported_years = stands.entries.figures.reported_years;
-            corrected = stands.entries.figures.corrected;
-            corrected_years = stands.entries.figures.corrected_years;
-          };
-          days = stands.entries.days;
-          paid = stands.entries.paid;
-        };
+        entries = (let e = stands.entries in entered e.meta e.enrolled (record {
+          reported = row_more quarter_entry s.reported more e.figures.reported;
+          reported_years = e.figures.reported_years;
+          corrected = e.figures.corrected;
+          corrected_years = e.figures.corrected_years;
+        }) e.days e.paid);
         settled = λ other.
             settled_grows t (with_reported name quarter cents t) s (Next s) other refl refl refl
             (record {
@@ -112,20 +105,12 @@ module _ (name : List ℕ) (year : ℕ) (cents : Cents) where
   reported_year_stands t s stands =
       let more : Entry Cents = record { name = name; key = year; content = cents } in
       record {
-        entries = record {
-          meta = stands.entries.meta;
-          enrolled = stands.entries.enrolled;
-          figures = record {
-            reported = stands.entries.figures.reported;
-            reported_years = ap (λ rows. rows ++ year_entry more ∷ [])
-                stands.entries.figures.reported_years
-                ∙ sym (map-append year_entry s.reported_years (more ∷ []));
-            corrected = stands.entries.figures.corrected;
-            corrected_years = stands.entries.figures.corrected_years;
-          };
-          days = stands.entries.days;
-          paid = stands.entries.paid;
-        };
+        entries = (let e = stands.entries in entered e.meta e.enrolled (record {
+          reported = e.figures.reported;
+          reported_years = row_more year_entry s.reported_years more e.figures.reported_years;
+          corrected = e.figures.corrected;
+          corrected_years = e.figures.corrected_years;
+        }) e.days e.paid);
         settled = λ other.
             settled_grows t (with_reported_year name year cents t) s (NextYear s) other refl refl
             refl

@@ -17,6 +17,7 @@ use Rattle.ftd_schema.specs.Tests.{is_year_of}
 use Rattle.ftd_rows.specs.Rows.{year_row}
 use Rattle.ftd_machine.specs.State.{State, entries_of, holidays}
 use Rattle.ftd_machine.specs.History.{form_of, live_sums, year_of_line, year_of_entry, AreLinesOf}
+use Rattle.ftd_machine.specs.History.{AreOwed}
 use Rattle.ftd_machine.proofs.Adding.{own_name}
 use Rattle.ftd_entries.specs.Standing.{IsSettled, is_obligation_of}
 
@@ -58,6 +59,11 @@ same_rows name t u years obligations = record {
 }
 
 -- ---- what is settled
+
+-- what is settled is what the account owes
+abbrev pub owes : {t : Tables} {s : State} {name : List ℕ} (settled : IsSettled t s name)
+    → AreOwed (holidays s) (entries_of s name) settled.owed
+owes settled = (settled.lines, settled.are_lines, settled.are_owed)
 
 -- where no year is open, there are no lines
 lines_none : (lines : List YearLine) → map year_of_line lines ≡ [] → lines ≡ []

@@ -28,23 +28,20 @@ module _ (a b : ℕ) (early : a ≤ last_day) (early_too : b ≤ last_day)
 
   years : year_of a ≡ year_of b
   years =
-      let p = date_bounds a early in
-      let q = date_bounds b early_too in
-      four_same (year_of a) (year_of b) (omega (arith, p.1)) (omega (arith, q.1))
+      four_same (year_of a) (year_of b) (omega (arith, (date_bounds a early).1))
+      (omega (arith, (date_bounds b early_too).1))
       (at 0) (at 1) (at 2) (at 3)
 
   months : month_in_year a ≡ month_in_year b
   months =
-      let p = date_bounds a early in
-      let q = date_bounds b early_too in
-      two_same (month_in_year a) (month_in_year b) (omega (arith, p.2)) (omega (arith, q.2))
+      two_same (month_in_year a) (month_in_year b) (omega (arith, (date_bounds a early).2))
+      (omega (arith, (date_bounds b early_too).2))
       (at 5) (at 6)
 
   days : day_of_month a ≡ day_of_month b
   days =
-      let p = date_bounds a early in
-      let q = date_bounds b early_too in
-      two_same (day_of_month a) (day_of_month b) (omega (arith, p.3)) (omega (arith, q.3))
+      two_same (day_of_month a) (day_of_month b) (omega (arith, (date_bounds a early).3))
+      (omega (arith, (date_bounds b early_too).3))
       (at 8) (at 9)
 
   pub same_day : a ≡ b

@@ -142,26 +142,20 @@ module _ (account : List ℕ) (name : is_account_name account ≡ true) where
     | inr lives ↦ rw lives (are_rows listed)
   ]
 
-  texts : (listed : List KeptRun) → Fit listed
-      → rows_text (live_rows account listed) ≡ flat_map (live_record account) listed
+  -- the text of those that live, and what it says
+  written : (listed : List KeptRun) → Fit listed
+      → (rows_text (live_rows account listed) ≡ flat_map (live_record account) listed)
+      × (map (entry_in Runs) (live_rows account listed)
+      ≡ map (said_as account) (filter is_live listed))
   unfolding rows_text run_record
-  texts [] fit = refl
-  texts (x ∷ listed) fit =
-      let rest = texts listed (λ y has. fit y (inr has)) in
+  written [] fit = (refl, refl)
+  written (x ∷ listed) fit =
+      let rest = written listed (λ y has. fit y (inr has)) in
+      let text = record_is account name x (fit x (inl refl)) in
+      let entry = said account name x (fit x (inl refl)) in
       elim (cases_Bool x.voided) [
-        | inl void ↦ rw (void, rest) refl
-        | inr lives ↦ rw (lives, rest, record_is account name x (fit x (inl refl))) refl
-      ]
-
-  says : (listed : List KeptRun) → Fit listed
-      → map (entry_in Runs) (live_rows account listed)
-      ≡ map (said_as account) (filter is_live listed)
-  says [] fit = refl
-  says (x ∷ listed) fit =
-      let rest = says listed (λ y has. fit y (inr has)) in
-      elim (cases_Bool x.voided) [
-        | inl void ↦ rw (void, rest) refl
-        | inr lives ↦ rw (lives, rest, said account name x (fit x (inl refl))) refl
+        | inl void ↦ (rw (void, rest.0) refl, rw (void, rest.1) refl)
+        | inr lives ↦ (rw (lives, rest.0, text) refl, rw (lives, rest.1, entry) refl)
       ]
 
   header_text : row_text default_writer (header_row Runs) ≡ records_head
@@ -175,7 +169,7 @@ module _ (account : List ℕ) (name : is_account_name account ≡ true) where
   unfolding rows_text runs_csv
   whole listed fit =
       ap (λ (text : List ℕ). text ++ rows_text (live_rows account listed)) header_text
-      ∙ ap (λ (text : List ℕ). records_head ++ text) (texts listed fit)
+      ∙ ap (λ (text : List ℕ). records_head ++ text) (written listed fit).0
 
   no_mark : (listed : List KeptRun) → strip_bom (runs_csv account listed) ≡ runs_csv account listed
   unfolding strip_bom runs_csv
@@ -194,4 +188,4 @@ module _ (account : List ℕ) (name : is_account_name account ≡ true) where
 
   pub records_are : (listed : List KeptRun) → Fit listed
       → records_of Runs (runs_csv account listed) ≡ map (said_as account) (filter is_live listed)
-  records_are listed fit = rw (reread listed fit) (says listed fit)
+  records_are listed fit = rw (reread listed fit) (written listed fit).1

@@ -104,6 +104,7 @@ fn write_plain<W: Target>(value: &Value<'_>, target: &mut W) -> Result<(), Write
 }
 
 /// Writes a value as a text of JSON.
+#[tactic(auto, using(ftd_ports::proofs::WritingFacts::written_in_parts))]
 fn write_quoted<W: Target>(value: &Value<'_>, target: &mut W) -> Result<(), WriteFault>
     ensures { Writes result (W.taken target.old) (W.taken target.new)
         (W.failed target.new) (quoted (plain_text value.now)) }
@@ -162,6 +163,7 @@ impl<'a, 'b> RowFormat<(&'a str, Value<'b>)> for Members {
 
 /// Writes the fields of a row as a record of CSV: their values, with one comma between, and the end
 /// of the line. Where the target fails, a prefix of that was written, and it fails nowhere else.
+#[tactic(auto, using(ftd_ports::proofs::WritingFacts::written_in_parts))]
 pub fn write_record<W: Target>(
     fields: &[(&str, Value<'_>)],
     target: &mut W,
@@ -200,6 +202,7 @@ pub fn write_array<T, F: RowFormat<T>, W: Target>(
 
 /// Writes rows as a list of JSON: an object whose member `rows` is an array of them, and the end of
 /// the line. Where the target fails, a prefix of it was written, and it fails nowhere else.
+#[tactic(auto, using(ftd_ports::proofs::WritingFacts::written_in_parts))]
 pub fn write_list<T, F: RowFormat<T>, W: Target>(
     format: &F,
     rows: &[T],
@@ -214,6 +217,7 @@ pub fn write_list<T, F: RowFormat<T>, W: Target>(
 }
 
 /// Writes rows as a list of JSON, as `write_list` does, with these members more behind the rows.
+#[tactic(auto, using(ftd_ports::proofs::WritingFacts::written_in_parts))]
 pub fn write_list_with<T, F: RowFormat<T>, W: Target>(
     format: &F,
     rows: &[T],

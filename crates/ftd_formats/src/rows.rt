@@ -37,6 +37,7 @@ pub fn write_rows<T, F: RowFormat<T>, W: Target>(
 
 /// Writes a table: a first line, and the texts of the rows. Where the target fails, a prefix of it
 /// was written, and it fails nowhere else.
+#[tactic(auto, using(ftd_ports::proofs::WritingFacts::written_in_parts))]
 pub fn write_table<T, F: RowFormat<T>, W: Target>(
     head: &[u8],
     format: &F,
@@ -69,6 +70,7 @@ pub fn write_joined<T, F: RowFormat<T>, W: Target>(
 
 /// Writes the texts of the rows with one comma between, and these bytes before and behind them.
 /// Where the target fails, a prefix of that was written, and it fails nowhere else.
+#[tactic(auto, using(ftd_ports::proofs::WritingFacts::written_in_parts))]
 pub fn write_enclosed<T, F: RowFormat<T>, W: Target>(
     before: &[u8],
     format: &F,
@@ -102,6 +104,7 @@ pub fn write_others<T, F: RowFormat<T>, W: Target>(
 }
 
 /// Writes a comma and the text of a row.
+#[tactic(auto, using(ftd_ports::proofs::WritingFacts::written_in_parts))]
 fn write_next<T, F: RowFormat<T>, W: Target>(
     format: &F,
     row: &T,

@@ -28,9 +28,9 @@ use Rattle.ftd_machine.proofs.Deciding.{decided, passed}
 use Rattle.ftd_machine.proofs.Heads.{Gives, gives_needs, skip_needs, skip_finds, skip_new}
 use Rattle.ftd_machine.proofs.InYear.{filed_of, in_year}
 use Rattle.ftd_machine.proofs.Soundness.{step_sound}
-use Rattle.ftd_entries.specs.Standing.{StandsFor, KeepsDays, change_entry, with_earlier}
+use Rattle.ftd_entries.specs.Standing.{StandsFor, KeepsDays, change_entry}
 use Rattle.ftd_entries.proofs.CalendarRows.{days_found, calendar_known}
-use Rattle.ftd_entries.proofs.PutRight.{with_earlier_more}
+use Rattle.ftd_entries.proofs.Entered.{corrected_more}
 use Rattle.ftd_entries.proofs.YearHolidays.{added_known}
 use Rattle.ftd_holidays.specs.Changing.{KnowsForChange}
 use Rattle.ftd_holidays.specs.Moved.{EntersDay}
@@ -220,12 +220,8 @@ module _ (day number : ℕ) (word : Bool) where
         calendars = stands.entries.days.calendars;
         calendar_days = stands.entries.days.calendar_days;
         added_days = stands.entries.days.added_days;
-        changed_days = ap (λ rows. rows ++ holiday_change_row (year_of day) Change ∷ [])
-            stands.entries.days.changed_days
-            ∙ ap (λ r. map change_entry (with_earlier [] s.changed_days) ++ r ∷ []) (sym row)
-            ∙ sym (ap (map change_entry) (with_earlier_more [] s.changed_days new_one)
-            ∙ map-append change_entry (with_earlier [] s.changed_days)
-            ((s.changed_days, new_one) ∷ []));
+        changed_days = corrected_more change_entry s.changed_days new_one
+            (holiday_change_row (year_of day) Change) row stands.entries.days.changed_days;
       }
 
   -- all checks pass

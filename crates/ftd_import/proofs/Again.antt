@@ -3,7 +3,7 @@ use Rattle.std.proofs.Common.{◌≡◌, ◌⊎◌, refl, sym, ap, subst, ◌∙
 use Rattle.std.proofs.Common.{rules, false, ℕ, List, [], ◌∷◌, ◌++◌, length, map, Option}
 use Rattle.std.proofs.Common.{Some, None, Result, Ok, Err, length-append}
 use Rattle.std.specs.List.{cons_option, filter_map, list_any}
-use Rattle.std.specs.Prelude.{MatchResult, ◌||◌}
+use Rattle.std.specs.Prelude.{MatchResult}
 use Rattle.std.proofs.lemmas.List.{append_assoc, append-nil}
 use Rattle.std.proofs.lemmas.List.Elements.{filter_map-append}
 use Rattle.std.proofs.lemmas.Bool.{or_parts}
@@ -16,13 +16,15 @@ use Rattle.ftd_machine.specs.declared.replies.Refusal.{Refusal}
 use Rattle.ftd_machine.specs.declared.replies.Refusal.TheVariants as refusal
 use Rattle.ftd_machine.specs.declared.requests.Request.{Request}
 use Rattle.ftd_desk.specs.Desks.{Held}
+use Rattle.ftd_desk.specs.Trials.{Tries}
 use Rattle.ftd_desk.specs.Words.{AreAnswers, AreSteps, HandlesAll, HandlesTogether, is_fault}
 use Rattle.ftd_desk.proofs.Running.{all_none}
 use Rattle.ftd_import.specs.Outcomes.{Counts, CountsAnswers, IsNothing, IsSame, IsSummary, Outcome}
 use Rattle.ftd_import.specs.Outcomes.{answer_in, fault_in, fault_of, post_in, post_of, posted}
 use Rattle.ftd_import.specs.Outcomes.{posts_of, record_in, request_in, skipped}
 use Rattle.ftd_import.specs.Imports.{AreOutcomes, Asks, HandlesOrLeaves, Posts, PostsNone, StopsIn}
-use Rattle.ftd_import.specs.Imports.{StopsWithin, most_together}
+use Rattle.ftd_import.specs.Imports.{StopsWithin, AsksAgain, most_together}
+use Rattle.ftd_import.specs.Trials.{WouldPost}
 use Rattle.ftd_import.specs.declared.summary.StopCause.{StopCause}
 use Rattle.ftd_import.specs.declared.summary.StopCause.TheVariants as cause
 use Rattle.ftd_import.specs.declared.summary.Summary.{Summary}
@@ -75,26 +77,45 @@ steps_of_run (posted number it answer ∷ xs) none s end goes =
 steps_of_run (skipped number field ∷ xs) none s end run = steps_of_run xs none s end run
 
 -- ---- a list of records
--- its posts were answered together
-pub posts_together : (a b : Held) (rs : List (ℕ × SaidEntry)) (requests : List Request)
-    (answers : List Answer) (p q r : Summary) → requests ≡ posts_of rs
-    → HandlesTogether a b requests (Ok answers) → AreAnswers requests answers → IsSame p q
-    → CountsAnswers q rs answers r → Posts a b rs p r
-posts_together a b rs requests answers p q r is handles told same counts = record {
-  outcomes = counts.outcomes;
-  are = record {
-    all = counts.all;
-    no_fault = none_faulty counts.outcomes
-        (subst (λ (said : List Answer). list_any is_fault said ≡ false) (sym counts.answered)
+module _ (a b : Held) (rs : List (ℕ × SaidEntry)) (requests : List Request)
+    (answers : List Answer) (p q r : Summary) (is : requests ≡ posts_of rs)
+    (told : AreAnswers requests answers) (same : IsSame p q)
+    (counted : CountsAnswers q rs answers r) where
+  answered : AreOutcomes rs counted.outcomes
+  answered = record {
+    all = counted.all;
+    no_fault = none_faulty counted.outcomes
+        (subst (λ (said : List Answer). list_any is_fault said ≡ false) (sym counted.answered)
         told.no_fault);
-  };
-  counts = counts_then p q r [] counts.outcomes same counts.counts;
-  asks =
-      subst (λ (xs : List Request). HandlesAll ⊥ a b xs (filter_map answer_in counts.outcomes))
-      (is ∙ sym (requests_of_records rs counts.outcomes counts.all))
-      (subst (λ (said : List Answer). HandlesAll ⊥ a b requests said) (sym counts.answered)
-      (all_together ⊥ a b requests answers told.count handles));
-}
+  }
+
+  -- what holds of its posts and these answers holds of what was asked and answered
+  of_outcomes : (P : List Request → List Answer → Type 0) → P requests answers
+      → P (filter_map request_in counted.outcomes) (filter_map answer_in counted.outcomes)
+  of_outcomes P holds =
+      subst (λ (xs : List Request). P xs (filter_map answer_in counted.outcomes))
+      (is ∙ sym (requests_of_records rs counted.outcomes counted.all))
+      (subst (λ (said : List Answer). P requests said) (sym counted.answered) holds)
+
+  -- its posts were answered together
+  pub posts_together : HandlesTogether a b requests (Ok answers) → Posts a b rs p r
+  posts_together handles = record {
+    outcomes = counted.outcomes;
+    are = answered;
+    counts = counts_then p q r [] counted.outcomes same counted.counts;
+    asks = of_outcomes (HandlesAll ⊥ a b) (all_together ⊥ a b requests answers told.count handles);
+  }
+
+  -- its posts would be answered so
+  pub tried_together : Tries a b requests (Ok answers) → WouldPost a b rs p r
+  tried_together tries = record {
+    outcomes = counted.outcomes;
+    are = answered;
+    counts = counts_then p q r [] counted.outcomes same counted.counts;
+    would = λ clean s keeps.
+        let done = tries.answered clean s keeps in
+        (done.0, of_outcomes (λ xs said. AreSteps s xs said done.0) done.1);
+  }
 
 -- none was posted, and then all, one after the other
 pub posts_again : (failed : Type 0) (a b c : Held) (rs : List (ℕ × SaidEntry)) (p q r : Summary)
@@ -130,35 +151,27 @@ pub stops_again : (failed later : Type 0) (a b c : Held) (rs : List (ℕ × Said
     → StopsWithin later a c rs (λ outcomes. Counts p outcomes r) why
 stops_again failed later a b c rs p q r why short stays none same stops =
     let outcomes = stops.outcomes ++ stops.last in
-    record {
-      passed = stops.passed;
-      at = stops.at;
-      others = stops.others;
-      split = stops.split;
-      outcomes = stops.outcomes;
-      are = stops.are;
-      told = counts_then p q r [] stops.outcomes same stops.counts;
-      last = stops.last;
-      stop = stops.stop;
-      asks = elim none [
-        | inl asks ↦ inl (asks_then later a b c [] outcomes asks stops.asks)
-        | inr met ↦ inr (
-          stays met.0,
-          record {
-            before = [];
-            list = rs;
-            others = [];
-            split = sym (append-nil rs);
-            short = short;
-            begins = omega arith;
-            ends = let less = shorter rs stops.passed stops.at stops.others stops.split in
-                omega arith;
-            asks = some_again later a b c (posts_of rs) met.1.0 (filter_map request_in outcomes)
-                (filter_map answer_in outcomes) met.1.1 stops.asks;
-          },
-        )
-      ];
-    }
+    let told = counts_then p q r [] stops.outcomes same stops.counts in
+    let asks : Asks later a c outcomes
+    ⊎ (later × AsksAgain later a c rs stops.passed outcomes) = elim none [
+      | inl asks ↦ inl (asks_then later a b c [] outcomes asks stops.asks)
+      | inr met ↦ inr (
+        stays met.0,
+        record {
+          before = [];
+          list = rs;
+          others = [];
+          split = sym (append-nil rs);
+          short = short;
+          begins = omega arith;
+          ends = let less = shorter rs stops.passed stops.at stops.others stops.split in
+              omega arith;
+          asks = some_again later a b c (posts_of rs) met.1.0 (filter_map request_in outcomes)
+              (filter_map answer_in outcomes) met.1.1 stops.asks;
+        },
+      )
+    ] in
+    search rules
 
 -- a fault: none of a list was posted
 pub none_posted : (failed : Type 0) (a b : Held) (posts requests : List Request) (why : Refusal)
@@ -292,15 +305,5 @@ pub stops_told : (failed : Type 0) (a b : Held) (rs : List (ℕ × SaidEntry)) (
     (why : StopCause) → IsNothing p
     → StopsWithin failed a b rs (λ outcomes. Counts p outcomes q) why
     → StopsWithin failed a b rs (λ outcomes. IsSummary outcomes q) why
-stops_told failed a b rs p q why none stops = record {
-  passed = stops.passed;
-  at = stops.at;
-  others = stops.others;
-  split = stops.split;
-  outcomes = stops.outcomes;
-  are = stops.are;
-  told = summary_of p q stops.outcomes none stops.told;
-  last = stops.last;
-  stop = stops.stop;
-  asks = stops.asks;
-}
+stops_told failed a b rs p q why none stops =
+    let told = summary_of p q stops.outcomes none stops.told in search rules

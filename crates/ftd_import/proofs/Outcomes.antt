@@ -1,6 +1,6 @@
 -- Outcomes of records, one after the other.
 use Rattle.std.proofs.Common.{◌≡◌, ◌⊎◌, refl, sym, ap, subst, ◌∙◌, ◌+◌, inl, inr, arith}
-use Rattle.std.proofs.Common.{Bool, ℕ, List, [], ◌∷◌, ◌++◌, length, map}
+use Rattle.std.proofs.Common.{Bool, ℕ, List, [], ◌∷◌, ◌++◌, length, map, rules}
 use Rattle.std.proofs.Common.{Some, None, Ok, Err, Result, OnErr, length-append}
 use Rattle.std.specs.List.{filter, filter_map}
 use Rattle.std.proofs.lemmas.List.{append_assoc, append-nil, map-append}
@@ -186,16 +186,8 @@ pub posts_stop : (failed : Type 0) (a b c : Held) (rs : List (ℕ × SaidEntry))
     (all : List (ℕ × SaidEntry)) (p q r : Summary) (why : StopCause)
     → all ≡ rs ++ at ∷ others → Posts a b rs p q → StopsAt failed b c at why → IsSame q r
     → StopsIn failed a c all p r why
-posts_stop failed a b c rs at others all p q r why split posts stops keeps = record {
-  passed = rs;
-  at = at;
-  others = others;
-  split = split;
-  outcomes = posts.outcomes;
-  are = posts.are;
-  counts = subst (λ xs. Counts p xs r) (append-nil posts.outcomes)
-      (counts_then p q r posts.outcomes [] posts.counts keeps);
-  last = stops.last;
-  stop = stops.stop;
-  asks = asks_then failed a b c posts.outcomes stops.last posts.asks stops.asks;
-}
+posts_stop failed a b c rs at others all p q r why split posts stops keeps =
+    let counts = subst (λ xs. Counts p xs r) (append-nil posts.outcomes)
+    (counts_then p q r posts.outcomes [] posts.counts keeps) in
+    let asks = asks_then failed a b c posts.outcomes stops.last posts.asks stops.asks in
+    search rules

@@ -1,6 +1,6 @@
 -- Lists of posts: all of them together, or none and then one after the other.
 use Rattle.std.proofs.Common.{◌≡◌, ◌∙◌, refl, sym, ap, subst, inl, inr, IsTrue, true, Ok, Err}
-use Rattle.std.proofs.Common.{List, [], ◌∷◌, ◌++◌, Result, length}
+use Rattle.std.proofs.Common.{List, [], ◌∷◌, ◌++◌, Result, length, rules}
 use Rattle.std.specs.List.{list_any}
 use Rattle.std.proofs.lemmas.Bool.{true≢false, cases_Bool}
 use Rattle.std.proofs.lemmas.List.{append-nil}
@@ -64,49 +64,24 @@ steps_once s (x ∷ xs) (p ∷ ps) (q ∷ qs) m n sound g h =
 -- the state after a whole list is that of the run whose answers were given
 whole : (failed : Type 0) (s : State) (xs : List Request) (ps : List Answer) (left : Trees)
     → MayLeaveAll s xs (Ok ps) left → MayLeaveRun failed s xs ps left
-whole failed s xs ps left m = record {
-  asked = xs;
-  others = [];
-  first = sym (append-nil xs);
-  given = ps;
-  later = [];
-  told = sym (append-nil ps);
-  quiet = refl;
-  between = m.end;
-  run = run_of_steps s xs ps m.end (subst (λ qs. AreSteps s xs qs m.end) (sym m.told) m.steps);
-  end = m.end;
-  ends = inl refl;
-  db = m.db;
-  trees = m.trees;
-  kept = m.kept;
-}
+whole failed s xs ps left m =
+    let first = sym (append-nil xs) in
+    let told = sym (append-nil ps) in
+    let run = run_of_steps s xs ps m.end
+    (subst (λ qs. AreSteps s xs qs m.end) (sym m.told) m.steps) in
+    search rules
 
 -- these answers are those of a list that met a fault
 with_answers : (s : State) (xs : List Request) (ps : List Answer) (end : State) (why : Refusal)
     (left : Trees) → IsSound s → AreSteps s xs ps end → MayLeaveAll s xs (Err why) left
     → MayLeaveAll s xs (Ok ps) left
-with_answers s xs ps end why left sound steps m = record {
-  answers = m.answers;
-  told = (steps_once s xs ps m.answers end m.end sound steps m.steps).0;
-  end = m.end;
-  steps = m.steps;
-  db = m.db;
-  trees = m.trees;
-  kept = m.kept;
-}
+with_answers s xs ps end why left sound steps m =
+    let told = (steps_once s xs ps m.answers end m.end sound steps m.steps).0 in search rules
 
 -- whatever the fault was
 met_fault : (s : State) (xs : List Request) (why : Refusal) (left : Trees)
     → MayLeaveAll s xs (Err why) left → MayLeaveAll s xs (Err refusal.Store) left
-met_fault s xs why left m = record {
-  answers = m.answers;
-  told = tt;
-  end = m.end;
-  steps = m.steps;
-  db = m.db;
-  trees = m.trees;
-  kept = m.kept;
-}
+met_fault s xs why left m = search rules
 
 -- a list that was answered is a run of its requests
 pub all_together : (failed : Type 0) (a b : Held) (xs : List Request) (ps : List Answer)

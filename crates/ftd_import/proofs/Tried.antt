@@ -1,54 +1,22 @@
 -- Records that are answered, and not posted.
-use Rattle.std.proofs.Common.{◌≡◌, ◌⊎◌, ◌∙◌, ◌++◌, [], sym, subst, ap, false, ℕ, List, Ok, length}
+use Rattle.std.proofs.Common.{◌≡◌, ◌∙◌, ◌++◌, [], sym, subst, ap, ℕ, List, length}
 use Rattle.std.proofs.Common.{arith}
-use Rattle.std.specs.List.{filter_map, list_any}
 use Rattle.std.proofs.lemmas.List.{append-nil}
 use Rattle.ftd_csv.specs.Places.{Opens, records_left, rows_after}
 use Rattle.ftd_csv.specs.Records.{SaidEntry}
-use Rattle.ftd_csv.specs.declared.reading.RecordFault.TheVariants as text_fault
 use Rattle.ftd_csv.specs.declared.reading.Records.{Records}
 use Rattle.ftd_csv.specs.declared.sheets.Sheet.{Sheet}
 use Rattle.ftd_csv.proofs.Left.{records_first}
-use Rattle.ftd_machine.specs.Checks.{Answer}
-use Rattle.ftd_machine.specs.declared.requests.Request.{Request}
 use Rattle.ftd_desk.specs.Desks.{Held}
-use Rattle.ftd_desk.specs.Trials.{Tries}
-use Rattle.ftd_desk.specs.Words.{AreAnswers, AreSteps, is_fault}
 use Rattle.ftd_import.specs.Lists.{TakesList}
-use Rattle.ftd_import.specs.Outcomes.{CountsAnswers, IsNothing, IsSame, answer_in, posts_of}
+use Rattle.ftd_import.specs.Outcomes.{IsNothing}
 use Rattle.ftd_import.specs.Imports.{AreOutcomes}
 use Rattle.ftd_import.specs.Trials.{WouldImport, WouldPost}
 use Rattle.ftd_import.specs.declared.reading.RecordList.{RecordList}
-use Rattle.ftd_import.specs.declared.summary.StopCause.TheVariants as cause
 use Rattle.ftd_import.specs.declared.summary.Summary.{Summary}
-use Rattle.ftd_import.proofs.Again.{none_faulty, requests_of_records}
 use Rattle.ftd_import.proofs.Counting.{nothing}
-use Rattle.ftd_import.proofs.Outcomes.{counts_then, summary_of}
+use Rattle.ftd_import.proofs.Outcomes.{summary_of}
 use Rattle.ftd_import.proofs.Places.{left_count, length_left}
-
--- the posts of a list would be answered so
-pub tried_together : (a b : Held) (rs : List (ℕ × SaidEntry)) (requests : List Request)
-    (answers : List Answer) (p q r : Summary) → requests ≡ posts_of rs
-    → Tries a b requests (Ok answers) → AreAnswers requests answers → IsSame p q
-    → CountsAnswers q rs answers r → WouldPost a b rs p r
-tried_together a b rs requests answers p q r is tries told same counts = record {
-  outcomes = counts.outcomes;
-  are = record {
-    all = counts.all;
-    no_fault = none_faulty counts.outcomes
-        (subst (λ (said : List Answer). list_any is_fault said ≡ false) (sym counts.answered)
-        told.no_fault);
-  };
-  counts = counts_then p q r [] counts.outcomes same counts.counts;
-  would = λ clean s keeps.
-      let done = tries.answered clean s keeps in (
-        done.0,
-        subst (λ (xs : List Request). AreSteps s xs (filter_map answer_in counts.outcomes) done.0)
-            (is ∙ sym (requests_of_records rs counts.outcomes counts.all))
-            (subst (λ (said : List Answer). AreSteps s requests said done.0) (sym counts.answered)
-            done.1),
-      );
-}
 
 -- as many as were left were taken: they are all of them
 pub all_taken : (old new : Records) (list : RecordList) (count : ℕ)

@@ -1,9 +1,7 @@
 -- What stands in order from each to the next stands so to all after it.
-use Rattle.std.proofs.Common.{◌≡◌, inl, inr, ◌&&◌, ◌==◌, true}
-use Rattle.std.proofs.Common.{List, arith}
-use Rattle.std.specs.Prelude.{nat_lt}
-use Rattle.std.proofs.lemmas.Bool.{ltb-true, eqb-true, or_cases, and_parts}
-use Rattle.ftd_entries.proofs.InOrder.{in_order}
+use Rattle.std.proofs.Common.{◌≡◌, true, List, arith}
+use Rattle.std.proofs.lemmas.Bool.{ltb-true}
+use Rattle.ftd_entries.proofs.InOrder.{in_order, two_before}
 use Rattle.ftd_rules.specs.Lists.{are_in_order}
 use Rattle.ftd_machine.specs.Agenda.{EachToLater}
 use Rattle.ftd_machine.specs.Kept.{IsRunBefore, IsTotalBefore}
@@ -15,20 +13,11 @@ use Rattle.ftd_machine.proofs.KeptOne.{two_then}
 use Rattle.ftd_kept.specs.Kept.{is_run_before}
 use Rattle.ftd_kept.specs.Kept.{is_total_before}
 
-run_before : (x y : KeptRun) → is_run_before x y ≡ true → IsRunBefore x y
-run_before x y e =
-    elim (or_cases (nat_lt x.run.payday y.run.payday)
-    ((x.run.payday == y.run.payday) && nat_lt x.number y.number) e) [
-      | inl less ↦ inl (ltb-true x.run.payday y.run.payday less)
-      | inr same ↦
-          (let parts = and_parts (x.run.payday == y.run.payday) (nat_lt x.number y.number) same in
-          inr (eqb-true x.run.payday y.run.payday parts.0, ltb-true x.number y.number parts.1))
-    ]
-
 pub runs_in_order : (xs : List KeptRun) → are_in_order is_run_before xs ≡ true
     → EachToLater IsRunBefore xs
-runs_in_order xs e = in_order is_run_before IsRunBefore run_before (two_then payday_of run_number)
-    xs e
+runs_in_order xs e =
+    in_order is_run_before IsRunBefore (two_before payday_of run_number)
+    (two_then payday_of run_number) xs e
 
 pub totals_in_order : (xs : List KeptTotal) → are_in_order is_total_before xs ≡ true
     → EachToLater IsTotalBefore xs

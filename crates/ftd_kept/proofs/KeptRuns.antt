@@ -24,7 +24,7 @@ use Rattle.ftd_machine.specs.declared.kept.KeptRun.{KeptRun}
 use Rattle.ftd_machine.proofs.Adding.{own_name}
 use Rattle.ftd_entries.specs.Standing.{StandsFor, run_entry}
 use Rattle.ftd_entries.proofs.Kept.{same_nat, run_is}
-use Rattle.ftd_entries.proofs.ListedRows.{value_passes, passing_value}
+use Rattle.ftd_entries.proofs.ListedRows.{entry_listed, passing_value}
 use Rattle.ftd_entries.proofs.QuarterDays.{days_from, days_into, in_quarter, of_quarter}
 use Rattle.ftd_kept.specs.Kept.{kept_run}
 use Rattle.ftd_machine.proofs.Entered.{is_kept, of_kept}
@@ -47,17 +47,15 @@ module _ (name : List ℕ) (quarter last : ℕ) (is_last : last + 1 ≡ quarter_
 
   run_in : (x : NumberedRun) → Has found x → IsRunIn (entries_of s name) quarter (kept_run x)
   run_in x has =
-      let there = value_passes (row_of name) RunsRise test (t Runs) found lists x has in
-      let found_entry = has_mapped run_entry s.runs (row_of name x)
-      (subst (λ rs. Has rs (row_of name x)) stands.entries.paid.runs there.0) in
-      let e : Entry (Voidable PayRun) = found_entry.0 in
-      let is : run_entry e ≡ row_of name x = sym found_entry.2 in
-      let named : e.name ≡ name = ap (λ (r : RunRow). r.account) is in
-      let key : e.key ≡ x.number = same_nat e.key x.number (ap (λ (r : RunRow). r.number) is) in
-      let content : e.content ≡ x.run = run_is name x.number e x.run is in
-      let kept = is_kept name s.runs sound.runs e found_entry.1 named in
+      let from = entry_listed (row_of name) RunsRise test found run_entry s.runs
+      stands.entries.paid.runs lists x has in
+      let e : Entry (Voidable PayRun) = from.0 in
+      let named : e.name ≡ name = ap (λ (r : RunRow). r.account) from.2 in
+      let key : e.key ≡ x.number = same_nat e.key x.number (ap (λ (r : RunRow). r.number) from.2) in
+      let content : e.content ≡ x.run = run_is name x.number e x.run from.2 in
+      let kept = is_kept name s.runs sound.runs e from.1 named in
       let days = days_from name (quarter_start quarter) last x.run.value.payday
-      (bytes_eq name name) there.1 in (
+      (bytes_eq name name) from.3 in (
         subst (λ k. kept_at k (entries_of s name).runs ≡ Some x.run) key (kept ∙ ap Some content),
         of_quarter quarter last is_last x.run.value.payday early days.1 days.2,
       )

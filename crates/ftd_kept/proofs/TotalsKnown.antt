@@ -1,56 +1,42 @@
 -- Totals that were listed and told are all that the account has.
-use Rattle.std.proofs.Common.{◌≡◌, ◌∙◌, ap, refl, sym, subst, ℕ, List, [], ◌∷◌, map, Some, arith}
-use Rattle.std.proofs.Common.{◌++◌, ◌+◌, ◌<◌, ◌≤◌, take, length, get_or}
+use Rattle.std.proofs.Common.{◌≡◌, ◌∙◌, ap, refl, sym, subst, ℕ, List, [], ◌∷◌, Some, arith}
+use Rattle.std.proofs.Common.{◌++◌, ◌+◌, ◌<◌, ◌≤◌, ◌↔◌, take, length, get_or, Result, Ok, Vec}
 use Rattle.ftd_store.proofs.Items.{taken, pairs_more, paired_from, paired_to}
+use Rattle.ftd_entries.proofs.InOrder.{paired_rise}
 use Rattle.ftd_store.proofs.Replaced.{all_taken}
-use Rattle.std.specs.Prelude.{filter, unwrap_or}
+use Rattle.std.specs.Prelude.{IfOk, unwrap_or}
 use Rattle.ftd_days.specs.declared.cents.Cents.{Cents}
 use Rattle.ftd_rules.specs.declared.Form.{Form}
 use Rattle.ftd_rules.specs.declared.Form.TheVariants.{F941, F943}
 use Rattle.ftd_rules.specs.Lists.{Has}
-use Rattle.ftd_schema.specs.Orders.{QuartersRise, ReportedYearsRise}
 use Rattle.ftd_schema.specs.Standing.{Tables}
-use Rattle.ftd_schema.specs.Tests.{is_reported_of, is_reported_year_of}
-use Rattle.ftd_schema.specs.declared.TableName.TheVariants.{ReportedQuarters, ReportedYears}
-use Rattle.ftd_rows.specs.Lists.{Lists, Pairs}
-use Rattle.ftd_rows.specs.declared.kept.QuarterTotal.{QuarterTotal}
-use Rattle.ftd_rows.specs.declared.kept.YearTotal.{YearTotal}
-use Rattle.ftd_store.specs.Kept.{IsQuarterTotal, IsYearTotal}
+use Rattle.ftd_rows.specs.Lists.{Pairs}
 use Rattle.ftd_machine.specs.Agenda.{EachToLater}
 use Rattle.ftd_machine.specs.Kept.{IsTotal, IsTotalBefore, period_of}
+use Rattle.ftd_machine.specs.Sound.{IsSound}
 use Rattle.ftd_machine.specs.State.{State, entries_of}
 use Rattle.ftd_machine.specs.declared.kept.KeptTotal.TheVariants.{OfQuarter, OfYear}
 use Rattle.ftd_entries.specs.Standing.{StandsFor}
 use Rattle.ftd_machine.specs.declared.kept.KeptTotal.{KeptTotal}
 use Rattle.ftd_kept.specs.Kept.{KnowsTotals, KnowsFirstTotals, IsFirstTotal, IsInForce}
-use Rattle.ftd_kept.specs.Kept.{kept_quarter, kept_year}
-use Rattle.ftd_kept.proofs.KeptTotals.{quarters_are, years_are}
 
-module _ (name : List ℕ) (rows : List KeptTotal) (rise : EachToLater IsTotalBefore rows)
-    (t : Tables) where
-  pub knows_quarters : (found : List QuarterTotal)
-      → Lists QuartersRise (IsQuarterTotal name)
-      (filter (is_reported_of name) (t ReportedQuarters)) found
-      → rows ≡ map kept_quarter found → KnowsFirstTotals name F941 rows t
-  knows_quarters found lists told = record {
-    by_period = rise;
-    all = λ s stands sound x.
-        subst (λ xs. (Has xs x → IsFirstTotal F941 (entries_of s name) x)
-        × (IsFirstTotal F941 (entries_of s name) x → Has xs x)) (sym told)
-        (quarters_are name t s stands sound found lists x);
-  }
-
-  pub knows_years : (found : List YearTotal)
-      → Lists ReportedYearsRise (IsYearTotal name)
-      (filter (is_reported_year_of name) (t ReportedYears)) found
-      → rows ≡ map kept_year found → KnowsFirstTotals name F943 rows t
-  knows_years found lists told = record {
-    by_period = rise;
-    all = λ s stands sound x.
-        subst (λ xs. (Has xs x → IsFirstTotal F943 (entries_of s name) x)
-        × (IsFirstTotal F943 (entries_of s name) x → Has xs x)) (sym told)
-        (years_are name t s stands sound found lists x);
-  }
+-- the totals that were told are those that were found, in order
+pub first_told : {A E : Type 0} {form other : Form} {result : Result (Vec KeptTotal A) E}
+    {found given : List KeptTotal} (name : List ℕ) (rows : Vec KeptTotal A) (t : Tables)
+    → form ≡ other → result ≡ Ok rows
+    → IfOk result (λ (xs : Vec KeptTotal A). xs.items ≡ given)
+    → IfOk result (λ (xs : Vec KeptTotal A). EachToLater IsTotalBefore xs.items) → given ≡ found
+    → ((s : State) → StandsFor t s → IsSound s → (x : KeptTotal)
+    → Has found x ↔ IsFirstTotal other (entries_of s name) x)
+    → KnowsFirstTotals name form rows.items t
+first_told {form = form} {found = found} name rows t is done told rise same are = record {
+  by_period = rw done at rise;
+  all = λ s stands sound x.
+      subst (λ xs. Has xs x ↔ IsFirstTotal form (entries_of s name) x)
+      (sym ((rw done at told) ∙ same))
+      (subst (λ f. Has found x ↔ IsFirstTotal f (entries_of s name) x) (sym is)
+      (are s stands sound x));
+}
 
 -- ---- as they are in force
 
@@ -62,18 +48,10 @@ same_period name t (OfYear year cents was) x is = ap period_of is.1
 in_force_rise : (name : List ℕ) (t : Tables) (firsts xs : List KeptTotal)
     → Pairs (IsInForce name t) firsts xs → EachToLater IsTotalBefore firsts
     → EachToLater IsTotalBefore xs
-in_force_rise name t [] [] pairs rise = tt
-in_force_rise name t [] (x ∷ xs) pairs rise = absurd pairs
-in_force_rise name t (first ∷ firsts) [] pairs rise = absurd pairs
-in_force_rise name t (first ∷ firsts) (x ∷ xs) pairs rise = (
-  (λ later has.
-      (let from = paired_from (IsInForce name t) firsts xs later pairs.1 has in
-      let less = rise.0 from.0 from.1 in
-      let here = same_period name t first x pairs.0 in
-      let there = same_period name t from.0 later from.2 in
-      omega (arith, less, here, there))),
-  in_force_rise name t firsts xs pairs.1 rise.1,
-)
+in_force_rise name t = paired_rise (IsInForce name t) (λ first other x later is was less.
+    (let here = same_period name t first x is in
+    let there = same_period name t other later was in
+    omega (arith, less, here, there)))
 
 same_cents : (a b : Cents) → Some a ≡ Some b → a ≡ b
 same_cents a b is = ap (λ o. unwrap_or o a) is

@@ -1,5 +1,5 @@
 -- Each request has an answer, where each account has lines.
-use Rattle.std.proofs.Common.{◌≡◌, inl, inr, refl, ℕ, true, List, [], Option, None, Some, Ok, Err}
+use Rattle.std.proofs.Common.{◌≡◌, inl, inr, refl, ℕ, true, List, Option, None, Some, Ok, Err, rules}
 use Rattle.std.specs.Prelude.{is_some}
 use Rattle.ftd_days.specs.Calendar.{year_start, quarter_start}
 use Rattle.ftd_rules.specs.declared.run.PayRun.{PayRun}
@@ -8,16 +8,12 @@ use Rattle.ftd_rules.specs.declared.YearLine.{YearLine}
 use Rattle.ftd_machine.specs.declared.entries.Account.{Account}
 use Rattle.ftd_machine.specs.State.{State, entries_of, holidays, kept_at}
 use Rattle.ftd_machine.specs.History.{form_of, AreLinesOf}
-use Rattle.ftd_machine.specs.Limits.{is_number}
-use Rattle.ftd_rules.specs.Accounts.{is_account_name}
-use Rattle.ftd_machine.specs.Requests.{void_checks, is_voided}
-use Rattle.ftd_machine.specs.Checks.{Answer, first_of, meets, Decides}
+use Rattle.ftd_machine.specs.Requests.{void_checks}
+use Rattle.ftd_machine.specs.Checks.{Answer, first_of, Decides}
 use Rattle.ftd_machine.specs.Posting.{IsPosted}
 use Rattle.ftd_machine.specs.Questions.{Tells}
 use Rattle.ftd_machine.specs.Step.{Step, OpensNext, may_open, with_entry, with_voided, taken}
 use Rattle.ftd_machine.specs.declared.replies.Reply.TheVariants.{Done}
-use Rattle.ftd_machine.specs.declared.replies.Refusal.TheVariants.{BadName, BadNumber}
-use Rattle.ftd_machine.specs.declared.replies.Refusal.TheVariants.{UnknownAccount, UnknownRun}
 use Rattle.ftd_machine.specs.declared.requests.Request.{Request}
 use Rattle.ftd_machine.specs.declared.requests.Request.TheVariants.{Enrol, Calendar, AddHoliday}
 use Rattle.ftd_machine.specs.declared.requests.Request.TheVariants.{Report, ReportYear, OpenYear}
@@ -28,9 +24,9 @@ use Rattle.ftd_machine.specs.declared.requests.Request.TheVariants.{ChangeHolida
 use Rattle.ftd_machine.specs.declared.requests.Request.TheVariants.{Question}
 use Rattle.ftd_machine.specs.Sound.{IsSound}
 use Rattle.ftd_machine.proofs.Members.{some_of}
-use Rattle.ftd_machine.proofs.Heads.{gives_finds, skip_needs, skip_finds, skip_done}
-use Rattle.ftd_machine.proofs.Lined.{lines_of_sound}
-use Rattle.ftd_laws.proofs.PostedSome.{posted_some, corrected_some}
+use Rattle.ftd_machine.proofs.Heads.{Gives, heads}
+use Rattle.ftd_machine.proofs.Lined.{lines_of_sound, lines_after, lines_again}
+use Rattle.ftd_laws.proofs.PostedSome.{told_some}
 use Rattle.ftd_laws.proofs.Questions.{tells_some}
 use Rattle.ftd_machine.proofs.ToldSome.{total_or}
 use Rattle.ftd_machine.proofs.Single.{IsOnce}
@@ -49,15 +45,25 @@ module _ (s : State) where
   done check after = decides check (λ a n. (a ≡ Ok Done) × (n ≡ after))
       (λ e. (Ok Done, after, (refl, refl)))
 
+  -- or it is told how the obligations differ
+  posts : (check : Option Answer) (name : List ℕ) (after : State) (first : ℕ)
+      (lines : (xs : List YearLine) × AreLinesOf (entries_of s name) xs)
+      (others : (xs : List YearLine) × AreLinesOf (entries_of after name) xs)
+      → (a : Answer) × (n : State) × Decides check s a n
+      ((n ≡ after) × IsPosted (holidays s) (entries_of s name) (entries_of n name) first a)
+  posts check name after first lines others = decides check (λ a n. (n ≡ after)
+      × IsPosted (holidays s) (entries_of s name) (entries_of n name) first a) (λ e.
+      let told = told_some (holidays s) (entries_of s name) (entries_of after name) first lines.0
+      others.0 lines.1 others.1 in
+      (told.0, after, (refl, told.1)))
+
 known_of_void : (name : List ℕ) (number : ℕ) (account : Option Account)
     (known : Option (Voidable PayRun))
     → first_of (void_checks name number account known) ≡ None → is_some known ≡ true
 known_of_void name number account known e =
-    (skip_needs (is_account_name name) BadName _ _
-    (skip_needs (is_number number) BadNumber _ _
-    (skip_finds account UnknownAccount _ _
-    (skip_done (meets is_voided known) _ _
-    (gives_finds known UnknownRun []))))).fact e
+    let gives : Gives (void_checks name number account known) (is_some known ≡ true) =
+    search heads depth 12 in
+    gives.fact e
 
 -- where each account has lines, each request has an answer and a next state
 lines_answer : (s : State) (request : Request)
@@ -79,71 +85,32 @@ lines_answer s (OpenYear name year) once lines =
           (d.0, d.1, inr (total.0, total.1, d.2)))
     ])
 lines_answer s (Post name number payday fit ss medicare) once lines =
-    let own = entries_of s name in
     let run : PayRun = record { payday = payday; fit = fit; ss = ss; medicare = medicare } in
     let after = record s { runs = with_entry s.runs name number (taken run) } in
-    decides s _ (λ a n. (n ≡ after) × IsPosted (holidays s) own (entries_of n name) payday a) (λ e.
-    (let p = posted_some (holidays s) own (entries_of after name) payday (lines name).0
-    (record {
-      account = refl;
-      reported = refl;
-      reported_years = refl;
-      corrected = refl;
-      corrected_years = refl;
-      open_years = refl;
-    })
-    (lines name).1 in
-    (p.0, after, (refl, p.1))))
+    posts s _ name after payday (lines name) (lines_after (entries_of s name)
+    (entries_of after name) (lines name).0 (search rules) (lines name).1)
 lines_answer s (Void name number) once lines =
     let own = entries_of s name in
     let known = kept_at number own.runs in
     let after = record s { runs = with_voided s.runs name number } in
+    let others = lines_after own (entries_of after name) (lines name).0 (search rules)
+    (lines name).1 in
     decides s _ (λ a n. (run : Voidable PayRun) × (known ≡ Some run) × (n ≡ after)
     × IsPosted (holidays s) own (entries_of n name) run.value.payday a) (λ e.
     (let run = some_of known (known_of_void name number own.account known e) in
-    let p = posted_some (holidays s) own (entries_of after name) run.0.value.payday (lines name).0
-    (record {
-      account = refl;
-      reported = refl;
-      reported_years = refl;
-      corrected = refl;
-      corrected_years = refl;
-      open_years = refl;
-    })
-    (lines name).1 in
+    let p = told_some (holidays s) own (entries_of after name) run.0.value.payday (lines name).0
+    others.0 (lines name).1 others.1 in
     (p.0, after, (run.0, run.1, refl, p.1))))
 lines_answer s (Pay name number paid for_day cents) once lines = done s _ _
 lines_answer s (VoidPay name number) once lines = done s _ _
 lines_answer s (CorrectReport name quarter number cents) once lines =
-    let own = entries_of s name in
     let after = record s { corrected = with_entry s.corrected name quarter cents } in
-    let first = quarter_start quarter in
-    decides s _ (λ a n. (n ≡ after) × IsPosted (holidays s) own (entries_of n name) first a) (λ e.
-    (let p = corrected_some (holidays s) own (entries_of after name) first (lines name).0
-    (record {
-      account = refl;
-      reported = refl;
-      reported_years = refl;
-      open_years = refl;
-      runs = refl;
-    })
-    (lines name).1 in
-    (p.0, after, (refl, p.1))))
+    posts s _ name after (quarter_start quarter) (lines name) (lines_again (entries_of s name)
+    (entries_of after name) (lines name).0 (search rules) (lines name).1)
 lines_answer s (CorrectReportYear name year number cents) once lines =
-    let own = entries_of s name in
     let after = record s { corrected_years = with_entry s.corrected_years name year cents } in
-    let first = year_start year in
-    decides s _ (λ a n. (n ≡ after) × IsPosted (holidays s) own (entries_of n name) first a) (λ e.
-    (let p = corrected_some (holidays s) own (entries_of after name) first (lines name).0
-    (record {
-      account = refl;
-      reported = refl;
-      reported_years = refl;
-      open_years = refl;
-      runs = refl;
-    })
-    (lines name).1 in
-    (p.0, after, (refl, p.1))))
+    posts s _ name after (year_start year) (lines name) (lines_again (entries_of s name)
+    (entries_of after name) (lines name).0 (search rules) (lines name).1)
 lines_answer s (ChangeHoliday day number is_holiday) once lines = done s _ _
 lines_answer s (CorrectAccount name number start carried) once lines = done s _ _
 lines_answer s (Question question) once lines =

@@ -3,8 +3,8 @@
 -- liability by day are asked for; the run is voided. A day is the number of days after 1 January
 -- 1900, a quarter that of quarters after the first of 1900, an amount its cents.
 use Rattle.std.proofs.Common.{◌≡◌, inl, inr, refl, sym, ap, subst, ℕ, ◌+◌, ◌<◌, ◌≤◌, arith}
-use Rattle.std.proofs.Common.{true, false, List, [], ◌∷◌, Ok, None}
-use Rattle.std.specs.Prelude.{codes, ◌||◌, if◌then◌else◌}
+use Rattle.std.proofs.Common.{Bool, true, false, List, [], ◌∷◌, Ok, None, rules, ◌↔◌, IsTrue}
+use Rattle.std.specs.Prelude.{codes}
 use Rattle.std.proofs.lemmas.Bool.{false≢true, leb-true, cases_lt}
 use Rattle.ftd_days.specs.Calendar.{month_of, month_from, month_start, year_start}
 use Rattle.ftd_days.specs.declared.cents.Cents.{Cents}
@@ -16,6 +16,7 @@ use Rattle.ftd_rules.specs.declared.Obligation.{Obligation}
 use Rattle.ftd_rules.specs.declared.Rule.TheVariants as rule
 use Rattle.ftd_rules.specs.declared.YearLine.{YearLine}
 use Rattle.ftd_rules.specs.declared.run.PayRun.{PayRun}
+use Rattle.ftd_rules.specs.declared.run.Voidable.{Voidable}
 use Rattle.ftd_rules.specs.declared.verdict.Case.{Case}
 use Rattle.ftd_rules.specs.declared.verdict.DueRow.{DueRow}
 use Rattle.ftd_rules.specs.declared.verdict.Verdict.{Verdict}
@@ -37,13 +38,13 @@ use Rattle.ftd_rules.proofs.Bridge.{period_is}
 use Rattle.ftd_rules.proofs.Covering.{covering_one}
 use Rattle.ftd_rules.proofs.Looking.{on_or_after_at, stops_at}
 use Rattle.ftd_rules.proofs.Schedules.{year_divides}
-use Rattle.ftd_rules.proofs.Stated.{due_stated, run_period, stops_stated, piece_owed}
+use Rattle.ftd_rules.proofs.Stated.{due_stated, obligation_of, run_period, stops_stated, piece_owed}
 use Rattle.ftd_rules.proofs.Walk.{share_before, share_after}
 use Rattle.ftd_rules.proofs.Examples.{share_most}
-use Rattle.ftd_machine.specs.State.{State, nothing, entries_of}
-use Rattle.ftd_machine.specs.History.{HasLookback, AreLinesOf}
-use Rattle.ftd_machine.specs.Posting.{AreOnlyIn, Spans}
-use Rattle.ftd_machine.specs.Asking.{IsDueRow, IsLiableDay}
+use Rattle.ftd_machine.specs.State.{State, Entry, nothing, entries_of}
+use Rattle.ftd_machine.specs.History.{HasLookback, AreLinesOf, live_sums}
+use Rattle.ftd_machine.specs.Posting.{AreOnlyIn}
+use Rattle.ftd_machine.specs.Asking.{IsDueRow, IsLiableDay, IsReturnPaid, IsSmall}
 use Rattle.ftd_machine.specs.Runs.{IsRun}
 use Rattle.ftd_machine.specs.Step.{Step}
 use Rattle.ftd_machine.specs.declared.replies.Reason.TheVariants as reason
@@ -52,6 +53,7 @@ use Rattle.ftd_machine.specs.declared.replies.Reply.TheVariants as reply
 use Rattle.ftd_machine.specs.declared.requests.Question.TheVariants as question
 use Rattle.ftd_machine.specs.declared.requests.Request.TheVariants as request
 use Rattle.ftd_machine.proofs.DueSome.{row_one}
+use Rattle.ftd_laws.proofs.PostedSome.{spans_one, tells_difference}
 
 -- ---- what is kept: `ash`, since 1 January 2024, not carried; the holidays 1 and 15 January and 19
 -- February 2024
@@ -80,15 +82,22 @@ opened = record enrolled { open_years = record { name = ash; key = 2024; content
 abbrev run : PayRun
 run = record { payday = 45_294; fit = cents 50_000; ss = cents 31_000; medicare = cents 7_250 }
 
+-- with these runs
+abbrev with_runs : List (Entry (Voidable PayRun)) → State
+with_runs runs = record opened { runs = runs }
+
+abbrev only_run : Bool → List (Entry (Voidable PayRun))
+only_run voided = record {
+  name = ash;
+  key = 1;
+  content = record { value = run; voided = voided };
+} ∷ []
+
 abbrev posted : State
-posted = record opened {
-  runs = record { name = ash; key = 1; content = record { value = run; voided = false } } ∷ [];
-}
+posted = with_runs (only_run false)
 
 abbrev voided : State
-voided = record opened {
-  runs = record { name = ash; key = 1; content = record { value = run; voided = true } } ∷ [];
-}
+voided = with_runs (only_run true)
 
 abbrev closed_days : List ℕ
 closed_days = 45_290 ∷ 45_304 ∷ 45_339 ∷ []
@@ -183,21 +192,21 @@ none_owed = record {
   );
 }
 
-lines_before : AreLinesOf (entries_of opened ash) years
-lines_before = record {
+lines_with : (runs : List (Entry (Voidable PayRun)))
+    → AreLines (live_sums (entries_of (with_runs runs) ash)) years
+    → AreLinesOf (entries_of (with_runs runs) ash) years
+lines_with runs schedules = record {
   years = refl;
   lookbacks = lookback_of;
   carried = (refl, tt);
-  schedules = are_lines [] (λ a b. omega arith);
+  schedules = schedules;
 }
 
+lines_before : AreLinesOf (entries_of opened ash) years
+lines_before = lines_with [] (are_lines [] (λ a b. omega arith))
+
 lines_voided : AreLinesOf (entries_of voided ash) years
-lines_voided = record {
-  years = refl;
-  lookbacks = lookback_of;
-  carried = (refl, tt);
-  schedules = are_lines [] (λ a b. omega arith);
-}
+lines_voided = lines_with (only_run true) (are_lines [] (λ a b. omega arith))
 
 -- ---- with the run, 882.50 of 1 to 31 January, due on Thursday 15 February
 
@@ -206,12 +215,7 @@ sums_after = are_lines (on_5_january ∷ [])
     (λ a b. let most = share_most a b on_5_january in omega arith)
 
 lines_after : AreLinesOf (entries_of posted ash) years
-lines_after = record {
-  years = refl;
-  lookbacks = lookback_of;
-  carried = (refl, tt);
-  schedules = sums_after;
-}
+lines_after = lines_with (only_run false) sums_after
 
 january : Obligation
 january = record {
@@ -234,22 +238,11 @@ month_of_january = run_period F941 year_2024 45_290 45_320
 
 owed_for_january : IsObligation F941 years (on_5_january ∷ []) closed_days january
 unfolding january month_of month_from month_start
-owed_for_january = record {
-  line = year_2024;
-  open_year = inl refl;
-  period_first = 45_290;
-  period_last = 45_320;
-  period = month_of_january;
-  status = kind.Monthly;
-  has_status = monthly_all_year 45_290;
-  stops = [];
-  are_stops = stops_stated _ 45_290 45_320 [] (stops_at _ 45_290 45_320 31 [] refl tt refl);
-  piece = inl refl;
-  amount = refl;
-  positive = omega arith;
-  due = due_stated closed_days rule.Monthly 45_320 45_335
-      (on_or_after_at closed_days 45_335 0 45_335 refl refl refl);
-}
+owed_for_january = obligation_of F941 years (on_5_january ∷ []) closed_days january year_2024
+    45_290 45_320 kind.Monthly [] (inl refl) month_of_january (monthly_all_year 45_290)
+    (stops_stated _ 45_290 45_320 [] (stops_at _ 45_290 45_320 31 [] refl tt refl)) (inl refl) refl
+    (omega arith) (due_stated closed_days rule.Monthly 45_320 45_335
+    (on_or_after_at closed_days 45_335 0 45_335 refl refl refl))
 
 -- an obligation has the payday, since it has liability
 covers_the_payday : (o : Obligation) → IsObligation F941 years (on_5_january ∷ []) closed_days o
@@ -303,24 +296,6 @@ none_of_it = record {
   all = λ o. ((λ has. absurd has), (λ both. both.0));
 }
 
-spans_january : Spans (january ∷ []) 45_290 45_320
-unfolding january
-spans_january = record {
-  first = january;
-  has_first = inl refl;
-  from_is = refl;
-  last = january;
-  has_last = inl refl;
-  to_is = refl;
-  within = λ o has. elim has [
-    | inl is ↦
-        (let first : o.first ≡ 45_290 = ap (λ (x : Obligation). x.first) is in
-        let last : o.last ≡ 45_320 = ap (λ (x : Obligation). x.last) is in
-        (omega arith, omega arith))
-    | inr none ↦ absurd none
-  ];
-}
-
 -- the year is opened
 year_opened : Step enrolled (request.OpenYear ash 2024) (Ok reply.Done) opened
 unfolding is_account_name month_of month_from month_start
@@ -330,29 +305,12 @@ year_opened = inr (cents 0, lookback_of_nothing, (refl, refl))
 run_posted : Step opened
     (request.Post ash 1 45_294 (cents 50_000) (cents 31_000) (cents 7_250))
     (Ok (reply.Posted 45_290 45_320 0 1)) posted
-unfolding is_account_name month_of month_from month_start
+unfolding january is_account_name month_of month_from month_start
 run_posted = (
   refl,
-  record {
-    rows = [];
-    owed = (years, lines_before, none_owed);
-    rows_after = january ∷ [];
-    owed_after = (years, lines_after, january_owed);
-    from = 45_290;
-    to = 45_320;
-    removed = 0;
-    added = 1;
-    differ = record {
-      gone = [];
-      come = january ∷ [];
-      are_gone = none_of_it;
-      are_come = only_it;
-      removed_is = refl;
-      added_is = refl;
-      days = inl spans_january;
-    };
-    told = refl;
-  },
+  tells_difference closed_days (entries_of opened ash) (entries_of posted ash) 45_294 45_290 45_320
+      [] (january ∷ []) [] (january ∷ []) (years, lines_before, none_owed)
+      (years, lines_after, january_owed) none_of_it only_it (inl (spans_one january)),
 )
 
 -- on 5 January the account is monthly, by its lookback total
@@ -413,28 +371,23 @@ no_earlier_case Late less h = omega arith
 
 is_january_row : IsDueRow closed_days (entries_of posted ash) (january ∷ []) 496 45_340 january_row
 unfolding january january_case january_row month_of month_from month_start
-is_january_row = record {
-  owed = inl refl;
-  begins = refl;
-  makeup = return_of_the_quarter;
-  paid = refl;
-  of_case = january_case;
-  is_case = record {
-    cents = refl;
-    due = refl;
-    makeup = refl;
-    return_due = return_of_the_quarter;
-    as_of_is = refl;
-    paid_due = refl;
-    paid_makeup = refl;
-    small = ((λ h. (cents 88_250, refl, (refl, inl (omega arith)))), (λ h. refl));
-    quarter_paid = (
+is_january_row =
+    let own = entries_of posted ash in
+    let small : IsTrue january_case.small ↔ IsSmall own (january ∷ []) 496 =
+    ((λ h. (cents 88_250, refl, (refl, inl (omega arith)))), (λ h. refl)) in
+    let quarter_paid : IsTrue january_case.quarter_paid ↔ IsReturnPaid own 496 45_410 = (
       (λ h. absurd (false≢true h)),
       (λ reached. absurd (let less : 88_250 ≤ 0 = reached in omega arith)),
-    );
-  };
-  verdict = record { holds = (refl, inl (omega arith)); first = no_earlier_case };
-}
+    ) in
+    record {
+      owed = inl refl;
+      begins = refl;
+      makeup = return_of_the_quarter;
+      paid = refl;
+      of_case = january_case;
+      is_case = search (rules, return_of_the_quarter);
+      verdict = record { holds = (refl, inl (omega arith)); first = no_earlier_case };
+    }
 
 due_list_told : Step posted (request.Question (question.DueList ash 496 45_340))
     (Ok (reply.Told (facts.Due (january_row ∷ [])))) posted
@@ -508,31 +461,14 @@ liability_told = (
 
 -- the run is voided: the obligation went
 run_voided : Step posted (request.Void ash 1) (Ok (reply.Posted 45_290 45_320 1 0)) voided
-unfolding is_account_name
+unfolding january is_account_name
 run_voided = (
   record { value = run; voided = false },
   refl,
   refl,
-  record {
-    rows = january ∷ [];
-    owed = (years, lines_after, january_owed);
-    rows_after = [];
-    owed_after = (years, lines_voided, none_owed);
-    from = 45_290;
-    to = 45_320;
-    removed = 1;
-    added = 0;
-    differ = record {
-      gone = january ∷ [];
-      come = [];
-      are_gone = only_it;
-      are_come = none_of_it;
-      removed_is = refl;
-      added_is = refl;
-      days = inl spans_january;
-    };
-    told = refl;
-  },
+  tells_difference closed_days (entries_of posted ash) (entries_of voided ash) 45_294 45_290 45_320
+      (january ∷ []) [] (january ∷ []) [] (years, lines_after, january_owed)
+      (years, lines_voided, none_owed) only_it none_of_it (inl (spans_one january)),
 )
 
 -- and all of it, one after the other

@@ -3,7 +3,7 @@
 -- then. A day is the number of days after 1 January 1900, a quarter that of quarters after the
 -- first of 1900, an amount
 -- its cents.
-use Rattle.std.proofs.Common.{inl, refl, ℕ, false, true, List, [], ◌∷◌, Ok, Err}
+use Rattle.std.proofs.Common.{inl, refl, ℕ, Bool, false, true, List, [], ◌∷◌, Ok, Err}
 use Rattle.std.specs.Prelude.{codes}
 use Rattle.ftd_days.specs.Calendar.{month_of, month_from, month_start}
 use Rattle.ftd_days.specs.declared.cents.Cents.{Cents}
@@ -21,6 +21,11 @@ use Rattle.ftd_machine.specs.declared.replies.Refusal.TheVariants.{WrongForm}
 use Rattle.ftd_machine.specs.declared.requests.Request.TheVariants.{Enrol, Calendar, AddHoliday}
 use Rattle.ftd_machine.specs.declared.requests.Request.TheVariants.{Report, ReportYear, Pay}
 use Rattle.ftd_machine.specs.declared.requests.Request.TheVariants.{VoidPay}
+
+-- one more request, after which the state is `next`
+step : {Goes Rest : State → Type 0} (next : State) → Goes next → Rest next
+    → (after : State) × Goes after × Rest after
+step next goes rest = (next, goes, rest)
 
 ash : List ℕ
 ash = codes "ash"
@@ -45,15 +50,10 @@ enrolled : IsRun nothing
     ∷ Enrol (codes "Ash") 45_290 false F941 ∷ [])
     (Ok Done ∷ Ok Already ∷ Err AccountDiffers ∷ Err AccountDiffers ∷ Err BadName ∷ []) with_ash
 unfolding ash with_ash is_account_name month_of month_from month_start
-enrolled = (
-  with_ash,
-  inl (refl, refl),
-  (
-    with_ash,
-    inl (refl, refl),
-    (with_ash, inl (refl, refl), (with_ash, inl (refl, refl), (with_ash, inl (refl, refl), refl))),
-  ),
-)
+enrolled =
+    step with_ash (inl (refl, refl)) (step with_ash (inl (refl, refl))
+    (step with_ash (inl (refl, refl)) (step with_ash (inl (refl, refl))
+    (step with_ash (inl (refl, refl)) refl))))
 
 -- with 1.00 reported for 2024Q1
 with_figure : State
@@ -74,23 +74,10 @@ reported : IsRun with_ash
     (Ok Done ∷ Ok Already ∷ Err QuarterDiffers ∷ Err BeforeStart ∷ Err WrongForm
     ∷ Err UnknownAccount ∷ []) with_figure
 unfolding ash cents with_ash with_figure is_account_name month_of month_from month_start
-reported = (
-  with_figure,
-  inl (refl, refl),
-  (
-    with_figure,
-    inl (refl, refl),
-    (
-      with_figure,
-      inl (refl, refl),
-      (
-        with_figure,
-        inl (refl, refl),
-        (with_figure, inl (refl, refl), (with_figure, inl (refl, refl), refl)),
-      ),
-    ),
-  ),
-)
+reported =
+    step with_figure (inl (refl, refl)) (step with_figure (inl (refl, refl))
+    (step with_figure (inl (refl, refl)) (step with_figure (inl (refl, refl))
+    (step with_figure (inl (refl, refl)) (step with_figure (inl (refl, refl)) refl)))))
 
 -- 27 May 2024 given as a holiday, and 29 May added
 given : State
@@ -108,19 +95,10 @@ holidays_added : IsRun nothing
     (Ok Done ∷ Ok Done ∷ Ok Already ∷ Ok Already ∷ Err CalendarDiffers ∷ Err (CalendarMissing 2026)
     ∷ []) added
 unfolding given added month_of month_from month_start
-holidays_added = (
-  given,
-  inl (refl, refl),
-  (
-    added,
-    inl (refl, refl),
-    (
-      added,
-      inl (refl, refl),
-      (added, inl (refl, refl), (added, inl (refl, refl), (added, inl (refl, refl), refl))),
-    ),
-  ),
-)
+holidays_added =
+    step given (inl (refl, refl)) (step added (inl (refl, refl)) (step added (inl (refl, refl))
+    (step added (inl (refl, refl)) (step added (inl (refl, refl))
+    (step added (inl (refl, refl)) refl)))))
 
 -- 2024 is open, and payment 1 of 5.00 was made on 2024-01-10 for 2024-01-05
 opened : State
@@ -129,37 +107,23 @@ opened = record with_ash {
       ∷ [];
 }
 
-paid : State
-paid = record opened {
+with_payment : Bool → State
+with_payment voided = record opened {
   payments = record {
     name = codes "ash";
     key = 1;
     content = record {
-      value = record {
-        paid = 45_299;
-        for_day = 45_294;
-        cents = record { 0 = 500 };
-      };
-      voided = false;
+      value = record { paid = 45_299; for_day = 45_294; cents = cents 500 };
+      voided = voided;
     };
   } ∷ [];
 }
 
+paid : State
+paid = with_payment false
+
 void : State
-void = record opened {
-  payments = record {
-    name = codes "ash";
-    key = 1;
-    content = record {
-      value = record {
-        paid = 45_299;
-        for_day = 45_294;
-        cents = record { 0 = 500 };
-      };
-      voided = true;
-    };
-  } ∷ [];
-}
+void = with_payment true
 
 -- taken once; 6.00 differs; voided once, after which the number stays taken and the payment voided;
 -- 2025 is not open
@@ -170,25 +134,9 @@ payments_taken : IsRun opened
     ∷ [])
     (Ok Done ∷ Ok Already ∷ Err PaymentDiffers ∷ Err UnknownPayment ∷ Ok Done ∷ Ok Already
     ∷ Ok Already ∷ Err (YearNotOpen 2025) ∷ []) void
-unfolding ash cents with_ash opened paid void is_account_name month_of month_from month_start
-payments_taken = (
-  paid,
-  inl (refl, refl),
-  (
-    paid,
-    inl (refl, refl),
-    (
-      paid,
-      inl (refl, refl),
-      (
-        paid,
-        inl (refl, refl),
-        (
-          void,
-          inl (refl, refl),
-          (void, inl (refl, refl), (void, inl (refl, refl), (void, inl (refl, refl), refl))),
-        ),
-      ),
-    ),
-  ),
-)
+unfolding ash cents with_ash opened with_payment paid void is_account_name month_of month_from
+    month_start
+payments_taken =
+    step paid (inl (refl, refl)) (step paid (inl (refl, refl)) (step paid (inl (refl, refl))
+    (step paid (inl (refl, refl)) (step void (inl (refl, refl)) (step void (inl (refl, refl))
+    (step void (inl (refl, refl)) (step void (inl (refl, refl)) refl)))))))

@@ -1,15 +1,12 @@
 -- An obligation is explained in one way.
-use Rattle.std.proofs.Common.{◌≡◌, ◌∙◌, refl, sym, ap, subst, inl, inr, ℕ, ◌+◌, ◌<◌, List, Option}
+use Rattle.std.proofs.Common.{◌≡◌, ◌∙◌, refl, sym, ap, subst, ℕ, List, Option}
 use Rattle.std.proofs.Common.{None}
-use Rattle.std.proofs.Common.{Some, Ok, arith}
-use Rattle.std.specs.Prelude.{◌↔◌, ◌≤◌, true}
-use Rattle.ftd_days.specs.Business.{is_business}
-use Rattle.ftd_days.specs.Calendar.{weekday_of, quarter_of, IsClose}
+use Rattle.std.proofs.Common.{Some, Ok}
+use Rattle.std.specs.Prelude.{◌↔◌}
+use Rattle.ftd_days.specs.Calendar.{quarter_of}
 use Rattle.ftd_days.proofs.Business.{on_or_after_one}
 use Rattle.ftd_rules.specs.declared.Kind.{Kind}
 use Rattle.ftd_rules.specs.declared.Obligation.{Obligation}
-use Rattle.ftd_rules.specs.declared.Rule.{Rule}
-use Rattle.ftd_rules.specs.declared.Rule.TheVariants.{Monthly, Semiweekly, NextDay}
 use Rattle.ftd_rules.specs.Laws.{Covers}
 use Rattle.ftd_rules.specs.Lists.{Has}
 use Rattle.ftd_rules.specs.Returns.{month_after_ends}

@@ -1,6 +1,6 @@
 -- The obligation that covers a day can be explained.
 use Rattle.std.proofs.Common.{◌≡◌, ◌∙◌, ◌⊎◌, inl, inr, refl, sym, ap, subst, ℕ, ◌+◌, ◌-◌, ◌<◌, ◌≤◌}
-use Rattle.std.proofs.Common.{List, [], ◌∷◌, Option, None, Some, Ok, arith, Bool, true, false}
+use Rattle.std.proofs.Common.{List, [], ◌∷◌, Option, None, Some, Ok, arith, Bool, true, false, rules}
 use Rattle.std.specs.Prelude.{◌↔◌, zero, suc}
 use Rattle.std.proofs.lemmas.Bool.{true≢false, cases_Bool, cases_lt}
 use Rattle.std.proofs.lemmas.Bool.Decides.{eqb_tells}
@@ -321,17 +321,7 @@ module _ (holidays : List ℕ) (own : Entries) (lines : List YearLine)
           payments = payments.0;
         },
         refl,
-        record {
-          is_owed = has;
-          schedule = schedule;
-          paydays_rise = paydays.1;
-          paydays = paydays.2;
-          days_rise = counted.1;
-          days = counted.2;
-          return_due = r.1;
-          in_order = payments.1;
-          payments = payments.2;
-        },
+        search rules,
       )
 
   pub explanation_some : (day : ℕ) → (answer : Answer) × IsExplanation holidays own day answer
@@ -347,11 +337,5 @@ module _ (holidays : List ℕ) (own : Entries) (lines : List YearLine)
             ))
       ] in (
         Ok (Told (Explained found.0)),
-        record {
-          owed = owed.0;
-          are_owed = owed.1;
-          explained = found.0;
-          is_explained = found.1;
-          told = refl;
-        },
+        search rules,
       )

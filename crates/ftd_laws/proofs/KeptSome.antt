@@ -1,6 +1,6 @@
 -- What is kept can be listed.
 use Rattle.std.proofs.Common.{◌≡◌, ◌∙◌, ◌⊎◌, inl, inr, refl, sym, ap, subst, ℕ, true}
-use Rattle.std.proofs.Common.{List, [], ◌∷◌, Option, None, Some, arith}
+use Rattle.std.proofs.Common.{List, [], ◌∷◌, Option, None, Some, arith, rules, ◌≤◌}
 use Rattle.std.specs.Prelude.{◌↔◌}
 use Rattle.std.proofs.lemmas.Bool.Decides.{eqb_tells}
 use Rattle.std.specs.Prelude.{option_map, map}
@@ -46,7 +46,7 @@ use Rattle.ftd_machine.proofs.Members.{enrolled_of, found_some, some_of}
 use Rattle.ftd_machine.proofs.Lined.{owed_some}
 use Rattle.ftd_machine.proofs.Totals.{lookback_again}
 use Rattle.ftd_machine.proofs.DueSome.{Or, both_or, le_or}
-use Rattle.ftd_laws.proofs.Choosing.{chosen, made_some, kept_some}
+use Rattle.ftd_laws.proofs.Choosing.{chosen, made_some, kept_some, IsKeptAs}
 use Rattle.ftd_machine.proofs.Ordered.{ordered_some}
 use Rattle.ftd_machine.proofs.AgendaOrder.{names_total, three, names_then}
 use Rattle.ftd_machine.proofs.KeptOne.{held_one, payday_of, run_number, day_paid_for}
@@ -55,6 +55,24 @@ use Rattle.ftd_machine.proofs.KeptOne.{payment_one}
 
 same_or : (a b : ℕ) → Or (a ≡ b)
 same_or a b = elim (eqb_tells a b) [ inl here ↦ inl here.1 | inr apart ↦ inr apart.1 ]
+
+-- those of the list that have this key
+chosen_at : {X : Type 0} (key : X → ℕ) (k : ℕ) (xs : List X)
+    → (ys : List X) × ((x : X) → Has ys x ↔ (Has xs x × (key x ≡ k)))
+chosen_at key k xs = chosen (λ x. key x ≡ k) (λ x. same_or (key x) k) xs
+
+-- a row for each key under which something is kept, where the row has this key
+kept_in : {X R : Type 0} (make : ℕ → X → R) (entries : List (Entry X)) (key : R → ℕ) (k : ℕ)
+    → (rows : List R) × ((r : R) → Has rows r ↔ (IsKeptAs make entries r × (key r ≡ k)))
+kept_in make entries key k =
+    let made = kept_some make entries in
+    let some = chosen_at key k made.0 in (
+      some.0,
+      λ r. (
+        (λ has. let h = (some.1 r).0 has in ((made.1 r).0 h.0, h.1)),
+        (λ h. (some.1 r).1 ((made.1 r).1 h.0, h.1)),
+      ),
+    )
 
 -- all that meet a condition, in order, where they are among these
 module _ {X : Type 0} (R : X → X → Type 0) (P : X → Type 0)
@@ -124,13 +142,8 @@ with_first : (own : Entries) (lines : List YearLine)
     × ((x : KeptYear) → Has xs x → IsFirstLookback own x)
 with_first own [] totals = ([], refl, λ x has. absurd has)
 with_first own (line ∷ lines) totals =
-    let first = lookback_again own (as_first_reported own) (record {
-      account = refl;
-      reported = refl;
-      reported_years = refl;
-      open_years = refl;
-      runs = refl;
-    }) line.year line.lookback (totals line (inl refl)) in
+    let first = lookback_again own (as_first_reported own) (search rules) line.year line.lookback
+    (totals line (inl refl)) in
     let rest = with_first own lines (λ other has. totals other (inr has)) in
     let year : KeptYear = record { line = line; first_lookback = first.0 } in (
       year ∷ rest.0,
@@ -156,34 +169,59 @@ years_some own lines are =
 
 -- ---- reported totals
 
+-- the total of a quarter or of a year, by the form, and what is kept of it
+abbrev total_of : Form → ℕ → Cents → Cents → KeptTotal
+total_of F941 key cents first = OfQuarter key cents first
+total_of F943 key cents first = OfYear key cents first
+
+abbrev reported_on : Form → Entries → List (Entry Cents)
+reported_on F941 own = own.reported
+reported_on F943 own = own.reported_years
+
+abbrev corrected_on : Form → Entries → List (Entry Cents)
+corrected_on F941 own = own.corrected
+corrected_on F943 own = own.corrected_years
+
+abbrev IsReported : Form → Entries → ℕ → Cents → Cents → Type 0
+IsReported form own key cents first =
+    (figure_at key (reported_on form own) (corrected_on form own) ≡ Some cents)
+    × (kept_at key (reported_on form own) ≡ Some first)
+
+-- each total is one of the form, of its key
+period_is : (form : Form) (key : ℕ) (cents first : Cents)
+    → period_of (total_of form key cents first) ≡ key
+period_is F941 key cents first = refl
+period_is F943 key cents first = refl
+
+total_is : (form : Form) (own : Entries) (key : ℕ) (cents first : Cents)
+    → IsReported form own key cents first → IsTotal form own (total_of form key cents first)
+total_is F941 own key cents first h = h
+total_is F943 own key cents first h = h
+
+total_parts : (form : Form) (own : Entries) (x : KeptTotal) → IsTotal form own x → (key : ℕ)
+    × (cents : Cents) × (first : Cents) × (x ≡ total_of form key cents first)
+    × IsReported form own key cents first
+total_parts F941 own (OfQuarter key cents first) h = (key, cents, first, refl, h)
+total_parts F941 own (OfYear key cents first) h = absurd h
+total_parts F943 own (OfQuarter key cents first) h = absurd h
+total_parts F943 own (OfYear key cents first) h = (key, cents, first, refl, h)
+
 total_one : (form : Form) (own : Entries) (x y : KeptTotal) → period_of x ≡ period_of y
     → IsTotal form own x → IsTotal form own y → x ≡ y
-total_one F941 own (OfQuarter a c e) (OfQuarter b d f) same g h =
-    let cents : c ≡ d = same_Some c d
-    (sym g.0 ∙ subst (λ k. figure_at k own.reported own.corrected ≡ Some d) (sym same) h.0) in
-    let first : e ≡ f = same_Some e f
-    (sym g.1 ∙ subst (λ k. kept_at k own.reported ≡ Some f) (sym same) h.1) in
-    rw (same, cents, first) refl
-total_one F941 own (OfQuarter a c e) (OfYear b d f) same g h = absurd h
-total_one F941 own (OfYear a c e) y same g h = absurd g
-total_one F943 own (OfYear a c e) (OfYear b d f) same g h =
-    let cents : c ≡ d = same_Some c d (sym g.0
-    ∙ subst (λ k. figure_at k own.reported_years own.corrected_years ≡ Some d) (sym same) h.0) in
-    let first : e ≡ f = same_Some e f
-    (sym g.1 ∙ subst (λ k. kept_at k own.reported_years ≡ Some f) (sym same) h.1) in
-    rw (same, cents, first) refl
-total_one F943 own (OfYear a c e) (OfQuarter b d f) same g h = absurd h
-total_one F943 own (OfQuarter a c e) y same g h = absurd g
+total_one form own x y same g h =
+    let a = total_parts form own x g in
+    let b = total_parts form own y h in
+    let key : a.0 ≡ b.0 = sym (period_is form a.0 a.1 a.2) ∙ ap period_of (sym a.3) ∙ same
+    ∙ ap period_of b.3 ∙ period_is form b.0 b.1 b.2 in
+    let other : IsReported form own a.0 b.1 b.2 =
+    subst (λ k. IsReported form own k b.1 b.2) (sym key) b.4 in
+    let cents : a.1 ≡ b.1 = same_Some a.1 b.1 (sym a.4.0 ∙ other.0) in
+    let first : a.2 ≡ b.2 = same_Some a.2 b.2 (sym a.4.1 ∙ other.1) in
+    a.3 ∙ (rw (key, cents, first) refl) ∙ sym b.3
 
 -- what is in force of a total that was reported so
 abbrev in_force_of : ℕ → List (Entry Cents) → Cents → Cents
 in_force_of key corrected first = latest first (all_at key corrected)
-
-abbrev quarter_of_figure : Entries → ℕ → Cents → KeptTotal
-quarter_of_figure own key first = OfQuarter key (in_force_of key own.corrected first) first
-
-abbrev year_of_figure : Entries → ℕ → Cents → KeptTotal
-year_of_figure own key first = OfYear key (in_force_of key own.corrected_years first) first
 
 -- the figure in force of what was reported so first
 force_is : (key : ℕ) (reported corrected : List (Entry Cents)) (cents first : Cents)
@@ -195,48 +233,26 @@ force_is key reported corrected cents first force was =
 
 totals_are : (form : Form) (own : Entries)
     → (xs : List KeptTotal) × ((x : KeptTotal) → Has xs x ↔ IsTotal form own x)
-totals_are F941 own =
-    let made = kept_some (quarter_of_figure own) own.reported in (
+totals_are form own =
+    let corrected = corrected_on form own in
+    let made = kept_some (λ key first. total_of form key (in_force_of key corrected first) first)
+    (reported_on form own) in (
       made.0,
       λ x. (
         (λ has. (let h = (made.1 x).0 has in
-            subst (IsTotal F941 own) (sym h.3)
-            (ap (option_map (in_force_of h.0 own.corrected)) h.2, h.2))),
-        (λ is. (made.1 x).1 (back x is)),
+            subst (IsTotal form own) (sym h.3) (total_is form own h.0
+            (in_force_of h.0 corrected h.1) h.1
+            (ap (option_map (in_force_of h.0 corrected)) h.2, h.2)))),
+        (λ is. (let p = total_parts form own x is in
+            (made.1 x).1 (
+              p.0,
+              p.2,
+              p.4.1,
+              p.3 ∙ ap (λ c. total_of form p.0 c p.2)
+                  (force_is p.0 (reported_on form own) corrected p.1 p.2 p.4.0 p.4.1),
+            ))),
       ),
     )
-  where
-    back : (x : KeptTotal) → IsTotal F941 own x → (k : ℕ) × (c : Cents)
-        × (kept_at k own.reported ≡ Some c) × (x ≡ quarter_of_figure own k c)
-    back (OfQuarter quarter cents first) is = (
-      quarter,
-      first,
-      is.1,
-      ap (λ c. OfQuarter quarter c first)
-          (force_is quarter own.reported own.corrected cents first is.0 is.1),
-    )
-    back (OfYear year cents first) is = absurd is
-totals_are F943 own =
-    let made = kept_some (year_of_figure own) own.reported_years in (
-      made.0,
-      λ x. (
-        (λ has. (let h = (made.1 x).0 has in
-            subst (IsTotal F943 own) (sym h.3)
-            (ap (option_map (in_force_of h.0 own.corrected_years)) h.2, h.2))),
-        (λ is. (made.1 x).1 (back x is)),
-      ),
-    )
-  where
-    back : (x : KeptTotal) → IsTotal F943 own x → (k : ℕ) × (c : Cents)
-        × (kept_at k own.reported_years ≡ Some c) × (x ≡ year_of_figure own k c)
-    back (OfYear year cents first) is = (
-      year,
-      first,
-      is.1,
-      ap (λ c. OfYear year c first)
-          (force_is year own.reported_years own.corrected_years cents first is.0 is.1),
-    )
-    back (OfQuarter quarter cents first) is = absurd is
 
 totals_some : (own : Entries) → (answer : Answer) × AreTotals own answer
 totals_some own =
@@ -260,49 +276,37 @@ holidays_some : (s : State) (year : ℕ) → is_given s year ≡ true
     → (answer : Answer) × AreHolidays s year answer
 holidays_some s year there =
     let given = some_of (calendar_at s year) there in
-    let added = chosen (λ day. year_of day ≡ year) (λ day. same_or (year_of day) year)
-    s.added_days in
+    let added = chosen_at year_of year s.added_days in
     let listed = all_in_order IsDayBefore (IsAdded s year) (λ x y z g h. omega arith)
     (λ x y g h. elim (three x y) [
       | inl less ↦ inl less
       | inr not ↦ inr not
     ]) added.0 added.1 in (
       told_rows (rows.Holidays (kept_days s given.0 listed.0)),
-      record {
-        given = given.0;
-        is_given = given.1;
-        added = listed.0;
-        rising = listed.1;
-        all = listed.2;
-        told = refl;
-      },
+      search rules,
     )
 
 -- ---- runs
 
 runs_some : (own : Entries) (quarter : ℕ) → (answer : Answer) × AreRuns own quarter answer
 runs_some own quarter =
-    let made = kept_some
+    let made = kept_in
     (λ number (v : Voidable PayRun). record { number = number; run = v.value; voided = v.voided })
-    own.runs in
-    let in_quarter = chosen (λ (x : KeptRun). quarter_of x.run.payday ≡ quarter)
-    (λ x. same_or (quarter_of x.run.payday) quarter) made.0 in
-    let are : (x : KeptRun) → Has in_quarter.0 x ↔ IsRunIn own quarter x = λ x. (
-      (λ has.
-          (let h = (in_quarter.1 x).0 has in
-          let k = (made.1 x).0 h.0 in (
-            subst (λ (r : KeptRun). kept_at r.number own.runs
-                ≡ Some (record { value = r.run; voided = r.voided })) (sym k.3) k.2,
-            h.1,
-          ))),
-      (λ is. (in_quarter.1 x).1 (
-        (made.1 x).1 (x.number, record { value = x.run; voided = x.voided }, is.0, refl),
+    own.runs (λ (x : KeptRun). quarter_of x.run.payday) quarter in
+    let are : (x : KeptRun) → Has made.0 x ↔ IsRunIn own quarter x = λ x. (
+      (λ has. let h = (made.1 x).0 has in (
+        subst (λ (r : KeptRun). kept_at r.number own.runs
+            ≡ Some (record { value = r.run; voided = r.voided })) (sym h.0.3) h.0.2,
+        h.1,
+      )),
+      (λ is. (made.1 x).1 (
+        (x.number, record { value = x.run; voided = x.voided }, is.0, refl),
         is.1,
       )),
     ) in
     let listed = all_in_order IsRunBefore (IsRunIn own quarter) (two_then payday_of run_number)
     (λ x y g h. two_total payday_of run_number x y (run_one own quarter x y g h))
-    in_quarter.0 are in (
+    made.0 are in (
       told_rows (rows.Runs listed.0),
       record { listed = listed.0; in_order = listed.1; all = listed.2; told = refl },
     )
@@ -311,6 +315,23 @@ runs_some own quarter =
 
 pub holds_or : (o : Obligation) (day : ℕ) → Or (Covers o day)
 holds_or o day = both_or (le_or o.first day) (le_or day o.last)
+
+-- one more obligation, where the first that holds the day begins so
+held_by : (o it : Obligation) (os : List Obligation) (day first : ℕ) → Has (o ∷ os) it
+    → Covers it day → it.first ≡ first → (Covers o day → first ≤ o.first)
+    → ((p : Obligation) → Has os p → Covers p day → first ≤ p.first)
+    → IsHeldBy (o ∷ os) day (Some first)
+held_by o it os day first has holds is own each = (
+  it,
+  has,
+  holds,
+  is,
+  λ p there also. elim there [
+    | inl same ↦ subst (λ (q : Obligation). first ≤ q.first) (sym same)
+        (own (subst (λ (q : Obligation). Covers q day) same also))
+    | inr more ↦ each p more also
+  ],
+)
 
 held_more : (o : Obligation) (os : List Obligation) (day : ℕ) → Or (Covers o day)
     → (found : Option ℕ) → IsHeldBy os day found
@@ -324,58 +345,22 @@ held_more o os day (inr not) None none = (
 )
 held_more o os day (inr not) (Some first) held = (
   Some first,
-  (
-    held.0,
-    inr held.1,
-    held.2,
-    held.3,
-    λ p has holds. elim has [
-      | inl is ↦ absurd (not (subst (λ (q : Obligation). Covers q day) is holds))
-      | inr more ↦ held.4 p more holds
-    ],
-  ),
+  held_by o held.0 os day first (inr held.1) held.2 held.3 (λ also. absurd (not also)) held.4,
 )
 held_more o os day (inl holds) None none = (
   Some o.first,
-  (
-    o,
-    inl refl,
-    holds,
-    refl,
-    λ p has also. elim has [
-      | inl is ↦ (let same : p.first ≡ o.first = ap (λ (q : Obligation). q.first) is in omega arith)
-      | inr more ↦ absurd (none p more also)
-    ],
-  ),
+  held_by o o os day o.first (inl refl) holds refl (λ also. omega arith)
+      (λ p more also. absurd (none p more also)),
 )
 held_more o os day (inl holds) (Some first) held = elim (cases_lt o.first first) [
   | inl less ↦ (
     Some o.first,
-    (
-      o,
-      inl refl,
-      holds,
-      refl,
-      λ p has also. elim has [
-        | inl is ↦
-            (let same : p.first ≡ o.first = ap (λ (q : Obligation). q.first) is in omega arith)
-        | inr more ↦ (let least = held.4 p more also in omega arith)
-      ],
-    ),
+    held_by o o os day o.first (inl refl) holds refl (λ also. omega arith)
+        (λ p more also. let least = held.4 p more also in omega arith),
   )
   | inr not ↦ (
     Some first,
-    (
-      held.0,
-      inr held.1,
-      held.2,
-      held.3,
-      λ p has also. elim has [
-        | inl is ↦
-            (let same : p.first ≡ o.first = ap (λ (q : Obligation). q.first) is in omega arith)
-        | inr more ↦ held.4 p more also
-      ],
-    ),
+    held_by o held.0 os day first (inr held.1) held.2 held.3 (λ also. omega arith) held.4,
   )
 ]
 
@@ -388,31 +373,27 @@ payments_some : (hs : List ℕ) (own : Entries) (lines : List YearLine) (quarter
     → AreLinesOf own lines → (answer : Answer) × ArePayments hs own quarter answer
 payments_some hs own lines quarter are_lines =
     let owed = owed_some hs own lines are_lines in
-    let made = kept_some
+    let made = kept_in
     (λ number (v : Voidable Payment). record {
       number = number;
       payment = v.value;
       voided = v.voided;
       obligation = (held_some owed.0 v.value.for_day).0;
-    }) own.payments in
-    let in_quarter = chosen (λ (x : KeptPayment). quarter_of x.payment.for_day ≡ quarter)
-    (λ x. same_or (quarter_of x.payment.for_day) quarter) made.0 in
-    let are : (x : KeptPayment) → Has in_quarter.0 x ↔ IsPaymentIn owed.0 own quarter x = λ x. (
-      (λ has.
-          (let h = (in_quarter.1 x).0 has in
-          let k = (made.1 x).0 h.0 in (
-            subst (λ (r : KeptPayment). kept_at r.number own.payments
-                ≡ Some (record { value = r.payment; voided = r.voided })) (sym k.3) k.2,
-            h.1,
-            subst (λ (r : KeptPayment). IsHeldBy owed.0 r.payment.for_day r.obligation) (sym k.3)
-                (held_some owed.0 k.1.value.for_day).1,
-          ))),
+    }) own.payments (λ (x : KeptPayment). quarter_of x.payment.for_day) quarter in
+    let are : (x : KeptPayment) → Has made.0 x ↔ IsPaymentIn owed.0 own quarter x = λ x. (
+      (λ has. let h = (made.1 x).0 has in (
+        subst (λ (r : KeptPayment). kept_at r.number own.payments
+            ≡ Some (record { value = r.payment; voided = r.voided })) (sym h.0.3) h.0.2,
+        h.1,
+        subst (λ (r : KeptPayment). IsHeldBy owed.0 r.payment.for_day r.obligation) (sym h.0.3)
+            (held_some owed.0 h.0.1.value.for_day).1,
+      )),
       (λ is.
-          (let held : x.obligation ≡ (held_some owed.0 x.payment.for_day).0 =
+          let held : x.obligation ≡ (held_some owed.0 x.payment.for_day).0 =
           held_one owed.0 x.payment.for_day x.obligation (held_some owed.0 x.payment.for_day).0 is.2
           (held_some owed.0 x.payment.for_day).1 in
-          (in_quarter.1 x).1 (
-            (made.1 x).1 (
+          (made.1 x).1 (
+            (
               x.number,
               record { value = x.payment; voided = x.voided },
               is.0,
@@ -424,21 +405,14 @@ payments_some hs own lines quarter are_lines =
               }) held,
             ),
             is.1,
-          ))),
+          )),
     ) in
     let listed = all_in_order IsPaymentBefore (IsPaymentIn owed.0 own quarter)
     (two_then day_paid_for payment_number)
     (λ x y g h. two_total day_paid_for payment_number x y
-    (payment_one owed.0 own quarter x y g h)) in_quarter.0 are in (
+    (payment_one owed.0 own quarter x y g h)) made.0 are in (
       told_rows (rows.Payments listed.0),
-      record {
-        owed = owed.0;
-        are_owed = owed.1;
-        listed = listed.0;
-        in_order = listed.1;
-        all = listed.2;
-        told = refl;
-      },
+      search rules,
     )
 
 -- ---- the question

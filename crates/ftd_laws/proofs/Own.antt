@@ -5,7 +5,6 @@ use Rattle.std.specs.Option.{option_or}
 use Rattle.ftd_days.specs.Calendar.{year_of, year_start, quarter_start}
 use Rattle.ftd_days.specs.declared.cents.Cents.{Cents}
 use Rattle.ftd_machine.specs.declared.entries.Account.{Account}
-use Rattle.ftd_machine.specs.declared.entries.Beginning.{Beginning}
 use Rattle.ftd_rules.specs.declared.run.PayRun.{PayRun}
 use Rattle.ftd_rules.specs.declared.payment.Payment.{Payment}
 use Rattle.ftd_rules.specs.declared.run.Voidable.{Voidable}
@@ -36,210 +35,117 @@ use Rattle.ftd_laws.proofs.Questions.{same_holidays, same_checks, same_told}
 
 -- ---- the same change of both
 
-module _ (name : List ℕ) (s t : State) (agree : AgreeOn name s t) where
-  abbrev own_s : Entries
-  own_s = entries_of s name
+-- the account that a request names, and what it changes of a state and of that account's entries
+abbrev named_in : Request → List ℕ
+named_in (Enrol name start carried form) = name
+named_in (Report name quarter cents) = name
+named_in (ReportYear name year cents) = name
+named_in (OpenYear name year) = name
+named_in (Post name number payday fit ss medicare) = name
+named_in (Void name number) = name
+named_in (Pay name number paid for_day cents) = name
+named_in (VoidPay name number) = name
+named_in (CorrectReport name quarter number cents) = name
+named_in (CorrectReportYear name year number cents) = name
+named_in (CorrectAccount name number start carried) = name
+named_in request = []
 
-  abbrev own_t : Entries
-  own_t = entries_of t name
+abbrev run_taken : ℕ → Cents → Cents → Cents → Voidable PayRun
+run_taken payday fit ss medicare =
+    taken (record { payday = payday; fit = fit; ss = ss; medicare = medicare })
 
-  agree_account : (account : Account)
-      → AgreeOn name (record s { accounts = with_account s.accounts name account })
-      (record t { accounts = with_account t.accounts name account })
-  agree_account account = record {
-    own =
-        let F : Entries → Entries =
-        λ own. record own {
-          enrolled = option_or own.enrolled (Some account);
-          account = account_in_force (option_or own.enrolled (Some account)) own.moves;
-        } in
-        let after_s : entries_of (record s { accounts = with_account s.accounts name account }) name
-        ≡ F own_s = rw (account_own s.accounts name account) refl in
-        let after_t : entries_of (record t { accounts = with_account t.accounts name account }) name
-        ≡ F own_t = rw (account_own t.accounts name account) refl in
-        after_t ∙ ap F agree.own ∙ sym after_s;
-    calendars = agree.calendars;
-    added_days = agree.added_days;
-    changed_days = agree.changed_days;
-  }
+abbrev payment_taken : ℕ → ℕ → Cents → Voidable Payment
+payment_taken paid for_day cents =
+    taken (record { paid = paid; for_day = for_day; cents = cents })
 
-  agree_reported : (key : ℕ) (cents : Cents)
-      → AgreeOn name (record s { reported = with_entry s.reported name key cents })
-      (record t { reported = with_entry t.reported name key cents })
-  agree_reported key cents = record {
-    own =
-        let F : Entries → Entries =
-        λ own. record own { reported = with_entry own.reported name key cents } in
-        let after_s : entries_of (record s { reported = with_entry s.reported name key cents }) name
-        ≡ F own_s = rw (entry_own s.reported name key cents) refl in
-        let after_t : entries_of (record t { reported = with_entry t.reported name key cents }) name
-        ≡ F own_t = rw (entry_own t.reported name key cents) refl in
-        after_t ∙ ap F agree.own ∙ sym after_s;
-    calendars = agree.calendars;
-    added_days = agree.added_days;
-    changed_days = agree.changed_days;
-  }
+abbrev next_of : Request → State → State
+next_of (Enrol name start carried form) s =
+    let account : Account = record { start = start; carried = carried; form = form } in
+    record s { accounts = with_account s.accounts name account }
+next_of (Report name quarter cents) s =
+    record s { reported = with_entry s.reported name quarter cents }
+next_of (ReportYear name year cents) s =
+    record s { reported_years = with_entry s.reported_years name year cents }
+next_of (OpenYear name year) s = record s { open_years = with_entry s.open_years name year tt }
+next_of (Post name number payday fit ss medicare) s =
+    record s { runs = with_entry s.runs name number (run_taken payday fit ss medicare) }
+next_of (Void name number) s = record s { runs = with_voided s.runs name number }
+next_of (Pay name number paid for_day cents) s =
+    record s { payments = with_entry s.payments name number (payment_taken paid for_day cents) }
+next_of (VoidPay name number) s = record s { payments = with_voided s.payments name number }
+next_of (CorrectReport name quarter number cents) s =
+    record s { corrected = with_entry s.corrected name quarter cents }
+next_of (CorrectReportYear name year number cents) s =
+    record s { corrected_years = with_entry s.corrected_years name year cents }
+next_of (CorrectAccount name number start carried) s =
+    record s { moved = with_move s.moved name (record { start = start; carried = carried }) }
+next_of request s = s
 
-  agree_reported_year : (key : ℕ) (cents : Cents)
-      → AgreeOn name (record s { reported_years = with_entry s.reported_years name key cents })
-      (record t { reported_years = with_entry t.reported_years name key cents })
-  agree_reported_year key cents = record {
-    own =
-        let F : Entries → Entries =
-        λ own. record own { reported_years = with_entry own.reported_years name key cents } in
-        let after_s : entries_of
-        (record s { reported_years = with_entry s.reported_years name key cents }) name ≡ F own_s =
-        rw (entry_own s.reported_years name key cents) refl in
-        let after_t : entries_of
-        (record t { reported_years = with_entry t.reported_years name key cents }) name ≡ F own_t =
-        rw (entry_own t.reported_years name key cents) refl in
-        after_t ∙ ap F agree.own ∙ sym after_s;
-    calendars = agree.calendars;
-    added_days = agree.added_days;
-    changed_days = agree.changed_days;
-  }
+abbrev own_after : Request → Entries → Entries
+own_after (Enrol name start carried form) own =
+    let account : Account = record { start = start; carried = carried; form = form } in
+    record own {
+      enrolled = option_or own.enrolled (Some account);
+      account = account_in_force (option_or own.enrolled (Some account)) own.moves;
+    }
+own_after (Report name quarter cents) own =
+    record own { reported = with_entry own.reported name quarter cents }
+own_after (ReportYear name year cents) own =
+    record own { reported_years = with_entry own.reported_years name year cents }
+own_after (OpenYear name year) own =
+    record own { open_years = with_entry own.open_years name year tt }
+own_after (Post name number payday fit ss medicare) own =
+    record own { runs = with_entry own.runs name number (run_taken payday fit ss medicare) }
+own_after (Void name number) own = record own { runs = with_voided own.runs name number }
+own_after (Pay name number paid for_day cents) own =
+    record own { payments = with_entry own.payments name number (payment_taken paid for_day cents) }
+own_after (VoidPay name number) own =
+    record own { payments = with_voided own.payments name number }
+own_after (CorrectReport name quarter number cents) own =
+    record own { corrected = with_entry own.corrected name quarter cents }
+own_after (CorrectReportYear name year number cents) own =
+    record own { corrected_years = with_entry own.corrected_years name year cents }
+own_after (CorrectAccount name number start carried) own =
+    let moves = own.moves ++ record { start = start; carried = carried } ∷ [] in
+    record own { moves = moves; account = account_in_force own.enrolled moves }
+own_after request own = own
 
-  agree_open : (year : ℕ)
-      → AgreeOn name (record s { open_years = with_entry s.open_years name year tt })
-      (record t { open_years = with_entry t.open_years name year tt })
-  agree_open year = record {
-    own =
-        let F : Entries → Entries =
-        λ own. record own { open_years = with_entry own.open_years name year tt } in
-        let after_s : entries_of (record s { open_years = with_entry s.open_years name year tt })
-        name ≡ F own_s = rw (entry_own s.open_years name year tt) refl in
-        let after_t : entries_of (record t { open_years = with_entry t.open_years name year tt })
-        name ≡ F own_t = rw (entry_own t.open_years name year tt) refl in
-        after_t ∙ ap F agree.own ∙ sym after_s;
-    calendars = agree.calendars;
-    added_days = agree.added_days;
-    changed_days = agree.changed_days;
-  }
+-- the entries of the account change so, and the holidays do not
+own_next : (request : Request) (s : State) → entries_of (next_of request s) (named_in request)
+    ≡ own_after request (entries_of s (named_in request))
+own_next (Enrol name start carried form) s =
+    rw (account_own s.accounts name (record { start = start; carried = carried; form = form })) refl
+own_next (Report name quarter cents) s = rw (entry_own s.reported name quarter cents) refl
+own_next (ReportYear name year cents) s = rw (entry_own s.reported_years name year cents) refl
+own_next (OpenYear name year) s = rw (entry_own s.open_years name year tt) refl
+own_next (Post name number payday fit ss medicare) s = rw (entry_own s.runs name number _) refl
+own_next (Void name number) s = rw (voided_own s.runs name number) refl
+own_next (Pay name number paid for_day cents) s = rw (entry_own s.payments name number _) refl
+own_next (VoidPay name number) s = rw (voided_own s.payments name number) refl
+own_next (CorrectReport name quarter number cents) s =
+    rw (entry_own s.corrected name quarter cents) refl
+own_next (CorrectReportYear name year number cents) s =
+    rw (entry_own s.corrected_years name year cents) refl
+own_next (CorrectAccount name number start carried) s = rw (moved_own s.moved name _) refl
+own_next request s = refl
 
-  agree_run : (number : ℕ) (run : Voidable PayRun)
-      → AgreeOn name (record s { runs = with_entry s.runs name number run })
-      (record t { runs = with_entry t.runs name number run })
-  agree_run number run = record {
-    own =
-        let F : Entries → Entries =
-        λ own. record own { runs = with_entry own.runs name number run } in
-        let after_s : entries_of (record s { runs = with_entry s.runs name number run }) name
-        ≡ F own_s = rw (entry_own s.runs name number run) refl in
-        let after_t : entries_of (record t { runs = with_entry t.runs name number run }) name
-        ≡ F own_t = rw (entry_own t.runs name number run) refl in
-        after_t ∙ ap F agree.own ∙ sym after_s;
-    calendars = agree.calendars;
-    added_days = agree.added_days;
-    changed_days = agree.changed_days;
-  }
+rest_next : (request : Request) (s : State) → ((next_of request s).calendars ≡ s.calendars)
+    × ((next_of request s).added_days ≡ s.added_days)
+    × ((next_of request s).changed_days ≡ s.changed_days)
+rest_next (Enrol name start carried form) s = (refl, refl, refl)
+rest_next request s = (refl, refl, refl)
 
-  agree_void : (number : ℕ)
-      → AgreeOn name (record s { runs = with_voided s.runs name number })
-      (record t { runs = with_voided t.runs name number })
-  agree_void number = record {
-    own =
-        let F : Entries → Entries = λ own. record own { runs = with_voided own.runs name number } in
-        let after_s : entries_of (record s { runs = with_voided s.runs name number }) name
-        ≡ F own_s = rw (voided_own s.runs name number) refl in
-        let after_t : entries_of (record t { runs = with_voided t.runs name number }) name
-        ≡ F own_t = rw (voided_own t.runs name number) refl in
-        after_t ∙ ap F agree.own ∙ sym after_s;
-    calendars = agree.calendars;
-    added_days = agree.added_days;
-    changed_days = agree.changed_days;
-  }
-
-  agree_payment : (number : ℕ) (payment : Voidable Payment)
-      → AgreeOn name (record s { payments = with_entry s.payments name number payment })
-      (record t { payments = with_entry t.payments name number payment })
-  agree_payment number payment = record {
-    own =
-        let F : Entries → Entries =
-        λ own. record own { payments = with_entry own.payments name number payment } in
-        let after_s : entries_of (record s { payments = with_entry s.payments name number payment })
-        name ≡ F own_s = rw (entry_own s.payments name number payment) refl in
-        let after_t : entries_of (record t { payments = with_entry t.payments name number payment })
-        name ≡ F own_t = rw (entry_own t.payments name number payment) refl in
-        after_t ∙ ap F agree.own ∙ sym after_s;
-    calendars = agree.calendars;
-    added_days = agree.added_days;
-    changed_days = agree.changed_days;
-  }
-
-  agree_void_payment : (number : ℕ)
-      → AgreeOn name (record s { payments = with_voided s.payments name number })
-      (record t { payments = with_voided t.payments name number })
-  agree_void_payment number = record {
-    own =
-        let F : Entries → Entries =
-        λ own. record own { payments = with_voided own.payments name number } in
-        let after_s : entries_of (record s { payments = with_voided s.payments name number }) name
-        ≡ F own_s = rw (voided_own s.payments name number) refl in
-        let after_t : entries_of (record t { payments = with_voided t.payments name number }) name
-        ≡ F own_t = rw (voided_own t.payments name number) refl in
-        after_t ∙ ap F agree.own ∙ sym after_s;
-    calendars = agree.calendars;
-    added_days = agree.added_days;
-    changed_days = agree.changed_days;
-  }
-
-  agree_corrected : (key : ℕ) (cents : Cents)
-      → AgreeOn name (record s { corrected = with_entry s.corrected name key cents })
-      (record t { corrected = with_entry t.corrected name key cents })
-  agree_corrected key cents = record {
-    own =
-        let F : Entries → Entries =
-        λ own. record own { corrected = with_entry own.corrected name key cents } in
-        let after_s : entries_of (record s { corrected = with_entry s.corrected name key cents })
-        name ≡ F own_s = rw (entry_own s.corrected name key cents) refl in
-        let after_t : entries_of (record t { corrected = with_entry t.corrected name key cents })
-        name ≡ F own_t = rw (entry_own t.corrected name key cents) refl in
-        after_t ∙ ap F agree.own ∙ sym after_s;
-    calendars = agree.calendars;
-    added_days = agree.added_days;
-    changed_days = agree.changed_days;
-  }
-
-  agree_corrected_year : (key : ℕ) (cents : Cents)
-      → AgreeOn name (record s { corrected_years = with_entry s.corrected_years name key cents })
-      (record t { corrected_years = with_entry t.corrected_years name key cents })
-  agree_corrected_year key cents = record {
-    own =
-        let F : Entries → Entries =
-        λ own. record own { corrected_years = with_entry own.corrected_years name key cents } in
-        let after_s : entries_of
-        (record s { corrected_years = with_entry s.corrected_years name key cents }) name
-        ≡ F own_s =
-        rw (entry_own s.corrected_years name key cents) refl in
-        let after_t : entries_of
-        (record t { corrected_years = with_entry t.corrected_years name key cents }) name
-        ≡ F own_t =
-        rw (entry_own t.corrected_years name key cents) refl in
-        after_t ∙ ap F agree.own ∙ sym after_s;
-    calendars = agree.calendars;
-    added_days = agree.added_days;
-    changed_days = agree.changed_days;
-  }
-
-  agree_moved : (beginning : Beginning)
-      → AgreeOn name (record s { moved = with_move s.moved name beginning })
-      (record t { moved = with_move t.moved name beginning })
-  agree_moved beginning = record {
-    own =
-        let F : Entries → Entries =
-        λ own. record own {
-          moves = own.moves ++ beginning ∷ [];
-          account = account_in_force own.enrolled (own.moves ++ beginning ∷ []);
-        } in
-        let after_s : entries_of (record s { moved = with_move s.moved name beginning }) name
-        ≡ F own_s = rw (moved_own s.moved name beginning) refl in
-        let after_t : entries_of (record t { moved = with_move t.moved name beginning }) name
-        ≡ F own_t = rw (moved_own t.moved name beginning) refl in
-        after_t ∙ ap F agree.own ∙ sym after_s;
-    calendars = agree.calendars;
-    added_days = agree.added_days;
-    changed_days = agree.changed_days;
-  }
+agree_next : (s t : State) (request : Request) → AgreeOn (named_in request) s t
+    → AgreeOn (named_in request) (next_of request s) (next_of request t)
+agree_next s t request agree =
+    let in_s = rest_next request s in
+    let in_t = rest_next request t in
+    record {
+      own = own_next request t ∙ ap (own_after request) agree.own ∙ sym (own_next request s);
+      calendars = in_t.0 ∙ agree.calendars ∙ sym in_s.0;
+      added_days = in_t.1 ∙ agree.added_days ∙ sym in_s.1;
+      changed_days = in_t.2 ∙ agree.changed_days ∙ sym in_s.2;
+    }
 
 -- ---- the same answer
 
@@ -334,7 +240,8 @@ module _ (name : List ℕ) (s t : State) (agree : AgreeOn name s t) (answer : An
   next_follows year (inr found) =
       let next = done_follows (first_of (may_open (entries_of s name) year))
       (first_of (may_open (entries_of t name) year)) _ _
-      (ap (λ own. first_of (may_open own year)) agree.own) (agree_open name s t agree year)
+      (ap (λ own. first_of (may_open own year)) agree.own) (agree_next s t (OpenYear name year)
+      agree)
       found.2 in (
         next.0,
         inr (
@@ -358,104 +265,87 @@ is_given_same name s t year agree = rw (agree.calendars) refl
 
 -- ---- requests
 
+-- what follows for the account that is named follows for its name
+at_name : (own name : List ℕ) (s t new : State) (Goes : State → Type 0) → own ≡ name
+    → AgreeOn name s t
+    → (AgreeOn own s t → (then : State) × Goes then × AgreeOn own new then)
+    → (then : State) × Goes then × AgreeOn name new then
+at_name own name s t new Goes named agree follow =
+    subst (λ x. (then : State) × Goes then × AgreeOn x new then) named
+    (follow (subst (λ x. AgreeOn x s t) (sym named) agree))
+
 -- what the checks of a request that names an account see is the same
 pub follows : (s t : State) (request : Request) (answer : Answer) (new : State) (name : List ℕ)
     → Names request name → AgreeOn name s t → Step s request answer new
     → (then : State) × Step t request answer then × AgreeOn name new then
 follows s t (Enrol own start carried form) answer new name named agree step =
+    let request = Enrol own start carried form in
     let account : Account = record { start = start; carried = carried; form = form } in
-    let agrees : AgreeOn own s t = subst (λ x. AgreeOn x s t) (sym named) agree in
-    subst (λ x. (then : State) × Step t (Enrol own start carried form) answer then
-    × AgreeOn x new then) named
-    (done_follows own s t agrees answer new _ _ _ _
+    at_name own name s t new _ named agree (λ agrees. done_follows own s t agrees answer new _ _ _ _
     (ap (λ (e : Entries). first_of (enrol_checks own account e.enrolled)) agrees.own)
-    (agree_account own s t agrees account) step)
+    (agree_next s t request agrees) step)
 follows s t (Calendar year days) answer new name named agree step = absurd named
 follows s t (AddHoliday day) answer new name named agree step = absurd named
 follows s t (Report own quarter cents) answer new name named agree step =
-    let agrees : AgreeOn own s t = subst (λ x. AgreeOn x s t) (sym named) agree in
-    subst (λ x. (then : State) × Step t (Report own quarter cents) answer then × AgreeOn x new then)
-    named
-    (done_follows own s t agrees answer new _ _ _ _
+    let request = Report own quarter cents in
+    at_name own name s t new _ named agree (λ agrees. done_follows own s t agrees answer new _ _ _ _
     (ap (λ (e : Entries). first_of (report_checks own quarter cents e.account
-    (kept_at quarter e.reported))) agrees.own)
-    (agree_reported own s t agrees quarter cents) step)
+    (kept_at quarter e.reported))) agrees.own) (agree_next s t request agrees) step)
 follows s t (ReportYear own year cents) answer new name named agree step =
-    let agrees : AgreeOn own s t = subst (λ x. AgreeOn x s t) (sym named) agree in
-    subst (λ x. (then : State) × Step t (ReportYear own year cents) answer then
-    × AgreeOn x new then) named
-    (done_follows own s t agrees answer new _ _ _ _
+    let request = ReportYear own year cents in
+    at_name own name s t new _ named agree (λ agrees. done_follows own s t agrees answer new _ _ _ _
     (ap (λ (e : Entries). first_of (report_year_checks own year cents e.account
-    (kept_at year e.reported_years))) agrees.own)
-    (agree_reported_year own s t agrees year cents) step)
+    (kept_at year e.reported_years))) agrees.own) (agree_next s t request agrees) step)
 follows s t (OpenYear own year) answer new name named agree step =
-    let agrees : AgreeOn own s t = subst (λ x. AgreeOn x s t) (sym named) agree in
-    subst (λ x. (then : State) × Step t (OpenYear own year) answer then × AgreeOn x new then) named
-    (open_follows own s t agrees answer new _ _ year
-    (ap (λ (e : Entries). first_of (open_year_checks own year e.account (is_open e year)
+    at_name own name s t new _ named agree (λ agrees. open_follows own s t agrees answer new _ _
+    year (ap (λ (e : Entries). first_of (open_year_checks own year e.account (is_open e year)
     (is_given t year) (is_given t (year + 1)))) agrees.own
     ∙ rw (is_given_same own s t year agrees, is_given_same own s t (year + 1) agrees) refl) step)
 follows s t (Post own number payday fit ss medicare) answer new name named agree step =
+    let request = Post own number payday fit ss medicare in
     let run : PayRun = record { payday = payday; fit = fit; ss = ss; medicare = medicare } in
-    let agrees : AgreeOn own s t = subst (λ x. AgreeOn x s t) (sym named) agree in
-    subst (λ x. (then : State) × Step t (Post own number payday fit ss medicare) answer then
-    × AgreeOn x new then) named
-    (post_follows own s t agrees answer new _ _ _ _ payday
-    (ap (λ (e : Entries). first_of (post_checks own number run e.account (kept_at number e.runs)
-    (is_open e (year_of payday)) (length e.runs))) agrees.own)
-    (agree_run own s t agrees number (taken run)) step)
+    at_name own name s t new _ named agree (λ agrees. post_follows own s t agrees answer new _ _ _ _
+    payday (ap (λ (e : Entries). first_of (post_checks own number run e.account
+    (kept_at number e.runs) (is_open e (year_of payday)) (length e.runs))) agrees.own)
+    (agree_next s t request agrees) step)
 follows s t (Void own number) answer new name named agree step =
-    let agrees : AgreeOn own s t = subst (λ x. AgreeOn x s t) (sym named) agree in
-    subst (λ x. (then : State) × Step t (Void own number) answer then × AgreeOn x new then) named
-    (void_follows own s t agrees answer new _ _ _ _ _ _
+    at_name own name s t new _ named agree (λ agrees. void_follows own s t agrees answer new
+    _ _ _ _ _ _
     (ap (λ (e : Entries). first_of (void_checks own number e.account (kept_at number e.runs)))
     agrees.own)
-    (agree_void own s t agrees number) (ap (λ (e : Entries). kept_at number e.runs) agrees.own)
-    step)
+    (agree_next s t (Void own number) agrees)
+    (ap (λ (e : Entries). kept_at number e.runs) agrees.own) step)
 follows s t (Pay own number paid for_day cents) answer new name named agree step =
+    let request = Pay own number paid for_day cents in
     let payment : Payment = record { paid = paid; for_day = for_day; cents = cents } in
-    let agrees : AgreeOn own s t = subst (λ x. AgreeOn x s t) (sym named) agree in
-    subst (λ x. (then : State) × Step t (Pay own number paid for_day cents) answer then
-    × AgreeOn x new then) named
-    (done_follows own s t agrees answer new _ _ _ _
+    at_name own name s t new _ named agree (λ agrees. done_follows own s t agrees answer new _ _ _ _
     (ap (λ (e : Entries). first_of (pay_checks own number payment e.account
     (kept_at number e.payments) (is_open e (year_of for_day)) (length e.payments))) agrees.own)
-    (agree_payment own s t agrees number (taken payment)) step)
+    (agree_next s t request agrees) step)
 follows s t (VoidPay own number) answer new name named agree step =
-    let agrees : AgreeOn own s t = subst (λ x. AgreeOn x s t) (sym named) agree in
-    subst (λ x. (then : State) × Step t (VoidPay own number) answer then × AgreeOn x new then) named
-    (done_follows own s t agrees answer new _ _ _ _
+    at_name own name s t new _ named agree (λ agrees. done_follows own s t agrees answer new _ _ _ _
     (ap (λ (e : Entries). first_of (void_payment_checks own number e.account
-    (kept_at number e.payments))) agrees.own)
-    (agree_void_payment own s t agrees number) step)
+    (kept_at number e.payments))) agrees.own) (agree_next s t (VoidPay own number) agrees) step)
 follows s t (CorrectReport own quarter number cents) answer new name named agree step =
-    let agrees : AgreeOn own s t = subst (λ x. AgreeOn x s t) (sym named) agree in
-    subst (λ x. (then : State) × Step t (CorrectReport own quarter number cents) answer then
-    × AgreeOn x new then) named
-    (post_follows own s t agrees answer new _ _ _ _ (quarter_start quarter)
-    (ap (λ (e : Entries). first_of (correct_report_checks own quarter number cents e.account
-    (kept_at quarter e.reported) (numbered number (all_at quarter e.corrected))
-    (length (all_at quarter e.corrected)))) agrees.own)
-    (agree_corrected own s t agrees quarter cents) step)
+    let request = CorrectReport own quarter number cents in
+    at_name own name s t new _ named agree (λ agrees. post_follows own s t agrees answer new _ _ _ _
+    (quarter_start quarter) (ap (λ (e : Entries). let known = all_at quarter e.corrected in
+    first_of (correct_report_checks own quarter number cents e.account (kept_at quarter e.reported)
+    (numbered number known) (length known))) agrees.own) (agree_next s t request agrees) step)
 follows s t (CorrectReportYear own year number cents) answer new name named agree step =
-    let agrees : AgreeOn own s t = subst (λ x. AgreeOn x s t) (sym named) agree in
-    subst (λ x. (then : State) × Step t (CorrectReportYear own year number cents) answer then
-    × AgreeOn x new then) named
-    (post_follows own s t agrees answer new _ _ _ _ (year_start year)
-    (ap (λ (e : Entries). first_of (correct_report_year_checks own year number cents e.account
-    (kept_at year e.reported_years) (numbered number (all_at year e.corrected_years))
-    (length (all_at year e.corrected_years)))) agrees.own)
-    (agree_corrected_year own s t agrees year cents) step)
+    let request = CorrectReportYear own year number cents in
+    at_name own name s t new _ named agree (λ agrees. post_follows own s t agrees answer new _ _ _ _
+    (year_start year) (ap (λ (e : Entries). let known = all_at year e.corrected_years in
+    first_of (correct_report_year_checks own year number cents e.account
+    (kept_at year e.reported_years) (numbered number known) (length known))) agrees.own)
+    (agree_next s t request agrees) step)
 follows s t (ChangeHoliday day number is_holiday) answer new name named agree step = absurd named
 follows s t (CorrectAccount own number start carried) answer new name named agree step =
-    let agrees : AgreeOn own s t = subst (λ x. AgreeOn x s t) (sym named) agree in
-    subst (λ x. (then : State) × Step t (CorrectAccount own number start carried) answer then
-    × AgreeOn x new then) named
-    (done_follows own s t agrees answer new _ _ _ _
+    let request = CorrectAccount own number start carried in
+    at_name own name s t new _ named agree (λ agrees. done_follows own s t agrees answer new _ _ _ _
     (ap (λ (e : Entries). first_of (correct_account_checks own number
-    (record { start = start; carried = carried }) e.account
-    (numbered number e.moves) (is_unused e) (length e.moves))) agrees.own)
-    (agree_moved own s t agrees (record { start = start; carried = carried })) step)
+    (record { start = start; carried = carried }) e.account (numbered number e.moves) (is_unused e)
+    (length e.moves))) agrees.own) (agree_next s t request agrees) step)
 follows s t (Question question) answer new name named agree step =
     asked_follows name s t agree answer new _ _ _ _ (same_checks s t question name named agree)
     (same_told s t question name named agree answer) step

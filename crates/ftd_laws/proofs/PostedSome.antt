@@ -1,7 +1,7 @@
 -- A pay run that is posted or voided, and a figure that is put right, has an answer, where the
 -- account has lines.
 use Rattle.std.proofs.Common.{◌≡◌, ◌⊎◌, inl, inr, refl, sym, ap, subst, ℕ, ◌≤◌}
-use Rattle.std.proofs.Common.{List, [], ◌∷◌, ◌++◌, length, arith, Ok}
+use Rattle.std.proofs.Common.{List, [], ◌∷◌, ◌++◌, length, arith, Ok, rules}
 use Rattle.std.proofs.lemmas.Bool.{cases_eq, cases_lt}
 use Rattle.ftd_rules.specs.declared.Rule.{Rule}
 use Rattle.ftd_rules.specs.declared.Rule.TheVariants.{Monthly, Semiweekly, NextDay}
@@ -10,12 +10,11 @@ use Rattle.ftd_rules.specs.declared.Obligation.{Obligation}
 use Rattle.ftd_rules.specs.Lists.{Has}
 use Rattle.ftd_rules.specs.Obligations.{ByFirstDay}
 use Rattle.ftd_machine.specs.State.{Entries}
-use Rattle.ftd_machine.specs.History.{AreLinesOf}
+use Rattle.ftd_machine.specs.History.{AreLinesOf, AreOwed}
 use Rattle.ftd_machine.specs.Checks.{Answer}
 use Rattle.ftd_machine.specs.Posting.{AreOnlyIn, Spans, IsPosted}
 use Rattle.ftd_machine.specs.declared.replies.Reply.TheVariants.{Posted}
-use Rattle.ftd_machine.proofs.Totals.{SameButRuns, SameButFigures}
-use Rattle.ftd_machine.proofs.Lined.{lines_after, lines_again, owed_some}
+use Rattle.ftd_machine.proofs.Lined.{owed_some}
 
 -- ---- rows that differ
 
@@ -99,26 +98,25 @@ only_some (x ∷ rows) others rise =
       )
     ]
 
+pub spans_one : (x : Obligation) → Spans (x ∷ []) x.first x.last
+spans_one x = record {
+  first = x;
+  has_first = inl refl;
+  from_is = refl;
+  last = x;
+  has_last = inl refl;
+  to_is = refl;
+  within = λ o h. elim h [
+    | inl is ↦ (let a : o.first ≡ x.first = ap (λ (o : Obligation). o.first) is in
+        let b : o.last ≡ x.last = ap (λ (o : Obligation). o.last) is in
+        (omega arith, omega arith))
+    | inr none ↦ absurd none
+  ];
+}
+
 spans_some : (x : Obligation) (rows : List Obligation)
     → (from : ℕ) × (to : ℕ) × Spans (x ∷ rows) from to
-spans_some x [] = (
-  x.first,
-  x.last,
-  record {
-    first = x;
-    has_first = inl refl;
-    from_is = refl;
-    last = x;
-    has_last = inl refl;
-    to_is = refl;
-    within = λ o h. elim h [
-      | inl is ↦ (let a : o.first ≡ x.first = ap (λ (o : Obligation). o.first) is in
-          let b : o.last ≡ x.last = ap (λ (o : Obligation). o.last) is in
-          (omega arith, omega arith))
-      | inr none ↦ absurd none
-    ];
-  },
-)
+spans_some x [] = (x.first, x.last, spans_one x)
 spans_some x (y ∷ rows) =
     let rest = spans_some y rows in
     let s = rest.2 in
@@ -158,8 +156,20 @@ days_some : (rows : List Obligation) (payday : ℕ) → (from : ℕ) × (to : �
 days_some [] payday = (payday, payday, inr (refl, refl, refl))
 days_some (x ∷ rows) payday = let s = spans_some x rows in (s.0, s.1, inl s.2)
 
+-- the answer that counts the obligations that went and came
+pub tells_difference : (holidays : List ℕ) (own after : Entries)
+    (payday from to : ℕ) (rows others gone come : List Obligation)
+    → AreOwed holidays own rows → AreOwed holidays after others
+    → AreOnlyIn rows others gone → AreOnlyIn others rows come
+    → Spans (gone ++ come) from to
+    ⊎ ((gone ++ come ≡ []) × (from ≡ payday) × (to ≡ payday))
+    → IsPosted holidays own after payday (Ok (Posted from to (length gone) (length come)))
+tells_difference holidays own after payday from to rows others gone come owed owed_after are_gone
+    are_come days = search rules
+
 -- the answer that tells how the obligations differ exists, where there are lines before and after
-told_some : (holidays : List ℕ) (own after : Entries) (payday : ℕ) (lines others : List YearLine)
+pub told_some : (holidays : List ℕ) (own after : Entries) (payday : ℕ)
+    (lines others : List YearLine)
     → AreLinesOf own lines → AreLinesOf after others
     → (answer : Answer) × IsPosted holidays own after payday answer
 told_some holidays own after payday lines others h h_after =
@@ -169,40 +179,5 @@ told_some holidays own after payday lines others h h_after =
     let come = only_some rows_after.0 rows.0 rows_after.1.2.by_first_day in
     let days = days_some (gone.0 ++ come.0) payday in (
       Ok (Posted days.0 days.1 (length gone.0) (length come.0)),
-      record {
-        rows = rows.0;
-        owed = rows.1;
-        rows_after = rows_after.0;
-        owed_after = rows_after.1;
-        from = days.0;
-        to = days.1;
-        removed = length gone.0;
-        added = length come.0;
-        differ = record {
-          gone = gone.0;
-          come = come.0;
-          are_gone = gone.1;
-          are_come = come.1;
-          removed_is = refl;
-          added_is = refl;
-          days = days.2;
-        };
-        told = refl;
-      },
+      search rules,
     )
-
--- so does that to a pay run that is posted or voided
-pub posted_some : (holidays : List ℕ) (own after : Entries) (payday : ℕ) (lines : List YearLine)
-    → SameButRuns own after → AreLinesOf own lines
-    → (answer : Answer) × IsPosted holidays own after payday answer
-posted_some holidays own after payday lines same h =
-    let others = lines_after own after lines same h in
-    told_some holidays own after payday lines others.0 h others.1
-
--- and that to a figure that is put right
-pub corrected_some : (holidays : List ℕ) (own after : Entries) (first : ℕ) (lines : List YearLine)
-    → SameButFigures own after → AreLinesOf own lines
-    → (answer : Answer) × IsPosted holidays own after first answer
-corrected_some holidays own after first lines same h =
-    let others = lines_again own after lines same h in
-    told_some holidays own after first lines others.0 h others.1

@@ -2,6 +2,7 @@
 use Rattle.std.proofs.Common.{◌≡◌, ℕ, List, [], ◌∷◌, ◌++◌, sym, ap, ◌∙◌, append_assoc}
 use Rattle.std.proofs.Common.{append-nil}
 use Rattle.std.specs.List.{join_with_byte, concat}
+use Rattle.ftd_reports.specs.declared.values.AmountColumn.{AmountColumn}
 use Rattle.ftd_reports.proofs.LineFacts.{column, three}
 
 -- the last column, and the end of the line
@@ -26,30 +27,41 @@ pub total_parts : (y a end : List ℕ) → join_with_byte 32 (y ∷ a ∷ []) ++
     ≡ concat (y ∷ (32 ∷ []) ∷ []) ++ (a ++ end)
 total_parts y a end = simp append_assoc
 
-pub run_parts : (p s d c t e f l m n k end : List ℕ) →
-    join_with_byte 32 (p ∷ (s ++ d ++ c) ∷ (t ++ e ++ f) ∷ (l ++ m ++ n) ∷ k ∷ []) ++ end
-    ≡ concat (p ∷ (32 ∷ []) ∷ s ∷ d ∷ c ∷ (32 ∷ []) ∷ t ∷ e ∷ f ∷ (32 ∷ []) ∷ l ∷ m ∷ n
-    ∷ (32 ∷ []) ∷ k ∷ end ∷ [])
-run_parts p s d c t e f l m n k end =
-    column p _ _ _
-    (three s d c _ _ _ (three t e f _ _ _ (three l m n _ _ _ (last k end))))
+pub run_parts : (x y z : AmountColumn) {p q k h end tail fit ss medicare : List ℕ} → p ≡ q
+    → x.spaces.now ++ x.dollars.now ++ x.cents ≡ fit → y.spaces.now ++ y.dollars.now ++ y.cents ≡ ss
+    → z.spaces.now ++ z.dollars.now ++ z.cents ≡ medicare → k ≡ h → end ≡ tail
+    → concat (p ∷ (32 ∷ []) ∷ x.spaces.now ∷ x.dollars.now ∷ x.cents ∷ (32 ∷ []) ∷ y.spaces.now
+    ∷ y.dollars.now ∷ y.cents ∷ (32 ∷ []) ∷ z.spaces.now ∷ z.dollars.now ∷ z.cents ∷ (32 ∷ []) ∷ k
+    ∷ end ∷ []) ≡ join_with_byte 32 (q ∷ fit ∷ ss ∷ medicare ∷ h ∷ []) ++ tail
+run_parts x y z {p = p} {k = k} {end = end} day first second third number void =
+    rw (← day, ← first, ← second, ← third, ← number, ← void) (sym (column p _ _ _
+    (three x.spaces.now _ _ _ _ _ (three y.spaces.now _ _ _ _ _ (three z.spaces.now _ _ _ _ _
+    (last k end))))))
 
-pub payment_parts : (q s d c p h k end : List ℕ) →
-    join_with_byte 32 (q ∷ (s ++ d ++ c) ∷ p ∷ h ∷ k ∷ []) ++ end
-    ≡ concat (q ∷ (32 ∷ []) ∷ s ∷ d ∷ c ∷ (32 ∷ []) ∷ p ∷ (32 ∷ []) ∷ h ∷ (32 ∷ []) ∷ k ∷ end ∷ [])
-payment_parts q s d c p h k end =
-    column q _ _ _ (three s d c _ _ _ (column p _ _ _ (column h _ _ _ (last k end))))
+pub payment_parts : (x : AmountColumn) {q r p o h g k j end tail amount : List ℕ} → q ≡ r
+    → x.spaces.now ++ x.dollars.now ++ x.cents ≡ amount → p ≡ o → h ≡ g → k ≡ j → end ≡ tail
+    → concat (q ∷ (32 ∷ []) ∷ x.spaces.now ∷ x.dollars.now ∷ x.cents ∷ (32 ∷ []) ∷ p ∷ (32 ∷ [])
+    ∷ h ∷ (32 ∷ []) ∷ k ∷ end ∷ []) ≡ join_with_byte 32 (r ∷ amount ∷ o ∷ g ∷ j ∷ []) ++ tail
+payment_parts x {q = q} {p = p} {h = h} {k = k} {end = end} day cents paid held number void =
+    rw (← day, ← cents, ← paid, ← held, ← number, ← void) (sym (column q _ _ _
+    (three x.spaces.now _ _ _ _ _ (column p _ _ _ (column h _ _ _ (last k end))))))
 
-pub payday_parts : (q s d c t e f : List ℕ) →
-    join_with_byte 32 (q ∷ (s ++ d ++ c) ∷ (t ++ e ++ f) ∷ []) ++ (10 ∷ [])
-    ≡ concat (q ∷ (32 ∷ []) ∷ s ∷ d ∷ c ∷ (32 ∷ []) ∷ t ∷ e ∷ f ∷ (10 ∷ []) ∷ [])
-payday_parts q s d c t e f =
-    column q _ _ _ (three s d c _ _ _
-    (append_assoc (t ++ e) f (10 ∷ []) ∙ append_assoc t e (f ++ (10 ∷ []))))
+pub payday_parts : (x y : AmountColumn) {q r amount total : List ℕ} → q ≡ r
+    → x.spaces.now ++ x.dollars.now ++ x.cents ≡ amount
+    → y.spaces.now ++ y.dollars.now ++ y.cents ≡ total
+    → concat (q ∷ (32 ∷ []) ∷ x.spaces.now ∷ x.dollars.now ∷ x.cents ∷ (32 ∷ []) ∷ y.spaces.now
+    ∷ y.dollars.now ∷ y.cents ∷ (10 ∷ []) ∷ [])
+    ≡ join_with_byte 32 (r ∷ amount ∷ total ∷ []) ++ (10 ∷ [])
+payday_parts x y {q = q} day first second =
+    rw (← day, ← first, ← second) (sym (column q _ _ _ (three x.spaces.now _ _ _ _ _
+    (append_assoc (y.spaces.now ++ y.dollars.now) y.cents (10 ∷ [])
+    ∙ append_assoc y.spaces.now y.dollars.now (y.cents ++ (10 ∷ []))))))
 
-pub obligation_parts : (f l r s d c u : List ℕ) →
-    join_with_byte 32 (f ∷ l ∷ r ∷ (s ++ d ++ c) ∷ u ∷ []) ++ (10 ∷ [])
-    ≡ concat (f ∷ (32 ∷ []) ∷ l ∷ (32 ∷ []) ∷ r ∷ (32 ∷ []) ∷ s ∷ d ∷ c ∷ (32 ∷ []) ∷ u
-    ∷ (10 ∷ []) ∷ [])
-obligation_parts f l r s d c u =
-    column f _ _ _ (column l _ _ _ (column r _ _ _ (three s d c _ _ _ (last u (10 ∷ [])))))
+pub obligation_parts : (x : AmountColumn) {f l r u first end rule due amount : List ℕ} → f ≡ first
+    → l ≡ end → r ≡ rule → x.spaces.now ++ x.dollars.now ++ x.cents ≡ amount → u ≡ due
+    → concat (f ∷ (32 ∷ []) ∷ l ∷ (32 ∷ []) ∷ r ∷ (32 ∷ []) ∷ x.spaces.now ∷ x.dollars.now ∷ x.cents
+    ∷ (32 ∷ []) ∷ u ∷ (10 ∷ []) ∷ [])
+    ≡ join_with_byte 32 (first ∷ end ∷ rule ∷ amount ∷ due ∷ []) ++ (10 ∷ [])
+obligation_parts x {f = f} {l = l} {r = r} {u = u} from to by cents when =
+    rw (← from, ← to, ← by, ← cents, ← when) (sym (column f _ _ _ (column l _ _ _ (column r _ _ _
+    (three x.spaces.now _ _ _ _ _ (last u (10 ∷ [])))))))

@@ -84,6 +84,7 @@ impl<'a> RowFormat<CountedDay> for Objects<'a> {
 }
 
 /// Writes a member whose value is an object: what stands before it, and the object.
+#[tactic(auto, using(ftd_ports::proofs::WritingFacts::written_in_parts))]
 fn write_object_member<W: Target>(
     head: &[u8],
     fields: &[(&str, Value<'_>)],
@@ -97,6 +98,7 @@ fn write_object_member<W: Target>(
 }
 
 /// Writes a member whose value is an array: what stands before it, and the array of the rows.
+#[tactic(auto, using(ftd_ports::proofs::WritingFacts::written_in_parts))]
 fn write_array_member<T, F: RowFormat<T>, W: Target>(
     head: &[u8],
     format: &F,

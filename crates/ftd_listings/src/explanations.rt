@@ -84,6 +84,7 @@ fn write_reached<W: Target>(turn: Option<Day>, target: &mut W) -> Result<(), Wri
 
 /// Writes the deposit schedule of a day. Where the target fails, a prefix of the line was written,
 /// and it fails nowhere else.
+#[tactic(auto, using(ftd_ports::proofs::WritingFacts::written_in_parts), unfolding(crate::specs::Explanations::status_text))]
 pub fn write_schedule<W: Target>(
     day: Day,
     kind: Kind,
@@ -185,7 +186,7 @@ fn write_return<W: Target>(day: Day, target: &mut W) -> Result<(), WriteFault>
 
 /// Writes what explains an obligation: it, and the deposit schedule of its first day; its paydays,
 /// and the days that are counted; when the return is due, and the payments.
-#[tactic(auto, unfolding(crate::specs::Explanations::explanation_text))]
+#[tactic(auto, using(ftd_ports::proofs::WritingFacts::written_in_parts), unfolding(crate::specs::Explanations::explanation_text))]
 fn write_explained<W: Target>(e: &Explanation, target: &mut W) -> Result<(), WriteFault>
     ensures { Writes result (W.taken target.old) (W.taken target.new)
         (W.failed target.new) (explanation_text e.now) }
@@ -227,7 +228,7 @@ fn write_found<W: Target>(found: &Option<Explanation>, target: &mut W) -> Result
 /// its due date; when the return is due; and its payments. Where no obligation's deposit period
 /// holds the day, the second line is `none`. It takes no memory but what the target takes. Where
 /// the target fails, a prefix of the text was written, and it fails nowhere else.
-#[tactic(auto, unfolding(crate::specs::Explanations::explanation_told))]
+#[tactic(auto, using(ftd_ports::proofs::WritingFacts::written_in_parts), unfolding(crate::specs::Explanations::explanation_told))]
 pub fn write_explanation<W: Target>(
     account: &str,
     day: Day,

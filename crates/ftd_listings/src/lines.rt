@@ -98,7 +98,7 @@ fn write_enrolled<W: Target>(account: &Account, target: &mut W) -> Result<(), Wr
 impl RowFormat<KeptAccount> for Columns {
     ghost row_text = { λ columns row. account_line row };
 
-    #[tactic(auto, unfolding(crate::specs::Listings::account_line))]
+    #[tactic(auto, using(ftd_ports::proofs::WritingFacts::written_in_parts), unfolding(crate::specs::Listings::account_line))]
     fn write_row<W: Target>(&self, row: &KeptAccount, target: &mut W) -> Result<(), WriteFault> {
         write_name(row.name.as_str(), target)?;
         write_enrolled(&row.account, target)
@@ -159,7 +159,7 @@ fn write_first<W: Target>(cents: Cents, first: Cents, target: &mut W) -> Result<
 impl RowFormat<KeptYear> for Columns {
     ghost row_text = { λ columns row. year_line row };
 
-    #[tactic(auto, unfolding(crate::specs::Listings::year_line))]
+    #[tactic(auto, using(ftd_ports::proofs::WritingFacts::written_in_parts), unfolding(crate::specs::Listings::year_line))]
     fn write_row<W: Target>(&self, row: &KeptYear, target: &mut W) -> Result<(), WriteFault> {
         write_year(&row.line, target)?;
         write_turn(row.line.turn, target)?;

@@ -51,7 +51,7 @@ fn account_of(asked: &Kept) -> &str
 /// Writes what is kept, as far as it was asked for, as text: a first line that says what it is, and
 /// a line for each row. Where the target fails, a prefix of the text was written, and it fails
 /// nowhere else.
-#[tactic(auto, unfolding(crate::specs::Listings::kept_text))]
+#[tactic(auto, using(ftd_ports::proofs::WritingFacts::written_in_parts), unfolding(crate::specs::Listings::kept_text))]
 pub fn write_kept<W: Target>(
     asked: &Kept,
     rows: &KeptRows,

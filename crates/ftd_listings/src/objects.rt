@@ -138,7 +138,7 @@ impl<'a> RowFormat<KeptPayment> for Objects<'a> {
 /// Writes what is kept of an account as JSON: a list with an object for each row. It takes no
 /// memory but what the target takes. Where the target fails, a prefix of the text was written, and
 /// it fails nowhere else.
-#[tactic(auto, unfolding(crate::specs::KeptForms::rows_json))]
+#[tactic(auto, using(ftd_ports::proofs::WritingFacts::written_in_parts), unfolding(crate::specs::KeptForms::rows_json))]
 pub fn write_kept_json<W: Target>(
     account: &str,
     rows: &KeptRows,

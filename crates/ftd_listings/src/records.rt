@@ -122,7 +122,7 @@ impl<'a> RowFormat<KeptPayment> for Records<'a> {
 /// Writes what is kept of an account as CSV: a first line with the names of the fields, and a
 /// record for each row that was not voided. It takes no memory but what the target takes. Where the
 /// target fails, a prefix of the text was written, and it fails nowhere else.
-#[tactic(auto, unfolding(crate::specs::KeptForms::rows_csv, crate::specs::KeptForms::runs_csv))]
+#[tactic(auto, using(ftd_ports::proofs::WritingFacts::written_in_parts), unfolding(crate::specs::KeptForms::rows_csv, crate::specs::KeptForms::runs_csv))]
 pub fn write_kept_csv<W: Target>(
     account: &str,
     rows: &KeptRows,

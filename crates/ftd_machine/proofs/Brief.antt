@@ -9,6 +9,7 @@ use Rattle.ftd_machine.specs.Step.{OpensNext, may_open}
 use Rattle.ftd_machine.specs.declared.replies.Reply.TheVariants.{Done, Already}
 use Rattle.ftd_machine.specs.declared.replies.Refusal.{Refusal}
 use Rattle.ftd_machine.proofs.Deciding.{either}
+use Rattle.ftd_machine.proofs.Heads.{Refuses}
 
 -- the answer is no list, or one that is bounded
 abbrev pub AnswersBounded : Answer → Type 0
@@ -52,6 +53,16 @@ pub brief_new : {X : Type 0} (o : Option X) (same : X → Bool) (refusal : Refus
     (Q : List (Option Answer)) → AreBrief Q → AreBrief (is_new o same refusal ∷ Q)
 brief_new None same refusal Q brief = record { told = brief.told }
 brief_new (Some x) same refusal Q brief = record { told = brief_same (same x) refusal }
+
+pub ruleset briefs = (brief_none, brief_needs, brief_done, brief_finds, brief_new)
+
+pub brief_refusal : (Q : List (Option Answer)) → Refuses Q → AreBrief Q
+brief_refusal Q refuses = record {
+  told = elim refuses.told [
+    | inl none ↦ subst IsBrief (sym none) tt
+    | inr some ↦ subst IsBrief (sym some.1) tt
+  ];
+}
 
 -- the checks decide, or what stands last does
 pub decided : (s : State) (answer : Answer) (new : State) (P : List (Option Answer)) (Else : Type 0)

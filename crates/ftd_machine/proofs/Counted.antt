@@ -2,11 +2,10 @@
 use Rattle.std.proofs.Common.{◌≡◌, ◌∙◌, refl, ap, ℕ, ◌+◌, List, [], ◌∷◌, length, filter, cond, Bool}
 use Rattle.std.proofs.Common.{true, false, arith, length-append}
 use Rattle.std.proofs.lemmas.Bool.{true≢false}
-use Rattle.ftd_days.specs.Calendar.{year_of}
 use Rattle.ftd_rules.specs.declared.run.PayRun.{PayRun}
 use Rattle.ftd_rules.specs.declared.run.Voidable.{Voidable}
 use Rattle.ftd_rules.specs.declared.payment.Payment.{Payment}
-use Rattle.ftd_machine.specs.State.{State, Entry, entries_of, is_of, kept_at, is_open}
+use Rattle.ftd_machine.specs.State.{State, Entry, is_of}
 use Rattle.ftd_machine.specs.Checks.{Answer}
 use Rattle.ftd_machine.specs.Step.{Step, taken, with_entry, with_voided, voided_if}
 use Rattle.ftd_machine.specs.Laws.{is_change, adds_entry, runs_of, payments_of}
@@ -19,7 +18,7 @@ use Rattle.ftd_machine.specs.declared.requests.Request.TheVariants.{CorrectRepor
 use Rattle.ftd_machine.specs.declared.requests.Request.TheVariants.{ChangeHoliday, CorrectAccount}
 use Rattle.ftd_machine.specs.declared.requests.Request.TheVariants.{Question}
 use Rattle.ftd_machine.proofs.Adding.{entry_own}
-use Rattle.ftd_machine.proofs.Again.{post_turns, pay_turns}
+use Rattle.ftd_machine.proofs.Again.{turning, run_same, payment_same}
 use Rattle.ftd_machine.proofs.Keeping.{kept_own}
 use Rattle.ftd_machine.proofs.Others.{done_stays, post_stays, void_stays, open_stays}
 use Rattle.ftd_machine.proofs.Leaving.{asked_leaves}
@@ -106,15 +105,10 @@ module _ (s : State) (answer : Answer) (next : State) (name : List ℕ) (number 
     pub posted_more : is_change answer ≡ true → runs_of name next ≡ runs_of name s + 1
     posted_more changes =
         let after : State = record s { runs = with_entry s.runs name number (taken run) } in
-        let here = entries_of s name in
-        let there = entries_of after name in
         let request = Post name number run.payday run.fit run.ss run.medicare in
         let done = does s answer next (checks_of s request) (checks_of after request) _
-        (post_turns name number run here.account (kept_at number here.runs)
-        (kept_at number there.runs) (is_open here (year_of run.payday))
-        (is_open there (year_of run.payday))
-        (length here.runs) (length there.runs) (kept_own s.runs name number (taken run))) step
-        changes in
+        (search (turning, kept_own s.runs name number (taken run), run_same run false) depth 12)
+        step changes in
         ap (runs_of name) done.0.0 ∙ entry_count s.runs name number (taken run)
 
     pub posted_payments : (account : List ℕ) → payments_of account next ≡ payments_of account s
@@ -127,15 +121,13 @@ module _ (s : State) (answer : Answer) (next : State) (name : List ℕ) (number 
     paid_more changes =
         let after : State =
         record s { payments = with_entry s.payments name number (taken payment) } in
-        let here = entries_of s name in
-        let there = entries_of after name in
         let request = Pay name number payment.paid payment.for_day payment.cents in
         let done = does s answer next (checks_of s request) (checks_of after request) _
-        (pay_turns name number payment here.account (kept_at number here.payments)
-        (kept_at number there.payments) (is_open here (year_of payment.for_day))
-        (is_open there (year_of payment.for_day))
-        (length here.payments) (length there.payments)
-        (kept_own s.payments name number (taken payment))) step changes in
+        (search (
+          turning,
+          kept_own s.payments name number (taken payment),
+          payment_same payment false,
+        ) depth 12) step changes in
         ap (payments_of name) done.0.1 ∙ entry_count s.payments name number (taken payment)
 
     pub paid_runs : (account : List ℕ) → runs_of account next ≡ runs_of account s

@@ -1,6 +1,7 @@
 -- A due list exists, wherever the account has lines.
 use Rattle.std.proofs.Common.{◌≡◌, ◌∙◌, ◌⊎◌, inl, inr, refl, sym, ap, subst, ℕ, ◌+◌, ◌-◌, ◌%◌, ◌≤◌}
 use Rattle.std.proofs.Common.{◌<◌, Bool, true, false, List, [], ◌∷◌, arith, Option, None, Some, Ok}
+use Rattle.std.proofs.Common.{rules}
 use Rattle.std.specs.Prelude.{◌↔◌, min, IsTrue, IsSomeAnd}
 use Rattle.std.proofs.lemmas.Bool.{true≢false, false≢true, cases_Bool, cases_lt}
 use Rattle.std.proofs.lemmas.Bool.Decides.{eqb_tells}
@@ -21,6 +22,8 @@ use Rattle.ftd_rules.specs.declared.verdict.Verdict.TheVariants.{Short, Late}
 use Rattle.ftd_rules.specs.Lists.{Has, KeysRise}
 use Rattle.ftd_rules.specs.Due.{fifteenth_after}
 use Rattle.ftd_rules.specs.Obligations.{ByFirstDay}
+use Rattle.ftd_rules.specs.Returns.{IsWednesdayOrFriday}
+use Rattle.ftd_days.specs.Calendar.{IsFirstFrom}
 use Rattle.ftd_rules.specs.Returns.{month_after_ends, IsFirstWednesdayOrFriday, IsEarlierMakeup}
 use Rattle.ftd_rules.specs.Returns.{IsMakeup}
 use Rattle.ftd_rules.specs.Verdicts.{IsTolerable, IsCase, place_of, IsVerdict}
@@ -61,33 +64,23 @@ true_or false = inr (λ h. false≢true h)
 
 -- ---- makeup dates
 
+first_day : (P : ℕ → Type 0) (from day : ℕ) → from ≤ day → P day
+    → ((e : ℕ) → from ≤ e → e < day → P e → ⊥) → (w : ℕ) × IsFirstFrom P from w
+first_day P from day not_before holds first =
+    (day, record { not_before = not_before; holds = holds; first = first })
+
 pub week_some : (day : ℕ) → (w : ℕ) × IsFirstWednesdayOrFriday day w
 week_some day = elim (cases_lt (day % 7) 3) [
-  | inl early ↦ (
-    day + (2 - day % 7),
-    record {
-      not_before = omega arith;
-      holds = inl (omega arith);
-      first = λ e l m h. elim h [ inl wednesday ↦ omega arith | inr friday ↦ omega arith ];
-    },
-  )
+  | inl early ↦ first_day IsWednesdayOrFriday day (day + (2 - day % 7)) (omega arith)
+      (inl (omega arith))
+      (λ e l m h. elim h [ inl wednesday ↦ omega arith | inr friday ↦ omega arith ])
   | inr late ↦ elim (cases_lt (day % 7) 5) [
-    | inl middle ↦ (
-      day + (4 - day % 7),
-      record {
-        not_before = omega arith;
-        holds = inr (omega arith);
-        first = λ e l m h. elim h [ inl wednesday ↦ omega arith | inr friday ↦ omega arith ];
-      },
-    )
-    | inr end ↦ (
-      day + (9 - day % 7),
-      record {
-        not_before = omega arith;
-        holds = inl (omega arith);
-        first = λ e l m h. elim h [ inl wednesday ↦ omega arith | inr friday ↦ omega arith ];
-      },
-    )
+    | inl middle ↦ first_day IsWednesdayOrFriday day (day + (4 - day % 7)) (omega arith)
+        (inr (omega arith))
+        (λ e l m h. elim h [ inl wednesday ↦ omega arith | inr friday ↦ omega arith ])
+    | inr end ↦ first_day IsWednesdayOrFriday day (day + (9 - day % 7)) (omega arith)
+        (inl (omega arith))
+        (λ e l m h. elim h [ inl wednesday ↦ omega arith | inr friday ↦ omega arith ])
   ]
 ]
 
@@ -103,13 +96,7 @@ earlier_some form holidays last due =
     let w = week_some (fifteenth_after due) in
     let m = some_business holidays (min r.0 w.0) in (
       m.0,
-      record {
-        return_due = r.0;
-        is_return = r.1;
-        weekday = w.0;
-        is_weekday = w.1;
-        rolled = m.1;
-      },
+      search rules,
     )
 
 pub earlier_one : (form : Form) (holidays : List ℕ) (last due a b : ℕ)
@@ -169,28 +156,23 @@ nor_this c v none not o before holds = elim (cases_lt (place_of o) (place_of v))
   | inr here ↦ not (subst (λ w. IsCase w c) (place_one o v (omega arith)) holds)
 ]
 
-pub verdict_some : (c : Case) → (v : Verdict) × IsVerdict c v
-verdict_some c = elim (case_or Met c) [
-  | inl is ↦ (Met, record { holds = is; first = before_met })
-  | inr not ↦ let before_return = nor_this c Met before_met not in
-      elim (case_or WithReturn c) [
-        | inl is ↦ (WithReturn, record { holds = is; first = before_return })
-        | inr not ↦ let before_open = nor_this c WithReturn before_return not in
-            elim (case_or Open c) [
-              | inl is ↦ (Open, record { holds = is; first = before_open })
-              | inr not ↦ let before_made_up = nor_this c Open before_open not in
-                  elim (case_or MadeUp c) [
-                    | inl is ↦ (MadeUp, record { holds = is; first = before_made_up })
-                    | inr not ↦ let before_short = nor_this c MadeUp before_made_up not in
-                        elim (case_or Short c) [
-                          | inl is ↦ (Short, record { holds = is; first = before_short })
-                          | inr not ↦ let before_late = nor_this c Short before_short not in
-                              (Late, record { holds = tt; first = before_late })
-                        ]
-                  ]
-            ]
-      ]
+-- the case of the verdict holds, or that of a later one
+verdict_from : (c : Case) (v : Verdict) → NoneBefore c (place_of v)
+    → (NoneBefore c (place_of v + 1) → (w : Verdict) × IsVerdict c w)
+    → (w : Verdict) × IsVerdict c w
+verdict_from c v none later = elim (case_or v c) [
+  | inl is ↦ (v, record { holds = is; first = none })
+  | inr not ↦ later (nor_this c v none not)
 ]
+
+pub verdict_some : (c : Case) → (v : Verdict) × IsVerdict c v
+verdict_some c =
+    verdict_from c Met before_met (λ before_return.
+    verdict_from c WithReturn before_return (λ before_open.
+    verdict_from c Open before_open (λ before_made_up.
+    verdict_from c MadeUp before_made_up (λ before_short.
+    verdict_from c Short before_short (λ before_late.
+    (Late, record { holds = tt; first = before_late }))))))
   where
     before_met : NoneBefore c (place_of Met)
     before_met o before holds = absurd (omega arith)
@@ -407,9 +389,9 @@ due_list_some holidays own lines quarter as_of h =
     (λ o k. k) rows.1.2.by_first_day in (
       Ok (Told (Due listed.0)),
       record {
-        rows = rows.0;
+        rows = _;
         owed = rows.1;
-        listed = listed.0;
+        listed = _;
         by_first_day = listed.1;
         all = λ row. ((λ k. ((listed.2 row).0 k).1), (λ k. (listed.2 row).1 (k.owed, k)));
         told = refl;

@@ -2,7 +2,7 @@
 -- was done
 -- before, and when.
 use Rattle.std.proofs.Common.{◌≡◌, refl, if◌then◌else◌, Bool, true, false, List, [], ◌∷◌, Option}
-use Rattle.std.proofs.Common.{None, Some, Ok, Err}
+use Rattle.std.proofs.Common.{None, Some, Ok, Err, ◌⊎◌, inl, inr, sym, ◌∙◌, subst}
 use Rattle.std.specs.Prelude.{is_some}
 use Rattle.ftd_machine.specs.Checks.{Answer, first_of, needs, done_if, finds, is_new}
 use Rattle.ftd_machine.specs.Laws.{is_change}
@@ -13,6 +13,26 @@ use Rattle.ftd_machine.specs.declared.replies.Refusal.{Refusal}
 abbrev pub done_before : Option Answer
 done_before = Some (Ok Already)
 
+-- ---- a list of which the first that answers refuses
+
+pub record Refuses (Q : List (Option Answer)) : Type 0 where
+  pub told : (first_of Q ≡ None) ⊎ ((refusal : Refusal) × (first_of Q ≡ Some (Err refusal)))
+
+pub refuses_none : Refuses []
+refuses_none = record { told = inl refl }
+
+pub refuses_needs : (holds : Bool) (refusal : Refusal) (Q : List (Option Answer)) → Refuses Q
+    → Refuses (needs holds refusal ∷ Q)
+refuses_needs true refusal Q refuses = record { told = refuses.told }
+refuses_needs false refusal Q refuses = record { told = inr (refusal, refl) }
+
+pub refuses_finds : {X : Type 0} (o : Option X) (refusal : Refusal) (Q : List (Option Answer))
+    → Refuses Q → Refuses (finds o refusal ∷ Q)
+refuses_finds (Some x) refusal Q refuses = record { told = refuses.told }
+refuses_finds None refusal Q refuses = record { told = inr (refusal, refl) }
+
+pub ruleset refusing = (refuses_none, refuses_needs, refuses_finds)
+
 -- ---- what such a list answers is no change
 
 abbrev pub IsNoChange : Option Answer → Type 0
@@ -22,18 +42,13 @@ IsNoChange (Some answer) = is_change answer ≡ false
 pub record Quiet (P : List (Option Answer)) : Type 0 where
   pub told : IsNoChange (first_of P)
 
-pub quiet_none : Quiet []
-quiet_none = record { told = tt }
-
-pub quiet_needs : (holds : Bool) (refusal : Refusal) (Q : List (Option Answer)) → Quiet Q
-    → Quiet (needs holds refusal ∷ Q)
-quiet_needs true refusal Q quiet = record { told = quiet.told }
-quiet_needs false refusal Q quiet = record { told = refl }
-
-pub quiet_finds : {X : Type 0} (o : Option X) (refusal : Refusal) (Q : List (Option Answer))
-    → Quiet Q → Quiet (finds o refusal ∷ Q)
-quiet_finds (Some x) refusal Q quiet = record { told = quiet.told }
-quiet_finds None refusal Q quiet = record { told = refl }
+pub quiet_refusal : (Q : List (Option Answer)) → Refuses Q → Quiet Q
+quiet_refusal Q refuses = record {
+  told = elim refuses.told [
+    | inl none ↦ subst IsNoChange (sym none) tt
+    | inr some ↦ subst IsNoChange (sym some.1) refl
+  ];
+}
 
 same_quiet : (same : Bool) (refusal : Refusal)
     → is_change (if same then Ok Already else Err refusal) ≡ false
@@ -67,21 +82,21 @@ turns_finds None p refusal Q Q' stays turns = record { no_change = refl; done = 
 
 pub turns_new : {X : Type 0} (o p : Option X) (same : X → Bool) (refusal : Refusal)
     (Q Q' : List (Option Answer))
-    → (o ≡ None → first_of Q ≡ None → (x : X) × (p ≡ Some x) × (same x ≡ true)) → Quiet Q
+    → (o ≡ None → first_of Q ≡ None → (x : X) × (p ≡ Some x) × (same x ≡ true)) → Refuses Q
     → Turns (is_new o same refusal ∷ Q) (is_new p same refusal ∷ Q')
-turns_new (Some x) p same refusal Q Q' after quiet =
+turns_new (Some x) p same refusal Q Q' after refuses =
     record { no_change = same_quiet (same x) refusal; done = λ e. absurd cc }
-turns_new None p same refusal Q Q' after quiet = record {
-  no_change = quiet.told;
+turns_new None p same refusal Q Q' after refuses = record {
+  no_change = (quiet_refusal Q refuses).told;
   done = λ e. (let is = after refl e in rw (is.1, is.2) refl);
 }
 
 pub turns_done : (holds after : Bool) (Q Q' : List (Option Answer))
-    → (first_of Q ≡ None → after ≡ true) → Quiet Q
+    → (first_of Q ≡ None → after ≡ true) → Refuses Q
     → Turns (done_if holds ∷ Q) (done_if after ∷ Q')
-turns_done true after Q Q' stays quiet = record { no_change = refl; done = λ e. absurd cc }
-turns_done false after Q Q' stays quiet = record {
-  no_change = quiet.told;
+turns_done true after Q Q' stays refuses = record { no_change = refl; done = λ e. absurd cc }
+turns_done false after Q Q' stays refuses = record {
+  no_change = (quiet_refusal Q refuses).told;
   done = λ e. rw (stays e) refl;
 }
 
@@ -90,18 +105,13 @@ turns_done false after Q Q' stays quiet = record {
 pub record Firm (Q : List (Option Answer)) : Type 0 where
   pub never : first_of Q ≡ done_before → ⊥
 
-pub firm_none : Firm []
-firm_none = record { never = λ e. absurd cc }
-
-pub firm_needs : (holds : Bool) (refusal : Refusal) (Q : List (Option Answer)) → Firm Q
-    → Firm (needs holds refusal ∷ Q)
-firm_needs true refusal Q firm = record { never = λ e. firm.never e }
-firm_needs false refusal Q firm = record { never = λ e. absurd cc }
-
-pub firm_finds : {X : Type 0} (o : Option X) (refusal : Refusal) (Q : List (Option Answer)) → Firm Q
-    → Firm (finds o refusal ∷ Q)
-firm_finds (Some x) refusal Q firm = record { never = λ e. firm.never e }
-firm_finds None refusal Q firm = record { never = λ e. absurd cc }
+pub firm_refusal : (Q : List (Option Answer)) → Refuses Q → Firm Q
+firm_refusal Q refuses = record {
+  never = λ e. elim refuses.told [
+    | inl none ↦ absurd (let k = sym none ∙ e in cc)
+    | inr some ↦ absurd (let k = sym some.1 ∙ e in cc)
+  ];
+}
 
 -- ---- where the first list answers so, the second one does
 
@@ -129,21 +139,23 @@ same_told false refusal e = absurd cc
 
 pub stays_new : {X : Type 0} (o p : Option X) (same : X → Bool) (refusal : Refusal)
     (Q Q' : List (Option Answer))
-    → ((x : X) → o ≡ Some x → (y : X) × (p ≡ Some y) × (same x ≡ true → same y ≡ true)) → Firm Q
+    → ((x : X) → o ≡ Some x → (y : X) × (p ≡ Some y) × (same x ≡ true → same y ≡ true)) → Refuses Q
     → Stays (is_new o same refusal ∷ Q) (is_new p same refusal ∷ Q')
-stays_new (Some x) p same refusal Q Q' still firm =
+stays_new (Some x) p same refusal Q Q' still refuses =
     let is = still x refl in
     record {
       still = λ e. (let equal : same is.0 ≡ true = is.2 (same_told (same x) refusal e) in
           rw (is.1, equal) refl);
     }
-stays_new None p same refusal Q Q' still firm = record { still = λ e. absurd (firm.never e) }
+stays_new None p same refusal Q Q' still refuses =
+    record { still = λ e. absurd ((firm_refusal Q refuses).never e) }
 
 pub stays_done : (holds after : Bool) (Q Q' : List (Option Answer)) → (holds ≡ true → after ≡ true)
-    → Firm Q
+    → Refuses Q
     → Stays (done_if holds ∷ Q) (done_if after ∷ Q')
-stays_done true after Q Q' still firm = record { still = λ e. rw (still refl) refl }
-stays_done false after Q Q' still firm = record { still = λ e. absurd (firm.never e) }
+stays_done true after Q Q' still refuses = record { still = λ e. rw (still refl) refl }
+stays_done false after Q Q' still refuses =
+    record { still = λ e. absurd ((firm_refusal Q refuses).never e) }
 
 -- ---- what a list tells that passes
 
@@ -190,3 +202,15 @@ pub skip_done : (holds : Bool) (Q : List (Option Answer)) (Fact : Type 0) → Gi
     → Gives (done_if holds ∷ Q) Fact
 skip_done true Q Fact g = record { fact = λ e. absurd cc }
 skip_done false Q Fact g = record { fact = λ e. g.fact e }
+
+-- which of them gives a fact
+pub ruleset heads = (
+  gives_needs,
+  gives_finds,
+  gives_done,
+  gives_new,
+  skip_needs,
+  skip_finds,
+  skip_new,
+  skip_done,
+)

@@ -1,12 +1,12 @@
 -- What is kept is told one answer.
 use Rattle.std.proofs.Common.{◌≡◌, ◌∙◌, ◌⊎◌, inl, inr, sym, ap, subst, ℕ, ◌<◌, ◌≤◌, List, arith}
 use Rattle.std.proofs.Common.{Option, None, Some, refl}
-use Rattle.std.specs.Prelude.{◌↔◌, ◌++◌, map, [], ◌∷◌}
+use Rattle.std.specs.Prelude.{◌↔◌, map, [], ◌∷◌}
 use Rattle.std.proofs.lemmas.Option.{same_Some}
 use Rattle.ftd_rules.specs.declared.Obligation.{Obligation}
 use Rattle.ftd_rules.specs.declared.YearLine.{YearLine}
 use Rattle.ftd_rules.specs.Lists.{Has}
-use Rattle.ftd_machine.specs.State.{State, Entries, entries_of, holidays, kept_at}
+use Rattle.ftd_machine.specs.State.{State, Entries, Entry, entries_of, holidays, kept_at}
 use Rattle.ftd_rules.specs.declared.payment.Payment.{Payment}
 use Rattle.ftd_rules.specs.declared.run.PayRun.{PayRun}
 use Rattle.ftd_rules.specs.declared.run.Voidable.{Voidable}
@@ -109,19 +109,15 @@ account_one s x y named g h =
     (sym g ∙ subst (λ n. (entries_of s n).account ≡ Some y.account) (sym named) h) in
     rw (named, account) refl
 
+same_kept : {V : Type 0} (entries : List (Entry V)) (number other : ℕ) (v w : V)
+    → kept_at number entries ≡ Some v → kept_at other entries ≡ Some w → number ≡ other → v ≡ w
+same_kept entries number other v w g h same =
+    same_Some v w (sym g ∙ subst (λ k. kept_at k entries ≡ Some w) (sym same) h)
+
 pub run_one : (own : Entries) (quarter : ℕ) (x y : KeptRun) → IsRunIn own quarter x
     → IsRunIn own quarter y → x.number ≡ y.number → x ≡ y
 run_one own quarter x y g h same =
-    let kept : record { value = x.run; voided = x.voided } ≡ record {
-      value = y.run;
-      voided = y.voided;
-    } = same_Some (record { value = x.run; voided = x.voided }) (record {
-      value = y.run;
-      voided = y.voided;
-    }) (sym g.0 ∙ subst (λ k. kept_at k own.runs ≡ Some (record {
-      value = y.run;
-      voided = y.voided;
-    })) (sym same) h.0) in
+    let kept = same_kept own.runs x.number y.number _ _ g.0 h.0 same in
     let run : x.run ≡ y.run = ap (λ (v : Voidable PayRun). v.value) kept in
     let voided : x.voided ≡ y.voided = ap (λ (v : Voidable PayRun). v.voided) kept in
     rw (same, run, voided) refl
@@ -129,16 +125,7 @@ run_one own quarter x y g h same =
 pub payment_one : (owed : List Obligation) (own : Entries) (quarter : ℕ) (x y : KeptPayment)
     → IsPaymentIn owed own quarter x → IsPaymentIn owed own quarter y → x.number ≡ y.number → x ≡ y
 payment_one owed own quarter x y g h same =
-    let kept : record { value = x.payment; voided = x.voided } ≡ record {
-      value = y.payment;
-      voided = y.voided;
-    } = same_Some (record { value = x.payment; voided = x.voided }) (record {
-      value = y.payment;
-      voided = y.voided;
-    }) (sym g.0 ∙ subst (λ k. kept_at k own.payments ≡ Some (record {
-      value = y.payment;
-      voided = y.voided;
-    })) (sym same) h.0) in
+    let kept = same_kept own.payments x.number y.number _ _ g.0 h.0 same in
     let payment : x.payment ≡ y.payment = ap (λ (v : Voidable Payment). v.value) kept in
     let voided : x.voided ≡ y.voided = ap (λ (v : Voidable Payment). v.voided) kept in
     let day : y.payment.for_day ≡ x.payment.for_day =

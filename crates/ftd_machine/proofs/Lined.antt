@@ -51,6 +51,18 @@ like_lookback : (own : Entries) (y z : ℕ) (c d : Cents) → y ≡ z → c ≡ 
     → HasLookback own y c
 like_lookback own y z c d e f h = rw (e, f) h
 
+lookbacks_like : (own : Entries) (others lines : List YearLine)
+    → map basis_of others ≡ map basis_of lines
+    → ((line : YearLine) → Has lines line → HasLookback own line.year line.lookback)
+    → (line : YearLine) → Has others line → HasLookback own line.year line.lookback
+lookbacks_like own others lines same lookbacks line has =
+    let c = counterpart others lines line same has in
+    let year : line.year ≡ c.0.year = ap (λ (z : ℕ × ℕ × Bool). z.0) c.2 in
+    let amount : line.lookback ≡ c.0.lookback =
+    ap (λ (z : ℕ × ℕ × Bool). record { 0 = z.1 }) c.2 in
+    like_lookback own line.year c.0.year line.lookback c.0.lookback year amount
+    (lookbacks c.0 c.1)
+
 -- ---- lines of a sound state
 
 lines_from : (own : Entries) (es : List (Entry (Unit {0}))) (carried : Bool)
@@ -127,14 +139,7 @@ lines_of_sound s name sound =
       others,
       record {
         years = years_same others raw.0 found.1 ∙ raw.1;
-        lookbacks = λ line has. (
-            let c = counterpart others raw.0 line found.1 has in
-            let year : line.year ≡ c.0.year = ap (λ (z : ℕ × ℕ × Bool). z.0) c.2 in
-            let amount : line.lookback ≡ c.0.lookback =
-            ap (λ (z : ℕ × ℕ × Bool). record { 0 = z.1 }) c.2 in
-            like_lookback own line.year c.0.year line.lookback c.0.lookback year amount
-            (raw.2 c.0 c.1)
-            );
+        lookbacks = lookbacks_like own others raw.0 found.1 raw.2;
         carried = carried_same (is_carried own.account) raw.0 others (sym found.1) raw.3;
         schedules = found.2;
       },
@@ -211,14 +216,7 @@ lines_again own after lines same h =
       others,
       record {
         years = years_same others raw.0 found.1 ∙ raw.1 ∙ h.years ∙ rw (same.open_years) refl;
-        lookbacks = λ line has. (
-            let c = counterpart others raw.0 line found.1 has in
-            let year : line.year ≡ c.0.year = ap (λ (z : ℕ × ℕ × Bool). z.0) c.2 in
-            let amount : line.lookback ≡ c.0.lookback =
-            ap (λ (z : ℕ × ℕ × Bool). record { 0 = z.1 }) c.2 in
-            like_lookback after line.year c.0.year line.lookback c.0.lookback year amount
-            (raw.2 c.0 c.1)
-            );
+        lookbacks = lookbacks_like after others raw.0 found.1 raw.2;
         carried = subst (λ o. AreCarried (is_carried o) others) (sym same.account)
             (carried_same (is_carried own.account) raw.0 others
             (sym found.1) (raw.3 (is_carried own.account) h.carried));

@@ -1,6 +1,6 @@
 -- What a sound state is asked for is answered by a list whose amounts are together below the end,
 -- or by no list.
-use Rattle.std.proofs.Common.{[], Ok}
+use Rattle.std.proofs.Common.{Ok}
 use Rattle.ftd_machine.specs.State.{State}
 use Rattle.ftd_machine.specs.Checks.{Answer}
 use Rattle.ftd_machine.specs.Laws.{IsBounded}
@@ -17,83 +17,53 @@ use Rattle.ftd_machine.specs.declared.requests.Request.TheVariants.{ChangeHolida
 use Rattle.ftd_machine.specs.declared.requests.Request.TheVariants.{Question}
 use Rattle.ftd_machine.proofs.Questions.{question_brief, tells_bounded}
 use Rattle.ftd_machine.proofs.Repeats.{checks_of}
-use Rattle.ftd_machine.proofs.Brief.{AnswersBounded, AreBrief, brief_none, brief_needs, brief_done}
-use Rattle.ftd_machine.proofs.Brief.{brief_finds, brief_new, decided, is_done, opens_next}
+use Rattle.ftd_machine.proofs.Brief.{AnswersBounded, briefs, decided, is_done, opens_next}
 use Rattle.ftd_machine.proofs.Brief.{is_posted}
 
 pub answers_bounded : (s : State) (request : Request) (answer : Answer) (next : State) → IsSound s
     → Step s request answer next → AnswersBounded answer
 answers_bounded s (Enrol name start carried form) answer next sound step =
     decided s answer next (checks_of s (Enrol name start carried form)) _
-    (brief_needs _ _ _ (brief_needs _ _ _ (brief_new _ _ _ [] brief_none)))
-    (is_done answer next _) step
+    (search briefs depth 12) (is_done answer next _) step
 answers_bounded s (Calendar year days) answer next sound step =
     decided s answer next (checks_of s (Calendar year days)) _
-    (brief_needs _ _ _ (brief_needs _ _ _ (brief_new _ _ _ [] brief_none)))
-    (is_done answer next _) step
+    (search briefs depth 12) (is_done answer next _) step
 answers_bounded s (AddHoliday day) answer next sound step =
     decided s answer next (checks_of s (AddHoliday day)) _
-    (brief_needs _ _ _ (brief_done _ _ (brief_finds _ _ _ (brief_needs _ _ [] brief_none))))
-    (is_done answer next _) step
+    (search briefs depth 12) (is_done answer next _) step
 answers_bounded s (Report name quarter cents) answer next sound step =
     decided s answer next (checks_of s (Report name quarter cents)) _
-    (brief_needs _ _ _ (brief_needs _ _ _ (brief_needs _ _ _ (brief_finds _ _ _
-    (brief_needs _ _ _ (brief_new _ _ _ _ (brief_needs _ _ [] brief_none)))))))
-    (is_done answer next _) step
+    (search briefs depth 12) (is_done answer next _) step
 answers_bounded s (ReportYear name year cents) answer next sound step =
     decided s answer next (checks_of s (ReportYear name year cents)) _
-    (brief_needs _ _ _ (brief_needs _ _ _ (brief_needs _ _ _ (brief_finds _ _ _
-    (brief_needs _ _ _ (brief_new _ _ _ _ (brief_needs _ _ [] brief_none)))))))
-    (is_done answer next _) step
+    (search briefs depth 12) (is_done answer next _) step
 answers_bounded s (OpenYear name year) answer next sound step =
     decided s answer next (checks_of s (OpenYear name year)) _
-    (brief_needs _ _ _ (brief_needs _ _ _ (brief_finds _ _ _ (brief_done _ _
-    (brief_needs _ _ _ (brief_needs _ _ _ (brief_needs _ _ [] brief_none)))))))
-    (opens_next s answer next name year) step
+    (search briefs depth 12) (opens_next s answer next name year) step
 answers_bounded s (Post name number payday fit ss medicare) answer next sound step =
     decided s answer next (checks_of s (Post name number payday fit ss medicare)) _
-    (brief_needs _ _ _ (brief_needs _ _ _ (brief_needs _ _ _ (brief_needs _ _ _
-    (brief_finds _ _ _ (brief_new _ _ _ _ (brief_needs _ _ _ (brief_needs _ _ _
-    (brief_needs _ _ [] brief_none)))))))))
-    (λ posted. is_posted _ _ _ _ answer posted.1) step
+    (search briefs depth 12) (λ posted. is_posted _ _ _ _ answer posted.1) step
 answers_bounded s (Void name number) answer next sound step =
     decided s answer next (checks_of s (Void name number)) _
-    (brief_needs _ _ _ (brief_needs _ _ _ (brief_finds _ _ _ (brief_done _ _
-    (brief_finds _ _ [] brief_none)))))
-    (λ posted. is_posted _ _ _ _ answer posted.3) step
+    (search briefs depth 12) (λ posted. is_posted _ _ _ _ answer posted.3) step
 answers_bounded s (Pay name number paid for_day cents) answer next sound step =
     decided s answer next (checks_of s (Pay name number paid for_day cents)) _
-    (brief_needs _ _ _ (brief_needs _ _ _ (brief_needs _ _ _ (brief_needs _ _ _
-    (brief_finds _ _ _ (brief_new _ _ _ _ (brief_needs _ _ _ (brief_needs _ _ _
-    (brief_needs _ _ [] brief_none)))))))))
-    (is_done answer next _) step
+    (search briefs depth 12) (is_done answer next _) step
 answers_bounded s (VoidPay name number) answer next sound step =
     decided s answer next (checks_of s (VoidPay name number)) _
-    (brief_needs _ _ _ (brief_needs _ _ _ (brief_finds _ _ _ (brief_done _ _
-    (brief_finds _ _ [] brief_none)))))
-    (is_done answer next _) step
+    (search briefs depth 12) (is_done answer next _) step
 answers_bounded s (CorrectReport name quarter number cents) answer next sound step =
     decided s answer next (checks_of s (CorrectReport name quarter number cents)) _
-    (brief_needs _ _ _ (brief_needs _ _ _ (brief_needs _ _ _ (brief_needs _ _ _
-    (brief_finds _ _ _ (brief_needs _ _ _ (brief_finds _ _ _ (brief_new _ _ _ _
-    (brief_needs _ _ [] brief_none)))))))))
-    (λ posted. is_posted _ _ _ _ answer posted.1) step
+    (search briefs depth 12) (λ posted. is_posted _ _ _ _ answer posted.1) step
 answers_bounded s (CorrectReportYear name year number cents) answer next sound step =
     decided s answer next (checks_of s (CorrectReportYear name year number cents)) _
-    (brief_needs _ _ _ (brief_needs _ _ _ (brief_needs _ _ _ (brief_needs _ _ _
-    (brief_finds _ _ _ (brief_needs _ _ _ (brief_finds _ _ _ (brief_new _ _ _ _
-    (brief_needs _ _ [] brief_none)))))))))
-    (λ posted. is_posted _ _ _ _ answer posted.1) step
+    (search briefs depth 12) (λ posted. is_posted _ _ _ _ answer posted.1) step
 answers_bounded s (ChangeHoliday day number is_holiday) answer next sound step =
     decided s answer next (checks_of s (ChangeHoliday day number is_holiday)) _
-    (brief_needs _ _ _ (brief_needs _ _ _ (brief_finds _ _ _ (brief_needs _ _ _
-    (brief_new _ _ _ _ (brief_needs _ _ [] brief_none))))))
-    (is_done answer next _) step
+    (search briefs depth 12) (is_done answer next _) step
 answers_bounded s (CorrectAccount name number start carried) answer next sound step =
     decided s answer next (checks_of s (CorrectAccount name number start carried)) _
-    (brief_needs _ _ _ (brief_needs _ _ _ (brief_needs _ _ _ (brief_finds _ _ _
-    (brief_new _ _ _ _ (brief_needs _ _ _ (brief_needs _ _ [] brief_none)))))))
-    (is_done answer next _) step
+    (search briefs depth 12) (is_done answer next _) step
 answers_bounded s (Question question) answer next sound step =
     decided s answer next (checks_of s (Question question)) _ (question_brief s question)
     (λ told. tells_bounded s question answer sound told.1) step

@@ -8,45 +8,43 @@ use Rattle.ftd_machine.specs.Sound.{IsSound}
 use Rattle.ftd_machine.specs.declared.requests.Question.{Question}
 use Rattle.ftd_machine.specs.declared.requests.Question.TheVariants.{Status, Explain, DueList}
 use Rattle.ftd_machine.specs.declared.requests.Question.TheVariants.{ScheduleB, Agenda, Owed, Kept}
-use Rattle.ftd_machine.specs.declared.requests.Request.TheVariants as request
-use Rattle.ftd_machine.proofs.Heads.{Quiet, quiet_none, quiet_needs, quiet_finds}
-use Rattle.ftd_machine.proofs.Brief.{AnswersBounded, AreBrief, brief_none, brief_needs, brief_finds}
-use Rattle.ftd_machine.proofs.KeptChecks.{kept_quiet, kept_firm, kept_no_change}
-use Rattle.ftd_machine.proofs.KeptChecks.{kept_brief, kept_bounded}
+use Rattle.ftd_machine.proofs.Heads.{Refuses, refuses_none, refuses_needs, refuses_finds}
+use Rattle.ftd_machine.proofs.Heads.{Quiet, Firm, quiet_refusal, firm_refusal}
+use Rattle.ftd_machine.proofs.Brief.{AnswersBounded, AreBrief, brief_refusal}
+use Rattle.ftd_machine.proofs.KeptChecks.{kept_refuses, kept_no_change, kept_bounded}
 use Rattle.ftd_machine.proofs.ListsSmall.{due_list_small, days_small}
-use Rattle.ftd_machine.proofs.Heads.{Firm, firm_none, firm_needs, firm_finds}
 
--- the checks of a question answer no change
+-- the checks of a question refuse, or let it pass
+pub question_refuses : (s : State) (question : Question) → Refuses (question_checks s question)
+question_refuses s (Status name day) =
+    refuses_needs _ _ _ (refuses_needs _ _ _ (refuses_finds _ _ _
+    (refuses_needs _ _ [] refuses_none)))
+question_refuses s (Explain name day) =
+    refuses_needs _ _ _ (refuses_needs _ _ _ (refuses_finds _ _ _
+    (refuses_needs _ _ [] refuses_none)))
+question_refuses s (DueList name quarter as_of) =
+    refuses_needs _ _ _
+    (refuses_needs _ _ _ (refuses_needs _ _ _ (refuses_finds _ _ _
+    (refuses_needs _ _ [] refuses_none))))
+question_refuses s (ScheduleB name quarter) =
+    refuses_needs _ _ _
+    (refuses_needs _ _ _ (refuses_finds _ _ _ (refuses_needs _ _ _
+    (refuses_needs _ _ [] refuses_none))))
+question_refuses s (Agenda from to as_of) = refuses_needs _ _ _ (refuses_needs _ _ [] refuses_none)
+question_refuses s (Owed until as_of) = refuses_needs _ _ _ (refuses_needs _ _ [] refuses_none)
+question_refuses s (Kept kept) = kept_refuses s kept
+
+-- so they answer no change
 pub question_quiet : (s : State) (question : Question) → Quiet (question_checks s question)
-question_quiet s (Status name day) =
-    quiet_needs _ _ _ (quiet_needs _ _ _ (quiet_finds _ _ _ (quiet_needs _ _ [] quiet_none)))
-question_quiet s (Explain name day) =
-    quiet_needs _ _ _ (quiet_needs _ _ _ (quiet_finds _ _ _ (quiet_needs _ _ [] quiet_none)))
-question_quiet s (DueList name quarter as_of) =
-    quiet_needs _ _ _
-    (quiet_needs _ _ _ (quiet_needs _ _ _ (quiet_finds _ _ _ (quiet_needs _ _ [] quiet_none))))
-question_quiet s (ScheduleB name quarter) =
-    quiet_needs _ _ _
-    (quiet_needs _ _ _ (quiet_finds _ _ _ (quiet_needs _ _ _ (quiet_needs _ _ [] quiet_none))))
-question_quiet s (Agenda from to as_of) = quiet_needs _ _ _ (quiet_needs _ _ [] quiet_none)
-question_quiet s (Owed until as_of) = quiet_needs _ _ _ (quiet_needs _ _ [] quiet_none)
-question_quiet s (Kept kept) = kept_quiet s kept
+question_quiet s question = quiet_refusal _ (question_refuses s question)
 
 -- nor that something was done before
 pub question_firm : (s : State) (question : Question) → Firm (question_checks s question)
-question_firm s (Status name day) =
-    firm_needs _ _ _ (firm_needs _ _ _ (firm_finds _ _ _ (firm_needs _ _ [] firm_none)))
-question_firm s (Explain name day) =
-    firm_needs _ _ _ (firm_needs _ _ _ (firm_finds _ _ _ (firm_needs _ _ [] firm_none)))
-question_firm s (DueList name quarter as_of) =
-    firm_needs _ _ _
-    (firm_needs _ _ _ (firm_needs _ _ _ (firm_finds _ _ _ (firm_needs _ _ [] firm_none))))
-question_firm s (ScheduleB name quarter) =
-    firm_needs _ _ _
-    (firm_needs _ _ _ (firm_finds _ _ _ (firm_needs _ _ _ (firm_needs _ _ [] firm_none))))
-question_firm s (Agenda from to as_of) = firm_needs _ _ _ (firm_needs _ _ [] firm_none)
-question_firm s (Owed until as_of) = firm_needs _ _ _ (firm_needs _ _ [] firm_none)
-question_firm s (Kept kept) = kept_firm s kept
+question_firm s question = firm_refusal _ (question_refuses s question)
+
+-- nor a list
+pub question_brief : (s : State) (question : Question) → AreBrief (question_checks s question)
+question_brief s question = brief_refusal _ (question_refuses s question)
 
 -- what is told is no change
 pub told_is : (s : State) (question : Question) (answer : Answer) → Tells s question answer
@@ -58,22 +56,6 @@ told_is s (ScheduleB name quarter) answer told = ap is_change told.told
 told_is s (Agenda from to as_of) answer told = ap is_change told.told
 told_is s (Owed until as_of) answer told = ap is_change told.told
 told_is s (Kept kept) answer told = kept_no_change s kept answer told
-
--- nor a list
-pub question_brief : (s : State) (question : Question) → AreBrief (question_checks s question)
-question_brief s (Status name day) =
-    brief_needs _ _ _ (brief_needs _ _ _ (brief_finds _ _ _ (brief_needs _ _ [] brief_none)))
-question_brief s (Explain name day) =
-    brief_needs _ _ _ (brief_needs _ _ _ (brief_finds _ _ _ (brief_needs _ _ [] brief_none)))
-question_brief s (DueList name quarter as_of) =
-    brief_needs _ _ _
-    (brief_needs _ _ _ (brief_needs _ _ _ (brief_finds _ _ _ (brief_needs _ _ [] brief_none))))
-question_brief s (ScheduleB name quarter) =
-    brief_needs _ _ _
-    (brief_needs _ _ _ (brief_finds _ _ _ (brief_needs _ _ _ (brief_needs _ _ [] brief_none))))
-question_brief s (Agenda from to as_of) = brief_needs _ _ _ (brief_needs _ _ [] brief_none)
-question_brief s (Owed until as_of) = brief_needs _ _ _ (brief_needs _ _ [] brief_none)
-question_brief s (Kept kept) = kept_brief s kept
 
 -- the amounts of a list that is told are together below the end
 pub tells_bounded : (s : State) (question : Question) (answer : Answer) → IsSound s

@@ -9,7 +9,8 @@ use Rattle.std.proofs.lemmas.List.Folds.{list_any-append}
 use Rattle.std.proofs.lemmas.List.Elements.{filter-append}
 use Rattle.ftd_days.specs.Calendar.{year_of}
 use Rattle.ftd_days.specs.Business.{is_holiday}
-use Rattle.ftd_days.specs.declared.cents.Cents.{Cents}
+use Rattle.ftd_days.specs.Holidays.{YearDays}
+use Rattle.ftd_rules.specs.declared.Form.TheVariants.{F941, F943}
 use Rattle.ftd_machine.specs.declared.entries.Account.{Account}
 use Rattle.ftd_machine.specs.declared.entries.Beginning.{Beginning}
 use Rattle.ftd_rules.specs.declared.run.PayRun.{PayRun}
@@ -18,7 +19,7 @@ use Rattle.ftd_rules.specs.declared.run.Voidable.{Voidable}
 use Rattle.ftd_machine.specs.State.{State, entries_of, is_named, account_of, kept_at, is_open}
 use Rattle.ftd_machine.specs.State.{is_given, calendar_at, days_of, added_in, all_at, numbered}
 use Rattle.ftd_machine.specs.State.{DayChange, changes_of, enrolled_in, moves_in}
-use Rattle.ftd_machine.specs.State.{account_in_force, in_force, moves_of}
+use Rattle.ftd_machine.specs.State.{account_in_force, in_force}
 use Rattle.ftd_machine.specs.History.{form_of}
 use Rattle.ftd_machine.specs.Checks.{Answer, first_of, Decides}
 use Rattle.ftd_machine.specs.Requests.{days_of_year, enrol_checks, calendar_checks}
@@ -27,12 +28,15 @@ use Rattle.ftd_machine.specs.Requests.{open_year_checks, post_checks, void_check
 use Rattle.ftd_machine.specs.Requests.{void_payment_checks, correct_report_checks}
 use Rattle.ftd_machine.specs.Requests.{correct_report_year_checks, change_holiday_checks}
 use Rattle.ftd_machine.specs.Requests.{correct_account_checks, is_unused}
+use Rattle.ftd_machine.specs.Requests.{same_amount, same_run, same_payment, same_flag}
 use Rattle.ftd_machine.specs.Questions.{question_checks}
 use Rattle.ftd_machine.specs.Step.{Step, OpensNext, may_open, taken, with_account, with_entry}
 use Rattle.ftd_machine.specs.Step.{with_voided, with_move}
 use Rattle.ftd_machine.specs.Runs.{Goes, IsRun}
 use Rattle.ftd_machine.specs.Laws.{is_change, IsRepeat}
 use Rattle.ftd_machine.specs.declared.replies.Reply.TheVariants.{Done, Already}
+use Rattle.ftd_machine.specs.declared.replies.Refusal.TheVariants.{CorrectionDiffers}
+use Rattle.ftd_machine.specs.declared.replies.Refusal.TheVariants.{UnknownPayment}
 use Rattle.ftd_machine.specs.declared.requests.Request.{Request}
 use Rattle.ftd_machine.specs.declared.requests.Request.TheVariants.{Enrol, Calendar, AddHoliday}
 use Rattle.ftd_machine.specs.declared.requests.Request.TheVariants.{Report, ReportYear, OpenYear}
@@ -47,20 +51,17 @@ use Rattle.ftd_machine.proofs.Adding.{own_name, moved_own, was_enrolled}
 use Rattle.ftd_machine.proofs.Members.{some_of}
 use Rattle.ftd_machine.proofs.Numbers.{KeepsNumbers, keeps_numbers, numbered_append, all_own}
 use Rattle.ftd_machine.proofs.Numbers.{changes_append, changes_own, moves_append}
-use Rattle.ftd_machine.proofs.Heads.{done_before, Quiet, quiet_none, quiet_needs, Turns, Firm}
-use Rattle.ftd_machine.proofs.Heads.{Stays}
+use Rattle.ftd_machine.proofs.Heads.{refuses_none, refuses_needs}
+use Rattle.ftd_machine.proofs.Heads.{done_before, Quiet, quiet_refusal, Turns, Firm}
+use Rattle.ftd_machine.proofs.Heads.{Stays, stays_new}
 use Rattle.ftd_machine.proofs.Questions.{question_quiet, question_firm, told_is}
 use Rattle.ftd_machine.proofs.Keeping.{found_append, found_last, is_year, same_key, kept_own}
 use Rattle.ftd_machine.proofs.Keeping.{kept_some, Keeps, keeps_entry, KeepsVoidable, keeps_same}
 use Rattle.ftd_machine.proofs.Keeping.{keeps_more, keeps_voided, voided_kept}
-use Rattle.ftd_machine.proofs.Again.{StillThere, enrol_turns, enrol_stays, report_turns}
-use Rattle.ftd_machine.proofs.Again.{report_stays, correct_report_turns, correct_report_stays}
-use Rattle.ftd_machine.proofs.Again.{correct_report_year_turns, correct_report_year_stays}
-use Rattle.ftd_machine.proofs.Again.{correct_account_turns, correct_account_stays, change_turns}
-use Rattle.ftd_machine.proofs.Again.{change_stays, report_year_turns, report_year_stays, open_turns}
-use Rattle.ftd_machine.proofs.Again.{open_stays, post_turns, post_stays, void_turns, void_stays}
-use Rattle.ftd_machine.proofs.Again.{pay_turns, pay_stays, void_payment_turns, void_payment_stays}
-use Rattle.ftd_machine.proofs.Again.{calendar_turns, calendar_stays, holiday_turns, holiday_stays}
+use Rattle.ftd_machine.proofs.Again.{StillThere, turning, staying, on_still, same_still}
+use Rattle.ftd_machine.proofs.Again.{voided_still, voided_after, void_turns, turns_next}
+use Rattle.ftd_machine.proofs.Again.{account_same, amount_same, run_same, payment_same, flag_same}
+use Rattle.ftd_machine.proofs.Again.{correct_account_turns}
 use Rattle.ftd_machine.proofs.InYear.{more_last}
 
 -- the checks of a request in a state
@@ -191,28 +192,22 @@ extends_same s = record {
 
 extends_account : (s : State) (name : List ℕ) (account : Account)
     → Extends s (record s { accounts = with_account s.accounts name account })
-extends_account s name account = record {
-  enrolled = λ other a there. found_append account_of (is_named other) s.accounts _ a there;
-  accounts = λ other a is.
-      let was = some_of (enrolled_in s other)
-      (was_enrolled (enrolled_in s other) (moves_in s other) (ap is_some is)) in (
-        a,
-        ap (λ o. account_in_force o (moves_in s other))
-            (found_append account_of (is_named other) s.accounts _ was.0 was.1 ∙ sym was.1) ∙ is,
-        refl,
-      );
-  calendars = λ year days there. there;
-  holidays = λ day there. there;
-  reported = λ name key content there. there;
-  reported_years = λ name key content there. there;
-  open_years = λ name key content there. there;
-  runs = keeps_same s.runs;
-  payments = keeps_same s.payments;
-  corrected = λ name key number content there. there;
-  corrected_years = λ name key number content there. there;
-  changes = λ day number one there. there;
-  moves = λ name number account there. there;
-}
+extends_account s name account =
+    let after : State = record s { accounts = with_account s.accounts name account } in
+    let enrolled : (other : List ℕ) (a : Account) → enrolled_in s other ≡ Some a
+    → enrolled_in after other ≡ Some a =
+    λ other a there. found_append account_of (is_named other) s.accounts _ a there in
+    let accounts : (other : List ℕ) → StillThere (entries_of s other).account
+    (entries_of after other).account =
+    λ other a is.
+    let was = some_of (enrolled_in s other)
+    (was_enrolled (enrolled_in s other) (moves_in s other) (ap is_some is)) in (
+      a,
+      ap (λ o. account_in_force o (moves_in s other))
+          (found_append account_of (is_named other) s.accounts _ was.0 was.1 ∙ sym was.1) ∙ is,
+      refl,
+    ) in
+    assumption (extends_same s)
 
 pub calendar_still : (s : State) (year : ℕ) (days : List ℕ) (other : ℕ) (x : List ℕ)
     → calendar_at s other ≡ Some x
@@ -223,227 +218,45 @@ calendar_still s year days other x there = found_append days_of (is_year other) 
 
 extends_calendar : (s : State) (year : ℕ) (days : List ℕ)
     → Extends s (record s { calendars = s.calendars ++ record { year = year; days = days } ∷ [] })
-extends_calendar s year days = record {
-  enrolled = λ name account there. there;
-  accounts = λ name a is. (a, is, refl);
-  calendars = calendar_still s year days;
-  holidays = λ day there. holiday_given _ _ (added_in s (year_of day)) day
-      (calendar_still s year days (year_of day)) there;
-  reported = λ name key content there. there;
-  reported_years = λ name key content there. there;
-  open_years = λ name key content there. there;
-  runs = keeps_same s.runs;
-  payments = keeps_same s.payments;
-  corrected = λ name key number content there. there;
-  corrected_years = λ name key number content there. there;
-  changes = λ day number one there. there;
-  moves = λ name number account there. there;
-}
+extends_calendar s year days =
+    let after : State =
+    record s { calendars = s.calendars ++ record { year = year; days = days } ∷ [] } in
+    let calendars : (other : ℕ) (x : List ℕ) → calendar_at s other ≡ Some x
+    → calendar_at after other ≡ Some x = calendar_still s year days in
+    let holidays : (day : ℕ)
+    → is_holiday (days_of_year (calendar_at s (year_of day)) (added_in s (year_of day))) day ≡ true
+    → is_holiday (days_of_year (calendar_at after (year_of day)) (added_in s (year_of day))) day
+    ≡ true =
+    λ day there. holiday_given _ _ (added_in s (year_of day)) day
+    (calendar_still s year days (year_of day)) there in
+    assumption (extends_same s)
 
 extends_added : (s : State) (more : ℕ)
     → Extends s (record s { added_days = s.added_days ++ more ∷ [] })
-extends_added s more = record {
-  enrolled = λ name account there. there;
-  accounts = λ name a is. (a, is, refl);
-  calendars = λ year days there. there;
-  holidays = λ day there.
-      let year = year_of day in
-      let added : added_in (record s { added_days = s.added_days ++ more ∷ [] }) year
-      ≡ added_in s year ++ added_in (record s { added_days = more ∷ [] }) year =
-      filter-append (λ d. year_of d == year) s.added_days (more ∷ []) in
-      rw added (holiday_more (calendar_at s year) (added_in s year) _ day there);
-  reported = λ name key content there. there;
-  reported_years = λ name key content there. there;
-  open_years = λ name key content there. there;
-  runs = keeps_same s.runs;
-  payments = keeps_same s.payments;
-  corrected = λ name key number content there. there;
-  corrected_years = λ name key number content there. there;
-  changes = λ day number one there. there;
-  moves = λ name number account there. there;
-}
-
-extends_reported : (s : State) (name : List ℕ) (key : ℕ) (cents : Cents)
-    → Extends s (record s { reported = with_entry s.reported name key cents })
-extends_reported s name key cents = record {
-  enrolled = λ name account there. there;
-  accounts = λ name a is. (a, is, refl);
-  calendars = λ year days there. there;
-  holidays = λ day there. there;
-  reported = keeps_entry s.reported name key cents;
-  reported_years = λ name key content there. there;
-  open_years = λ name key content there. there;
-  runs = keeps_same s.runs;
-  payments = keeps_same s.payments;
-  corrected = λ name key number content there. there;
-  corrected_years = λ name key number content there. there;
-  changes = λ day number one there. there;
-  moves = λ name number account there. there;
-}
-
-extends_reported_year : (s : State) (name : List ℕ) (key : ℕ) (cents : Cents)
-    → Extends s (record s { reported_years = with_entry s.reported_years name key cents })
-extends_reported_year s name key cents = record {
-  enrolled = λ name account there. there;
-  accounts = λ name a is. (a, is, refl);
-  calendars = λ year days there. there;
-  holidays = λ day there. there;
-  reported = λ name key content there. there;
-  reported_years = keeps_entry s.reported_years name key cents;
-  open_years = λ name key content there. there;
-  runs = keeps_same s.runs;
-  payments = keeps_same s.payments;
-  corrected = λ name key number content there. there;
-  corrected_years = λ name key number content there. there;
-  changes = λ day number one there. there;
-  moves = λ name number account there. there;
-}
-
-extends_open : (s : State) (name : List ℕ) (year : ℕ)
-    → Extends s (record s { open_years = with_entry s.open_years name year tt })
-extends_open s name year = record {
-  enrolled = λ name account there. there;
-  accounts = λ name a is. (a, is, refl);
-  calendars = λ year days there. there;
-  holidays = λ day there. there;
-  reported = λ name key content there. there;
-  reported_years = λ name key content there. there;
-  open_years = keeps_entry s.open_years name year tt;
-  runs = keeps_same s.runs;
-  payments = keeps_same s.payments;
-  corrected = λ name key number content there. there;
-  corrected_years = λ name key number content there. there;
-  changes = λ day number one there. there;
-  moves = λ name number account there. there;
-}
-
-extends_run : (s : State) (name : List ℕ) (number : ℕ) (more : Voidable PayRun)
-    → Extends s (record s { runs = with_entry s.runs name number more })
-extends_run s name number more = record {
-  enrolled = λ name account there. there;
-  accounts = λ name a is. (a, is, refl);
-  calendars = λ year days there. there;
-  holidays = λ day there. there;
-  reported = λ name key content there. there;
-  reported_years = λ name key content there. there;
-  open_years = λ name key content there. there;
-  runs = keeps_more s.runs name number more;
-  payments = keeps_same s.payments;
-  corrected = λ name key number content there. there;
-  corrected_years = λ name key number content there. there;
-  changes = λ day number one there. there;
-  moves = λ name number account there. there;
-}
-
-extends_void_run : (s : State) (name : List ℕ) (number : ℕ)
-    → Extends s (record s { runs = with_voided s.runs name number })
-extends_void_run s name number = record {
-  enrolled = λ name account there. there;
-  accounts = λ name a is. (a, is, refl);
-  calendars = λ year days there. there;
-  holidays = λ day there. there;
-  reported = λ name key content there. there;
-  reported_years = λ name key content there. there;
-  open_years = λ name key content there. there;
-  runs = keeps_voided s.runs name number;
-  payments = keeps_same s.payments;
-  corrected = λ name key number content there. there;
-  corrected_years = λ name key number content there. there;
-  changes = λ day number one there. there;
-  moves = λ name number account there. there;
-}
-
-extends_payment : (s : State) (name : List ℕ) (number : ℕ) (more : Voidable Payment)
-    → Extends s (record s { payments = with_entry s.payments name number more })
-extends_payment s name number more = record {
-  enrolled = λ name account there. there;
-  accounts = λ name a is. (a, is, refl);
-  calendars = λ year days there. there;
-  holidays = λ day there. there;
-  reported = λ name key content there. there;
-  reported_years = λ name key content there. there;
-  open_years = λ name key content there. there;
-  runs = keeps_same s.runs;
-  payments = keeps_more s.payments name number more;
-  corrected = λ name key number content there. there;
-  corrected_years = λ name key number content there. there;
-  changes = λ day number one there. there;
-  moves = λ name number account there. there;
-}
-
-extends_void_payment : (s : State) (name : List ℕ) (number : ℕ)
-    → Extends s (record s { payments = with_voided s.payments name number })
-extends_void_payment s name number = record {
-  enrolled = λ name account there. there;
-  accounts = λ name a is. (a, is, refl);
-  calendars = λ year days there. there;
-  holidays = λ day there. there;
-  reported = λ name key content there. there;
-  reported_years = λ name key content there. there;
-  open_years = λ name key content there. there;
-  runs = keeps_same s.runs;
-  payments = keeps_voided s.payments name number;
-  corrected = λ name key number content there. there;
-  corrected_years = λ name key number content there. there;
-  changes = λ day number one there. there;
-  moves = λ name number account there. there;
-}
-
-extends_corrected : (s : State) (name : List ℕ) (key : ℕ) (cents : Cents)
-    → Extends s (record s { corrected = with_entry s.corrected name key cents })
-extends_corrected s name key cents = record {
-  enrolled = λ name account there. there;
-  accounts = λ name a is. (a, is, refl);
-  calendars = λ year days there. there;
-  holidays = λ day there. there;
-  reported = λ name key content there. there;
-  reported_years = λ name key content there. there;
-  open_years = λ name key content there. there;
-  runs = keeps_same s.runs;
-  payments = keeps_same s.payments;
-  corrected = keeps_numbers s.corrected name key cents;
-  corrected_years = λ name key number content there. there;
-  changes = λ day number one there. there;
-  moves = λ name number account there. there;
-}
-
-extends_corrected_year : (s : State) (name : List ℕ) (key : ℕ) (cents : Cents)
-    → Extends s (record s { corrected_years = with_entry s.corrected_years name key cents })
-extends_corrected_year s name key cents = record {
-  enrolled = λ name account there. there;
-  accounts = λ name a is. (a, is, refl);
-  calendars = λ year days there. there;
-  holidays = λ day there. there;
-  reported = λ name key content there. there;
-  reported_years = λ name key content there. there;
-  open_years = λ name key content there. there;
-  runs = keeps_same s.runs;
-  payments = keeps_same s.payments;
-  corrected = λ name key number content there. there;
-  corrected_years = keeps_numbers s.corrected_years name key cents;
-  changes = λ day number one there. there;
-  moves = λ name number account there. there;
-}
+extends_added s more =
+    let after : State = record s { added_days = s.added_days ++ more ∷ [] } in
+    let holidays : (day : ℕ)
+    → is_holiday (days_of_year (calendar_at s (year_of day)) (added_in s (year_of day))) day ≡ true
+    → is_holiday (days_of_year (calendar_at s (year_of day)) (added_in after (year_of day))) day
+    ≡ true =
+    λ day there.
+    let year = year_of day in
+    let added : added_in after year
+    ≡ added_in s year ++ added_in (record s { added_days = more ∷ [] }) year =
+    filter-append (λ d. year_of d == year) s.added_days (more ∷ []) in
+    rw added (holiday_more (calendar_at s year) (added_in s year) _ day there) in
+    assumption (extends_same s)
 
 extends_changed : (s : State) (change : DayChange)
     → Extends s (record s { changed_days = s.changed_days ++ change ∷ [] })
-extends_changed s change = record {
-  enrolled = λ name account there. there;
-  accounts = λ name a is. (a, is, refl);
-  calendars = λ year days there. there;
-  holidays = λ day there. there;
-  reported = λ name key content there. there;
-  reported_years = λ name key content there. there;
-  open_years = λ name key content there. there;
-  runs = keeps_same s.runs;
-  payments = keeps_same s.payments;
-  corrected = λ name key number content there. there;
-  corrected_years = λ name key number content there. there;
-  changes = λ day number one there.
-      ap (numbered number) (changes_append day s.changed_days (change ∷ []))
-      ∙ numbered_append number (changes_of day s.changed_days) _ one there;
-  moves = λ name number account there. there;
-}
+extends_changed s change =
+    let changes : (day number : ℕ) (one : Bool)
+    → numbered number (changes_of day s.changed_days) ≡ Some one
+    → numbered number (changes_of day (s.changed_days ++ change ∷ [])) ≡ Some one =
+    λ day number one there.
+    ap (numbered number) (changes_append day s.changed_days (change ∷ []))
+    ∙ numbered_append number (changes_of day s.changed_days) _ one there in
+    assumption (extends_same s)
 
 -- an account that is put right stays, on its form
 moved_there : (enrolled : Option Account) (moves more : List Beginning)
@@ -454,24 +267,18 @@ moved_there (Some first) moves more a is =
 
 extends_moved : (s : State) (name : List ℕ) (beginning : Beginning)
     → Extends s (record s { moved = with_move s.moved name beginning })
-extends_moved s name beginning = record {
-  enrolled = λ name account there. there;
-  accounts = λ other. moved_there (enrolled_in s other) (moves_in s other)
-      (moves_of other (with_move s.moved name beginning));
-  calendars = λ year days there. there;
-  holidays = λ day there. there;
-  reported = λ name key content there. there;
-  reported_years = λ name key content there. there;
-  open_years = λ name key content there. there;
-  runs = keeps_same s.runs;
-  payments = keeps_same s.payments;
-  corrected = λ name key number content there. there;
-  corrected_years = λ name key number content there. there;
-  changes = λ day number one there. there;
-  moves = λ other number account there.
-      ap (numbered number) (moves_append other s.moved _)
-      ∙ numbered_append number (moves_in s other) _ account there;
-}
+extends_moved s name beginning =
+    let after : State = record s { moved = with_move s.moved name beginning } in
+    let accounts : (other : List ℕ) → StillThere (entries_of s other).account
+    (entries_of after other).account =
+    λ other. moved_there (enrolled_in s other) (moves_in s other) (moves_in after other) in
+    let moves : (other : List ℕ) (number : ℕ) (one : Beginning)
+    → numbered number (moves_in s other) ≡ Some one
+    → numbered number (moves_in after other) ≡ Some one =
+    λ other number one there.
+    ap (numbered number) (moves_append other s.moved _)
+    ∙ numbered_append number (moves_in s other) _ one there in
+    assumption (extends_same s)
 
 pub some_still : {X : Type 0} (o p : Option X) → ((x : X) → o ≡ Some x → p ≡ Some x)
     → is_some o ≡ true → is_some p ≡ true
@@ -490,61 +297,46 @@ never s t request firm was = absurd (firm.never was.told)
 pub still_done : (s t : State) (request : Request) → Extends s t → WasDone s request
     → WasDone t request
 still_done s t (Enrol name start carried form) more =
-    through s t (Enrol name start carried form) (enrol_stays name _ _ _ (more.enrolled name))
-still_done s t (Calendar year days) more = through s t (Calendar year days)
-    (calendar_stays year days _ _ (more.calendars year))
-still_done s t (AddHoliday day) more = through s t (AddHoliday day)
-    (holiday_stays day (calendar_at s (year_of day)) (calendar_at t (year_of day))
-    (added_in s (year_of day)) (added_in t (year_of day)) (more.holidays day))
+    through s t _ (search (staying, more.enrolled name) depth 12)
+still_done s t (Calendar year days) more =
+    through s t _ (search (staying, more.calendars year) depth 12)
+still_done s t (AddHoliday day) more =
+    through s t _ (search (staying, more.holidays day) depth 12)
 still_done s t (Report name quarter cents) more =
-    through s t (Report name quarter cents) (report_stays name quarter cents _ _ _ _
-    (more.accounts name) (more.reported name quarter))
+    let form = on_still F941 _ _ (more.accounts name) in
+    through s t _ (search (staying, more.accounts, more.reported) depth 12)
 still_done s t (ReportYear name year cents) more =
-    through s t (ReportYear name year cents) (report_year_stays name year cents _ _ _ _
-    (more.accounts name) (more.reported_years name year))
+    let form = on_still F943 _ _ (more.accounts name) in
+    through s t _ (search (staying, more.accounts, more.reported_years) depth 12)
 still_done s t (OpenYear name year) more =
-    through s t (OpenYear name year)
-    (open_stays name year _ _ (is_open (entries_of s name) year) (is_open (entries_of t name) year)
-    (is_given s year) (is_given s (year + 1)) (is_given t year) (is_given t (year + 1))
-    (more.accounts name) (some_still (kept_at year (entries_of s name).open_years)
-    (kept_at year (entries_of t name).open_years) (more.open_years name year)))
+    let there = some_still (kept_at year (entries_of s name).open_years)
+    (kept_at year (entries_of t name).open_years) (more.open_years name year) in
+    through s t _ (search (staying, more.accounts) depth 12)
 still_done s t (Post name number payday fit ss medicare) more =
     let run : PayRun = record { payday = payday; fit = fit; ss = ss; medicare = medicare } in
-    let here = entries_of s name in
-    let there = entries_of t name in
-    through s t (Post name number payday fit ss medicare)
-    (post_stays name number run _ _ _ _ (is_open here (year_of payday))
-    (is_open there (year_of payday)) (length here.runs) (length there.runs) (more.accounts name)
-    (more.runs name number))
-still_done s t (Void name number) more = through s t (Void name number)
-    (void_stays name number _ _ _ _ (more.accounts name) (more.runs name number))
+    let still = same_still _ _ (λ x. same_run run (taken x)) (more.runs name number) in
+    through s t _ (search (staying, stays_new, more.accounts) depth 12)
+still_done s t (Void name number) more =
+    let still = voided_still _ _ (more.runs name number) in
+    through s t _ (search (staying, more.accounts) depth 12)
 still_done s t (Pay name number paid for_day cents) more =
     let payment : Payment = record { paid = paid; for_day = for_day; cents = cents } in
-    let here = entries_of s name in
-    let there = entries_of t name in
-    through s t (Pay name number paid for_day cents)
-    (pay_stays name number payment _ _ _ _ (is_open here (year_of for_day))
-    (is_open there (year_of for_day)) (length here.payments) (length there.payments)
-    (more.accounts name) (more.payments name number))
+    let still = same_still _ _ (λ x. same_payment payment (taken x)) (more.payments name number) in
+    through s t _ (search (staying, stays_new, more.accounts) depth 12)
 still_done s t (VoidPay name number) more =
-    through s t (VoidPay name number) (void_payment_stays name number _ _ _ _ (more.accounts name)
-    (more.payments name number))
+    let still = voided_still _ _ (more.payments name number) in
+    through s t _ (search (staying, more.accounts) depth 12)
 still_done s t (CorrectReport name quarter number cents) more =
-    through s t (CorrectReport name quarter number cents)
-    (correct_report_stays name quarter number cents _ _ _ _ _ _ _ _ (more.accounts name)
-    (more.reported name quarter) (more.corrected name quarter number))
+    let form = on_still F941 _ _ (more.accounts name) in
+    through s t _ (search (staying, more.accounts, more.reported, more.corrected) depth 12)
 still_done s t (CorrectReportYear name year number cents) more =
-    through s t (CorrectReportYear name year number cents)
-    (correct_report_year_stays name year number cents _ _ _ _ _ _ _ _ (more.accounts name)
-    (more.reported_years name year) (more.corrected_years name year number))
+    let form = on_still F943 _ _ (more.accounts name) in
+    through s t _
+    (search (staying, more.accounts, more.reported_years, more.corrected_years) depth 12)
 still_done s t (ChangeHoliday day number is_holiday) more =
-    through s t (ChangeHoliday day number is_holiday)
-    (change_stays day number is_holiday _ _ (added_in s (year_of day)) (added_in t (year_of day))
-    _ _ _ _ (more.calendars (year_of day)) (more.holidays day) (more.changes day number))
+    through s t _ (search (staying, more.calendars, more.holidays, more.changes) depth 12)
 still_done s t (CorrectAccount name number start carried) more =
-    through s t (CorrectAccount name number start carried)
-    (correct_account_stays name number (record { start = start; carried = carried }) _ _ _ _ _ _ _ _
-    (more.accounts name) (more.moves name number))
+    through s t _ (search (staying, more.accounts, more.moves) depth 12)
 still_done s t (Question question) more = never s t (Question question) (question_firm s question)
 
 -- ---- a step
@@ -562,19 +354,19 @@ does s answer new P P' Else turns step changes =
     ]
 
 done_after : (s : State) (answer : Answer) (new after : State) (request : Request)
-    (P : List (Option Answer)) → Turns P (checks_of after request)
-    → Decides (first_of P) s answer new ((answer ≡ Ok Done) × (new ≡ after))
+    → Turns (checks_of s request) (checks_of after request)
+    → Decides (first_of (checks_of s request)) s answer new ((answer ≡ Ok Done) × (new ≡ after))
     → is_change answer ≡ true → WasDone new request
-done_after s answer new after request P turns step changes =
-    let done = does s answer new P (checks_of after request) _ turns step changes in
+done_after s answer new after request turns step changes =
+    let done = does s answer new _ (checks_of after request) _ turns step changes in
     subst (λ x. WasDone x request) (sym done.0.1) (record { told = done.1 })
 
 post_after : (s : State) (answer : Answer) (new after : State) (request : Request)
-    (P : List (Option Answer)) (Told : Type 0) → Turns P (checks_of after request)
-    → Decides (first_of P) s answer new ((new ≡ after) × Told) → is_change answer ≡ true
-    → WasDone new request
-post_after s answer new after request P Told turns step changes =
-    let done = does s answer new P (checks_of after request) _ turns step changes in
+    (Told : Type 0) → Turns (checks_of s request) (checks_of after request)
+    → Decides (first_of (checks_of s request)) s answer new ((new ≡ after) × Told)
+    → is_change answer ≡ true → WasDone new request
+post_after s answer new after request Told turns step changes =
+    let done = does s answer new _ (checks_of after request) _ turns step changes in
     subst (λ x. WasDone x request) (sym done.0.0) (record { told = done.1 })
 
 void_after : (s : State) (answer : Answer) (new after : State) (request : Request)
@@ -603,7 +395,8 @@ next_after : (s : State) (answer : Answer) (new : State) (name : List ℕ) (year
 next_after s answer new name year (inl missing) changes =
     absurd (true≢false (sym changes ∙ ap is_change missing.2.0))
 next_after s answer new name year (inr found) changes =
-    let quiet : Quiet (may_open (entries_of s name) year) = quiet_needs _ _ [] quiet_none in
+    let quiet : Quiet (may_open (entries_of s name) year) =
+    quiet_refusal _ (refuses_needs _ _ [] refuses_none) in
     elim (either (first_of (may_open (entries_of s name) year)) s answer new _ found.2) [
       | inl same ↦ absurd (true≢false (sym changes ∙ rw same.0 at quiet.told))
       | inr done ↦ done.1.1
@@ -616,9 +409,7 @@ open_after : (s : State) (answer : Answer) (new : State) (name : List ℕ) (year
 open_after s answer new name year step changes =
     let after : State = record s { open_years = with_entry s.open_years name year tt } in
     let turns : Turns (checks_of s (OpenYear name year)) (checks_of after (OpenYear name year)) =
-    open_turns name year (entries_of s name).account (is_open (entries_of s name) year)
-    (is_open (entries_of after name) year)
-    (is_given s year) (is_given s (year + 1)) (kept_some s.open_years name year tt) in
+    search (turning, kept_some s.open_years name year tt) depth 12 in
     let done = does s answer new (checks_of s (OpenYear name year))
     (checks_of after (OpenYear name year)) _ turns step changes in
     subst (λ x. WasDone x (OpenYear name year))
@@ -642,100 +433,74 @@ pub step_done : (s : State) (request : Request) (answer : Answer) (next : State)
     → Step s request answer next → is_change answer ≡ true → WasDone next request
 step_done s (Enrol name start carried form) answer next step changes =
     let account : Account = record { start = start; carried = carried; form = form } in
-    done_after s answer next (record s { accounts = with_account s.accounts name account })
-    (Enrol name start carried form) _
-    (enrol_turns name account _ _ (found_last account_of (is_named name) s.accounts _
-    (own_name name))) step changes
+    let there = found_last account_of (is_named name) s.accounts
+    (record { name = name; account = account }) (own_name name) in
+    done_after s answer next (record s { accounts = with_account s.accounts name account }) _
+    (search (turning, account_same account) depth 12) step changes
 step_done s (Calendar year days) answer next step changes =
-    done_after s answer next
-    (record s { calendars = s.calendars ++ record { year = year; days = days } ∷ [] })
-    (Calendar year days) _
-    (calendar_turns year days _ _ (found_last days_of (is_year year) s.calendars _ (same_key year)))
-    step changes
+    let given : YearDays = record { year = year; days = days } in
+    done_after s answer next (record s { calendars = s.calendars ++ given ∷ [] }) _
+    (search (
+      turning,
+      found_last days_of (is_year year) s.calendars given (same_key year),
+      own_name days,
+    ) depth 12) step changes
 step_done s (AddHoliday day) answer next step changes =
-    done_after s answer next (record s { added_days = s.added_days ++ day ∷ [] }) (AddHoliday day)
-    (checks_of s (AddHoliday day))
-    (holiday_turns day (calendar_at s (year_of day)) (calendar_at s (year_of day))
-    (added_in s (year_of day))
-    (added_in (record s { added_days = s.added_days ++ day ∷ [] }) (year_of day))
-    (added_last s day)) step changes
+    done_after s answer next (record s { added_days = s.added_days ++ day ∷ [] }) _
+    (search (turning, added_last s day) depth 12) step changes
 step_done s (Report name quarter cents) answer next step changes =
-    done_after s answer next (record s { reported = with_entry s.reported name quarter cents })
-    (Report name quarter cents) _
-    (report_turns name quarter cents _ _ _ (kept_own s.reported name quarter cents)) step changes
+    done_after s answer next (record s { reported = with_entry s.reported name quarter cents }) _
+    (search (turning, kept_own s.reported name quarter cents, amount_same cents) depth 12) step
+    changes
 step_done s (ReportYear name year cents) answer next step changes =
     done_after s answer next
-    (record s { reported_years = with_entry s.reported_years name year cents })
-    (ReportYear name year cents) _
-    (report_year_turns name year cents _ _ _ (kept_own s.reported_years name year cents)) step
+    (record s { reported_years = with_entry s.reported_years name year cents }) _
+    (search (turning, kept_own s.reported_years name year cents, amount_same cents) depth 12) step
     changes
 step_done s (OpenYear name year) answer next step changes =
     open_after s answer next name year step changes
 step_done s (Post name number payday fit ss medicare) answer next step changes =
     let run : PayRun = record { payday = payday; fit = fit; ss = ss; medicare = medicare } in
-    let after : State = record s { runs = with_entry s.runs name number (taken run) } in
-    let here = entries_of s name in
-    let there = entries_of after name in
-    post_after s answer next after (Post name number payday fit ss medicare)
-    (checks_of s (Post name number payday fit ss medicare)) _
-    (post_turns name number run here.account (kept_at number here.runs) (kept_at number there.runs)
-    (is_open here (year_of payday)) (is_open there (year_of payday))
-    (length here.runs) (length there.runs) (kept_own s.runs name number (taken run))) step changes
+    post_after s answer next (record s { runs = with_entry s.runs name number (taken run) }) _ _
+    (search (turning, kept_own s.runs name number (taken run), run_same run false) depth 12) step
+    changes
 step_done s (Void name number) answer next step changes =
     void_after s answer next (record s { runs = with_voided s.runs name number })
     (Void name number) _ _ _
     (void_turns name number _ _ _ (voided_kept s.runs name number)) step changes
 step_done s (Pay name number paid for_day cents) answer next step changes =
     let payment : Payment = record { paid = paid; for_day = for_day; cents = cents } in
-    let after : State = record s { payments = with_entry s.payments name number (taken payment) } in
-    let here = entries_of s name in
-    let there = entries_of after name in
-    done_after s answer next after (Pay name number paid for_day cents)
-    (checks_of s (Pay name number paid for_day cents))
-    (pay_turns name number payment here.account (kept_at number here.payments)
-    (kept_at number there.payments) (is_open here (year_of for_day))
-    (is_open there (year_of for_day))
-    (length here.payments) (length there.payments)
-    (kept_own s.payments name number (taken payment))) step changes
+    done_after s answer next
+    (record s { payments = with_entry s.payments name number (taken payment) }) _
+    (search (turning, kept_own s.payments name number (taken payment), payment_same payment false)
+    depth 12) step changes
 step_done s (VoidPay name number) answer next step changes =
-    done_after s answer next (record s { payments = with_voided s.payments name number })
-    (VoidPay name number) _
-    (void_payment_turns name number _ _ _ (voided_kept s.payments name number)) step changes
+    let after = voided_after _ _ UnknownPayment (voided_kept s.payments name number) in
+    done_after s answer next (record s { payments = with_voided s.payments name number }) _
+    (search turning depth 12) step changes
 step_done s (CorrectReport name quarter number cents) answer next step changes =
-    let after : State = record s { corrected = with_entry s.corrected name quarter cents } in
-    let here = entries_of s name in
-    let there = entries_of after name in
-    post_after s answer next after (CorrectReport name quarter number cents)
-    (checks_of s (CorrectReport name quarter number cents)) _
-    (correct_report_turns name quarter number cents here.account (kept_at quarter here.reported)
-    (all_at quarter here.corrected) (all_at quarter there.corrected)
-    (all_own s.corrected name quarter cents)) step changes
+    let next_one = turns_next number _ _ cents (same_amount cents) CorrectionDiffers
+    (all_own s.corrected name quarter cents) (amount_same cents) in
+    post_after s answer next (record s { corrected = with_entry s.corrected name quarter cents })
+    _ _ (search turning depth 12) step changes
 step_done s (CorrectReportYear name year number cents) answer next step changes =
-    let after : State =
-    record s { corrected_years = with_entry s.corrected_years name year cents } in
-    let here = entries_of s name in
-    let there = entries_of after name in
-    post_after s answer next after (CorrectReportYear name year number cents)
-    (checks_of s (CorrectReportYear name year number cents)) _
-    (correct_report_year_turns name year number cents here.account
-    (kept_at year here.reported_years)
-    (all_at year here.corrected_years) (all_at year there.corrected_years)
-    (all_own s.corrected_years name year cents)) step changes
+    let next_one = turns_next number _ _ cents (same_amount cents) CorrectionDiffers
+    (all_own s.corrected_years name year cents) (amount_same cents) in
+    post_after s answer next
+    (record s { corrected_years = with_entry s.corrected_years name year cents }) _ _
+    (search turning depth 12) step changes
 step_done s (ChangeHoliday day number is_holiday) answer next step changes =
     let change : DayChange = record { day = day; is_holiday = is_holiday } in
-    let after : State = record s { changed_days = s.changed_days ++ change ∷ [] } in
-    done_after s answer next after (ChangeHoliday day number is_holiday)
-    (checks_of s (ChangeHoliday day number is_holiday))
-    (change_turns day number is_holiday (calendar_at s (year_of day)) (added_in s (year_of day))
-    (changes_of day s.changed_days) (changes_of day after.changed_days)
-    (changes_own day s.changed_days is_holiday)) step changes
+    let next_one = turns_next number _ _ is_holiday (same_flag is_holiday) CorrectionDiffers
+    (changes_own day s.changed_days is_holiday) (flag_same is_holiday) in
+    done_after s answer next (record s { changed_days = s.changed_days ++ change ∷ [] }) _
+    (search turning depth 12) step changes
 step_done s (CorrectAccount name number start carried) answer next step changes =
     let new : Beginning = record { start = start; carried = carried } in
     let after : State = record s { moved = with_move s.moved name new } in
     let here = entries_of s name in
     let there = entries_of after name in
     done_after s answer next after (CorrectAccount name number start carried)
-    (checks_of s (CorrectAccount name number start carried))
     (correct_account_turns name number new (is_unused here) (is_unused there) here.moves
     there.moves (moved_own s.moved name new) here.account there.account
     (λ a is. (let b = moved_there here.enrolled here.moves there.moves a is in (b.0, b.1))))
@@ -774,7 +539,7 @@ next_extends : (s : State) (answer : Answer) (new : State) (name : List ℕ) (ye
 next_extends s answer new name year (inl missing) = subst (Extends s) (sym missing.2.1)
     (extends_same s)
 next_extends s answer new name year (inr found) = done_extends _ s answer new _ found.2
-    (extends_open s name year)
+    (assumption (extends_same s, keeps_entry s.open_years name year tt))
 
 open_extends : (check : Option Answer) (s : State) (answer : Answer) (new : State) (name : List ℕ)
     (year : ℕ)
@@ -793,26 +558,34 @@ step_extends s (Calendar year days) answer next step = done_extends _ s answer n
 step_extends s (AddHoliday day) answer next step = done_extends _ s answer next _ step
     (extends_added s day)
 step_extends s (Report name quarter cents) answer next step = done_extends _ s answer next _ step
-    (extends_reported s name quarter cents)
+    (assumption (extends_same s, keeps_entry s.reported name quarter cents))
 step_extends s (ReportYear name year cents) answer next step = done_extends _ s answer next _ step
-    (extends_reported_year s name year cents)
+    (assumption (extends_same s, keeps_entry s.reported_years name year cents))
 step_extends s (OpenYear name year) answer next step = open_extends _ s answer next name year step
 step_extends s (Post name number payday fit ss medicare) answer next step =
     post_extends _ s answer next _ _ step
-    (extends_run s name number
-    (taken (record { payday = payday; fit = fit; ss = ss; medicare = medicare })))
+    (assumption (
+      extends_same s,
+      keeps_more s.runs name number
+          (taken (record { payday = payday; fit = fit; ss = ss; medicare = medicare })),
+    ))
 step_extends s (Void name number) answer next step = void_extends _ s answer next _ _ _ step
-    (extends_void_run s name number)
+    (assumption (extends_same s, keeps_voided s.runs name number))
 step_extends s (Pay name number paid for_day cents) answer next step =
     done_extends _ s answer next _ step
-    (extends_payment s name number
-    (taken (record { paid = paid; for_day = for_day; cents = cents })))
+    (assumption (
+      extends_same s,
+      keeps_more s.payments name number
+          (taken (record { paid = paid; for_day = for_day; cents = cents })),
+    ))
 step_extends s (VoidPay name number) answer next step = done_extends _ s answer next _ step
-    (extends_void_payment s name number)
+    (assumption (extends_same s, keeps_voided s.payments name number))
 step_extends s (CorrectReport name quarter number cents) answer next step =
-    post_extends _ s answer next _ _ step (extends_corrected s name quarter cents)
+    post_extends _ s answer next _ _ step
+    (assumption (extends_same s, keeps_numbers s.corrected name quarter cents))
 step_extends s (CorrectReportYear name year number cents) answer next step =
-    post_extends _ s answer next _ _ step (extends_corrected_year s name year cents)
+    post_extends _ s answer next _ _ step
+    (assumption (extends_same s, keeps_numbers s.corrected_years name year cents))
 step_extends s (ChangeHoliday day number is_holiday) answer next step =
     done_extends _ s answer next _ step
     (extends_changed s (record { day = day; is_holiday = is_holiday }))
@@ -838,28 +611,7 @@ pub step_again : (s : State) (request : Request) (answer : Answer) (next : State
     → (answer ≡ Ok Already) × (next ≡ s)
 step_again s (Enrol name start carried form) answer next was step =
     again_told _ s answer next _ was.told step
-step_again s (Calendar year days) answer next was step = again_told _ s answer next _ was.told step
-step_again s (AddHoliday day) answer next was step = again_told _ s answer next _ was.told step
-step_again s (Report name quarter cents) answer next was step =
-    again_told _ s answer next _ was.told step
-step_again s (ReportYear name year cents) answer next was step =
-    again_told _ s answer next _ was.told step
-step_again s (OpenYear name year) answer next was step = again_told _ s answer next _ was.told step
-step_again s (Post name number payday fit ss medicare) answer next was step =
-    again_told _ s answer next _ was.told step
-step_again s (Void name number) answer next was step = again_told _ s answer next _ was.told step
-step_again s (Pay name number paid for_day cents) answer next was step =
-    again_told _ s answer next _ was.told step
-step_again s (VoidPay name number) answer next was step = again_told _ s answer next _ was.told step
-step_again s (CorrectReport name quarter number cents) answer next was step =
-    again_told _ s answer next _ was.told step
-step_again s (CorrectReportYear name year number cents) answer next was step =
-    again_told _ s answer next _ was.told step
-step_again s (ChangeHoliday day number is_holiday) answer next was step =
-    again_told _ s answer next _ was.told step
-step_again s (CorrectAccount name number start carried) answer next was step =
-    again_told _ s answer next _ was.told step
-step_again s (Question question) answer next was step = again_told _ s answer next _ was.told step
+step_again s request answer next was step = again_told _ s answer next _ was.told step
 
 -- ---- a run
 

@@ -1,5 +1,5 @@
 -- A state and a request have one answer.
-use Rattle.std.proofs.Common.{◌≡◌, ◌∙◌, ◌⊎◌, inl, inr, refl, sym, ap, subst, ℕ, ◌<◌, Bool, true}
+use Rattle.std.proofs.Common.{◌≡◌, ◌∙◌, ◌⊎◌, inl, inr, refl, sym, ap, subst, ℕ, Bool, true}
 use Rattle.std.proofs.Common.{false, List, [], ◌∷◌, ◌++◌, map, length, Some, Ok, arith}
 use Rattle.std.proofs.lemmas.Bool.{true≢false}
 use Rattle.std.proofs.lemmas.Option.{same_Some}
@@ -19,7 +19,7 @@ use Rattle.ftd_rules.proofs.Figures.{together_one, together_all, year_one, year_
 use Rattle.ftd_rules.proofs.Stated.{lookback_together, rows_owed}
 use Rattle.ftd_rules.proofs.Lines.{lines_one}
 use Rattle.ftd_rules.proofs.Schedules.{line_one}
-use Rattle.ftd_rules.proofs.Only.{rows_one, obligations_one}
+use Rattle.ftd_rules.proofs.Only.{rows_one, obligations_one, members_one as same_members}
 use Rattle.ftd_machine.specs.State.{Entry, Entries}
 use Rattle.ftd_machine.specs.History.{start_of, form_of, is_carried, live_sums, figures}
 use Rattle.ftd_machine.specs.History.{quarter_figures, year_figures, IsLookbackOn, HasLookback}
@@ -40,31 +40,7 @@ use Rattle.ftd_machine.proofs.Counting.{neither}
 
 pub members_one : {X : Type 0} (key : X → ℕ) (xs ys : List X) → KeysRise key xs → KeysRise key ys
     → ((x : X) → Has xs x → Has ys x) → ((x : X) → Has ys x → Has xs x) → xs ≡ ys
-members_one key [] [] g h f b = refl
-members_one key [] (y ∷ ys) g h f b = absurd (b y (inl refl))
-members_one key (x ∷ xs) [] g h f b = absurd (f x (inl refl))
-members_one {X = X} key (x ∷ xs) (y ∷ ys) g h f b =
-    let same : x ≡ y =
-    elim (f x (inl refl)) [
-      | inl e ↦ e
-      | inr in_ys ↦ elim (b y (inl refl)) [
-        | inl e ↦ sym e
-        | inr in_xs ↦ absurd (let l = h.0 x in_ys in let m = g.0 y in_xs in omega arith)
-      ]
-    ] in
-    let first : key x ≡ key y = ap key same in
-    let tails : xs ≡ ys = members_one key xs ys g.1 h.1
-    (λ o k. elim (f o (inr k)) [
-      | inl e ↦ absurd (let l = g.0 o k in
-          let y0 : key o ≡ key y = ap key e in omega arith)
-      | inr r ↦ r
-    ])
-    (λ o k. elim (b o (inr k)) [
-      | inl e ↦ absurd (let l = h.0 o k in
-          let x0 : key o ≡ key x = ap key e in omega arith)
-      | inr r ↦ r
-    ]) in
-    ap (λ z. z ∷ xs) same ∙ ap (λ zs. y ∷ zs) tails
+members_one key = same_members key (KeysRise key) (λ x xs h. h)
 
 -- ---- the lookback period
 

@@ -11,6 +11,8 @@ use Rattle.ftd_days.specs.Holidays.{YearDays}
 use Rattle.ftd_days.specs.declared.cents.Cents.{Cents}
 use Rattle.ftd_days.proofs.Spelling.{same_text}
 use Rattle.ftd_rules.specs.Lists.{Has}
+use Rattle.ftd_rules.specs.declared.Form.{Form}
+use Rattle.ftd_rules.specs.declared.Form.TheVariants.{F941, F943}
 use Rattle.ftd_rules.specs.Lookback.{AreReportedOnce}
 use Rattle.ftd_machine.specs.declared.entries.Account.{Account}
 use Rattle.ftd_machine.specs.declared.entries.Beginning.{Beginning}
@@ -45,8 +47,7 @@ use Rattle.ftd_machine.proofs.Deciding.{either}
 use Rattle.ftd_machine.proofs.InYear.{filed_of, in_year, still_given, still_added}
 use Rattle.ftd_machine.proofs.Members.{has_filtered, found_none}
 use Rattle.ftd_machine.proofs.Leaving.{asked_leaves}
-use Rattle.ftd_machine.proofs.Heads.{Gives, gives_finds, gives_needs, gives_done, gives_new}
-use Rattle.ftd_machine.proofs.Heads.{skip_needs, skip_finds, skip_new, skip_done}
+use Rattle.ftd_machine.proofs.Heads.{Gives, gives_needs, heads}
 use Rattle.ftd_machine.proofs.Adding.{own_name, filter_more, was_enrolled}
 use Rattle.ftd_machine.proofs.Keeping.{found_append, same_key, keeps_entry}
 use Rattle.ftd_machine.proofs.Totals.{totals_still, totals_account, totals_reported}
@@ -138,41 +139,57 @@ in_force_some : (enrolled : Option Account) (moves : List Beginning) → is_some
 in_force_some (Some account) moves e = refl
 in_force_some None moves e = absurd cc
 
+-- what holds of each item and of one more
+each_last : {X : Type 0} (P : X → Type 0) (xs : List X) (x : X)
+    → ((y : X) → Has xs y → P y) → P x → (y : X) → Has (xs ++ x ∷ []) y → P y
+each_last P xs x each last y has = elim (has_last xs x y has) [
+  | inl here ↦ each y here
+  | inr is ↦ subst P (sym is) last
+]
+
+-- so an amount that fits is added to those that fit
+each_amount : (xs : List (Entry Cents)) (name : List ℕ) (key : ℕ) (cents : Cents)
+    → ((e : Entry Cents) → Has xs e → is_amount e.content ≡ true) → is_amount cents ≡ true
+    → (e : Entry Cents) → Has (with_entry xs name key cents) e → is_amount e.content ≡ true
+each_amount xs name key cents each fits = each_last
+    (λ (e : Entry Cents). is_amount e.content ≡ true) xs
+    (record { name = name; key = key; content = cents }) each fits
+
+still_value : {X : Type 0} (name : List ℕ) (key : ℕ) (e : Entry (Voidable X))
+    → (voided_if name key e).content.value ≡ e.content.value
+still_value name key e = value_as (is_under name key e) e.content
+  where
+    value_as : {X : Type 0} (b : Bool) (v : Voidable X) → (cond b (as_voided v) v).value ≡ v.value
+    value_as true v = refl
+    value_as false v = refl
+
+-- what holds of a run or payment under its name and number holds once one is voided
+each_voided : {X : Type 0} (P : List ℕ → ℕ → X → Type 0) (xs : List (Entry (Voidable X)))
+    (name : List ℕ) (key : ℕ)
+    → ((e : Entry (Voidable X)) → Has xs e → P e.name e.key e.content.value)
+    → (e : Entry (Voidable X)) → Has (with_voided xs name key) e → P e.name e.key e.content.value
+each_voided {X} P xs name key each e has =
+    let from = has_mapped (voided_if name key) xs e has in
+    let was = subst (P from.0.name from.0.key) (sym (still_value name key from.0))
+    (each from.0 from.1) in
+    subst (λ (x : Entry (Voidable X)). P x.name x.key x.content.value) (sym from.2) was
+
 sound_account : (s : State) (name : List ℕ) (account : Account) → enrolled_in s name ≡ None
     → IsSound s
     → IsSound (record s { accounts = with_account s.accounts name account })
-sound_account s name account none sound = record {
-  accounts = distinct_more name_of s.accounts _ sound.accounts
-      (λ e has same. found_none account_of (is_named name) s.accounts none e has
-      (ap (λ n. bytes_eq n name) same ∙ own_name name));
-  calendars = sound.calendars;
-  reported = sound.reported;
-  reported_years = sound.reported_years;
-  open_years = sound.open_years;
-  runs = sound.runs;
-  payments = sound.payments;
-  are_calendars = sound.are_calendars;
-  opened = sound.opened;
-  enrolled = λ e has. in_force_some _ (moves_in s e.name)
-      (some_still (enrolled_in s e.name) _
-      (λ x. found_append account_of (is_named e.name) s.accounts _ x)
-      (was_enrolled (enrolled_in s e.name) (moves_in s e.name) (sound.enrolled e has)));
-  totals = totals_account s name account sound.enrolled sound.totals;
-  in_turn = sound.in_turn;
-  paydays = sound.paydays;
-  paid_days = sound.paid_days;
-  counts = sound.counts;
-  reported_amounts = sound.reported_amounts;
-  year_amounts = sound.year_amounts;
-  corrected_amounts = sound.corrected_amounts;
-  corrected_year_amounts = sound.corrected_year_amounts;
-  run_numbers = sound.run_numbers;
-  run_amounts = sound.run_amounts;
-  paid_amounts = sound.paid_amounts;
-  added_days = sound.added_days;
-  few = sound.few;
-  changed = sound.changed;
-}
+sound_account s name account none sound =
+    let accounts : AreDistinct name_of (with_account s.accounts name account) =
+    distinct_more name_of s.accounts _ sound.accounts
+    (λ e has same. found_none account_of (is_named name) s.accounts none e has
+    (ap (λ n. bytes_eq n name) same ∙ own_name name)) in
+    let enrolled : (e : Entry (Unit {0})) → Has s.open_years e → is_some (entries_of
+    (record s { accounts = with_account s.accounts name account }) e.name).account ≡ true =
+    λ e has. in_force_some _ (moves_in s e.name)
+    (some_still (enrolled_in s e.name) _
+    (λ x. found_append account_of (is_named e.name) s.accounts _ x)
+    (was_enrolled (enrolled_in s e.name) (moves_in s e.name) (sound.enrolled e has))) in
+    let totals = totals_account s name account sound.enrolled sound.totals in
+    assumption sound
 
 given_still : (s : State) (year : ℕ) (days : List ℕ) (other : ℕ) → is_given s other ≡ true
     → is_given (record s { calendars = s.calendars ++ record { year = year; days = days } ∷ [] })
@@ -184,152 +201,71 @@ given_still s year days other e = some_still (calendar_at s other)
 sound_calendar : (s : State) (year : ℕ) (days : List ℕ) → calendar_at s year ≡ None
     → is_between 2001 2099 year ≡ true → is_calendar year days ≡ true → IsSound s
     → IsSound (record s { calendars = s.calendars ++ record { year = year; days = days } ∷ [] })
-sound_calendar s year days none between fits sound = record {
-  accounts = sound.accounts;
-  calendars = distinct_more year_of_calendar s.calendars _ sound.calendars
-      (λ c has same. found_none days_of (is_year year) s.calendars none c has
-      (ap (λ k. k == year) same ∙ same_key year));
-  reported = sound.reported;
-  reported_years = sound.reported_years;
-  open_years = sound.open_years;
-  runs = sound.runs;
-  payments = sound.payments;
-  are_calendars = λ c has. elim (has_last s.calendars _ c has) [
-    | inl here ↦ sound.are_calendars c here
-    | inr is ↦ subst (λ (g : YearDays). (is_between 2001 2099 g.year ≡ true)
-        × (is_calendar g.year g.days ≡ true)) (sym is) (between, fits)
-  ];
-  opened = λ e has. (let was = sound.opened e has in
-      (was.0, given_still s year days e.key was.1, given_still s year days (e.key + 1) was.2));
-  enrolled = sound.enrolled;
-  totals = totals_still s
-      (record s { calendars = s.calendars ++ record { year = year; days = days } ∷ [] })
-      refl refl refl refl refl sound.totals;
-  in_turn = sound.in_turn;
-  paydays = sound.paydays;
-  paid_days = sound.paid_days;
-  counts = sound.counts;
-  reported_amounts = sound.reported_amounts;
-  year_amounts = sound.year_amounts;
-  corrected_amounts = sound.corrected_amounts;
-  corrected_year_amounts = sound.corrected_year_amounts;
-  run_numbers = sound.run_numbers;
-  run_amounts = sound.run_amounts;
-  paid_amounts = sound.paid_amounts;
-  added_days = λ d has. given_still s year days (year_of d) (sound.added_days d has);
-  few = few_given s sound.few year days fits (λ c has. (sound.are_calendars c has).1)
-      (λ c has same. found_none days_of (is_year year) s.calendars none c has
-      (ap (λ k. k == year) same ∙ same_key year))
-      sound.added_days (ap is_some none);
-  changed = λ c has. still_given s.calendars (record { year = year; days = days }) s.added_days
-      c.day (sound.changed c has);
-}
+sound_calendar s year days none between fits sound =
+    let new : YearDays = record { year = year; days = days } in
+    let after : State = record s { calendars = s.calendars ++ new ∷ [] } in
+    let other : (c : YearDays) → Has s.calendars c → c.year ≡ year → ⊥ =
+    λ c has same. found_none days_of (is_year year) s.calendars none c has
+    (ap (λ k. k == year) same ∙ same_key year) in
+    let calendars = distinct_more year_of_calendar s.calendars new sound.calendars other in
+    let are_calendars = each_last (λ (g : YearDays). (is_between 2001 2099 g.year ≡ true)
+    × (is_calendar g.year g.days ≡ true)) s.calendars new sound.are_calendars (between, fits) in
+    let opened : (e : Entry (Unit {0})) → Has s.open_years e → (is_between 2001 2098 e.key ≡ true)
+    × (is_given after e.key ≡ true) × (is_given after (e.key + 1) ≡ true) =
+    λ e has. (let was = sound.opened e has in
+    (was.0, given_still s year days e.key was.1, given_still s year days (e.key + 1) was.2)) in
+    let totals = totals_still s after refl refl refl refl refl sound.totals in
+    let added_days : (d : ℕ) → Has s.added_days d → is_given after (year_of d) ≡ true =
+    λ d has. given_still s year days (year_of d) (sound.added_days d has) in
+    let few = few_given s sound.few year days fits (λ c has. (sound.are_calendars c has).1) other
+    sound.added_days (ap is_some none) in
+    let changed : (c : DayChange) → Has s.changed_days c
+    → is_holiday (all_days after) c.day ≡ true = λ c has. still_given s.calendars new s.added_days
+    c.day (sound.changed c has) in
+    assumption sound
 
-sound_reported : (s : State) (name : List ℕ) (key : ℕ) (cents : Cents)
-    → kept_at key (entries_of s name).reported ≡ None → is_amount cents ≡ true → IsSound s
-    → IsSound (record s { reported = with_entry s.reported name key cents })
-sound_reported s name key cents none fits sound = record {
-  accounts = sound.accounts;
-  calendars = sound.calendars;
-  reported = fresh_entry s.reported name key cents none sound.reported;
-  reported_years = sound.reported_years;
-  open_years = sound.open_years;
-  runs = sound.runs;
-  payments = sound.payments;
-  are_calendars = sound.are_calendars;
-  opened = sound.opened;
-  enrolled = sound.enrolled;
-  totals = totals_reported s name key cents sound.enrolled sound.totals;
-  in_turn = sound.in_turn;
-  paydays = sound.paydays;
-  paid_days = sound.paid_days;
-  counts = sound.counts;
-  reported_amounts = λ e has. elim (has_last s.reported _ e has) [
-    | inl here ↦ sound.reported_amounts e here
-    | inr is ↦ subst (λ (x : Entry Cents). is_amount x.content ≡ true) (sym is) fits
-  ];
-  year_amounts = sound.year_amounts;
-  corrected_amounts = sound.corrected_amounts;
-  corrected_year_amounts = sound.corrected_year_amounts;
-  run_numbers = sound.run_numbers;
-  run_amounts = sound.run_amounts;
-  paid_amounts = sound.paid_amounts;
-  added_days = sound.added_days;
-  few = sound.few;
-  changed = sound.changed;
-}
+-- the figures that are reported on a form
+abbrev reported_on : Form → State → List (Entry Cents)
+reported_on F941 s = s.reported
+reported_on F943 s = s.reported_years
 
-sound_reported_year : (s : State) (name : List ℕ) (key : ℕ) (cents : Cents)
-    → kept_at key (entries_of s name).reported_years ≡ None → is_amount cents ≡ true → IsSound s
-    → IsSound (record s { reported_years = with_entry s.reported_years name key cents })
-sound_reported_year s name key cents none fits sound = record {
-  accounts = sound.accounts;
-  calendars = sound.calendars;
-  reported = sound.reported;
-  reported_years = fresh_entry s.reported_years name key cents none sound.reported_years;
-  open_years = sound.open_years;
-  runs = sound.runs;
-  payments = sound.payments;
-  are_calendars = sound.are_calendars;
-  opened = sound.opened;
-  enrolled = sound.enrolled;
-  totals = totals_reported_year s name key cents sound.enrolled sound.totals;
-  in_turn = sound.in_turn;
-  paydays = sound.paydays;
-  paid_days = sound.paid_days;
-  counts = sound.counts;
-  reported_amounts = sound.reported_amounts;
-  year_amounts = λ e has. elim (has_last s.reported_years _ e has) [
-    | inl here ↦ sound.year_amounts e here
-    | inr is ↦ subst (λ (x : Entry Cents). is_amount x.content ≡ true) (sym is) fits
-  ];
-  corrected_amounts = sound.corrected_amounts;
-  corrected_year_amounts = sound.corrected_year_amounts;
-  run_numbers = sound.run_numbers;
-  run_amounts = sound.run_amounts;
-  paid_amounts = sound.paid_amounts;
-  added_days = sound.added_days;
-  few = sound.few;
-  changed = sound.changed;
-}
+abbrev with_reported : Form → State → List (Entry Cents) → State
+with_reported F941 s xs = record s { reported = xs }
+with_reported F943 s xs = record s { reported_years = xs }
+
+sound_reported : (form : Form) (s : State) (name : List ℕ) (key : ℕ) (cents : Cents)
+    (P : List (Option Answer))
+    → Gives P (kept_at key (filter (is_of name) (reported_on form s)) ≡ None)
+    → Gives P (is_amount cents ≡ true) → first_of P ≡ None → IsSound s
+    → IsSound (with_reported form s (with_entry (reported_on form s) name key cents))
+sound_reported F941 s name key cents P none fits passed sound = assumption (
+  sound,
+  fresh_entry s.reported name key cents (none.fact passed) sound.reported,
+  totals_reported s name key cents sound.enrolled sound.totals,
+  each_amount s.reported name key cents sound.reported_amounts (fits.fact passed),
+)
+sound_reported F943 s name key cents P none fits passed sound = assumption (
+  sound,
+  fresh_entry s.reported_years name key cents (none.fact passed) sound.reported_years,
+  totals_reported_year s name key cents sound.enrolled sound.totals,
+  each_amount s.reported_years name key cents sound.year_amounts (fits.fact passed),
+)
 
 sound_added : (s : State) (day : ℕ) → is_given s (year_of day) ≡ true
     → nat_lt (length (days_of_year (calendar_at s (year_of day)) (added_in s (year_of day)))) 60
     ≡ true → IsSound s
     → IsSound (record s { added_days = s.added_days ++ day ∷ [] })
-sound_added s day given room sound = record {
-  accounts = sound.accounts;
-  calendars = sound.calendars;
-  reported = sound.reported;
-  reported_years = sound.reported_years;
-  open_years = sound.open_years;
-  runs = sound.runs;
-  payments = sound.payments;
-  are_calendars = sound.are_calendars;
-  opened = sound.opened;
-  enrolled = sound.enrolled;
-  totals = totals_still s
-      (record s { added_days = s.added_days ++ day ∷ [] })
-      refl refl refl refl refl sound.totals;
-  in_turn = sound.in_turn;
-  paydays = sound.paydays;
-  paid_days = sound.paid_days;
-  counts = sound.counts;
-  reported_amounts = sound.reported_amounts;
-  year_amounts = sound.year_amounts;
-  corrected_amounts = sound.corrected_amounts;
-  corrected_year_amounts = sound.corrected_year_amounts;
-  run_numbers = sound.run_numbers;
-  run_amounts = sound.run_amounts;
-  paid_amounts = sound.paid_amounts;
-  added_days = λ d has. elim (has_last s.added_days day d has) [
-    | inl here ↦ sound.added_days d here
-    | inr is ↦ subst (λ x. is_given s (year_of x) ≡ true) (sym is) given
-  ];
-  few = few_added s sound.few day sound.calendars (λ c has. (sound.are_calendars c has).1) room;
-  changed = λ c has. still_added (holidays_of s.calendars) s.added_days day c.day
-      (sound.changed c has);
-}
+sound_added s day given room sound =
+    let totals = totals_still s (record s { added_days = s.added_days ++ day ∷ [] })
+    refl refl refl refl refl sound.totals in
+    let added_days = each_last (λ x. is_given s (year_of x) ≡ true) s.added_days day
+    sound.added_days given in
+    let few = few_added s sound.few day sound.calendars (λ c has. (sound.are_calendars c has).1)
+    room in
+    let changed : (c : DayChange) → Has s.changed_days c
+    → is_holiday (all_days (record s { added_days = s.added_days ++ day ∷ [] })) c.day ≡ true =
+    λ c has. still_added (holidays_of s.calendars) s.added_days day c.day (sound.changed c has) in
+    assumption sound
 
 -- ---- years that follow one another
 
@@ -428,398 +364,161 @@ sound_open : (s : State) (name : List ℕ) (year : ℕ) → is_some (entries_of 
     → is_open (entries_of s name) year ≡ false
     → (total : Cents) × HasLookback (entries_of s name) year total → IsSound s
     → IsSound (record s { open_years = with_entry s.open_years name year tt })
-sound_open s name year there between given next first fresh total sound = record {
-  accounts = sound.accounts;
-  calendars = sound.calendars;
-  reported = sound.reported;
-  reported_years = sound.reported_years;
-  open_years = fresh_entry s.open_years name year tt
-      (none_of (kept_at year (entries_of s name).open_years) fresh) sound.open_years;
-  runs = sound.runs;
-  payments = sound.payments;
-  are_calendars = sound.are_calendars;
-  opened = λ e has. elim (has_last s.open_years _ e has) [
-    | inl here ↦ sound.opened e here
-    | inr is ↦ subst (λ (x : Entry (Unit {0})). (is_between 2001 2098 x.key ≡ true)
-        × (is_given s x.key ≡ true) × (is_given s (x.key + 1) ≡ true)) (sym is) (
-          between,
-          given,
-          next,
-        )
-  ];
-  enrolled = λ e has. elim (has_last s.open_years _ e has) [
-    | inl here ↦ sound.enrolled e here
-    | inr is ↦ subst (λ (x : Entry (Unit {0})). is_some (entries_of s x.name).account ≡ true)
-        (sym is) there
-  ];
-  totals = totals_open s name year total.0 total.1 sound.totals;
-  in_turn = λ other.
-      subst (λ xs. Follow (map year_of_entry xs))
-      (sym (filter_more (is_of other) s.open_years
-      (record { name = name; key = year; content = tt }) (bytes_eq name other) refl))
-      (turn_step s name year other (bytes_eq name other) refl (at_least_one year between) first
-      fresh sound);
-  paydays = λ e has. open_still s name year e.name _ (sound.paydays e has);
-  paid_days = λ e has. open_still s name year e.name _ (sound.paid_days e has);
-  counts = sound.counts;
-  reported_amounts = sound.reported_amounts;
-  year_amounts = sound.year_amounts;
-  corrected_amounts = sound.corrected_amounts;
-  corrected_year_amounts = sound.corrected_year_amounts;
-  run_numbers = sound.run_numbers;
-  run_amounts = sound.run_amounts;
-  paid_amounts = sound.paid_amounts;
-  added_days = sound.added_days;
-  few = sound.few;
-  changed = sound.changed;
-}
+sound_open s name year there between given next first fresh total sound =
+    let new : Entry (Unit {0}) = record { name = name; key = year; content = tt } in
+    let after : State = record s { open_years = with_entry s.open_years name year tt } in
+    let open_years = fresh_entry s.open_years name year tt
+    (none_of (kept_at year (entries_of s name).open_years) fresh) sound.open_years in
+    let opened = each_last (λ (x : Entry (Unit {0})). (is_between 2001 2098 x.key ≡ true)
+    × (is_given s x.key ≡ true) × (is_given s (x.key + 1) ≡ true)) s.open_years new sound.opened
+    (between, given, next) in
+    let enrolled = each_last
+    (λ (x : Entry (Unit {0})). is_some (entries_of s x.name).account ≡ true) s.open_years new
+    sound.enrolled there in
+    let totals = totals_open s name year total.0 total.1 sound.totals in
+    let in_turn : (other : List ℕ) → Follow (map year_of_entry
+    (filter (is_of other) after.open_years)) = λ other.
+    subst (λ xs. Follow (map year_of_entry xs))
+    (sym (filter_more (is_of other) s.open_years new (bytes_eq name other) refl))
+    (turn_step s name year other (bytes_eq name other) refl (at_least_one year between) first
+    fresh sound) in
+    let paydays : (e : Entry (Voidable PayRun)) → Has s.runs e
+    → is_open (entries_of after e.name) (year_of e.content.value.payday) ≡ true =
+    λ e has. open_still s name year e.name _ (sound.paydays e has) in
+    let paid_days : (e : Entry (Voidable Payment)) → Has s.payments e
+    → is_open (entries_of after e.name) (year_of e.content.value.for_day) ≡ true =
+    λ e has. open_still s name year e.name _ (sound.paid_days e has) in
+    assumption sound
 
 -- ---- runs and payments
-
-still_value : {X : Type 0} (name : List ℕ) (key : ℕ) (e : Entry (Voidable X))
-    → (voided_if name key e).content.value ≡ e.content.value
-still_value name key e = value_as (is_under name key e) e.content
-  where
-    value_as : {X : Type 0} (b : Bool) (v : Voidable X) → (cond b (as_voided v) v).value ≡ v.value
-    value_as true v = refl
-    value_as false v = refl
 
 sound_run : (s : State) (name : List ℕ) (number : ℕ) (value : PayRun)
     → kept_at number (entries_of s name).runs ≡ None
     → is_open (entries_of s name) (year_of value.payday) ≡ true → are_amounts value ≡ true
     → is_number number ≡ true → length (entries_of s name).runs < most_entries → IsSound s
     → IsSound (record s { runs = with_entry s.runs name number (taken value) })
-sound_run s name number value none there fits numbered room sound = record {
-  accounts = sound.accounts;
-  calendars = sound.calendars;
-  reported = sound.reported;
-  reported_years = sound.reported_years;
-  open_years = sound.open_years;
-  runs = fresh_entry s.runs name number (taken value) none sound.runs;
-  payments = sound.payments;
-  are_calendars = sound.are_calendars;
-  opened = sound.opened;
-  enrolled = sound.enrolled;
-  totals = totals_still s
-      (record s { runs = with_entry s.runs name number (taken value) })
-      refl refl refl refl refl sound.totals;
-  in_turn = sound.in_turn;
-  paydays = λ e has. elim (has_last s.runs _ e has) [
-    | inl here ↦ sound.paydays e here
-    | inr is ↦ subst (λ (x : Entry (Voidable PayRun)). is_open (entries_of s x.name)
-        (year_of x.content.value.payday) ≡ true) (sym is) there
-  ];
-  paid_days = sound.paid_days;
-  counts = λ other. (
-    counts_more s.runs _ (λ n. (sound.counts n).0) room other,
-    (sound.counts other).1,
-  );
-  reported_amounts = sound.reported_amounts;
-  year_amounts = sound.year_amounts;
-  corrected_amounts = sound.corrected_amounts;
-  corrected_year_amounts = sound.corrected_year_amounts;
-  run_numbers = λ e has. elim (has_last s.runs _ e has) [
-    | inl here ↦ sound.run_numbers e here
-    | inr is ↦ subst (λ (x : Entry (Voidable PayRun)). is_number x.key ≡ true) (sym is) numbered
-  ];
-  run_amounts = λ e has. elim (has_last s.runs _ e has) [
-    | inl here ↦ sound.run_amounts e here
-    | inr is ↦ subst (λ (x : Entry (Voidable PayRun)). are_amounts x.content.value ≡ true) (sym is)
-        fits
-  ];
-  paid_amounts = sound.paid_amounts;
-  added_days = sound.added_days;
-  few = sound.few;
-  changed = sound.changed;
-}
-
-sound_void_run : (s : State) (name : List ℕ) (number : ℕ) → IsSound s
-    → IsSound (record s { runs = with_voided s.runs name number })
-sound_void_run s name number sound = record {
-  accounts = sound.accounts;
-  calendars = sound.calendars;
-  reported = sound.reported;
-  reported_years = sound.reported_years;
-  open_years = sound.open_years;
-  runs = fresh_voided s.runs name number sound.runs;
-  payments = sound.payments;
-  are_calendars = sound.are_calendars;
-  opened = sound.opened;
-  enrolled = sound.enrolled;
-  totals = totals_still s
-      (record s { runs = with_voided s.runs name number })
-      refl refl refl refl refl sound.totals;
-  in_turn = sound.in_turn;
-  paydays = λ e has.
-      let from = has_mapped (voided_if name number) s.runs e has in
-      let day : year_of (voided_if name number from.0).content.value.payday
-      ≡ year_of from.0.content.value.payday =
-      ap (λ (x : PayRun). year_of x.payday) (still_value name number from.0) in
-      let was : is_open (entries_of s from.0.name)
-      (year_of (voided_if name number from.0).content.value.payday) ≡ true =
-      ap (is_open (entries_of s from.0.name)) day ∙ sound.paydays from.0 from.1 in
-      subst (λ (x : Entry (Voidable PayRun)). is_open (entries_of s x.name)
-      (year_of x.content.value.payday) ≡ true) (sym from.2) was;
-  paid_days = sound.paid_days;
-  counts = λ other. (
-    subst (λ n. n ≤ most_entries) (sym (voided_count s.runs name number other))
-        (sound.counts other).0,
-    (sound.counts other).1,
-  );
-  reported_amounts = sound.reported_amounts;
-  year_amounts = sound.year_amounts;
-  corrected_amounts = sound.corrected_amounts;
-  corrected_year_amounts = sound.corrected_year_amounts;
-  run_numbers = λ e has.
-      let from = has_mapped (voided_if name number) s.runs e has in
-      subst (λ (x : Entry (Voidable PayRun)). is_number x.key ≡ true) (sym from.2)
-      (sound.run_numbers from.0 from.1);
-  run_amounts = λ e has.
-      let from = has_mapped (voided_if name number) s.runs e has in
-      subst (λ (x : Entry (Voidable PayRun)). are_amounts x.content.value ≡ true) (sym from.2)
-      (ap are_amounts (still_value name number from.0) ∙ sound.run_amounts from.0 from.1);
-  paid_amounts = sound.paid_amounts;
-  added_days = sound.added_days;
-  few = sound.few;
-  changed = sound.changed;
-}
+sound_run s name number value none there fits numbered room sound =
+    let new : Entry (Voidable PayRun) =
+    record { name = name; key = number; content = taken value } in
+    let runs = fresh_entry s.runs name number (taken value) none sound.runs in
+    let totals = totals_still s (record s { runs = with_entry s.runs name number (taken value) })
+    refl refl refl refl refl sound.totals in
+    let paydays = each_last (λ (x : Entry (Voidable PayRun)). is_open (entries_of s x.name)
+    (year_of x.content.value.payday) ≡ true) s.runs new sound.paydays there in
+    let counts : (other : List ℕ) → (length (filter (is_of other) (s.runs ++ new ∷ []))
+    ≤ most_entries) × (length (entries_of s other).payments ≤ most_entries) = λ other.
+    (counts_more s.runs _ (λ n. (sound.counts n).0) room other, (sound.counts other).1) in
+    let numbers = each_last (λ (x : Entry (Voidable PayRun)). is_number x.key ≡ true) s.runs new
+    sound.run_numbers numbered in
+    let amounts = each_last (λ (x : Entry (Voidable PayRun)). are_amounts x.content.value ≡ true)
+    s.runs new sound.run_amounts fits in
+    assumption sound
 
 sound_payment : (s : State) (name : List ℕ) (number : ℕ) (value : Payment)
     → kept_at number (entries_of s name).payments ≡ None
     → is_open (entries_of s name) (year_of value.for_day) ≡ true → is_amount value.cents ≡ true
     → length (entries_of s name).payments < most_entries → IsSound s
     → IsSound (record s { payments = with_entry s.payments name number (taken value) })
-sound_payment s name number value none there fits room sound = record {
-  accounts = sound.accounts;
-  calendars = sound.calendars;
-  reported = sound.reported;
-  reported_years = sound.reported_years;
-  open_years = sound.open_years;
-  runs = sound.runs;
-  payments = fresh_entry s.payments name number (taken value) none sound.payments;
-  are_calendars = sound.are_calendars;
-  opened = sound.opened;
-  enrolled = sound.enrolled;
-  totals = totals_still s
-      (record s { payments = with_entry s.payments name number (taken value) })
-      refl refl refl refl refl sound.totals;
-  in_turn = sound.in_turn;
-  paydays = sound.paydays;
-  paid_days = λ e has. elim (has_last s.payments _ e has) [
-    | inl here ↦ sound.paid_days e here
-    | inr is ↦ subst (λ (x : Entry (Voidable Payment)). is_open (entries_of s x.name)
-        (year_of x.content.value.for_day) ≡ true) (sym is) there
-  ];
-  counts = λ other. (
-    (sound.counts other).0,
-    counts_more s.payments _ (λ n. (sound.counts n).1) room other,
-  );
-  reported_amounts = sound.reported_amounts;
-  year_amounts = sound.year_amounts;
-  corrected_amounts = sound.corrected_amounts;
-  corrected_year_amounts = sound.corrected_year_amounts;
-  run_numbers = sound.run_numbers;
-  run_amounts = sound.run_amounts;
-  paid_amounts = λ e has. elim (has_last s.payments _ e has) [
-    | inl here ↦ sound.paid_amounts e here
-    | inr is ↦ subst (λ (x : Entry (Voidable Payment)). is_amount x.content.value.cents ≡ true)
-        (sym is) fits
-  ];
-  added_days = sound.added_days;
-  few = sound.few;
-  changed = sound.changed;
-}
+sound_payment s name number value none there fits room sound =
+    let new : Entry (Voidable Payment) =
+    record { name = name; key = number; content = taken value } in
+    let payments = fresh_entry s.payments name number (taken value) none sound.payments in
+    let totals = totals_still s
+    (record s { payments = with_entry s.payments name number (taken value) })
+    refl refl refl refl refl sound.totals in
+    let days = each_last (λ (x : Entry (Voidable Payment)). is_open (entries_of s x.name)
+    (year_of x.content.value.for_day) ≡ true) s.payments new sound.paid_days there in
+    let counts : (other : List ℕ) → (length (entries_of s other).runs ≤ most_entries)
+    × (length (filter (is_of other) (s.payments ++ new ∷ [])) ≤ most_entries) = λ other.
+    ((sound.counts other).0, counts_more s.payments _ (λ n. (sound.counts n).1) room other) in
+    let amounts = each_last
+    (λ (x : Entry (Voidable Payment)). is_amount x.content.value.cents ≡ true) s.payments new
+    sound.paid_amounts fits in
+    assumption sound
 
-sound_void_payment : (s : State) (name : List ℕ) (number : ℕ) → IsSound s
-    → IsSound (record s { payments = with_voided s.payments name number })
-sound_void_payment s name number sound = record {
-  accounts = sound.accounts;
-  calendars = sound.calendars;
-  reported = sound.reported;
-  reported_years = sound.reported_years;
-  open_years = sound.open_years;
-  runs = sound.runs;
-  payments = fresh_voided s.payments name number sound.payments;
-  are_calendars = sound.are_calendars;
-  opened = sound.opened;
-  enrolled = sound.enrolled;
-  totals = totals_still s
-      (record s { payments = with_voided s.payments name number })
-      refl refl refl refl refl sound.totals;
-  in_turn = sound.in_turn;
-  paydays = sound.paydays;
-  paid_days = λ e has.
-      let from = has_mapped (voided_if name number) s.payments e has in
-      let day : year_of (voided_if name number from.0).content.value.for_day
-      ≡ year_of from.0.content.value.for_day =
-      ap (λ (x : Payment). year_of x.for_day) (still_value name number from.0) in
-      let was : is_open (entries_of s from.0.name)
-      (year_of (voided_if name number from.0).content.value.for_day) ≡ true =
-      ap (is_open (entries_of s from.0.name)) day ∙ sound.paid_days from.0 from.1 in
-      subst (λ (x : Entry (Voidable Payment)). is_open (entries_of s x.name)
-      (year_of x.content.value.for_day) ≡ true) (sym from.2) was;
-  counts = λ other. (
-    (sound.counts other).0,
-    subst (λ n. n ≤ most_entries) (sym (voided_count s.payments name number other))
+module _ (s : State) (name : List ℕ) (number : ℕ) (sound : IsSound s) where
+  sound_void_run : IsSound (record s { runs = with_voided s.runs name number })
+  sound_void_run =
+      let counts : (other : List ℕ)
+      → (length (filter (is_of other) (with_voided s.runs name number)) ≤ most_entries)
+      × (length (entries_of s other).payments ≤ most_entries) =
+      λ other. (
+        rw (voided_count s.runs name number other) (sound.counts other).0,
         (sound.counts other).1,
-  );
-  reported_amounts = sound.reported_amounts;
-  year_amounts = sound.year_amounts;
-  corrected_amounts = sound.corrected_amounts;
-  corrected_year_amounts = sound.corrected_year_amounts;
-  run_numbers = sound.run_numbers;
-  run_amounts = sound.run_amounts;
-  paid_amounts = λ e has.
-      let from = has_mapped (voided_if name number) s.payments e has in
-      subst (λ (x : Entry (Voidable Payment)). is_amount x.content.value.cents ≡ true) (sym from.2)
-      (ap (λ (x : Payment). is_amount x.cents) (still_value name number from.0)
-      ∙ sound.paid_amounts from.0 from.1);
-  added_days = sound.added_days;
-  few = sound.few;
-  changed = sound.changed;
-}
+      ) in
+      let runs = fresh_voided s.runs name number sound.runs in
+      let paydays = each_voided (λ owner key (value : PayRun). is_open (entries_of s owner)
+      (year_of value.payday) ≡ true) s.runs name number sound.paydays in
+      let numbers = each_voided (λ owner key (value : PayRun). is_number key ≡ true) s.runs name
+      number sound.run_numbers in
+      let amounts = each_voided (λ owner key (value : PayRun). are_amounts value ≡ true) s.runs
+      name number sound.run_amounts in
+      assumption (
+        sound,
+        totals_still s (record s { runs = with_voided s.runs name number })
+            refl refl refl refl refl sound.totals,
+      )
+
+  sound_void_payment : IsSound (record s { payments = with_voided s.payments name number })
+  sound_void_payment =
+      let counts : (other : List ℕ) → (length (entries_of s other).runs ≤ most_entries)
+      × (length (filter (is_of other) (with_voided s.payments name number)) ≤ most_entries) =
+      λ other. (
+        (sound.counts other).0,
+        rw (voided_count s.payments name number other) (sound.counts other).1,
+      ) in
+      let payments = fresh_voided s.payments name number sound.payments in
+      let days = each_voided (λ owner key (value : Payment). is_open (entries_of s owner)
+      (year_of value.for_day) ≡ true) s.payments name number sound.paid_days in
+      let amounts = each_voided (λ owner key (value : Payment). is_amount value.cents ≡ true)
+      s.payments name number sound.paid_amounts in
+      assumption (
+        sound,
+        totals_still s (record s { payments = with_voided s.payments name number })
+            refl refl refl refl refl sound.totals,
+      )
 
 -- ---- corrections
 
 sound_corrected : (s : State) (name : List ℕ) (key : ℕ) (cents : Cents) → is_amount cents ≡ true
     → IsSound s → IsSound (record s { corrected = with_entry s.corrected name key cents })
-sound_corrected s name key cents fits sound = record {
-  accounts = sound.accounts;
-  calendars = sound.calendars;
-  reported = sound.reported;
-  reported_years = sound.reported_years;
-  open_years = sound.open_years;
-  runs = sound.runs;
-  payments = sound.payments;
-  are_calendars = sound.are_calendars;
-  opened = sound.opened;
-  enrolled = sound.enrolled;
-  totals = totals_still s
-      (record s { corrected = with_entry s.corrected name key cents })
-      refl refl refl refl refl sound.totals;
-  in_turn = sound.in_turn;
-  paydays = sound.paydays;
-  paid_days = sound.paid_days;
-  counts = sound.counts;
-  reported_amounts = sound.reported_amounts;
-  year_amounts = sound.year_amounts;
-  corrected_amounts = λ e has. elim (has_last s.corrected _ e has) [
-    | inl here ↦ sound.corrected_amounts e here
-    | inr is ↦ subst (λ (x : Entry Cents). is_amount x.content ≡ true) (sym is) fits
-  ];
-  corrected_year_amounts = sound.corrected_year_amounts;
-  run_numbers = sound.run_numbers;
-  run_amounts = sound.run_amounts;
-  paid_amounts = sound.paid_amounts;
-  added_days = sound.added_days;
-  few = sound.few;
-  changed = sound.changed;
-}
+sound_corrected s name key cents fits sound =
+    let totals = totals_still s (record s { corrected = with_entry s.corrected name key cents })
+    refl refl refl refl refl sound.totals in
+    let amounts = each_amount s.corrected name key cents sound.corrected_amounts fits in
+    assumption sound
 
 sound_corrected_year : (s : State) (name : List ℕ) (key : ℕ) (cents : Cents)
     → is_amount cents ≡ true → IsSound s
     → IsSound (record s { corrected_years = with_entry s.corrected_years name key cents })
-sound_corrected_year s name key cents fits sound = record {
-  accounts = sound.accounts;
-  calendars = sound.calendars;
-  reported = sound.reported;
-  reported_years = sound.reported_years;
-  open_years = sound.open_years;
-  runs = sound.runs;
-  payments = sound.payments;
-  are_calendars = sound.are_calendars;
-  opened = sound.opened;
-  enrolled = sound.enrolled;
-  totals = totals_still s
-      (record s { corrected_years = with_entry s.corrected_years name key cents })
-      refl refl refl refl refl sound.totals;
-  in_turn = sound.in_turn;
-  paydays = sound.paydays;
-  paid_days = sound.paid_days;
-  counts = sound.counts;
-  reported_amounts = sound.reported_amounts;
-  year_amounts = sound.year_amounts;
-  corrected_amounts = sound.corrected_amounts;
-  corrected_year_amounts = λ e has. elim (has_last s.corrected_years _ e has) [
-    | inl here ↦ sound.corrected_year_amounts e here
-    | inr is ↦ subst (λ (x : Entry Cents). is_amount x.content ≡ true) (sym is) fits
-  ];
-  run_numbers = sound.run_numbers;
-  run_amounts = sound.run_amounts;
-  paid_amounts = sound.paid_amounts;
-  added_days = sound.added_days;
-  few = sound.few;
-  changed = sound.changed;
-}
+sound_corrected_year s name key cents fits sound =
+    let totals = totals_still s
+    (record s { corrected_years = with_entry s.corrected_years name key cents })
+    refl refl refl refl refl sound.totals in
+    let amounts = each_amount s.corrected_years name key cents sound.corrected_year_amounts fits in
+    assumption sound
 
 sound_changed : (s : State) (change : DayChange) → is_holiday (all_days s) change.day ≡ true
     → IsSound s
     → IsSound (record s { changed_days = s.changed_days ++ change ∷ [] })
-sound_changed s change there sound = record {
-  accounts = sound.accounts;
-  calendars = sound.calendars;
-  reported = sound.reported;
-  reported_years = sound.reported_years;
-  open_years = sound.open_years;
-  runs = sound.runs;
-  payments = sound.payments;
-  are_calendars = sound.are_calendars;
-  opened = sound.opened;
-  enrolled = sound.enrolled;
-  totals = totals_still s
-      (record s { changed_days = s.changed_days ++ change ∷ [] })
-      refl refl refl refl refl sound.totals;
-  in_turn = sound.in_turn;
-  paydays = sound.paydays;
-  paid_days = sound.paid_days;
-  counts = sound.counts;
-  reported_amounts = sound.reported_amounts;
-  year_amounts = sound.year_amounts;
-  corrected_amounts = sound.corrected_amounts;
-  corrected_year_amounts = sound.corrected_year_amounts;
-  run_numbers = sound.run_numbers;
-  run_amounts = sound.run_amounts;
-  paid_amounts = sound.paid_amounts;
-  added_days = sound.added_days;
-  few = sound.few;
-  changed = λ c has. elim (has_last s.changed_days change c has) [
-    | inl here ↦ sound.changed c here
-    | inr is ↦ subst (λ (x : DayChange). is_holiday (all_days s) x.day ≡ true) (sym is) there
-  ];
-}
+sound_changed s change there sound =
+    let totals = totals_still s (record s { changed_days = s.changed_days ++ change ∷ [] })
+    refl refl refl refl refl sound.totals in
+    let changed = each_last (λ (x : DayChange). is_holiday (all_days s) x.day ≡ true)
+    s.changed_days change sound.changed there in
+    assumption sound
 
 sound_moved : (s : State) (name : List ℕ) (beginning : Beginning)
     → (entries_of s name).open_years ≡ [] → IsSound s
     → IsSound (record s { moved = with_move s.moved name beginning })
-sound_moved s name beginning none sound = record {
-  accounts = sound.accounts;
-  calendars = sound.calendars;
-  reported = sound.reported;
-  reported_years = sound.reported_years;
-  open_years = sound.open_years;
-  runs = sound.runs;
-  payments = sound.payments;
-  are_calendars = sound.are_calendars;
-  opened = sound.opened;
-  enrolled = λ e has. in_force_some (enrolled_in s e.name)
-      (moves_in (record s { moved = with_move s.moved name beginning }) e.name)
-      (was_enrolled (enrolled_in s e.name) (moves_in s e.name) (sound.enrolled e has));
-  totals = totals_moved s name beginning none sound.totals;
-  in_turn = sound.in_turn;
-  paydays = sound.paydays;
-  paid_days = sound.paid_days;
-  counts = sound.counts;
-  reported_amounts = sound.reported_amounts;
-  year_amounts = sound.year_amounts;
-  corrected_amounts = sound.corrected_amounts;
-  corrected_year_amounts = sound.corrected_year_amounts;
-  run_numbers = sound.run_numbers;
-  run_amounts = sound.run_amounts;
-  paid_amounts = sound.paid_amounts;
-  added_days = sound.added_days;
-  few = sound.few;
-  changed = sound.changed;
-}
+sound_moved s name beginning none sound =
+    let after : State = record s { moved = with_move s.moved name beginning } in
+    let enrolled : (e : Entry (Unit {0})) → Has s.open_years e
+    → is_some (entries_of after e.name).account ≡ true = λ e has. in_force_some
+    (enrolled_in s e.name) (moves_in after e.name)
+    (was_enrolled (enrolled_in s e.name) (moves_in s e.name) (sound.enrolled e has)) in
+    let totals = totals_moved s name beginning none sound.totals in
+    assumption sound
 
 -- ---- a step
 
@@ -883,92 +582,52 @@ pub step_sound : (s : State) (request : Request) (answer : Answer) (next : State
 step_sound s (Enrol name start carried form) answer next step sound =
     let account : Account = record { start = start; carried = carried; form = form } in
     let none : Gives (checks_of s (Enrol name start carried form))
-    (enrolled_in s name ≡ None) =
-    skip_needs _ _ _ _ (skip_needs _ _ _ _ (gives_new _ _ _ _)) in
+    (enrolled_in s name ≡ None) = search heads depth 12 in
     done_sound s answer next sound (checks_of s (Enrol name start carried form)) _ step
     (λ e. sound_account s name account (none.fact e) sound)
 step_sound s (Calendar year days) answer next step sound =
     let P = checks_of s (Calendar year days) in
-    let between : Gives P (is_between 2001 2099 year ≡ true) = gives_needs _ _ _ in
-    let fits : Gives P (is_calendar year days ≡ true) = skip_needs _ _ _ _ (gives_needs _ _ _) in
-    let none : Gives P (calendar_at s year ≡ None) =
-    skip_needs _ _ _ _ (skip_needs _ _ _ _ (gives_new _ _ _ _)) in
+    let between : Gives P (is_between 2001 2099 year ≡ true) = search heads depth 12 in
+    let fits : Gives P (is_calendar year days ≡ true) = search heads depth 12 in
+    let none : Gives P (calendar_at s year ≡ None) = search heads depth 12 in
     done_sound s answer next sound P _ step (λ e. sound_calendar s year days (none.fact e)
     (between.fact e) (fits.fact e) sound)
 step_sound s (AddHoliday day) answer next step sound =
     let P = checks_of s (AddHoliday day) in
-    let given : Gives P (is_given s (year_of day) ≡ true) =
-    skip_needs _ _ _ _ (skip_done _ _ _ (gives_finds _ _ _)) in
+    let given : Gives P (is_given s (year_of day) ≡ true) = search heads depth 12 in
     let room : Gives P
     (nat_lt (length (days_of_year (calendar_at s (year_of day)) (added_in s (year_of day)))) 60
-    ≡ true) =
-    skip_needs _ _ _ _ (skip_done _ _ _ (skip_finds _ _ _ _ (gives_needs _ _ []))) in
+    ≡ true) = search heads depth 12 in
     done_sound s answer next sound P _ step
     (λ e. sound_added s day (given.fact e) (room.fact e) sound)
 step_sound s (Report name quarter cents) answer next step sound =
-    let none : Gives (checks_of s (Report name quarter cents))
-    (kept_at quarter (entries_of s name).reported ≡ None) =
-    skip_needs _ _ _ _
-    (skip_needs _ _ _ _
-    (skip_needs _ _ _ _ (skip_finds _ _ _ _ (skip_needs _ _ _ _ (gives_new _ _ _ _))))) in
-    let fits : Gives (checks_of s (Report name quarter cents)) (is_amount cents ≡ true) =
-    skip_needs _ _ _ _ (skip_needs _ _ _ _ (gives_needs _ _ _)) in
-    done_sound s answer next sound (checks_of s (Report name quarter cents)) _ step
-    (λ e. sound_reported s name quarter cents (none.fact e) (fits.fact e) sound)
+    let P = checks_of s (Report name quarter cents) in
+    done_sound s answer next sound P _ step (λ e. sound_reported F941 s name quarter cents P
+    (search heads depth 12) (search heads depth 12) e sound)
 step_sound s (ReportYear name year cents) answer next step sound =
-    let none : Gives (checks_of s (ReportYear name year cents))
-    (kept_at year (entries_of s name).reported_years ≡ None) =
-    skip_needs _ _ _ _
-    (skip_needs _ _ _ _
-    (skip_needs _ _ _ _ (skip_finds _ _ _ _ (skip_needs _ _ _ _ (gives_new _ _ _ _))))) in
-    let fits : Gives (checks_of s (ReportYear name year cents)) (is_amount cents ≡ true) =
-    skip_needs _ _ _ _ (skip_needs _ _ _ _ (gives_needs _ _ _)) in
-    done_sound s answer next sound (checks_of s (ReportYear name year cents)) _ step
-    (λ e. sound_reported_year s name year cents (none.fact e) (fits.fact e) sound)
+    let P = checks_of s (ReportYear name year cents) in
+    done_sound s answer next sound P _ step (λ e. sound_reported F943 s name year cents P
+    (search heads depth 12) (search heads depth 12) e sound)
 step_sound s (OpenYear name year) answer next step sound =
     let P = checks_of s (OpenYear name year) in
-    let between : Gives P (is_between 2001 2098 year ≡ true) =
-    skip_needs _ _ _ _ (gives_needs _ _ _) in
-    let fresh : Gives P (is_open (entries_of s name) year ≡ false) =
-    skip_needs _ _ _ _ (skip_needs _ _ _ _ (skip_finds _ _ _ _ (gives_done _ _))) in
-    let there : Gives P (is_some (entries_of s name).account ≡ true) =
-    skip_needs _ _ _ _ (skip_needs _ _ _ _ (gives_finds _ _ _)) in
-    let given : Gives P (is_given s year ≡ true) =
-    skip_needs _ _ _ _
-    (skip_needs _ _ _ _
-    (skip_finds _ _ _ _ (skip_done _ _ _ (skip_needs _ _ _ _ (gives_needs _ _ _))))) in
-    let next_given : Gives P (is_given s (year + 1) ≡ true) =
-    skip_needs _ _ _ _
-    (skip_needs _ _ _ _
-    (skip_finds _ _ _ _
-    (skip_done _ _ _ (skip_needs _ _ _ _ (skip_needs _ _ _ _ (gives_needs _ _ _)))))) in
+    let between : Gives P (is_between 2001 2098 year ≡ true) = search heads depth 12 in
+    let fresh : Gives P (is_open (entries_of s name) year ≡ false) = search heads depth 12 in
+    let there : Gives P (is_some (entries_of s name).account ≡ true) = search heads depth 12 in
+    let given : Gives P (is_given s year ≡ true) = search heads depth 12 in
+    let next_given : Gives P (is_given s (year + 1) ≡ true) = search heads depth 12 in
     open_sound s answer next sound P name year step
     (λ e first total. sound_open s name year (there.fact e) (between.fact e) (given.fact e)
     (next_given.fact e) first (fresh.fact e) total sound)
 step_sound s (Post name number payday fit ss medicare) answer next step sound =
     let run : PayRun = record { payday = payday; fit = fit; ss = ss; medicare = medicare } in
     let P = checks_of s (Post name number payday fit ss medicare) in
-    let none : Gives P (kept_at number (entries_of s name).runs ≡ None) =
-    skip_needs _ _ _ _
-    (skip_needs _ _ _ _
-    (skip_needs _ _ _ _ (skip_needs _ _ _ _ (skip_finds _ _ _ _ (gives_new _ _ _ _))))) in
+    let none : Gives P (kept_at number (entries_of s name).runs ≡ None) = search heads depth 12 in
     let there : Gives P (is_open (entries_of s name) (year_of payday) ≡ true) =
-    skip_needs _ _ _ _
-    (skip_needs _ _ _ _
-    (skip_needs _ _ _ _
-    (skip_needs _ _ _ _
-    (skip_finds _ _ _ _ (skip_new _ _ _ _ _ (skip_needs _ _ _ _ (gives_needs _ _ _))))))) in
-    let fits : Gives P (are_amounts run ≡ true) =
-    skip_needs _ _ _ _ (skip_needs _ _ _ _ (gives_needs _ _ _)) in
-    let numbered : Gives P (is_number number ≡ true) =
-    skip_needs _ _ _ _ (skip_needs _ _ _ _ (skip_needs _ _ _ _ (gives_needs _ _ _))) in
+    search heads depth 12 in
+    let fits : Gives P (are_amounts run ≡ true) = search heads depth 12 in
+    let numbered : Gives P (is_number number ≡ true) = search heads depth 12 in
     let room : Gives P (nat_lt (length (entries_of s name).runs) most_entries ≡ true) =
-    skip_needs _ _ _ _
-    (skip_needs _ _ _ _
-    (skip_needs _ _ _ _
-    (skip_needs _ _ _ _
-    (skip_finds _ _ _ _
-    (skip_new _ _ _ _ _ (skip_needs _ _ _ _ (skip_needs _ _ _ _ (gives_needs _ _ [])))))))) in
+    search heads depth 12 in
     post_sound s answer next sound P _ _ step (λ e. sound_run s name number run (none.fact e)
     (there.fact e) (fits.fact e) (numbered.fact e) (ltb-true _ _ (room.fact e)) sound)
 step_sound s (Void name number) answer next step sound =
@@ -978,24 +637,12 @@ step_sound s (Pay name number paid for_day cents) answer next step sound =
     let payment : Payment = record { paid = paid; for_day = for_day; cents = cents } in
     let P = checks_of s (Pay name number paid for_day cents) in
     let none : Gives P (kept_at number (entries_of s name).payments ≡ None) =
-    skip_needs _ _ _ _
-    (skip_needs _ _ _ _
-    (skip_needs _ _ _ _ (skip_needs _ _ _ _ (skip_finds _ _ _ _ (gives_new _ _ _ _))))) in
+    search heads depth 12 in
     let there : Gives P (is_open (entries_of s name) (year_of for_day) ≡ true) =
-    skip_needs _ _ _ _
-    (skip_needs _ _ _ _
-    (skip_needs _ _ _ _
-    (skip_needs _ _ _ _
-    (skip_finds _ _ _ _ (skip_new _ _ _ _ _ (skip_needs _ _ _ _ (gives_needs _ _ _))))))) in
-    let fits : Gives P (nat_le 1 cents.0 && is_amount cents ≡ true) =
-    skip_needs _ _ _ _ (skip_needs _ _ _ _ (gives_needs _ _ _)) in
+    search heads depth 12 in
+    let fits : Gives P (nat_le 1 cents.0 && is_amount cents ≡ true) = search heads depth 12 in
     let room : Gives P (nat_lt (length (entries_of s name).payments) most_entries ≡ true) =
-    skip_needs _ _ _ _
-    (skip_needs _ _ _ _
-    (skip_needs _ _ _ _
-    (skip_needs _ _ _ _
-    (skip_finds _ _ _ _
-    (skip_new _ _ _ _ _ (skip_needs _ _ _ _ (skip_needs _ _ _ _ (gives_needs _ _ [])))))))) in
+    search heads depth 12 in
     done_sound s answer next sound P _ step (λ e. sound_payment s name number payment (none.fact e)
     (there.fact e) (and_parts _ _ (fits.fact e)).1 (ltb-true _ _ (room.fact e)) sound)
 step_sound s (VoidPay name number) answer next step sound =
@@ -1003,31 +650,25 @@ step_sound s (VoidPay name number) answer next step sound =
     (λ e. sound_void_payment s name number sound)
 step_sound s (CorrectReport name quarter number cents) answer next step sound =
     let P = checks_of s (CorrectReport name quarter number cents) in
-    let fits : Gives P (is_amount cents ≡ true) =
-    skip_needs _ _ _ _ (skip_needs _ _ _ _ (gives_needs _ _ _)) in
+    let fits : Gives P (is_amount cents ≡ true) = search heads depth 12 in
     post_sound s answer next sound P _ _ step
     (λ e. sound_corrected s name quarter cents (fits.fact e) sound)
 step_sound s (CorrectReportYear name year number cents) answer next step sound =
     let P = checks_of s (CorrectReportYear name year number cents) in
-    let fits : Gives P (is_amount cents ≡ true) =
-    skip_needs _ _ _ _ (skip_needs _ _ _ _ (gives_needs _ _ _)) in
+    let fits : Gives P (is_amount cents ≡ true) = search heads depth 12 in
     post_sound s answer next sound P _ _ step
     (λ e. sound_corrected_year s name year cents (fits.fact e) sound)
 step_sound s (ChangeHoliday day number is_one) answer next step sound =
     let P = checks_of s (ChangeHoliday day number is_one) in
     let there : Gives P (is_holiday (days_of_year (calendar_at s (year_of day))
-    (added_in s (year_of day))) day ≡ true) =
-    skip_needs _ _ _ _ (skip_needs _ _ _ _ (skip_finds _ _ _ _ (gives_needs _ _ _))) in
+    (added_in s (year_of day))) day ≡ true) = search heads depth 12 in
     done_sound s answer next sound P _ step
     (λ e. sound_changed s (record { day = day; is_holiday = is_one })
     (in_year s sound.calendars (filed_of s sound) sound.added_days day ∙ there.fact e) sound)
 step_sound s (CorrectAccount name number start carried) answer next step sound =
     let P = checks_of s (CorrectAccount name number start carried) in
     let own = entries_of s name in
-    let unused : Gives P (is_unused own ≡ true) =
-    skip_needs _ _ _ _
-    (skip_needs _ _ _ _
-    (skip_needs _ _ _ _ (skip_finds _ _ _ _ (skip_new _ _ _ _ _ (gives_needs _ _ _))))) in
+    let unused : Gives P (is_unused own ≡ true) = search heads depth 12 in
     done_sound s answer next sound P _ step (λ e.
     (let opened : (length own.open_years == 0) ≡ true =
     (and_parts (length own.reported_years == 0) (length own.open_years == 0)

@@ -1,6 +1,6 @@
 -- The schedule of a day, the liability by day and the opening of a year have an answer.
 use Rattle.std.proofs.Common.{◌≡◌, ◌∙◌, ◌⊎◌, inl, inr, refl, sym, ap, subst, ℕ, ◌+◌, ◌-◌, ◌≤◌, ◌<◌}
-use Rattle.std.proofs.Common.{Bool, true, false, cond}
+use Rattle.std.proofs.Common.{rules, Bool, true, false, cond}
 use Rattle.std.proofs.Common.{List, [], ◌∷◌, ◌++◌, map, arith, Option, None, Some, Ok}
 use Rattle.std.specs.Prelude.{◌↔◌, zero, suc, is_some, find, option_map, IsSome, IsSomeAnd}
 use Rattle.std.proofs.lemmas.Bool.{eqb-true, false≢true, cases_Bool, cases_lt}
@@ -37,6 +37,7 @@ use Rattle.ftd_machine.specs.declared.facts.Facts.TheVariants.{Status, Days}
 use Rattle.ftd_machine.specs.declared.replies.Reply.TheVariants.{Told}
 use Rattle.ftd_machine.specs.declared.replies.Refusal.{Refusal}
 use Rattle.ftd_machine.specs.declared.replies.Refusal.TheVariants.{QuarterMissing, YearMissing}
+use Rattle.ftd_machine.proofs.Totals.{total_of}
 
 -- ---- the lookback period: a total, or a figure that is missing
 
@@ -70,38 +71,13 @@ first_or : (reported : List (ℕ × Cents)) (start year : ℕ)
     ⊎ ((total : ℕ) × IsLookback reported start year total)
 first_or reported start year =
     let b = lookback_first year in
-    let at : (q e : ℕ) → q ≡ e → IsMissing reported start q → IsMissing reported start e =
-    λ q e is. subst (IsMissing reported start) is in
+    let not_at : (q : ℕ) → ((amount : Cents) × Counts reported start q amount) → (e : ℕ) → e ≡ q
+    → IsMissing reported start e → ⊥ = λ q c e is m.
+    counts_not_missing reported start q c.0 c.1 (subst (IsMissing reported start) is m) in
     elim (counts_or reported start b) [
-      | inr gap ↦ inl (
-        b,
-        (
-          inl refl,
-          gap,
-          λ e h less m. elim h [
-            | inl is ↦ omega arith
-            | inr (inl is) ↦ omega arith
-            | inr (inr (inl is)) ↦ omega arith
-            | inr (inr (inr (inl is))) ↦ omega arith
-            | inr (inr (inr (inr none))) ↦ none
-          ],
-        ),
-      )
+      | inr gap ↦ inl (b, (inl refl, gap, λ e h less m. omega arith))
       | inl c0 ↦ elim (counts_or reported start (b + 1)) [
-        | inr gap ↦ inl (
-          b + 1,
-          (
-            inr (inl refl),
-            gap,
-            λ e h less m. elim h [
-              | inl is ↦ counts_not_missing reported start b c0.0 c0.1 (at e b is m)
-              | inr (inl is) ↦ omega arith
-              | inr (inr (inl is)) ↦ omega arith
-              | inr (inr (inr (inl is))) ↦ omega arith
-              | inr (inr (inr (inr none))) ↦ none
-            ],
-          ),
-        )
+        | inr gap ↦ inl (b + 1, (inr (inl refl), gap, λ e h less m. not_at b c0 e (omega arith) m))
         | inl c1 ↦ elim (counts_or reported start (b + 2)) [
           | inr gap ↦ inl (
             b + 2,
@@ -109,12 +85,8 @@ first_or reported start year =
               inr (inr (inl refl)),
               gap,
               λ e h less m. elim h [
-                | inl is ↦ counts_not_missing reported start b c0.0 c0.1 (at e b is m)
-                | inr (inl is) ↦ counts_not_missing reported start (b + 1) c1.0 c1.1
-                    (at e (b + 1) is m)
-                | inr (inr (inl is)) ↦ omega arith
-                | inr (inr (inr (inl is))) ↦ omega arith
-                | inr (inr (inr (inr none))) ↦ none
+                | inl is ↦ not_at b c0 e is m
+                | inr later ↦ not_at (b + 1) c1 e (omega arith) m
               ],
             ),
           )
@@ -125,26 +97,15 @@ first_or reported start year =
                 inr (inr (inr (inl refl))),
                 gap,
                 λ e h less m. elim h [
-                  | inl is ↦ counts_not_missing reported start b c0.0 c0.1 (at e b is m)
-                  | inr (inl is) ↦ counts_not_missing reported start (b + 1) c1.0 c1.1
-                      (at e (b + 1) is m)
-                  | inr (inr (inl is)) ↦ counts_not_missing reported start (b + 2) c2.0 c2.1
-                      (at e (b + 2) is m)
-                  | inr (inr (inr (inl is))) ↦ omega arith
-                  | inr (inr (inr (inr none))) ↦ none
+                  | inl is ↦ not_at b c0 e is m
+                  | inr (inl is) ↦ not_at (b + 1) c1 e is m
+                  | inr (inr later) ↦ not_at (b + 2) c2 e (omega arith) m
                 ],
               ),
             )
             | inl c3 ↦ inr (
               c0.0.0 + c1.0.0 + c2.0.0 + c3.0.0,
-              record {
-                first = c0.0;
-                second = c1.0;
-                third = c2.0;
-                fourth = c3.0;
-                count = (c0.1, c1.1, c2.1, c3.1);
-                adds_up = refl;
-              },
+              total_of reported start year c0 c1 c2 c3,
             )
           ]
         ]
@@ -312,18 +273,7 @@ status_on_line own lines line day h has of_day =
     ] in
     let why = reason_some own lines line day status.0 h has status.1 in (
       Ok (Told (Status status.0 why.0)),
-      record {
-        lines = lines;
-        are_lines = h;
-        line = line;
-        open_year = has;
-        of_day = of_day;
-        status = status.0;
-        has_status = status.1;
-        why = why.0;
-        is_why = why.1;
-        told = refl;
-      },
+      search rules,
     )
 
 pub status_some : (own : Entries) (lines : List YearLine) (day : ℕ) → AreLinesOf own lines

@@ -7,7 +7,7 @@ use Rattle.ftd_days.specs.declared.cents.Cents.{Cents}
 use Rattle.ftd_rules.specs.declared.Form.{Form}
 use Rattle.ftd_rules.specs.declared.Form.TheVariants.{F941, F943}
 use Rattle.ftd_rules.specs.Lists.{Has}
-use Rattle.ftd_rules.specs.Lookback.{Counts, lookback_first}
+use Rattle.ftd_rules.specs.Lookback.{Counts, IsLookback, lookback_first}
 use Rattle.ftd_rules.proofs.Owed.{has_left}
 use Rattle.ftd_rules.proofs.Members.{has_last, has_mapped, has_kept, mapped_has}
 use Rattle.ftd_machine.specs.declared.entries.Account.{Account}
@@ -48,6 +48,22 @@ counts_grow xs ys more start q c (inl early) = (c, inl early)
 counts_grow xs ys more start q c (inr late) =
     let d = more q c late.1 in (d.0, inr (late.0, d.1))
 
+-- what the four quarters of a lookback period count, added up
+pub total_of : (reported : List (ℕ × Cents)) (start year : ℕ)
+    → (a : (amount : Cents) × Counts reported start (lookback_first year) amount)
+    → (b : (amount : Cents) × Counts reported start (lookback_first year + 1) amount)
+    → (c : (amount : Cents) × Counts reported start (lookback_first year + 2) amount)
+    → (d : (amount : Cents) × Counts reported start (lookback_first year + 3) amount)
+    → IsLookback reported start year (a.0.0 + b.0.0 + c.0.0 + d.0.0)
+total_of reported start year a b c d = record {
+  first = a.0;
+  second = b.0;
+  third = c.0;
+  fourth = d.0;
+  count = (a.1, b.1, c.1, d.1);
+  adds_up = refl;
+}
+
 on_grow : (form : Form) (own after : Entries) → Grows own after → (year : ℕ) (total : Cents)
     → IsLookbackOn form own year total → (new : Cents) × IsLookbackOn form after year new
 on_grow F941 own after g year total h =
@@ -58,14 +74,7 @@ on_grow F941 own after g year total h =
     let c = grow (lookback_first year + 2) h.third h.count.2 in
     let d = grow (lookback_first year + 3) h.fourth h.count.3 in (
       record { 0 = a.0.0 + b.0.0 + c.0.0 + d.0.0 },
-      rw (g.account) (record {
-        first = a.0;
-        second = b.0;
-        third = c.0;
-        fourth = d.0;
-        count = (a.1, b.1, c.1, d.1);
-        adds_up = refl;
-      }),
+      rw (g.account) (total_of (quarter_figures after) (start_of own.account) year a b c d),
     )
 on_grow F943 own after g year total (inl early) = (total, rw (g.account) (inl early))
 on_grow F943 own after g year total (inr late) =
@@ -75,37 +84,34 @@ on_grow F943 own after g year total (inr late) =
 pub lookback_grows : (own after : Entries) → Grows own after → (year : ℕ) (total : Cents)
     → HasLookback own year total → (new : Cents) × HasLookback after year new
 lookback_grows own after g year total h =
-    on_grow (form_of after.account) own after g year total
-    (subst (λ o. IsLookbackOn (form_of o) own year total) (sym g.account) h)
+    on_grow (form_of after.account) own after g year total (rw g.account h)
+
+-- the account, its open years and what was first reported stay
+pub record SameReported (own after : Entries) : Type 0 where
+  pub account : after.account ≡ own.account
+  pub reported : after.reported ≡ own.reported
+  pub reported_years : after.reported_years ≡ own.reported_years
+  pub open_years : after.open_years ≡ own.open_years
 
 -- nothing of an account but the runs and the payments changes
 pub record SameButRuns (own after : Entries) : Type 0 where
-  pub account : after.account ≡ own.account
-  pub reported : after.reported ≡ own.reported
-  pub reported_years : after.reported_years ≡ own.reported_years
+  pub first : SameReported own after
+  pub open first use *
   pub corrected : after.corrected ≡ own.corrected
   pub corrected_years : after.corrected_years ≡ own.corrected_years
-  pub open_years : after.open_years ≡ own.open_years
-
-on_still : (form : Form) (own after : Entries) → SameButRuns own after → (year : ℕ)
-    (total : Cents) → IsLookbackOn form own year total → IsLookbackOn form after year total
-on_still F941 own after same year total h =
-    rw (same.account, same.reported, same.corrected) h
-on_still F943 own after same year total h =
-    rw (same.account, same.reported_years, same.corrected_years) h
 
 pub lookback_still : (own after : Entries) → SameButRuns own after → (year : ℕ) (total : Cents)
     → HasLookback own year total → HasLookback after year total
-lookback_still own after same year total h =
-    on_still (form_of after.account) own after same year total
-    (subst (λ o. IsLookbackOn (form_of o) own year total) (sym same.account) h)
+lookback_still own after same year total h = still (form_of after.account) (rw same.account h)
+  where
+    still : (form : Form) → IsLookbackOn form own year total → IsLookbackOn form after year total
+    still F941 h = rw (same.account, same.reported, same.corrected) h
+    still F943 h = rw (same.account, same.reported_years, same.corrected_years) h
 
 -- nothing but the figures in force changes
 pub record SameButFigures (own after : Entries) : Type 0 where
-  pub account : after.account ≡ own.account
-  pub reported : after.reported ≡ own.reported
-  pub reported_years : after.reported_years ≡ own.reported_years
-  pub open_years : after.open_years ≡ own.open_years
+  pub first : SameReported own after
+  pub open first use *
   pub runs : after.runs ≡ own.runs
 
 pub lookback_again : (own after : Entries) → SameButFigures own after → (year : ℕ) (total : Cents)

@@ -2,6 +2,7 @@
 use Rattle.std.proofs.Common.{◌≡◌, ℕ, List, [], ◌++◌, refl, sym, ap, ◌∙◌, subst, ◌+◌, ◌<◌, length}
 use Rattle.std.proofs.Common.{true≢false, drop, get_or, add-one, drop-cons, append_assoc}
 use Rattle.std.proofs.Common.{append-nil}
+use Rattle.std.proofs.Math.Seq.{drop-append_seam, drop-length}
 use Rattle.std.specs.Prelude.{Option, Result, Ok, Err, Bool}
 use Rattle.std.specs.List.{flat_map}
 use Rattle.std.specs.Result.{IsErr}
@@ -132,3 +133,75 @@ pub stops_after : {T U E F : Type 0} {e : F} {r : Result T E} {before now later 
     → HasWritten before now text rest → rest ≡ piece ++ others
     → Writes {T = U} {E = F} (Err e) now later end piece → Writes r before later end text
 stops_after others is h parts w = ends_in h (rw parts (stops_in others is w))
+
+-- what is behind a part of a text
+behind : (part rest : List ℕ) {text : List ℕ} → part ++ rest ≡ text
+    → rest ≡ drop (length part) text
+behind part rest e = sym (drop-append_seam part rest) ∙ ap (λ z. drop (length part) z) e
+
+after_part : {before now later : Option (List ℕ)} (part rest : List ℕ) {text : List ℕ}
+    → Appends before now part → part ++ rest ≡ text
+    → WritesPrefix now later (drop (length part) text) → WritesPrefix before later text
+after_part part rest a e w =
+    breaks_off record {
+      written = part;
+      parts = sym e ∙ ap (λ z. part ++ z) (behind part rest e);
+      appends = a;
+    } w
+
+-- A prefix of a part of a text, after the parts before it, is a prefix of the text. `grind` takes
+-- no such step twice, so each number of parts has its own lemma.
+pub within_first : (before now : Option (List ℕ)) (a text : List ℕ) → WritesPrefix before now a
+    → a ++ drop (length a) text ≡ text → WritesPrefix before now text
+within_first before now a text w e = prefix_more _ (sym e) w
+
+pub within_second : (before n₁ now : Option (List ℕ)) (a b text : List ℕ) → Appends before n₁ a
+    → WritesPrefix n₁ now b → a ++ (b ++ drop (length b) (drop (length a) text)) ≡ text
+    → WritesPrefix before now text
+within_second before n₁ now a b text x w e =
+    after_part a _ x e (within_first n₁ now b _ w (behind a _ e))
+
+pub within_third : (before n₁ n₂ now : Option (List ℕ)) (a b c text : List ℕ)
+    → Appends before n₁ a → Appends n₁ n₂ b → WritesPrefix n₂ now c
+    → a ++ (b ++ (c ++ drop (length c) (drop (length b) (drop (length a) text)))) ≡ text
+    → WritesPrefix before now text
+within_third before n₁ n₂ now a b c text x y w e =
+    after_part a _ x e (within_second n₁ n₂ now b c _ y w (behind a _ e))
+
+pub within_fourth : (before n₁ n₂ n₃ now : Option (List ℕ)) (a b c d text : List ℕ)
+    → Appends before n₁ a → Appends n₁ n₂ b → Appends n₂ n₃ c → WritesPrefix n₃ now d
+    → a ++ (b ++ (c ++ (d ++ drop (length d) (drop (length c) (drop (length b) (drop (length a)
+    text)))))) ≡ text → WritesPrefix before now text
+within_fourth before n₁ n₂ n₃ now a b c d text x y z w e =
+    after_part a _ x e (within_third n₁ n₂ n₃ now b c d _ y z w (behind a _ e))
+
+pub within_fifth : (before n₁ n₂ n₃ n₄ now : Option (List ℕ)) (a b c d f text : List ℕ)
+    → Appends before n₁ a → Appends n₁ n₂ b → Appends n₂ n₃ c → Appends n₃ n₄ d
+    → WritesPrefix n₄ now f
+    → a ++ (b ++ (c ++ (d ++ (f ++ drop (length f) (drop (length d) (drop (length c)
+    (drop (length b) (drop (length a) text)))))))) ≡ text → WritesPrefix before now text
+within_fifth before n₁ n₂ n₃ n₄ now a b c d f text x y z v w e =
+    after_part a _ x e (within_fourth n₁ n₂ n₃ n₄ now b c d f _ y z v w (behind a _ e))
+
+pub within_sixth : (before n₁ n₂ n₃ n₄ n₅ now : Option (List ℕ)) (a b c d f g text : List ℕ)
+    → Appends before n₁ a → Appends n₁ n₂ b → Appends n₂ n₃ c → Appends n₃ n₄ d → Appends n₄ n₅ f
+    → WritesPrefix n₅ now g
+    → a ++ (b ++ (c ++ (d ++ (f ++ (g ++ drop (length g) (drop (length f) (drop (length d)
+    (drop (length c) (drop (length b) (drop (length a) text)))))))))) ≡ text
+    → WritesPrefix before now text
+within_sixth before n₁ n₂ n₃ n₄ n₅ now a b c d f g text x y z v u w e =
+    after_part a _ x e (within_fifth n₁ n₂ n₃ n₄ n₅ now b c d f g _ y z v u w (behind a _ e))
+
+-- what is written in up to six parts
+pub ruleset written_in_parts = (
+  within_first,
+  within_second,
+  within_third,
+  within_fourth,
+  within_fifth,
+  within_sixth,
+  drop-append_seam,
+  drop-length,
+  append_assoc,
+  append-nil,
+)

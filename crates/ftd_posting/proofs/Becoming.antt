@@ -11,23 +11,23 @@ use Rattle.ftd_machine.specs.Checks.{Answer}
 use Rattle.ftd_machine.specs.Laws.{is_change}
 use Rattle.ftd_posting.specs.Repaired.{Becoming}
 
-module _ {S : Type 0} (g : store.Ghosts S) (So : Answer → Tables → Tables → Type 0) where
+module _ {S : Type 0} {g : store.Ghosts S} (So : Answer → Tables → Tables → Type 0) where
   -- a check decides, and nothing changes
-  pub becomes_none : {A : Type 0} (old new : Tx S) (x : A) (answer : Answer) (Fact : A → Tables
-      → Type 0) → is_change answer ≡ false → Reads g old new (Ok x) Fact
+  pub becomes_none : {A : Type 0} {old new : Tx S} {x : A} {answer : Answer}
+      {Fact : A → Tables → Type 0} → is_change answer ≡ false → Reads g old new (Ok x) Fact
       → Calls g old new (Ok answer) (λ given before after. Becoming So given before.now after.now)
-  becomes_none old new x answer Fact quiet r = record {
+  becomes_none {old = old} {new = new} {x = x} {answer = answer} quiet r = record {
     frame = goes_on g old new x answer r.frame;
     does = λ clean t stands change. absurd (true≢false (sym change ∙ quiet));
   }
 
   -- the rows become others, by what was read before
-  pub becomes_turned : {A B : Type 0} (old mid new : Tx S) (x : A) (y : B) (answer : Answer)
-      (Fact : A → Tables → Type 0) (Turn : B → Tables → Tables → Type 0)
-      → ((t u : Tables) → Fact x t → Turn y t u → So answer t u) → Reads g old mid (Ok x) Fact
-      → Rewrites g mid new (Ok y) Turn → Calls g old new (Ok answer)
+  pub becomes_turned : {A B : Type 0} {old mid new : Tx S} {x : A} {y : B}
+      {Fact : A → Tables → Type 0} {Turn : B → Tables → Tables → Type 0} (answer : Answer)
+      → Reads g old mid (Ok x) Fact → Rewrites g mid new (Ok y) Turn
+      → ((t u : Tables) → Fact x t → Turn y t u → So answer t u) → Calls g old new (Ok answer)
       (λ given before after. Becoming So given before.now after.now)
-  becomes_turned old mid new x y answer Fact Turn so r w = record {
+  becomes_turned {new = new} answer r w so = record {
     frame = then_goes answer r.frame w.frame;
     does = λ clean t stands change.
         let told = r.does (omega (arith, w.frame.crash.clean)) t stands in

@@ -1,11 +1,11 @@
 -- Figures that are corrected: what is answered, and the tables stand for the machine's next state.
 use Rattle.std.proofs.Common.{◌≡◌, ◌≢◌, ◌∙◌, ◌==◌, ◌≤◌, refl, sym, ap, subst, inl, inr, ℕ, ◌+◌, ◌-◌}
 use Rattle.std.proofs.Common.{Bool, true, false, List, [], ◌∷◌, ◌++◌, map, length, Option, Some}
-use Rattle.std.proofs.Common.{None, arith}
+use Rattle.std.proofs.Common.{None, Vec, arith}
 use Rattle.std.specs.Prelude.{◌||◌, filter, is_some, if◌then◌else◌}
 use Rattle.std.specs.List.{list_any}
 use Rattle.std.proofs.lemmas.Bool.{eqb-true}
-use Rattle.std.proofs.lemmas.List.{map-append, append-nil}
+use Rattle.std.proofs.lemmas.List.{append-nil, length-map}
 use Rattle.std.proofs.lemmas.List.Elements.{filter-append}
 use Rattle.ftd_days.specs.Calendar.{quarter_start, year_start}
 use Rattle.ftd_days.specs.declared.cents.Cents.{Cents}
@@ -47,22 +47,34 @@ use Rattle.ftd_machine.proofs.Deciding.{decided, passed}
 use Rattle.ftd_machine.proofs.Heads.{Gives, gives_finds, gives_needs, skip_needs, skip_finds}
 use Rattle.ftd_machine.proofs.Heads.{skip_new}
 use Rattle.ftd_machine.proofs.Soundness.{sound_once}
+use Rattle.ftd_entries.specs.Known.{amounts_of, cents_of}
 use Rattle.ftd_entries.specs.Opening.{is_line_of}
-use Rattle.ftd_entries.specs.Standing.{StandsFor, KeepsFigures, with_earlier, correction_entry}
+use Rattle.ftd_entries.specs.Standing.{StandsFor, KeepsFigures, correction_entry}
 use Rattle.ftd_entries.specs.Standing.{year_correction_entry}
 use Rattle.ftd_entries.proofs.Kept.{kept_reported, kept_reported_year}
 use Rattle.ftd_entries.proofs.KnownYears.{open_lines}
-use Rattle.ftd_entries.proofs.PutRight.{with_earlier_more}
+use Rattle.ftd_entries.proofs.Entered.{entered, corrected_more}
 use Rattle.ftd_entries.proofs.Totals.{SameAt, lookback_same}
 use Rattle.ftd_repairs.specs.declared.Difference.{Difference}
 use Rattle.ftd_repairs.specs.Reopened.{IsRetotaled}
 use Rattle.ftd_posting.specs.Correcting.{EntersFigure, IsFollowed, IsOnlyYearOf}
-use Rattle.ftd_posting.specs.Correcting.{KnowsForReport, KnowsForYear, unchanged}
+use Rattle.ftd_posting.specs.Correcting.{KnowsCorrected, KnowsForReport, KnowsForYear, unchanged}
 use Rattle.ftd_posting.specs.declared.correcting.KnownForFigure.{KnownForFigure}
 use Rattle.ftd_posting.specs.declared.figures.FigureEntry.TheVariants.{OfQuarter, OfYear}
 use Rattle.ftd_posting.proofs.CorrectedState.{Entered, entered_stands, entered_told}
 use Rattle.ftd_posting.proofs.CorrectedState.{retotaled_stands, retotaled_told}
 use Rattle.ftd_posting.proofs.PostedRuns.{told, form_is}
+
+-- the corrections that were listed, as they are known
+pub corrected_as_listed : {A : Type 0} (number : ℕ) (before : KnownForFigure)
+    (kept : State → List Cents) (found : Vec Correction A) (t : Tables)
+    → ((s : State) → StandsFor t s → amounts_of found.items ≡ kept s)
+    → before.known ≡ numbered number (amounts_of found.items)
+    → length found.items ≡ before.count → KnowsCorrected number before kept t
+corrected_as_listed number before kept found t listed known count = record {
+  known = λ s stands. ap (numbered number) (sym (listed s stands)) ∙ sym known;
+  count = λ s stands. ap length (sym (listed s stands)) ∙ length-map found.items cents_of ∙ count;
+}
 
 -- ---- figures
 
@@ -205,23 +217,12 @@ module _ (name : List ℕ) (quarter number : ℕ) (cents : Cents) (year : ℕ)
         };
         obligations = refl;
         years = refl;
-        kept = record {
-          meta = stands.entries.meta;
-          enrolled = stands.entries.enrolled;
-          figures = record {
-            reported = stands.entries.figures.reported;
-            reported_years = stands.entries.figures.reported_years;
-            corrected = ap (λ rows. rows ++ correction_row name quarter quarter_correction ∷ [])
-                stands.entries.figures.corrected
-                ∙ ap (λ r. map correction_entry (with_earlier [] s.corrected) ++ r ∷ []) (sym row)
-                ∙ sym (ap (map correction_entry) (with_earlier_more [] s.corrected e)
-                ∙ map-append correction_entry (with_earlier [] s.corrected)
-                ((s.corrected, e) ∷ []));
-            corrected_years = stands.entries.figures.corrected_years;
-          };
-          days = stands.entries.days;
-          paid = stands.entries.paid;
-        };
+        kept = (let were = stands.entries in entered were.meta were.enrolled (record {
+          reported = were.figures.reported;
+          reported_years = were.figures.reported_years;
+          corrected = corrected_more correction_entry s.corrected e _ row were.figures.corrected;
+          corrected_years = were.figures.corrected_years;
+        }) were.days were.paid);
       }
 
   -- ---- the checks
@@ -390,25 +391,13 @@ module _ (name : List ℕ) (reported_year number : ℕ) (cents : Cents) (countin
         };
         obligations = refl;
         years = refl;
-        kept = record {
-          meta = stands.entries.meta;
-          enrolled = stands.entries.enrolled;
-          figures = record {
-            reported = stands.entries.figures.reported;
-            reported_years = stands.entries.figures.reported_years;
-            corrected = stands.entries.figures.corrected;
-            corrected_years = ap (λ rows. rows
-                ++ year_correction_row name reported_year year_correction ∷ [])
-                stands.entries.figures.corrected_years
-                ∙ ap (λ r. map year_correction_entry (with_earlier [] s.corrected_years) ++ r ∷ [])
-                (sym row)
-                ∙ sym (ap (map year_correction_entry) (with_earlier_more [] s.corrected_years e)
-                ∙ map-append year_correction_entry (with_earlier [] s.corrected_years)
-                ((s.corrected_years, e) ∷ []));
-          };
-          days = stands.entries.days;
-          paid = stands.entries.paid;
-        };
+        kept = (let were = stands.entries in entered were.meta were.enrolled (record {
+          reported = were.figures.reported;
+          reported_years = were.figures.reported_years;
+          corrected = were.figures.corrected;
+          corrected_years = corrected_more year_correction_entry s.corrected_years e _ row
+              were.figures.corrected_years;
+        }) were.days were.paid);
       }
 
   -- ---- the checks

@@ -21,6 +21,7 @@ use Rattle.ftd_machine.specs.State.{Entry, Entries}
 use Rattle.ftd_machine.specs.History.{form_of, is_carried, live_sums, AreCarried}
 use Rattle.ftd_machine.specs.History.{AreLinesOf, IsLookbackOn}
 use Rattle.ftd_machine.proofs.Lined.{years_same}
+use Rattle.ftd_rules.proofs.Lines.{line_same}
 use Rattle.ftd_repairs.specs.Rescheduled.{IsAfter, AreAfter, scheduled_as}
 
 -- ---- equal lines
@@ -40,20 +41,6 @@ turns (Some a) (Some b) = elim (same_or_not a b) [
   | inr other ↦ inr (λ e. other (let same : a ≡ b = cc in same))
 ]
 
-line_as : (x y : YearLine) → basis_of x ≡ basis_of y → x.opening ≡ y.opening → x.turn ≡ y.turn
-    → x ≡ y
-line_as x y e opening turn =
-    let year : x.year ≡ y.year = ap (λ (z : ℕ × ℕ × Bool). z.0) e in
-    let lookback : x.lookback.0 ≡ y.lookback.0 = ap (λ (z : ℕ × ℕ × Bool). z.1) e in
-    let carried : x.carried ≡ y.carried = ap (λ (z : ℕ × ℕ × Bool). z.2) e in
-    λ i. record {
-      year = year i;
-      lookback = record { 0 = lookback i };
-      carried = carried i;
-      opening = opening i;
-      turn = turn i;
-    }
-
 -- two lines with the same basis are equal, or they are not
 lines_or_not : (x y : YearLine) → basis_of x ≡ basis_of y → (x ≡ y) ⊎ (x ≡ y → ⊥)
 lines_or_not x y e =
@@ -61,7 +48,7 @@ lines_or_not x y e =
       | inr other ↦ inr (λ same. other (ap (λ (z : YearLine). z.opening) same))
       | inl opening ↦ elim (turns x.turn y.turn) [
         | inr other ↦ inr (λ same. other (ap (λ (z : YearLine). z.turn) same))
-        | inl turn ↦ inl (line_as x y e opening turn)
+        | inl turn ↦ inl (line_same x y e opening turn)
       ]
     ]
 
@@ -78,7 +65,7 @@ module _ (before after : History) (changed : List YearLine) (some : AreOpenYears
       let year : x.year ≡ z.year = ap (λ (g : ℕ × ℕ × Bool). g.0) e in
       let one : other ≡ z = line_one then.0 after.lines other z then.2
       ((are.all other).0 in_changed).0 in_after (same_year ∙ year) in
-      is ∙ line_as (scheduled_as x other) z e (ap (λ (l : YearLine). l.opening) one)
+      is ∙ line_same (scheduled_as x other) z e (ap (λ (l : YearLine). l.opening) one)
       (ap (λ (l : YearLine). l.turn) one)
   one_after x y z in_before in_after e (inr (is, none)) =
       let year : z.year ≡ x.year = sym (ap (λ (g : ℕ × ℕ × Bool). g.0) e) in

@@ -51,6 +51,7 @@ fn write_counts<W: Target>(summary: &Summary, target: &mut W) -> Result<(), Writ
 }
 
 /// Writes the line of a note.
+#[tactic(auto, using(ftd_ports::proofs::WritingFacts::written_in_parts), unfolding(crate::specs::Summaries::note_text))]
 fn write_note<W: Target>(note: &Note, target: &mut W) -> Result<(), WriteFault>
     ensures { Writes result (W.taken target.old) (W.taken target.new)
         (W.failed target.new) (note_text note.now) }
@@ -91,7 +92,7 @@ fn write_field<W: Target>(field: u8, target: &mut W) -> Result<(), WriteFault>
 }
 
 /// Writes that the first record is not the header of the sheet, and the hint of it.
-#[tactic(auto, unfolding(crate::specs::Summaries::bad_header_text))]
+#[tactic(auto, using(ftd_ports::proofs::WritingFacts::written_in_parts), unfolding(crate::specs::Summaries::bad_header_text))]
 pub fn write_bad_header<W: Target>(
     sheet: Sheet,
     input: &[u8],

@@ -1,7 +1,7 @@
 -- The rows that were read are what is due over all accounts, in each sound state for which the
 -- tables stand.
 use Rattle.std.proofs.Common.{◌≡◌, ◌∙◌, inl, inr, sym, ap, subst, ℕ, ◌<◌, ◌≤◌}
-use Rattle.std.proofs.Common.{List, [], ◌∷◌, Option, Some, None, Ok, refl, arith}
+use Rattle.std.proofs.Common.{List, Option, Some, None, Ok, refl, arith}
 use Rattle.std.specs.Prelude.{string_bytes}
 use Rattle.std.specs.List.Sorted.{IsPermutation}
 use Rattle.std.proofs.lemmas.List.Sorted.{IsPermutation-sym}
@@ -9,7 +9,6 @@ use Rattle.ftd_rules.specs.declared.Obligation.{Obligation}
 use Rattle.ftd_rules.specs.Lists.{Has}
 use Rattle.ftd_rules.proofs.Rising.{has_permuted}
 use Rattle.ftd_schema.specs.Standing.{Tables}
-use Rattle.ftd_rows.specs.Lists.{Pairs}
 use Rattle.ftd_rows.specs.declared.obligations.AccountObligation.{AccountObligation}
 use Rattle.ftd_machine.specs.State.{State, entries_of, holidays}
 use Rattle.ftd_machine.specs.Sound.{IsSound}
@@ -31,6 +30,8 @@ use Rattle.ftd_machine.proofs.Soundness.{sound_once}
 use Rattle.ftd_entries.specs.Standing.{StandsFor}
 use Rattle.ftd_questions.specs.Agendas.{KnowsRow, KnowsRowsDue}
 use Rattle.ftd_questions.specs.Listing.{AreDue, IsOwedBefore, IsUnpaidBy}
+use Rattle.ftd_entries.proofs.InOrder.{paired_rise}
+use Rattle.ftd_entries.proofs.Settling.{owes}
 use Rattle.ftd_store.proofs.Items.{paired_from, paired_to}
 
 -- ---- the order of the rows
@@ -45,18 +46,6 @@ own_before as_of t o p x y k l (inr (same, less)) =
     let first : first_day_of x < first_day_of y = omega arith in
     inr (k.account ∙ (same ∙ sym l.account), first)
 
-rows_by : (as_of : ℕ) (t : Tables) (os : List AccountObligation) (xs : List AgendaRow)
-    → Pairs (KnowsRow as_of t) os xs → EachToLater IsOwedBefore os → EachToLater IsOwnBefore xs
-rows_by as_of t [] [] are_rows each = tt
-rows_by as_of t [] (x ∷ xs) are_rows each = absurd are_rows
-rows_by as_of t (o ∷ os) [] are_rows each = absurd are_rows
-rows_by as_of t (o ∷ os) (x ∷ xs) are_rows each = (
-  (λ later has.
-      (let p = paired_from (KnowsRow as_of t) os xs later are_rows.1 has in
-      own_before as_of t o p.0 x later are_rows.0 p.2 (each.0 p.0 p.1))),
-  rows_by as_of t os xs are_rows.1 each.1,
-)
-
 -- ---- the rows
 
 module _ (unpaid : Option ℕ) (from to as_of : ℕ) (rows : List AgendaRow) (t : Tables) (s : State)
@@ -69,9 +58,8 @@ module _ (unpaid : Option ℕ) (from to as_of : ℕ) (rows : List AgendaRow) (t 
   owed_settled : (x : AgendaRow) (r : IsAgendaRow s as_of x)
       → r.owed ≡ (stands.settled x.account).owed
   owed_settled x r =
-      let settled = stands.settled x.account in
-      owed_one (holidays s) (entries_of s x.account) r.owed settled.owed (once x.account) r.are_owed
-      (settled.lines, settled.are_lines, settled.are_owed)
+      owed_one (holidays s) (entries_of s x.account) r.owed (stands.settled x.account).owed
+      (once x.account) r.are_owed (owes (stands.settled x.account))
 
   due : AreDue unpaid from to knows.owed t s stands
   due = knows.listed s stands sound
@@ -124,7 +112,8 @@ module _ (unpaid : Option ℕ) (from to as_of : ℕ) (rows : List AgendaRow) (t 
       (sym (agenda_row_one s as_of once x p.0 named first r (p.2.is_row s stands sound))) p.1
 
   rows_own : EachToLater IsOwnBefore rows
-  rows_own = rows_by as_of t knows.owed rows knows.are_rows due.in_order
+  rows_own = paired_rise (KnowsRow as_of t) (own_before as_of t) knows.owed rows knows.are_rows
+      due.in_order
 
   -- they are what is due, once they are by due date
   pub agenda_told : unpaid ≡ None → (sorted : List AgendaRow) → IsPermutation rows sorted

@@ -4,10 +4,14 @@ use Rattle.std.specs.Prelude.{MatchResult}
 use Rattle.sqlite.specs.Effect.{Database}
 use Rattle.sqlite.specs.State as database
 use Rattle.sqlite.specs.State.{HasCleanDisk, KeepsCommit}
+use Rattle.sqlite.specs.Store as store
 use Rattle.ftd_schema.specs.States.{CrashKeeps}
 use Rattle.ftd_schema.proofs.Controls.{crash_then, undone_all}
 use Rattle.ftd_schema.specs.Standing.{Tables, Stands}
 use Rattle.ftd_store.specs.Ends.{Begins, EndsAs}
+use Rattle.ftd_store.specs.Frame.{Reads}
+use Rattle.ftd_store.specs.Seen.{shown}
+use Rattle.ftd_store.specs.declared.tx.Tx.{Tx}
 use Rattle.ftd_machine.specs.Runs.{IsFault}
 use Rattle.ftd_machine.specs.Sound.{IsSound}
 use Rattle.ftd_machine.specs.State.{State}
@@ -57,6 +61,27 @@ kept_in_it a b m e begun crash left clean s kept =
       its.stands_for,
       its.sound,
     )
+
+-- what was read in it holds of the tables from before it
+module _ {S A : Type 0} {g : store.Ghosts S} {a e : database.State} {b m : Tx S} {x : A}
+    {Fact : A → Tables → Type 0} (begun : HasCleanDisk (shown g b) → Begins a (shown g b))
+    (read : Reads g b m (Ok x) Fact) (left : CrashKeeps (shown g m) e) (clean : HasCleanDisk e)
+  where
+    pub told_in_it : (t : Tables) → StandIfOpen a t → Fact x t
+    told_in_it t stands =
+        (read.does (clean_before (shown g m) e left clean) t
+        (stood_in_it a (shown g b) (shown g m) e begun read.frame.crash left clean t stands)).0
+
+    -- and of those of the state that was kept
+    pub kept_told : (s : State) → KeptIfOpen a s
+        → (t : Tables) × Fact x t × StandsFor t s × IsSound s
+    kept_told s kept =
+        let its = kept_in_it a (shown g b) (shown g m) e begun read.frame.crash left clean s kept in (
+          its.0,
+          (read.does (clean_before (shown g m) e left clean) its.0 its.1).0,
+          its.2,
+          its.3,
+        )
 
 -- what was read in it, with no fault
 pub answered : (name : List ℕ) (quarter as_of : ℕ) (t : Tables) (asked : Result KnownReturn Refusal)

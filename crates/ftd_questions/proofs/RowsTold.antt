@@ -1,6 +1,6 @@
 -- Rows that are told are rows of the due list.
 use Rattle.std.proofs.Common.{◌≡◌, ℕ, Err}
-use Rattle.std.proofs.Common.{inl, inr, List, [], ◌∷◌, ◌++◌, refl, sym, ap, ◌∙◌, subst}
+use Rattle.std.proofs.Common.{inl, inr, List, [], ◌∷◌, ◌++◌, refl, sym, ap, ◌∙◌, subst, rules}
 use Rattle.std.proofs.lemmas.List.{append_assoc}
 use Rattle.ftd_days.specs.Holidays.{holidays_of}
 use Rattle.ftd_days.specs.declared.cents.Cents.{Cents}
@@ -54,17 +54,7 @@ module _ (of_return : QuarterReturn) (as_of : ℕ) where
           makeup = makeup.1;
           paid = refl;
           of_case = c;
-          is_case = record {
-            cents = refl;
-            due = refl;
-            makeup_is = refl;
-            return_due = refl;
-            as_of_is = refl;
-            paid_due = refl;
-            paid_makeup = refl;
-            small = refl;
-            quarter_paid = refl;
-          };
+          is_case = search rules;
           verdict = verdict.1;
         },
       )

@@ -221,6 +221,19 @@ module _ (name : List ℕ) (quarter : ℕ) where
       ap (λ p. obligation_row name p ∷ map (obligation_row name) os) (sym pairs.0.obligation)
       ∙ ap (λ rs. row_shown name r ∷ rs) (rows_are of_return as_of os rows pairs.1)
 
+  -- the rows that were listed are those of what was found, and do not fall
+  read_in_order : (from to : ℕ) (found : List Obligation) (t : Tables)
+      (lists : Lists ObligationsRise (IsObligation name)
+      (filter (begins name from to) (t Obligations)) found)
+      → (lists.ordered ≡ map (obligation_row name) found)
+      × KeysDoNotFall first_key (map (obligation_row name) found)
+  read_in_order from to found t lists =
+      let ordered = paired name from to lists.ordered found lists.pairs in (
+        ordered,
+        subst (KeysDoNotFall first_key) ordered (next_do_not_fall first_key lists.ordered
+            (λ k d less. key_rises _ _ (lists.rise k d less))),
+      )
+
   -- over any tables, the rows that go with the obligations of the quarter that were walked over are
   -- exactly the tables' rows of the quarter, by first day
   pub walk_shown : (of_return : QuarterReturn) (as_of : ℕ) (found : List Obligation)
@@ -230,21 +243,16 @@ module _ (name : List ℕ) (quarter : ℕ) where
       → Pairs (IsRowBy of_return as_of) found rows → ShowsRows name quarter rows t
   walk_shown of_return as_of found rows t lists pairs =
       let read : List ObligationRow = map (obligation_row name) found in
-      let ordered : lists.ordered ≡ read =
-      paired name starts ends lists.ordered found lists.pairs in
+      let ordered = read_in_order starts ends found t lists in
       let same : read ≡ map (row_shown name) rows = rows_are of_return as_of found rows pairs in
-      let falls : KeysDoNotFall first_key read =
-      subst (KeysDoNotFall first_key) ordered
-      (next_do_not_fall first_key lists.ordered
-      (λ k d less. key_rises _ _ (lists.rise k d less))) in
       record {
         all =
             subst (λ l. IsPermutation (filter (begins name starts ends) (t Obligations)) l)
-            (ordered ∙ same) lists.same;
+            (ordered.0 ∙ same) lists.same;
         by_first_day =
             seen_do_not_fall first_key (row_shown name) first_of_row
             (λ r. key_is name starts ends r.obligation) rows
-            (subst (KeysDoNotFall first_key) same falls);
+            (subst (KeysDoNotFall first_key) same ordered.1);
       }
 
   -- over any tables, the rows that go with the obligations that were listed of the return period
@@ -271,9 +279,9 @@ module _ (name : List ℕ) (quarter : ℕ) where
       let F : ObligationRow → Bool = begins name first last in
       let G : ObligationRow → Bool = begins name starts ends in
       let read : List ObligationRow = map (obligation_row name) found in
-      let ordered : lists.ordered ≡ read = paired name first last lists.ordered found lists.pairs in
+      let ordered = read_in_order first last found t lists in
       let moved : IsPermutation (filter F all) read =
-      subst (λ l. IsPermutation (filter F all) l) ordered lists.same in
+      subst (λ l. IsPermutation (filter F all) l) ordered.0 lists.same in
       let within : (o : Obligation) → Has found o → o.first ≤ last_day = λ o has.
       (let there : Has (filter F all) (obligation_row name o) =
       has_permuted (filter F all) read moved (obligation_row name o)
@@ -289,10 +297,6 @@ module _ (name : List ℕ) (quarter : ℕ) where
       (filter_same (begins_on starts ends) (begins_in quarter) found
       (λ o has. begins_so o (within o has) (omega arith)))
       ∙ rows_are of_return as_of (filter (begins_in quarter) found) rows pairs in
-      let falls : KeysDoNotFall first_key read =
-      subst (KeysDoNotFall first_key) ordered
-      (next_do_not_fall first_key lists.ordered
-      (λ k d less. key_rises _ _ (lists.rise k d less))) in
       record {
         all =
             subst (λ l. IsPermutation (filter G all) l) same
@@ -302,7 +306,7 @@ module _ (name : List ℕ) (quarter : ℕ) where
         by_first_day =
             seen_do_not_fall first_key (row_shown name) first_of_row
             (λ r. key_is name starts ends r.obligation) rows
-            (subst (KeysDoNotFall first_key) same (kept_do_not_fall first_key G read falls));
+            (subst (KeysDoNotFall first_key) same (kept_do_not_fall first_key G read ordered.1));
       }
     where
       in_rows : (os : List Obligation) (o : Obligation) → Has os o

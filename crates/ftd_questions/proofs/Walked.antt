@@ -12,7 +12,7 @@ use Rattle.ftd_days.specs.Calendar.{quarter_start}
 use Rattle.ftd_rules.specs.declared.Obligation.{Obligation}
 use Rattle.ftd_schema.specs.States.{CrashKeeps}
 use Rattle.ftd_schema.specs.Orders.{ObligationsRise}
-use Rattle.ftd_schema.proofs.Controls.{crash_then}
+use Rattle.ftd_schema.proofs.Controls.{crash_none, crash_then}
 use Rattle.ftd_schema.specs.Standing.{Tables, Stands}
 use Rattle.ftd_schema.specs.declared.TableName.TheVariants.{Obligations}
 use Rattle.ftd_rows.specs.Lists.{Lists, ListsFirst}
@@ -34,14 +34,7 @@ clean_before a b crash clean = omega (arith, crash.clean)
 pub stays_none : (a : database.State) → Stays a a
 stays_none a = record {
   rows = λ clean. record { was_open = λ on. on; now_is = λ on. refl; committed_is = λ on. refl };
-  crash = record {
-    clean = omega arith;
-    shield = λ h. h;
-    counts = omega arith;
-    limit = refl;
-    closes = λ clean h. inl h;
-    crash = λ clean db h. inl h;
-  };
+  crash = crash_none a;
 }
 
 pub stays_then : (a b c : database.State) → Stays a b → Stays b c → Stays a c

@@ -51,6 +51,7 @@ use Rattle.ftd_reasons.proofs.Counted.{counted_are, counted_rise}
 use Rattle.ftd_accounts.proofs.ReturnDates.{AgreeIn, return_same}
 use Rattle.ftd_accounts.proofs.Searching.{found, not_found, any_has}
 use Rattle.ftd_accounts.proofs.YearsRead.{years_agree}
+use Rattle.ftd_entries.proofs.Settling.{owes}
 
 -- the first day that is counted comes after the last of the obligation
 after_last : (rule : Rule) (last from : ℕ) → last ≤ last_day → IsFirstCounted rule last from
@@ -86,8 +87,7 @@ module _ (name : List ℕ) (form : Form) (lines : List YearLine) (read : List �
   year = year_of o.first
 
   abbrev are : AreOwed all own owed
-  are =
-      let settled = stands.settled name in (settled.lines, settled.are_lines, settled.are_owed)
+  are = owes (stands.settled name)
 
   its : IsDated (stands.settled name).lines o
   its = dated all own owed are o has

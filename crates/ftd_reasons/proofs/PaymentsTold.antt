@@ -9,7 +9,7 @@ use Rattle.ftd_rules.specs.declared.Obligation.{Obligation}
 use Rattle.ftd_rules.specs.declared.payment.Payment.{Payment}
 use Rattle.ftd_rules.specs.declared.run.Voidable.{Voidable}
 use Rattle.ftd_rules.specs.Lists.{Has}
-use Rattle.ftd_rules.proofs.Members.{has_mapped, mapped_has, has_kept}
+use Rattle.ftd_rules.proofs.Members.{mapped_has, has_kept}
 use Rattle.ftd_rules.specs.Obligations.{begins_on}
 use Rattle.ftd_schema.specs.Orders.{PaymentsRise}
 use Rattle.ftd_schema.specs.Rows.{PaymentRow}
@@ -31,7 +31,7 @@ use Rattle.ftd_machine.proofs.KeptOne.{payment_one}
 use Rattle.ftd_machine.proofs.Members.{has_filtered}
 use Rattle.ftd_entries.specs.Standing.{StandsFor, payment_entry}
 use Rattle.ftd_entries.proofs.Kept.{same_nat, payment_is}
-use Rattle.ftd_entries.proofs.ListedRows.{value_passes, passing_value}
+use Rattle.ftd_entries.proofs.ListedRows.{entry_listed, passing_value}
 use Rattle.ftd_reasons.specs.Payments.{IsKeptPayment, is_live_payment, IsPaymentFor}
 use Rattle.ftd_store.proofs.Items.{paired_from, paired_to}
 use Rattle.ftd_machine.proofs.Entered.{is_kept, of_kept}
@@ -80,18 +80,15 @@ module _ (name : List ℕ) (first last : ℕ) (t : Tables) (s : State) (stands :
 
     pub is_kept_on : (x : NumberedPayment) → Has found x → IsKeptOn x
     is_kept_on x has =
-        let there = value_passes (row_of name) PaymentsRise test (t Payments) found lists x has in
-        let found_entry = has_mapped payment_entry s.payments (row_of name x)
-        (subst (λ rs. Has rs (row_of name x)) stands.entries.paid.payments there.0) in
-        let e : Entry (Voidable Payment) = found_entry.0 in
-        let is : payment_entry e ≡ row_of name x = sym found_entry.2 in
-        let named : e.name ≡ name = ap (λ (r : PaymentRow). r.account) is in
-        let key : e.key ≡ x.number = same_nat e.key x.number (ap (λ (r : PaymentRow). r.number) is)
-        in
-        let content : e.content ≡ x.payment = payment_is name x.number e x.payment is in
-        let kept = is_kept name s.payments sound.payments e found_entry.1 named in
-        let days = days_from name first last x.payment.value.for_day (bytes_eq name name)
-        there.1 in (
+        let from = entry_listed (row_of name) PaymentsRise test found payment_entry s.payments
+        stands.entries.paid.payments lists x has in
+        let e : Entry (Voidable Payment) = from.0 in
+        let named : e.name ≡ name = ap (λ (r : PaymentRow). r.account) from.2 in
+        let key : e.key ≡ x.number =
+        same_nat e.key x.number (ap (λ (r : PaymentRow). r.number) from.2) in
+        let content : e.content ≡ x.payment = payment_is name x.number e x.payment from.2 in
+        let kept = is_kept name s.payments sound.payments e from.1 named in
+        let days = days_from name first last x.payment.value.for_day (bytes_eq name name) from.3 in (
           subst (λ k. kept_at k (entries_of s name).payments ≡ Some x.payment) key
               (kept ∙ ap Some content),
           days.1,

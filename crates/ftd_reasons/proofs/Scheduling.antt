@@ -1,6 +1,6 @@
 -- The deposit schedule of a day, and why: what is answered, and that it is the machine's answer.
 use Rattle.std.proofs.Common.{◌≡◌, ◌⊎◌, ℕ, ◌+◌, ◌-◌, ◌<◌, ◌==◌, ◌&&◌, Bool, true, List, Option}
-use Rattle.std.proofs.Common.{None, Some, inl, inr, refl, sym, ap, subst, ◌∙◌, arith}
+use Rattle.std.proofs.Common.{None, Some, Ok, Vec, inl, inr, refl, sym, ap, subst, ◌∙◌, arith}
 use Rattle.std.specs.Prelude.{is_some, nat_lt, IsSome, IsSomeAnd, MatchOption}
 use Rattle.std.specs.Borrow.{Bor}
 use Rattle.std.specs.List.{list_any, find}
@@ -13,7 +13,12 @@ use Rattle.ftd_rules.specs.declared.YearLine.{YearLine}
 use Rattle.ftd_rules.specs.Lists.{Has}
 use Rattle.ftd_rules.specs.Liability.{liability}
 use Rattle.ftd_rules.specs.Years.{HasSchedule, HasStatusOn}
+use Rattle.sqlite.specs.Store as store
 use Rattle.ftd_schema.specs.Standing.{Tables}
+use Rattle.ftd_store.specs.Finds.{ListsYears}
+use Rattle.ftd_store.specs.Frame.{Reads}
+use Rattle.ftd_store.specs.declared.tx.Tx.{Tx}
+use Rattle.ftd_store.proofs.Telling.{then_reads}
 use Rattle.ftd_machine.specs.declared.entries.Account.{Account}
 use Rattle.ftd_machine.specs.declared.requests.Question.TheVariants.{Status}
 use Rattle.ftd_machine.specs.declared.requests.Request.TheVariants.{Question}
@@ -25,9 +30,11 @@ use Rattle.ftd_machine.specs.State.{State, Entries, entries_of, is_open}
 use Rattle.ftd_machine.specs.Step.{Step}
 use Rattle.ftd_machine.proofs.Deciding.{decided, passed}
 use Rattle.ftd_machine.proofs.Heads.{Gives, gives_needs, skip_needs, skip_finds}
+use Rattle.ftd_entries.specs.Known.{KnowsAccount, KnowsLines}
 use Rattle.ftd_entries.specs.Opening.{is_line_of, turns_into}
 use Rattle.ftd_entries.specs.Standing.{StandsFor}
 use Rattle.ftd_entries.proofs.KnownYears.{open_lines}
+use Rattle.ftd_entries.proofs.Lines.{lines_known}
 use Rattle.ftd_reasons.specs.Schedules.{AreScheduled, IsStatusBy}
 use Rattle.ftd_accounts.proofs.Searching.{found, not_found, some_pass}
 
@@ -108,6 +115,18 @@ carried_why lines line Semiweekly day L semiweekly little none (inr turnless) sc
     opened (inr h) (inr turned) = absurd (no_turn line.turn turnless turned)
 
 -- ---- the answer
+
+-- the account and the lines of its open years, as they were read one after the other
+pub account_and_lines : {S A : Type 0} {g : store.Ghosts S} {old mid new : Tx S}
+    {account : Option Account} {lines : Vec YearLine A} (name : List ℕ)
+    → Reads g old mid (Ok account) (KnowsAccount name)
+    → Reads g mid new (Ok lines) (λ listed. ListsYears name listed)
+    → Reads g old new (Ok account) (λ a. KnowsLines name account lines.items)
+account_and_lines {account = account} {lines = lines} name p q =
+    then_reads account (λ a. KnowsLines name account lines.items) p q (λ t knows lists s stands. (
+      knows s stands,
+      lines_known name lines t s stands lists (stands.settled name),
+    ))
 
 pub none_by : {Told : Type 0} (lines : List YearLine) (day : ℕ)
     → list_any (is_line_of (year_of day)) lines ≡ true

@@ -6,6 +6,7 @@ use Rattle.ftd_rules.specs.declared.Obligation.{Obligation}
 use Rattle.ftd_rules.specs.Lists.{Has}
 use Rattle.ftd_rules.specs.Obligations.{ByFirstDay}
 use Rattle.ftd_rules.proofs.Owed.{has_append, has_left, has_right}
+use Rattle.ftd_rules.proofs.Rising.{rises_push}
 use Rattle.ftd_rows.specs.Lists.{Pairs, Lists}
 use Rattle.ftd_machine.specs.Posting.{AreOnlyIn}
 use Rattle.ftd_store.proofs.Items.{has_at, has_more, has_still, has_now}
@@ -28,26 +29,14 @@ earlier (y ∷ rows) (suc i) x o h some is (inl here) =
     omega arith
 earlier (y ∷ rows) (suc i) x o h some is (inr more) = earlier rows i x o h.1 (omega arith) is more
 
-by_first_push : (rows : List Obligation) (x : Obligation) → ByFirstDay rows
-    → ((o : Obligation) → Has rows o → o.first < x.first) → ByFirstDay (rows ++ x ∷ [])
-by_first_push [] x h before = ((λ later has. absurd has), tt)
-by_first_push (y ∷ rows) x h before = (
-  (λ later has. elim (has_append rows (x ∷ []) later has) [
-    | inl one ↦ h.0 later one
-    | inr (inl last) ↦ (let first : later.first ≡ x.first = ap (λ (z : Obligation). z.first) last in
-        let less = before y (inl refl) in omega arith)
-    | inr (inr never) ↦ absurd never
-  ]),
-  by_first_push rows x h.1 (λ o has. before o (inr has)),
-)
-
 -- ---- those that are not among the others
 
 pub only_more : (rows others only : List Obligation) (i : ℕ) (x : Obligation) → ByFirstDay rows
     → i < length rows → x ≡ get_or rows i x → (Has others x → ⊥)
     → AreOnlyIn (take i rows) others only → AreOnlyIn (take (i + 1) rows) others (only ++ x ∷ [])
 only_more rows others only i x rise some is other h = record {
-  by_first_day = by_first_push only x h.by_first_day (λ o has. earlier rows i x o rise some is
+  by_first_day = rises_push (λ o. o.first) only x h.by_first_day
+      (λ o has. earlier rows i x o rise some is
       ((h.all o).0 has).0);
   all = λ o. (
     (λ has. elim (has_append only (x ∷ []) o has) [

@@ -104,6 +104,16 @@ put_next account lines patch i now x t u some is h =
     ∙ (ap (λ (n : ℕ). get_or (drop i lines) n x) (omega arith)
     ∙ (get_or-drop i lines 0 x ∙ ap (λ (n : ℕ). get_or lines n x) (omega arith)))))
 
+-- of one line more, the one that is put after it
+front_more : (lines : List YearLine) (patch : Patch) (i : ℕ) (x after : YearLine)
+    (front : List YearLine) → i < length lines → x ≡ get_or lines i x
+    → IsAfter patch.years x after → AreAfter (take i lines) patch.years front
+    → AreAfter (take (i + 1) lines) patch.years (front ++ after ∷ [])
+front_more lines patch i x after front some is so are =
+    subst (λ (ls : List YearLine). AreAfter ls patch.years (front ++ after ∷ []))
+    (sym (taken lines i x some is))
+    (pairs_more (IsAfter patch.years) (take i lines) front x after are so)
+
 -- one line more, which is put
 pub put_more : (account : List ℕ) (lines : List YearLine) (patch : Patch) (i : ℕ)
     (now : List YearLine) (x after : YearLine) (t u : Tables) → i < length lines
@@ -129,10 +139,7 @@ put_more account lines patch i now x after t u some here scheduled h =
       placed = h.placed;
       rows = h.rows;
       front = h.front ++ after ∷ [];
-      are_after = subst (λ (ls : List YearLine). AreAfter ls patch.years (h.front ++ after ∷ []))
-          (sym (taken lines i x some is))
-          (pairs_more (IsAfter patch.years) (take i lines) h.front x after h.are_after
-          (inl scheduled));
+      are_after = front_more lines patch i x after h.front some is (inl scheduled) h.are_after;
       now_is = written ∙ sym (append_assoc h.front (after ∷ []) rest);
       first = h.first;
       years = subst (YearsFrom h.first) (sym written)
@@ -153,10 +160,7 @@ put_same account lines patch i now x t u some here unnamed h =
       placed = h.placed;
       rows = h.rows;
       front = h.front ++ x ∷ [];
-      are_after = subst (λ (ls : List YearLine). AreAfter ls patch.years (h.front ++ x ∷ []))
-          (sym (taken lines i x some is))
-          (pairs_more (IsAfter patch.years) (take i lines) h.front x x h.are_after
-          (inr (refl, unnamed)));
+      are_after = front_more lines patch i x x h.front some is (inr (refl, unnamed)) h.are_after;
       now_is = h.now_is ∙ (ap (λ (ls : List YearLine). h.front ++ ls) (drop_item lines i x is some)
           ∙ sym (append_assoc h.front (x ∷ []) rest));
       first = h.first;

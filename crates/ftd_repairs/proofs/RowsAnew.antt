@@ -279,35 +279,31 @@ module _ (form : Form) (year : ℕ) (holidays : List ℕ) (g h : History)
     outside n (inl before) = earlier_stay year g h c n before
     outside n (inr after) = stay n after
 
-    -- where an obligation begins on another day
+    -- where an obligation begins on another day, it is owed by the other lines too
+    owed_over : (k l : History) → ((line : YearLine) → Has k.lines line → IsYear line)
+        → ((line : YearLine) → Has l.lines line → IsYear line) → k.sums ≡ l.sums
+        → ((n : ℕ) → (n < year) ⊎ (next ≤ n) → (line : YearLine) → Has k.lines line
+        → line.year ≡ n → Has l.lines line)
+        → (o : Obligation) → (o.first < year_start year) ⊎ (year_start next ≤ o.first)
+        → IsOwed form k holidays o → IsOwed form l holidays o
+    owed_over k l years others same stays o apart owed =
+        let w = (owed_at form k holidays o calendar years).0 owed in
+        (owed_at form l holidays o calendar others).1 (
+          w.0,
+          stays w.0.year (year_apart w.0 year next o.first (years w.0 w.1) w.2.0 w.2.1 apart) w.0
+              w.1 refl,
+          subst (λ s. IsOwedHere form (due_date holidays) (liability s) w.0 o) same w.2,
+        )
+
     owed_fore : (o : Obligation) → (o.first < year_start year) ⊎ (year_start next ≤ o.first)
         → IsOwed form g holidays o → IsOwed form h holidays o
-    owed_fore o apart owed =
-        let w = (owed_at form g holidays o calendar (year_before year g h c)).0 owed in
-        let has = outside w.0.year (year_apart w.0 year next o.first (year_before year g h c w.0
-        w.1)
-        w.2.0 w.2.1 apart) w.0 w.1 refl in
-        (owed_at form h holidays o calendar (year_after year g h c)).1 (
-          w.0,
-          has,
-          subst (λ s. IsOwedHere form (due_date holidays) (liability s) w.0 o)
-              (sym c.same_sums) w.2,
-        )
+    owed_fore = owed_over g h (year_before year g h c) (year_after year g h c) (sym c.same_sums)
+        outside
 
     owed_back : (o : Obligation) → (o.first < year_start year) ⊎ (year_start next ≤ o.first)
         → IsOwed form h holidays o → IsOwed form g holidays o
-    owed_back o apart owed =
-        let w = (owed_at form h holidays o calendar (year_after year g h c)).0 owed in
-        let same = outside w.0.year (year_apart w.0 year next o.first (year_after year g h c w.0
-        w.1)
-        w.2.0 w.2.1 apart) in
-        let has = stays_back year g h c w.0.year same w.0 w.1 refl in
-        (owed_at form g holidays o calendar (year_before year g h c)).1 (
-          w.0,
-          has,
-          subst (λ s. IsOwedHere form (due_date holidays) (liability s) w.0 o)
-              c.same_sums w.2,
-        )
+    owed_back = owed_over h g (year_after year g h c) (year_before year g h c) c.same_sums
+        (λ n out. stays_back year g h c n (outside n out))
 
     -- what is known makes a patch that is right
     pub anew_right : (patch : Patch) → patch.from ≡ year_start year

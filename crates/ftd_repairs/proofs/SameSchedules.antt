@@ -10,11 +10,12 @@ use Rattle.ftd_rules.specs.declared.YearLine.{YearLine}
 use Rattle.ftd_rules.specs.Liability.{liability}
 use Rattle.ftd_rules.specs.Lists.{Has}
 use Rattle.ftd_rules.specs.Obligations.{AreObligations, IsObligation}
-use Rattle.ftd_rules.specs.Periods.{IsPeriod, SharePeriod}
 use Rattle.ftd_rules.specs.Years.{AreLines, TurnedBefore}
 use Rattle.ftd_rules.specs.Years.{YearsFrom, basis_of}
 use Rattle.ftd_rules.proofs.Owed.{has_append, has_left, has_right}
+use Rattle.ftd_rules.proofs.Resting.{piece_anew}
 use Rattle.ftd_rules.proofs.Schedules.{schedule_iff}
+use Rattle.ftd_rules.proofs.Stated.{owed_stated, piece_owed}
 use Rattle.ftd_buckets.specs.Histories.{TurnOf}
 use Rattle.ftd_buckets.proofs.Chain.{turn_of_line}
 use Rattle.ftd_store.proofs.Items.{has_middle}
@@ -31,38 +32,6 @@ IsTotaled line other = (total : Cents) × (other ≡ with_total total line)
 totaled_back : (line other : YearLine) → IsTotaled line other → IsTotaled other line
 totaled_back line other (total, is) = (line.lookback, ap (with_total line.lookback) (sym is))
 
-share_same : (form : Form) (line : YearLine) (total : Cents) (a b : ℕ) → SharePeriod form line a b
-    → SharePeriod form (with_total total line) a b
-share_same form line total a b share = record {
-  return_period = share.return_period;
-  status = share.status;
-  first = share.first;
-  second = share.second;
-  month_or_interval = share.month_or_interval;
-}
-
-share_back : (form : Form) (line : YearLine) (total : Cents) (a b : ℕ)
-    → SharePeriod form (with_total total line) a b → SharePeriod form line a b
-share_back form line total a b share = record {
-  return_period = share.return_period;
-  status = share.status;
-  first = share.first;
-  second = share.second;
-  month_or_interval = share.month_or_interval;
-}
-
-period_same : (form : Form) (line : YearLine) (total : Cents) (a b : ℕ) → IsPeriod form line a b
-    → IsPeriod form (with_total total line) a b
-period_same form line total a b period = (
-  period.0,
-  period.1,
-  period.2,
-  λ day from to. (
-    (λ share. (period.3 day from to).0 (share_back form line total a day share)),
-    (λ within. share_same form line total a day ((period.3 day from to).1 within)),
-  ),
-)
-
 -- ---- lines
 
 -- each of the lines is one of the others, but for its lookback total
@@ -70,33 +39,15 @@ abbrev pub AreTotaled : List YearLine → List YearLine → Type 0
 AreTotaled lines others = (line : YearLine) → Has lines line
     → (other : YearLine) × Has others other × IsTotaled line other
 
--- an obligation rests on the line of its year by its year, its opening and its turn alone
-owed_by : (form : Form) (lines others : List YearLine) (sums : List DaySum) (holidays : List ℕ)
-    (o : Obligation) (total : Cents) (owed : IsObligation form lines sums holidays o)
-    → Has others (with_total total owed.line) → IsObligation form others sums holidays o
-owed_by form lines others sums holidays o total owed has = record {
-  line = with_total total owed.line;
-  open_year = has;
-  period_first = owed.period_first;
-  period_last = owed.period_last;
-  period = period_same form owed.line total owed.period_first owed.period_last owed.period;
-  status = owed.status;
-  has_status = owed.has_status;
-  stops = owed.stops;
-  are_stops = owed.are_stops;
-  piece = owed.piece;
-  amount = owed.amount;
-  positive = owed.positive;
-  due = owed.due;
-}
-
 owed_too : (form : Form) (lines others : List YearLine) (sums : List DaySum) (holidays : List ℕ)
     (o : Obligation) → AreTotaled lines others → IsObligation form lines sums holidays o
     → IsObligation form others sums holidays o
 owed_too form lines others sums holidays o are owed =
-    let k = are owed.line owed.open_year in
-    owed_by form lines others sums holidays o k.2.0 owed
-    (subst (λ (z : YearLine). Has others z) k.2.1 k.1)
+    let piece = piece_owed form lines sums holidays o owed in
+    let k = are piece.line piece.open_year in
+    owed_stated form others sums holidays o
+    (piece_anew form lines others sums sums holidays holidays o k.2.0 o.due piece
+    (subst (λ (z : YearLine). Has others z) k.2.1 k.1) (λ a b from to. refl) piece.due)
 
 turned_too : (lines others : List YearLine) (year : ℕ) → AreTotaled lines others
     → TurnedBefore lines year → TurnedBefore others year

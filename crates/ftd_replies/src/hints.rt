@@ -34,7 +34,7 @@ pub enum Known {
 }
 
 /// Writes the line of the refusal of a request to the desk of this file, and its hints below it.
-#[tactic(auto, unfolding(crate::specs::Hints::told_text))]
+#[tactic(auto, using(ftd_ports::proofs::WritingFacts::written_in_parts), unfolding(crate::specs::Hints::told_text))]
 pub fn write_told<W: Target>(
     db: &str,
     request: &Request,

@@ -10,6 +10,7 @@ use Rattle.ftd_days.specs.Digits.{two_digits}
 use Rattle.ftd_days.specs.Text.{point, cents_text}
 use Rattle.ftd_days.proofs.Wholes.{rest_of}
 use Rattle.ftd_reports.specs.Columns.{amount_in}
+use Rattle.ftd_reports.specs.declared.values.AmountColumn.{AmountColumn}
 
 -- spaces, dollars, and the point with the cents are an amount in its column
 pub amount_parts : (amount width : ℕ) (spaces : List ℕ)
@@ -32,14 +33,17 @@ three s d c others end line e = column (s ++ d ++ c) others end line e
     ∙ (append_assoc (s ++ d) c (32 ∷ line) ∙ append_assoc s d (c ++ (32 ∷ line)))
 
 -- the pieces of a row's line are its columns, with one space between
-pub row_parts : (a b r s d c u m t e f v : List ℕ) →
-    join_with_byte 32 (a ∷ b ∷ r ∷ (s ++ d ++ c) ∷ u ∷ m ∷ (t ++ e ++ f) ∷ v ∷ []) ++ (10 ∷ [])
-    ≡ concat (a ∷ (32 ∷ []) ∷ b ∷ (32 ∷ []) ∷ r ∷ (32 ∷ []) ∷ s ∷ d ∷ c ∷ (32 ∷ []) ∷ u ∷ (32 ∷ [])
-    ∷ m ∷ (32 ∷ []) ∷ t ∷ e ∷ f ∷ (32 ∷ []) ∷ v ∷ (10 ∷ []) ∷ [])
-row_parts a b r s d c u m t e f v =
-    column a _ _ _
-    (column b _ _ _
-    (column r _ _ _ (three s d c _ _ _ (column u _ _ _ (column m _ _ _ (three t e f _ _ _ refl))))))
+pub row_parts : (x y : AmountColumn) {a b r u m v amount paid first last rule due made state
+    : List ℕ} → a ≡ first → b ≡ last → r ≡ rule → x.spaces.now ++ x.dollars.now ++ x.cents ≡ amount
+    → u ≡ due → m ≡ made → y.spaces.now ++ y.dollars.now ++ y.cents ≡ paid → v ≡ state
+    → concat (a ∷ (32 ∷ []) ∷ b ∷ (32 ∷ []) ∷ r ∷ (32 ∷ []) ∷ x.spaces.now ∷ x.dollars.now ∷ x.cents
+    ∷ (32 ∷ []) ∷ u ∷ (32 ∷ []) ∷ m ∷ (32 ∷ []) ∷ y.spaces.now ∷ y.dollars.now ∷ y.cents ∷ (32 ∷ [])
+    ∷ v ∷ (10 ∷ []) ∷ [])
+    ≡ join_with_byte 32 (first ∷ last ∷ rule ∷ amount ∷ due ∷ made ∷ paid ∷ state ∷ []) ++ (10 ∷ [])
+row_parts x y {a = a} {b = b} {r = r} {u = u} {m = m} p q w c d e f g =
+    rw (← p, ← q, ← w, ← c, ← d, ← e, ← f, ← g) (sym (column a _ _ _ (column b _ _ _
+    (column r _ _ _ (three x.spaces.now _ _ _ _ _ (column u _ _ _ (column m _ _ _
+    (three y.spaces.now _ _ _ _ _ refl))))))))
 
 -- so are their lines, and their amounts
 pub rows_at : {X : Type 0} (line : X → List ℕ) (rows : List X) (i : ℕ) (row : X) (last : List ℕ)

@@ -23,7 +23,7 @@ const SPACES: &[u8; 50] = b"                                                  ";
 /// each row, and a last line with the sum of what is left to pay of each. It takes no memory but
 /// what the target takes. Where the target fails, a prefix of the text was written, and it fails
 /// nowhere else.
-#[tactic(auto, unfolding(crate::specs::Agendas::agenda_text))]
+#[tactic(auto, using(ftd_ports::proofs::WritingFacts::written_in_parts), unfolding(crate::specs::Agendas::agenda_text))]
 pub fn write_agenda<W: Target>(
     from: Day,
     to: Day,
@@ -40,7 +40,7 @@ pub fn write_agenda<W: Target>(
 
 /// Writes what is due until a day over all accounts and not paid as of a day, as `write_agenda`
 /// does.
-#[tactic(auto, unfolding(crate::specs::Agendas::owed_text))]
+#[tactic(auto, using(ftd_ports::proofs::WritingFacts::written_in_parts), unfolding(crate::specs::Agendas::owed_text))]
 pub fn write_owed<W: Target>(
     until: Day,
     as_of: Day,
@@ -112,7 +112,7 @@ pub fn form_bytes(form: Form) -> [u8; 3]
 }
 
 /// Writes the line of a row.
-#[tactic(auto, unfolding(crate::specs::Agendas::agenda_line))]
+#[tactic(auto, using(ftd_ports::proofs::WritingFacts::written_in_parts), unfolding(crate::specs::Agendas::agenda_line))]
 fn write_row<W: Target>(row: &AgendaRow, target: &mut W) -> Result<(), WriteFault>
     ensures { Writes result (W.taken target.old) (W.taken target.new)
         (W.failed target.new) (agenda_line row.now) }

@@ -17,6 +17,7 @@ use itoa::Buffer;
 /// quarter. The sums have rising days of the quarter; they are together below 6,000,000,000,000,000
 /// cents. It takes no memory but what the target takes. Where the target fails, a prefix of the
 /// text was written, and it fails nowhere else.
+#[tactic(auto, using(ftd_ports::proofs::WritingFacts::written_in_parts), unfolding(crate::specs::SchedulesB::b_text))]
 pub fn schedule_b<W: Target>(
     account: &str,
     quarter: Quarter,

@@ -194,29 +194,17 @@ moved_so before after added with o due h k = record {
       ((λ n. counted.0 (moves.0 n)), (λ d. moves.1 (counted.1 d))));
 }
 
--- each obligation by the holidays before is one by those after, but for its due date
-moved_there : (form : Form) (lines : List YearLine) (sums : List DaySum) (before after : List ℕ)
-    (added : ℕ) → IsWithHoliday before added after
-    → (o : Obligation) → IsOwedPiece form lines sums before o
-    → (p : Obligation) × IsOwedPiece form lines sums after p × IsMovedBy before added o p
-moved_there form lines sums before after added with o is =
-    let due = due_some after o.rule o.last in
-    let p : Obligation = record o { due = due.0 } in (
-      p,
-      obligation_same form lines sums sums before after (λ day lies. refl) o p refl due.1 is,
-      moved_so before after added with o due.0 is.due due.1,
-    )
-
-moved_back : (form : Form) (lines : List YearLine) (sums : List DaySum) (before after : List ℕ)
-    (added : ℕ) → IsWithHoliday before added after
-    → (p : Obligation) → IsOwedPiece form lines sums after p
-    → (o : Obligation) × IsOwedPiece form lines sums before o × IsMovedBy before added o p
-moved_back form lines sums before after added with p is =
-    let due = due_some before p.rule p.last in
-    let o : Obligation = record p { due = due.0 } in (
-      o,
-      obligation_same form lines sums sums after before (λ day lies. refl) p o refl due.1 is,
-      moved_so before after added with o p.due due.1 is.due,
+-- each obligation by some holidays is one by others, but for its due date
+due_anew : (form : Form) (lines : List YearLine) (sums : List DaySum) (before after : List ℕ)
+    (o : Obligation) → IsOwedPiece form lines sums before o
+    → (due : ℕ) × IsDueBy after o.rule o.last due
+    × IsOwedPiece form lines sums after (record o { due = due })
+due_anew form lines sums before after o is =
+    let due = due_some after o.rule o.last in (
+      due.0,
+      due.1,
+      obligation_same form lines sums sums before after (λ day lies. refl) o
+          (record o { due = due.0 }) refl due.1 is,
     )
 
 pub rows_moved : (form : Form) (lines : List YearLine) (sums : List DaySum)
@@ -227,7 +215,11 @@ pub rows_moved : (form : Form) (lines : List YearLine) (sums : List DaySum)
 rows_moved form lines sums before after added rows others with h k =
     paired (IsMovedBy before added) (λ o. o.first) (λ o. o.first) rows others h.by_first_day
     k.by_first_day (λ o p moved. sym moved.first)
-    (λ o has. let its = moved_there form lines sums before after added with o ((h.all o).0 has) in
-    (its.0, (k.all its.0).1 its.1, its.2))
-    (λ p has. let its = moved_back form lines sums before after added with p ((k.all p).0 has) in
-    (its.0, (h.all its.0).1 its.1, its.2))
+    (λ o has. let is = (h.all o).0 has in
+    let due = due_anew form lines sums before after o is in
+    let p : Obligation = record o { due = due.0 } in
+    (p, (k.all p).1 due.2, moved_so before after added with o due.0 is.due due.1))
+    (λ p has. let is = (k.all p).0 has in
+    let due = due_anew form lines sums after before p is in
+    let o : Obligation = record p { due = due.0 } in
+    (o, (h.all o).1 due.2, moved_so before after added with o p.due due.1 is.due))

@@ -1,11 +1,10 @@
 -- The deposit period of a day in closed form, from any first semiweekly day, and the days that
 -- share it.
 use Rattle.ftd_rules.specs.declared.Form.{Form}
-use Rattle.std.proofs.Common.{◌≡◌, ℕ, ◌+◌, ◌≤◌, ◌↔◌, inl, inr, ◌∙◌, arith}
-use Rattle.std.specs.Prelude.{nat_lt, MatchOption, if◌then◌else◌}
+use Rattle.std.proofs.Common.{◌≡◌, ℕ, ◌+◌, ◌≤◌, ◌↔◌, inl, inr, arith}
+use Rattle.std.specs.Prelude.{nat_lt, MatchOption}
 use Rattle.std.proofs.lemmas.Bool.{lt-ltb, le-ltb, cases_lt}
 use Rattle.ftd_rules.specs.declared.Kind.TheVariants as kind
-use Rattle.ftd_rules.specs.declared.Rule.TheVariants.{Monthly}
 use Rattle.ftd_rules.specs.declared.YearLine.{YearLine}
 use Rattle.ftd_rules.specs.Years.{year_last, MayBeOpen, IsDayOf, IsSemiweeklyFrom}
 use Rattle.ftd_rules.specs.Periods.{SharePeriod}

@@ -2,7 +2,7 @@
 -- lookback totals.
 use Rattle.ftd_rules.specs.declared.Form.{Form}
 use Rattle.std.proofs.Common.{◌≡◌, ℕ, ◌+◌, ◌<◌, ◌≤◌, ◌↔◌, ◌⊎◌, inl, inr, List, [], ◌∷◌, refl, sym}
-use Rattle.std.proofs.Common.{◌∙◌, subst, arith}
+use Rattle.std.proofs.Common.{◌∙◌, subst, arith, rules}
 use Rattle.std.specs.Prelude.{nat_lt, MatchBool}
 use Rattle.std.proofs.lemmas.Bool.{lt-ltb, le-ltb, cases_lt}
 use Rattle.ftd_days.specs.Calendar.{month_of, year_start}
@@ -216,59 +216,65 @@ share_run form line a b in_a in_b h = (
   run_is line a b h.status in_a.0 in_a.1 h.first h.month_or_interval,
 )
 
+-- two days of a status share a period, where they share its month or interval
+share_at : (form : Form) (line : YearLine) (a b : ℕ) (status : Kind) → IsDayOf line a
+    → IsDayOf line b → ShareRun form (semiweekly_from line) a b
+    → rule_on (semiweekly_from line) a ≡ rule_of status → SameMonthOrInterval status a b
+    → SharePeriod form line a b
+share_at form line a b status in_a in_b h its same = record {
+  return_period = h.0;
+  status = status;
+  first = (status_is line a status in_a.0 in_a.1).1 its;
+  second = (status_is line b status in_b.0 in_b.1).1 (h.1 ∙ its);
+  month_or_interval = same;
+}
+
 pub run_shared : (form : Form) (line : YearLine) (a b : ℕ) → IsDayOf line a → IsDayOf line b
     → ShareRun form (semiweekly_from line) a b → SharePeriod form line a b
 run_shared form line a b in_a in_b h =
     elim (cases_lt a (semiweekly_from line)) [
-      | inl early ↦
-          let its = rule_monthly (semiweekly_from line) a early in
-          record {
-            return_period = h.0;
-            status = kind.Monthly;
-            first = (status_is line a kind.Monthly in_a.0 in_a.1).1 its;
-            second = (status_is line b kind.Monthly in_b.0 in_b.1).1 (h.1 ∙ its);
-            month_or_interval = (let k = lt-ltb a (semiweekly_from line) early in rw k at h.2);
-          }
+      | inl early ↦ share_at form line a b kind.Monthly in_a in_b h
+          (rule_monthly (semiweekly_from line) a early)
+          (rw (lt-ltb a (semiweekly_from line) early) at h.2)
       | inr late ↦
-          let its = rule_semiweekly (semiweekly_from line) a late in
-          record {
-            return_period = h.0;
-            status = kind.Semiweekly;
-            first = (status_is line a kind.Semiweekly in_a.0 in_a.1).1 its;
-            second = (status_is line b kind.Semiweekly in_b.0 in_b.1).1 (h.1 ∙ its);
-            month_or_interval = (let k = le-ltb a (semiweekly_from line) late in
-                let starts = rw k at h.2 in
-                (interval_close a, close_is a, rw (← ((interval_ends a b).1 starts)) (close_is b)));
-          }
+          let starts = rw (le-ltb a (semiweekly_from line) late) at h.2 in
+          share_at form line a b kind.Semiweekly in_a in_b h
+          (rule_semiweekly (semiweekly_from line) a late)
+          (interval_close a, close_is a, rw (← ((interval_ends a b).1 starts)) (close_is b))
     ]
+
+-- the days of a year that share something with day a are those from a to b
+abbrev Stretch : YearLine → ℕ → ℕ → (ℕ → Type 0) → Type 0
+Stretch line a b Shares =
+    (a ≤ b) × (year_start line.year ≤ a) × (b ≤ year_last line.year)
+    × ((day : ℕ) → year_start line.year ≤ day → day ≤ year_last line.year
+    → Shares day ↔ ((a ≤ day) × (day ≤ b)))
+
+-- and so by another test that means the same
+same_stretch : (line : YearLine) (a b : ℕ) (P Q : ℕ → Type 0)
+    → ((day : ℕ) → IsDayOf line a → IsDayOf line day → P day ↔ Q day)
+    → Stretch line a b P → Stretch line a b Q
+same_stretch line a b P Q same h =
+    let some = h.0 in let from = h.1 in let to = h.2 in (
+      some,
+      from,
+      to,
+      λ day l m.
+          let its = same day (from, omega arith) (l, m) in
+          let e = h.3 day l m in ((λ q. e.0 (its.1 q)), (λ w. its.0 (e.1 w))),
+    )
 
 pub period_run : (form : Form) (line : YearLine) (a b : ℕ) → IsPeriod form line a b
     → IsStretch form line a b
-period_run form line a b h =
-    let some = h.0 in let from = h.1 in let to = h.2 in
-    let first : IsDayOf line a = (from, omega arith) in (
-      some,
-      from,
-      to,
-      λ day l m. (let e = h.3 day l m in (
-        (λ s. e.0 (run_shared form line a day first (l, m) s)),
-        (λ w. share_run form line a day first (l, m) (e.1 w)),
-      )),
-    )
+period_run form line a b h = same_stretch line a b (SharePeriod form line a)
+    (ShareRun form (semiweekly_from line) a)
+    (λ day i j. (share_run form line a day i j, run_shared form line a day i j)) h
 
 pub run_period : (form : Form) (line : YearLine) (a b : ℕ) → IsStretch form line a b
     → IsPeriod form line a b
-run_period form line a b h =
-    let some = h.0 in let from = h.1 in let to = h.2 in
-    let first : IsDayOf line a = (from, omega arith) in (
-      some,
-      from,
-      to,
-      λ day l m. (let e = h.3 day l m in (
-        (λ s. e.0 (share_run form line a day first (l, m) s)),
-        (λ w. run_shared form line a day first (l, m) (e.1 w)),
-      )),
-    )
+run_period form line a b h = same_stretch line a b (ShareRun form (semiweekly_from line) a)
+    (SharePeriod form line a)
+    (λ day i j. (run_shared form line a day i j, share_run form line a day i j)) h
 
 -- ---- due dates
 
@@ -319,12 +325,12 @@ piece_owed form lines sums holidays o h =
     let rule : rule_of h.status ≡ rule_on (semiweekly_from h.line) h.period_first =
     sym ((status_is h.line h.period_first h.status from (omega arith)).0 h.has_status) in
     record {
-      line = h.line;
+      line = _;
       open_year = h.open_year;
-      first = h.period_first;
-      last = h.period_last;
+      first = _;
+      last = _;
       period = period_run form h.line h.period_first h.period_last h.period;
-      stops = h.stops;
+      stops = _;
       are_stops = stops_counted (liability sums) h.period_first h.period_last h.stops h.are_stops;
       piece = subst (λ (r : Rule). Has (pieces r h.period_first h.period_last h.stops)
           (o.first, o.last, o.rule)) rule h.piece;
@@ -358,27 +364,26 @@ owed_stated form lines sums holidays o h =
       due = due_stated holidays o.rule o.last o.due h.due;
     }
 
+-- an obligation is owed for a piece of a deposit period
+pub obligation_of : (form : Form) (lines : List YearLine) (sums : List DaySum) (holidays : List ℕ)
+    (o : Obligation) (line : YearLine) (a b : ℕ) (status : Kind) (stops : List ℕ) → Has lines line
+    → IsPeriod form line a b → HasStatusOn line a status → AreStops (liability sums) a b stops
+    → Has (pieces (rule_of status) a b stops) (o.first, o.last, o.rule)
+    → o.cents.0 ≡ liability sums o.first o.last → 0 < o.cents.0
+    → IsDue holidays o.rule o.last o.due → IsObligation form lines sums holidays o
+obligation_of form lines sums holidays o line a b status stops has period on are_stops piece amount
+    positive due = search rules
+
 pub rows_owed : (form : Form) (lines : List YearLine) (sums : List DaySum) (holidays : List ℕ)
     (rows : List Obligation) → AreObligations form lines sums holidays rows
     → AreOwedPieces form lines sums holidays rows
-rows_owed form lines sums holidays rows h = record {
-  by_first_day = h.by_first_day;
-  all = λ o. (
-    (λ k. piece_owed form lines sums holidays o ((h.all o).0 k)),
-    (λ k. (h.all o).1 (owed_stated form lines sums holidays o k)),
-  );
-}
+rows_owed form lines sums holidays rows h = search (rules, h.all, piece_owed, owed_stated)
 
 pub rows_stated : (form : Form) (lines : List YearLine) (sums : List DaySum) (holidays : List ℕ)
     (rows : List Obligation) → AreOwedPieces form lines sums holidays rows
     → AreObligations form lines sums holidays rows
-rows_stated form lines sums holidays rows h = record {
-  by_first_day = h.by_first_day;
-  all = λ o. (
-    (λ k. owed_stated form lines sums holidays o ((h.all o).0 k)),
-    (λ k. (h.all o).1 (piece_owed form lines sums holidays o k)),
-  );
-}
+rows_stated form lines sums holidays rows h =
+    grind (arith, h.all, piece_owed, owed_stated)
 
 -- ---- lookback totals
 

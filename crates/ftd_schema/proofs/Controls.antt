@@ -18,7 +18,7 @@ use Rattle.sqlite.specs.State.{State, Executes, IsUnchanged, IsRolledBack, Keeps
 use Rattle.sqlite.specs.State.{shows_rows, CommitsBy, IsNoStatement, IsNotRun, ExecutesIn}
 use Rattle.sqlite.specs.State.{IsMisplaced, MayChange, MayWrite, Survives, Shows}
 use Rattle.sqlite.specs.Calls.{IsWrite}
-use Rattle.sqlite.proofs.StateLemmas.{survives_then}
+use Rattle.sqlite.proofs.StateLemmas.{survives_then, survives_weaker}
 use Rattle.ftd_schema.specs.States.{CrashKeeps, ShowsAgain}
 use Rattle.sqlite.proofs.Callers.{IsPlain, command_of, runs_as}
 use Rattle.sqlite.specs.Effect.{Database}
@@ -34,29 +34,26 @@ rollback_text = codes "ROLLBACK"
 abbrev pub commit_text : List ℕ
 commit_text = codes "COMMIT"
 
-pub begin_is : (s : Schema) → command_of (understood s begin_text) ≡ Begin
-unfolding understood everything
-begin_is s = refl
+-- a text that is read as a plain command, which returns nothing
+abbrev IsOf : Command → Result Compiled CompileError → Type 0
+IsOf command (Ok c) = (c.command ≡ command) × (c.returning ≡ None)
+IsOf command (Err e) = ⊥
 
-pub begin_plain : (s : Schema) → IsPlain (understood s begin_text)
-unfolding understood everything
-begin_plain s = (refl, refl)
+abbrev Commands : List ℕ → Command → Type 0
+Commands text command = (s : Schema) → (command_of (understood s text) ≡ command)
+    × IsPlain (understood s text) × IsOf command (understood s text)
 
-pub rollback_is : (s : Schema) → command_of (understood s rollback_text) ≡ Rollback
+begin_is : Commands begin_text Begin
 unfolding understood everything
-rollback_is s = refl
+begin_is s = (refl, (refl, refl), (refl, refl))
 
-pub rollback_plain : (s : Schema) → IsPlain (understood s rollback_text)
+rollback_is : Commands rollback_text Rollback
 unfolding understood everything
-rollback_plain s = (refl, refl)
+rollback_is s = (refl, (refl, refl), (refl, refl))
 
-pub commit_is : (s : Schema) → command_of (understood s commit_text) ≡ Commit
+commit_is : Commands commit_text Commit
 unfolding understood everything
-commit_is s = refl
-
-pub commit_plain : (s : Schema) → IsPlain (understood s commit_text)
-unfolding understood everything
-commit_plain s = (refl, refl)
+commit_is s = (refl, (refl, refl), (refl, refl))
 
 pub not_run_leaves : (sql : List ℕ) (params : Row) (old new : State) (e : Error)
     → IsNotRun old new sql params e → IsUnchanged old new ⊎ IsRolledBack old new
@@ -139,8 +136,8 @@ pub rolls_back : (old new : State) (r : Result ℕ Error) → IsTrue old.in_tran
     → Executes rollback_text [] old new r → IsRolledBack old new
 unfolding ExecutesIn
 rolls_back old new (Ok count) busy h =
-    (runs_as rollback_text [] old new old.now.schema refl Rollback (rollback_is old.now.schema)
-    (rollback_plain old.now.schema) count h).1
+    (runs_as rollback_text [] old new old.now.schema refl Rollback (rollback_is old.now.schema).0
+    (rollback_is old.now.schema).1 count h).1
 rolls_back old new (Err e) busy (inl h) = rollback_not_run old new e h
 rolls_back old new (Err e) busy (inr ran) =
     let is = subst IsRollback ran.1.is (is_rollback old.now.schema) in
@@ -165,17 +162,9 @@ rollback_commits_nothing s db busy h =
 pub begins : (old new : State) (r : Result ℕ Error) → Executes begin_text [] old new r
     → OnOk r (Shows old new old.now old.committed true)
 begins old new (Ok count) h =
-    (runs_as begin_text [] old new old.now.schema refl Begin (begin_is old.now.schema)
-    (begin_plain old.now.schema) count h).1
+    (runs_as begin_text [] old new old.now.schema refl Begin (begin_is old.now.schema).0
+    (begin_is old.now.schema).1 count h).1
 begins old new (Err e) h = tt
-
-abbrev IsBegin : Result Compiled CompileError → Type 0
-IsBegin (Ok c) = (c.command ≡ Begin) × (c.returning ≡ None)
-IsBegin (Err e) = ⊥
-
-is_begin : (s : Schema) → IsBegin (understood s begin_text)
-unfolding understood everything
-is_begin s = (refl, refl)
 
 begin_writes_nothing : (s : State) (c : Compiled) (text : List ℕ) (params : Row) (db : Trees)
     → c.command ≡ Begin → c.returning ≡ None → MayWrite s c.returning c.command text params db → ⊥
@@ -184,7 +173,7 @@ begin_writes_nothing s c text params db is bare w = absurd (let x = (rw (is, bar
 pub begin_commits_nothing : (s : State) (db : Trees) → ¬ CommitsBy begin_text [] s db
 unfolding CommitsBy
 begin_commits_nothing s db h =
-    let is = subst IsBegin h.1.is (is_begin s.now.schema) in
+    let is = subst (IsOf Begin) h.1.is ((begin_is s.now.schema).2) in
     elim h.2 [
       | inl c ↦ elim c.0 [
         | inl a ↦ absurd (let x = is.0 in cc)
@@ -195,17 +184,8 @@ begin_commits_nothing s db h =
 
 pub weaker : (old new : State) (P : Trees → Type 0) → ((db : Trees) → ¬ P db) → Survives old new P
     → Survives old new (λ _. ⊥)
-weaker old new P none s = record {
-  clean = s.clean;
-  shield = s.shield;
-  counts = s.counts;
-  limit = s.limit;
-  closes = s.closes;
-  crash = λ clean db left. elim (s.crash clean db left) [
-    | inl was ↦ inl was
-    | inr made ↦ absurd (none db made)
-  ];
-}
+weaker old new P none s =
+    survives_weaker old new P (λ _. ⊥) (λ clean db made. absurd (none db made)) s
 
 pub busy_if : (b r : Bool) → r ≡ not b → r ≡ false → IsTrue b
 busy_if true r e f = refl
@@ -214,16 +194,8 @@ busy_if false r e f = absurd cc
 pub commits : (old new : State) (count : ℕ) → Executes commit_text [] old new (Ok count)
     → Shows old new old.now old.now false
 commits old new count h =
-    (runs_as commit_text [] old new old.now.schema refl Commit (commit_is old.now.schema)
-    (commit_plain old.now.schema) count h).1
-
-abbrev IsCommit : Result Compiled CompileError → Type 0
-IsCommit (Ok c) = (c.command ≡ Commit) × (c.returning ≡ None)
-IsCommit (Err e) = ⊥
-
-is_commit : (s : Schema) → IsCommit (understood s commit_text)
-unfolding understood everything
-is_commit s = (refl, refl)
+    (runs_as commit_text [] old new old.now.schema refl Commit (commit_is old.now.schema).0
+    (commit_is old.now.schema).1 count h).1
 
 commit_writes_nothing : (s : State) (c : Compiled) (text : List ℕ) (params : Row) (db : Trees)
     → c.command ≡ Commit → c.returning ≡ None → MayWrite s c.returning c.command text params db → ⊥
@@ -233,7 +205,7 @@ commit_writes_nothing s c text params db is bare w = absurd (let x = (rw (is, ba
 pub commit_commits : (s : State) (db : Trees) → CommitsBy commit_text [] s db → db ≡ s.now.trees
 unfolding CommitsBy
 commit_commits s db h =
-    let is = subst IsCommit h.1.is (is_commit s.now.schema) in
+    let is = subst (IsOf Commit) h.1.is ((commit_is s.now.schema).2) in
     elim h.2 [
       | inl c ↦ c.1
       | inr w ↦ absurd (commit_writes_nothing s h.0 _ _ db is.0 is.1 w)
@@ -281,6 +253,17 @@ pub shows_again : (old new : State) → IsTrue new.is_open
 shows_again old new opened settled (inl h) = (h.0.now_is, h.0.committed_is)
 shows_again old new opened settled (inr h) =
     let u = h.undone opened in (u.0 ∙ sym (settled (h.was_open opened)), u.1)
+
+-- a crash finds what it would have found, where nothing was touched
+pub crash_none : (a : State) → CrashKeeps a a
+crash_none a = record {
+  clean = omega arith;
+  shield = λ h. h;
+  counts = omega arith;
+  limit = refl;
+  closes = λ clean h. inl h;
+  crash = λ clean db h. inl h;
+}
 
 -- two steps, one after the other, of which neither commits
 pub crash_then : (a b c : State) → CrashKeeps a b → CrashKeeps b c → CrashKeeps a c

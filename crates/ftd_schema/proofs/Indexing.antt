@@ -23,23 +23,23 @@ pub record Indexes (n : TableName) (text : List ℕ) : Type 0 where
   pub named : definition.table ≡ name_of n
   pub defines : (tree : ℕ) → (i : Index) × DefinesIndex definition (table_of n tree) i
 
+indexing : (n : TableName) (text : List ℕ) {definition : Definition}
+    → IsReadAs text (written.CreateIndex definition) → definition.table ≡ name_of n
+    → ((tree : ℕ) → (i : Index) × DefinesIndex definition (table_of n tree) i) → Indexes n text
+indexing n text {definition} reads named defines =
+    record { definition = definition; reads = reads; named = named; defines = defines }
+
 pub indexes_runs : Indexes Runs INDEX_RUNS.now
 unfolding everything
-indexes_runs = record {
-  definition = _;
-  reads = record { read = _; is = refl; said = refl; untimed = refl; whole = refl };
-  named = refl;
-  defines = λ tree. (_, record { unreserved = refl; fresh = refl; must = refl; is = refl });
-}
+indexes_runs = indexing Runs INDEX_RUNS.now
+    (record { read = _; is = refl; said = refl; untimed = refl; whole = refl }) refl
+    (λ tree. (_, record { unreserved = refl; fresh = refl; must = refl; is = refl }))
 
 pub indexes_payments : Indexes Payments INDEX_PAYMENTS.now
 unfolding everything
-indexes_payments = record {
-  definition = _;
-  reads = record { read = _; is = refl; said = refl; untimed = refl; whole = refl };
-  named = refl;
-  defines = λ tree. (_, record { unreserved = refl; fresh = refl; must = refl; is = refl });
-}
+indexes_payments = indexing Payments INDEX_PAYMENTS.now
+    (record { read = _; is = refl; said = refl; untimed = refl; whole = refl }) refl
+    (λ tree. (_, record { unreserved = refl; fresh = refl; must = refl; is = refl }))
 
 -- the rows are the same beside the index, and every table is there still
 pub indexes : (n : TableName) (text : List ℕ) → Indexes n text → (old new : State) (count : ℕ)

@@ -2,7 +2,7 @@
 use Rattle.std.proofs.Common.{◌≡◌, ℕ, zero, suc, ℤ, List, [], ◌∷◌, ◌++◌, ◌/◌, length, map, not}
 use Rattle.std.proofs.Common.{Bool, true, Some, Ok, refl, drop}
 use Rattle.sqlite_tied.specs.Compute.{everything}
-use Rattle.std.specs.Prelude.{filter, IsTrue}
+use Rattle.std.specs.Prelude.{filter, IsTrue, slice_range}
 use Rattle.sqlite.specs.declared.types.Value.TheVariants.{Int}
 use Rattle.sqlite.specs.Cast.{cast_row}
 use Rattle.sqlite.specs.Order.{Row}
@@ -39,6 +39,8 @@ use Rattle.sqlite_resolve.specs.Write.{simple, updated, deleted}
 use Rattle.ftd_tables.specs.Kept.{stored, changed}
 use Rattle.ftd_tables.specs.TextKinds.{IsRowText}
 use Rattle.ftd_tables.specs.TextKinds.{IsReadAs}
+use Rattle.sqlite_syntax.specs.declared.statement.Parsed.{Parsed}
+use Rattle.sqlite_resolve.specs.Compile.{first as read_first}
 use Rattle.ftd_tables.proofs.Meaning.{IsAccepted, Means, inserts, deletes}
 use Rattle.ftd_tables.proofs.KeptLemmas.{plain_query}
 use Rattle.sqlite.specs.Command.TheVariants.{Update}
@@ -71,194 +73,73 @@ values_given count = rows.Values (map (λ k. say (Given k)) (numbered 1 count) �
 abbrev terms_given : ℕ → List Term
 terms_given count = lit Null ∷ map (λ k. col 0 k) (numbered 0 count)
 
+-- the values are a new row, all of them but the rowid
+abbrev AreNewRows : TableName → Type 0
+AreNewRows n = (s : Schema) (tree base : ℕ) → new_rows s (table_of n tree) base (columns_given n)
+    (values_given (length (columns_of n))) ≡ Ok (Values (terms_given (length (columns_of n)))
+    (suc (length (columns_of n))))
+
+-- and put the cells of a row
+abbrev PutCells : TableName → Type 0
+PutCells n = (x : RowOf n) (tree : ℕ) (db : Trees)
+    → edited db (edit_of db (table_of n tree) [] Chosen 0
+    (value_rows (cells_of n x) (suc (length (columns_of n)))
+    (length (terms_given (length (columns_of n))) / suc (length (columns_of n)))
+    (terms_given (length (columns_of n))))) ≡ put_row (Int (next_rowid (db tree)) ∷ cells_of n x)
+    (db tree)
+
 -- the text that adds to the table is an INSERT of all its columns in their order
 pub record Adds (n : TableName) : Type 0 where
   pub reads : IsReadAs (add_of n) (written.Insert conflict.Abort (name_of n) (columns_given n)
       (values_given (length (columns_of n))) [] [])
-  pub is : (s : Schema) (tree base : ℕ) → new_rows s (table_of n tree) base (columns_given n)
-      (values_given (length (columns_of n))) ≡ Ok (Values (terms_given (length (columns_of n)))
-      (suc (length (columns_of n))))
-  pub cells : (x : RowOf n) (tree : ℕ) (db : Trees)
-      → edited db (edit_of db (table_of n tree) [] Chosen 0
-      (value_rows (cells_of n x) (suc (length (columns_of n)))
-      (length (terms_given (length (columns_of n))) / suc (length (columns_of n)))
-      (terms_given (length (columns_of n))))) ≡ put_row (Int (next_rowid (db tree)) ∷ cells_of n x)
-      (db tree)
+  pub is : AreNewRows n
+  pub cells : PutCells n
+
+added : (n : TableName) {read : Parsed} → read_first (add_of n) ≡ Ok read
+    → read.statement ≡ written.Insert conflict.Abort (name_of n) (columns_given n)
+    (values_given (length (columns_of n))) [] []
+    → read.formats ≡ [] → slice_range (add_of n) read.start read.end ≡ add_of n
+    → AreNewRows n → PutCells n → Adds n
+added n {read} is said untimed whole rows cells = record {
+  reads = record { read = read; is = is; said = said; untimed = untimed; whole = whole };
+  is = rows;
+  cells = cells;
+}
 
 pub adds_to : (n : TableName) → Adds n
 unfolding everything
-adds_to Metas = record {
-  reads = record {
-    read = _;
-    is = refl;
-    said = refl;
-    untimed = refl;
-    whole = refl;
-  };
-  is = λ s tree base. refl;
-  cells = λ x tree db. rw (cast_null, cast_int) refl;
-}
-adds_to Accounts = record {
-  reads = record {
-    read = _;
-    is = refl;
-    said = refl;
-    untimed = refl;
-    whole = refl;
-  };
-  is = λ s tree base. refl;
-  cells = λ x tree db. rw (cast_null, cast_int, cast_int) refl;
-}
-adds_to ReportedQuarters =
-    record {
-      reads = record { read = _; is = refl; said = refl; untimed = refl; whole = refl };
-      is = λ s tree base. refl;
-      cells = λ x tree db. rw (cast_null, cast_int, cast_int, cast_int) refl;
-    }
-adds_to CalendarYears = record {
-  reads = record {
-    read = _;
-    is = refl;
-    said = refl;
-    untimed = refl;
-    whole = refl;
-  };
-  is = λ s tree base. refl;
-  cells = λ x tree db. rw (cast_null, cast_int) refl;
-}
-adds_to Holidays = record {
-  reads = record {
-    read = _;
-    is = refl;
-    said = refl;
-    untimed = refl;
-    whole = refl;
-  };
-  is = λ s tree base. refl;
-  cells = λ x tree db. rw (cast_null, cast_int, cast_int) refl;
-}
-adds_to Years = record {
-  reads = record {
-    read = _;
-    is = refl;
-    said = refl;
-    untimed = refl;
-    whole = refl;
-  };
-  is = λ s tree base. refl;
-  cells = λ x tree db. rw (cast_null, cast_int, cast_int, cast_int, cast_int_or_null x.turn) refl;
-}
-adds_to Runs = record {
-  reads = record {
-    read = _;
-    is = refl;
-    said = refl;
-    untimed = refl;
-    whole = refl;
-  };
-  is = λ s tree base. refl;
-  cells = λ x tree db. rw (cast_null, cast_int, cast_int, cast_int, cast_int, cast_int, cast_int)
-      refl;
-}
-adds_to Payments = record {
-  reads = record {
-    read = _;
-    is = refl;
-    said = refl;
-    untimed = refl;
-    whole = refl;
-  };
-  is = λ s tree base. refl;
-  cells = λ x tree db. rw (cast_null, cast_int, cast_int, cast_int, cast_int, cast_int) refl;
-}
-adds_to Obligations = record {
-  reads = record {
-    read = _;
-    is = refl;
-    said = refl;
-    untimed = refl;
-    whole = refl;
-  };
-  is = λ s tree base. refl;
-  cells = λ x tree db. rw (cast_null, cast_int, cast_int, cast_int, cast_int, cast_int) refl;
-}
-adds_to Forms = record {
-  reads = record {
-    read = _;
-    is = refl;
-    said = refl;
-    untimed = refl;
-    whole = refl;
-  };
-  is = λ s tree base. refl;
-  cells = λ x tree db. rw (cast_null, cast_int) refl;
-}
-adds_to ReportedYears = record {
-  reads = record {
-    read = _;
-    is = refl;
-    said = refl;
-    untimed = refl;
-    whole = refl;
-  };
-  is = λ s tree base. refl;
-  cells = λ x tree db. rw (cast_null, cast_int, cast_int) refl;
-}
-adds_to AddedHolidays = record {
-  reads = record {
-    read = _;
-    is = refl;
-    said = refl;
-    untimed = refl;
-    whole = refl;
-  };
-  is = λ s tree base. refl;
-  cells = λ x tree db. rw (cast_null, cast_int, cast_int) refl;
-}
-adds_to CorrectedQuarters = record {
-  reads = record {
-    read = _;
-    is = refl;
-    said = refl;
-    untimed = refl;
-    whole = refl;
-  };
-  is = λ s tree base. refl;
-  cells = λ x tree db. rw (cast_null, cast_int, cast_int, cast_int, cast_int) refl;
-}
-adds_to CorrectedYears = record {
-  reads = record {
-    read = _;
-    is = refl;
-    said = refl;
-    untimed = refl;
-    whole = refl;
-  };
-  is = λ s tree base. refl;
-  cells = λ x tree db. rw (cast_null, cast_int, cast_int, cast_int) refl;
-}
-adds_to ChangedHolidays = record {
-  reads = record {
-    read = _;
-    is = refl;
-    said = refl;
-    untimed = refl;
-    whole = refl;
-  };
-  is = λ s tree base. refl;
-  cells = λ x tree db. rw (cast_null, cast_int, cast_int, cast_int, cast_int) refl;
-}
-adds_to CorrectedAccounts = record {
-  reads = record {
-    read = _;
-    is = refl;
-    said = refl;
-    untimed = refl;
-    whole = refl;
-  };
-  is = λ s tree base. refl;
-  cells = λ x tree db. rw (cast_null, cast_int, cast_int, cast_int) refl;
-}
+adds_to Metas = added Metas refl refl refl refl (λ s tree base. refl)
+    (λ x tree db. rw (cast_null, cast_int) refl)
+adds_to Accounts = added Accounts refl refl refl refl (λ s tree base. refl)
+    (λ x tree db. rw (cast_null, cast_int, cast_int) refl)
+adds_to ReportedQuarters = added ReportedQuarters refl refl refl refl (λ s tree base. refl)
+    (λ x tree db. rw (cast_null, cast_int, cast_int, cast_int) refl)
+adds_to CalendarYears = added CalendarYears refl refl refl refl (λ s tree base. refl)
+    (λ x tree db. rw (cast_null, cast_int) refl)
+adds_to Holidays = added Holidays refl refl refl refl (λ s tree base. refl)
+    (λ x tree db. rw (cast_null, cast_int, cast_int) refl)
+adds_to Years = added Years refl refl refl refl (λ s tree base. refl)
+    (λ x tree db. rw (cast_null, cast_int, cast_int, cast_int, cast_int_or_null x.turn) refl)
+adds_to Runs = added Runs refl refl refl refl (λ s tree base. refl)
+    (λ x tree db. rw (cast_null, cast_int, cast_int, cast_int, cast_int, cast_int, cast_int) refl)
+adds_to Payments = added Payments refl refl refl refl (λ s tree base. refl)
+    (λ x tree db. rw (cast_null, cast_int, cast_int, cast_int, cast_int, cast_int) refl)
+adds_to Obligations = added Obligations refl refl refl refl (λ s tree base. refl)
+    (λ x tree db. rw (cast_null, cast_int, cast_int, cast_int, cast_int, cast_int) refl)
+adds_to Forms = added Forms refl refl refl refl (λ s tree base. refl)
+    (λ x tree db. rw (cast_null, cast_int) refl)
+adds_to ReportedYears = added ReportedYears refl refl refl refl (λ s tree base. refl)
+    (λ x tree db. rw (cast_null, cast_int, cast_int) refl)
+adds_to AddedHolidays = added AddedHolidays refl refl refl refl (λ s tree base. refl)
+    (λ x tree db. rw (cast_null, cast_int, cast_int) refl)
+adds_to CorrectedQuarters = added CorrectedQuarters refl refl refl refl (λ s tree base. refl)
+    (λ x tree db. rw (cast_null, cast_int, cast_int, cast_int, cast_int) refl)
+adds_to CorrectedYears = added CorrectedYears refl refl refl refl (λ s tree base. refl)
+    (λ x tree db. rw (cast_null, cast_int, cast_int, cast_int) refl)
+adds_to ChangedHolidays = added ChangedHolidays refl refl refl refl (λ s tree base. refl)
+    (λ x tree db. rw (cast_null, cast_int, cast_int, cast_int, cast_int) refl)
+adds_to CorrectedAccounts = added CorrectedAccounts refl refl refl refl (λ s tree base. refl)
+    (λ x tree db. rw (cast_null, cast_int, cast_int, cast_int) refl)
 
 pub add_is_row_text : (n : TableName) → IsRowText (add_of n)
 add_is_row_text n = (_, (adds_to n).reads, tt)

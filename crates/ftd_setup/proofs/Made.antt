@@ -3,6 +3,7 @@ use Rattle.std.proofs.Common.{◌≡◌, ◌<◌, ◌≤◌, ◌++◌, ◌∙◌
 use Rattle.std.proofs.Common.{append-nil, append_assoc, arith, pos, List, [], ◌∷◌, codes}
 use Rattle.std.proofs.Common.{map, Ok, refl, sym, ap, subst, false}
 use Rattle.std.specs.List.Sorted.{IsPermutation}
+use Rattle.std.proofs.lemmas.Bool.Decides.{nat_tests}
 use Rattle.std.proofs.lemmas.List.Sorted.{IsPermutation-map}
 use Rattle.sqlite.specs.Effect.{Database}
 use Rattle.sqlite.specs.Does.{lacks_sequence}
@@ -19,12 +20,9 @@ use Rattle.sqlite_tied.specs.Compute.{everything}
 use Rattle.ftd_tables.specs.Kept.{changed}
 use Rattle.ftd_tables.specs.Places.{KeepsTables}
 use Rattle.ftd_schema.specs.declared.TableName.{TableName}
-use Rattle.ftd_schema.specs.declared.TableName.TheVariants.{Metas, Accounts, Forms, ReportedYears}
-use Rattle.ftd_schema.specs.declared.TableName.TheVariants.{AddedHolidays, CorrectedQuarters}
-use Rattle.ftd_schema.specs.declared.TableName.TheVariants.{CorrectedYears, ChangedHolidays}
-use Rattle.ftd_schema.specs.declared.TableName.TheVariants.{CorrectedAccounts}
+use Rattle.ftd_schema.specs.declared.TableName.TheVariants.{Metas, Accounts, Forms}
 use Rattle.ftd_schema.specs.Names.{all_names, later_names, since}
-use Rattle.ftd_schema.specs.Rows.{RowOf, cells_of, MetaRow, AccountRow}
+use Rattle.ftd_schema.specs.Rows.{cells_of, MetaRow, AccountRow, FormRow}
 use Rattle.ftd_schema.specs.Standing.{Tables, no_rows, with_rows, Stands, KeepsForeign, Becomes}
 use Rattle.ftd_schema.specs.Standing.{StandsAs, rows_as}
 use Rattle.ftd_schema.proofs.OneOfAll.{foreign_then, stands_same, set_own, set_twice}
@@ -112,43 +110,44 @@ abbrev pub SetsVersion : Database → Database → Type 0
 SetsVersion old new = (t : Tables) → Stands old t
     → Becomes old new (with_rows Metas (marked (t Metas)) t)
 
+-- a table that came after the version is empty, and an earlier one has its rows
+later_empty : (version : ℕ) (t : Tables) (n : TableName) → version < since n
+    → rows_as version t n ≡ []
+later_empty version t n late = grind (arith, nat_tests)
+
+early_same : (version : ℕ) (t : Tables) (n : TableName) → since n ≤ version
+    → rows_as version t n ≡ t n
+early_same version t n early = grind (arith, nat_tests)
+
+-- where the rows of one table are put, the others have theirs
+beside_metas : (rows : List MetaRow) (t : Tables) (n : TableName) → (n ≡ Metas → ⊥)
+    → with_rows Metas rows t n ≡ t n
+beside_metas rows t Metas other = absurd (other refl)
+beside_metas rows t n other = refl
+
+beside_forms : (rows : List FormRow) (t : Tables) (n : TableName) → (n ≡ Forms → ⊥)
+    → with_rows Forms rows t n ≡ t n
+beside_forms rows t Forms other = absurd (other refl)
+beside_forms rows t n other = refl
+
 -- the rows of version 1 become those of version 3
 migration_first : (t : Tables) (accounts : List AccountRow) → HasVersion (t Metas) 1
     → IsPermutation (t Accounts) accounts
     → IsMigration 1 t (with_rows Metas (marked (t Metas))
     (with_rows Forms (map on_form_941 accounts) (rows_as 1 t)))
 unfolding everything
-migration_first t accounts mark same = record {
-  mark = ap marked mark;
-  forms = λ one. IsPermutation-map on_form_941 (t Accounts) accounts same;
-  later = later;
-  others = others;
-}
-  where
-    after : (n : TableName) → List (RowOf n)
-    after = with_rows Metas (marked (t Metas))
-        (with_rows Forms (map on_form_941 accounts) (rows_as 1 t))
-
-    later : (n : TableName) → 1 < since n → (n ≡ Forms → ⊥) → after n ≡ []
-    later Forms late other = absurd (other refl)
-    later ReportedYears late other = refl
-    later AddedHolidays late other = refl
-    later CorrectedQuarters late other = refl
-    later CorrectedYears late other = refl
-    later ChangedHolidays late other = refl
-    later CorrectedAccounts late other = refl
-    later n late other = absurd (omega (arith, late))
-
-    others : (n : TableName) → since n ≤ 1 → (n ≡ Metas → ⊥) → after n ≡ t n
-    others Metas early other = absurd (other refl)
-    others Forms early other = absurd (omega (arith, early))
-    others ReportedYears early other = absurd (omega (arith, early))
-    others AddedHolidays early other = absurd (omega (arith, early))
-    others CorrectedQuarters early other = absurd (omega (arith, early))
-    others CorrectedYears early other = absurd (omega (arith, early))
-    others ChangedHolidays early other = absurd (omega (arith, early))
-    others CorrectedAccounts early other = absurd (omega (arith, early))
-    others n early other = refl
+migration_first t accounts mark same =
+    let forms = map on_form_941 accounts in
+    let rows : Tables = with_rows Forms forms (rows_as 1 t) in
+    record {
+      mark = ap marked mark;
+      forms = λ one. IsPermutation-map on_form_941 (t Accounts) accounts same;
+      later = λ n late other. beside_metas _ rows n (λ is. absurd (omega (arith, rw is at late)))
+          ∙ (beside_forms forms (rows_as 1 t) n other ∙ later_empty 1 t n late);
+      others = λ n early other. beside_metas _ rows n other
+          ∙ (beside_forms forms (rows_as 1 t) n (λ is. absurd (omega (arith, rw is at early)))
+          ∙ early_same 1 t n early);
+    }
 
 pub migrated_first : (old mid new : Database) → HasForms old mid → SetsVersion mid new
     → IsMigratedFrom 1 old new
@@ -168,30 +167,15 @@ migrated_first old mid new before sets t first mark counted =
 migration_second : (t : Tables) → HasVersion (t Metas) 2
     → IsMigration 2 t (with_rows Metas (marked (t Metas)) (rows_as 2 t))
 unfolding everything
-migration_second t mark = record {
-  mark = ap marked mark;
-  forms = λ one. absurd (omega (arith, one));
-  later = later;
-  others = others;
-}
-  where
-    after : (n : TableName) → List (RowOf n)
-    after = with_rows Metas (marked (t Metas)) (rows_as 2 t)
-
-    later : (n : TableName) → 2 < since n → (n ≡ Forms → ⊥) → after n ≡ []
-    later CorrectedQuarters late other = refl
-    later CorrectedYears late other = refl
-    later ChangedHolidays late other = refl
-    later CorrectedAccounts late other = refl
-    later n late other = absurd (omega (arith, late))
-
-    others : (n : TableName) → since n ≤ 2 → (n ≡ Metas → ⊥) → after n ≡ t n
-    others Metas early other = absurd (other refl)
-    others CorrectedQuarters early other = absurd (omega (arith, early))
-    others CorrectedYears early other = absurd (omega (arith, early))
-    others ChangedHolidays early other = absurd (omega (arith, early))
-    others CorrectedAccounts early other = absurd (omega (arith, early))
-    others n early other = refl
+migration_second t mark =
+    let rows : Tables = rows_as 2 t in
+    record {
+      mark = ap marked mark;
+      forms = λ one. absurd (omega (arith, one));
+      later = λ n late other. beside_metas _ rows n (λ is. absurd (omega (arith, rw is at late)))
+          ∙ later_empty 2 t n late;
+      others = λ n early other. beside_metas _ rows n other ∙ early_same 2 t n early;
+    }
 
 pub migrated_second : (old mid new : Database) → IsExtended 2 old mid → SetsVersion mid new
     → IsMigratedFrom 2 old new

@@ -8,7 +8,8 @@ use Rattle.sqlite.specs.Steps.{FailsToCommit}
 use Rattle.sqlite.specs.declared.error.Error.{Error}
 use Rattle.sqlite.specs.Effect.{Database}
 use Rattle.sqlite.specs.Order.{Row}
-use Rattle.sqlite.specs.State.{State, HasCleanDisk, Survives, KeepsCommit, Shown}
+use Rattle.sqlite.specs.State.{State, HasCleanDisk, Survives, KeepsCommit, Shown, IsUnchanged}
+use Rattle.sqlite.proofs.Callers.{survives_begin}
 use Rattle.sqlite.proofs.StateLemmas.{survives_then}
 use Rattle.ftd_schema.specs.Beginnings.{IsEarlier, IsMigratedFrom}
 use Rattle.ftd_schema.specs.States.{CrashKeeps, ShowsAgain}
@@ -18,14 +19,17 @@ use Rattle.ftd_setup.specs.Versions.{has_later, ReadsVersion, Becomes, MayBecome
 use Rattle.ftd_setup.specs.Versions.{OpensByReading}
 use Rattle.ftd_setup.proofs.Readings.{any_version}
 
-pub becoming_survives : (how : Change) (old last end : State) → CrashKeeps old last
-    → (HasCleanDisk last → Becomes how old.now last.now)
-    → Survives last end (λ left. left ≡ last.now.trees) → Survives old end (MayBecome how old.now)
-becoming_survives how old last end inside made committed =
-    survives_then old last end _ _ (MayBecome how old.now) (λ _ db none. absurd none)
-    (λ clean db is.
-    let clean_last : HasCleanDisk last = omega (arith, committed.clean) in
-    (last.now, is, made clean_last)) inside committed
+-- one transaction over the connection, whose steps change the database
+pub becoming_survives : {S : Type 0} (g : store.Ghosts S) (how : Change) (old tx : Held S)
+    (last end : State) → tx ≡ record old { in_transaction = true } → CrashKeeps (state g tx) last
+    → (HasCleanDisk last → Becomes how (state g tx).now last.now)
+    → Survives last end (λ left. left ≡ last.now.trees)
+    → Survives (state g old) end (MayBecome how (state g old).now)
+becoming_survives g how old tx last end begun inside made committed =
+    survives_then (state g old) last end _ _ (MayBecome how (state g old).now)
+    (λ _ db none. absurd none)
+    (λ clean db is. (last.now, is, (rw begun at made) (omega (arith, committed.clean))))
+    (survives_begin g old last _ (rw begun at inside)) committed
 
 -- what a reading before told: the version, and that nothing was changed
 pub record Told (version : ℕ) (old mid : State) : Type 0 where
@@ -34,18 +38,26 @@ pub record Told (version : ℕ) (old mid : State) : Type 0 where
   pub is : ReadsVersion rows version
   pub same : mid.now ≡ old.now
 
+pub told : (old mid : State) (rows : List Row) (version : ℕ)
+    → Shown LIST_METAS.now [] old old rows × IsUnchanged old mid → ReadsVersion rows version
+    → Told version old mid
+told old mid rows version read is =
+    record { rows = rows; shown = read.0; is = is; same = read.1.0.now_is }
+
 -- after a reading that told which version is migrated
-pub migrating_survives : (how : Change) (version : ℕ) (old mid end : State)
+pub migrating_survives : (how : Change) (version : ℕ) (old mid end : State) (rows : List Row)
     → ((db : Database) → Becomes how old.now db → IsMigratedFrom version old.now db)
-    → CrashKeeps old mid → (HasCleanDisk mid → Told version old mid)
-    → Survives mid end (MayBecome how mid.now) → Survives old end (MayBeMigrated old.now)
-migrating_survives how version old mid end from read tells then =
+    → CrashKeeps old mid
+    → (HasCleanDisk mid → Shown LIST_METAS.now [] old old rows × IsUnchanged old mid)
+    → ReadsVersion rows version → Survives mid end (MayBecome how mid.now)
+    → Survives old end (MayBeMigrated old.now)
+migrating_survives how version old mid end rows from read shows is then =
     survives_then old mid end _ _ (MayBeMigrated old.now) (λ _ db none. absurd none)
-    (λ clean db is.
+    (λ clean db left.
     let clean_mid : HasCleanDisk mid = omega (arith, then.clean) in
-    let told = tells clean_mid in
+    let told = told old mid rows version (shows clean_mid) is in
     let did : MayBecome how old.now db =
-    subst (λ (d : Database). MayBecome how d db) told.same is in
+    subst (λ (d : Database). MayBecome how d db) told.same left in
     (did.0, did.1, any_version version old did.0 told.rows told.shown told.is (from did.0 did.2)))
     read then
 

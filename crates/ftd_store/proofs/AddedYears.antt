@@ -5,7 +5,6 @@ use Rattle.std.proofs.Common.{subst, arith}
 use Rattle.std.specs.Prelude.{All, filter, ◌&&◌}
 use Rattle.std.specs.List.{list_any}
 use Rattle.std.proofs.lemmas.Bool.{cases_Bool, eqb-true}
-use Rattle.std.proofs.lemmas.Bool.Decides.{nat_tests}
 use Rattle.std.proofs.lemmas.Grind.{flat_map-append}
 use Rattle.std.proofs.lemmas.List.Elements.{All-head, All-tail}
 use Rattle.std.proofs.lemmas.List.Folds.{list_any-append}
@@ -108,53 +107,45 @@ none_read first holidays t early none = record {
   had = λ earlier low high. absurd (omega arith);
 }
 
+-- of a list that has the same days in the year
+same_holidays : (year : ℕ) (old new : List ℕ) (t : Tables)
+    → ((day : ℕ) → year_of day ≡ year → is_holiday new day ≡ is_holiday old day)
+    → HasHolidays t old year → HasHolidays t new year
+same_holidays year old new t still k =
+    let same : (day : ℕ) → year_of day ≡ year → is_holiday new day
+    ≡ is_holiday_in k.given.items k.added.items k.changes.items day =
+    λ day here. still day here ∙ k.same day here in
+    search
+
+-- of a list to which the year's were added, where it had none of them
+holidays_added : (year : ℕ) (old new : List ℕ) (t : Tables)
+    → ((day : ℕ) → year_of day ≡ year → is_holiday old day ≡ false) → AddsYear year old new t
+    → HasHolidays t new year
+holidays_added year old new t none adds =
+    let same : (day : ℕ) → year_of day ≡ year → is_holiday new day
+    ≡ is_holiday_in adds.given.items adds.added.items adds.changes.items day =
+    λ day here. rw (none day here) at (adds.same day) in
+    search
+
+at_or_before : (a b : ℕ) → a < b + 1 → (a < b) ⊎ (a ≡ b)
+at_or_before a b h = grind arith
+
 pub one_more_read : (first year : ℕ) (old new : List ℕ) (t : Tables) → ReadSoFar first year old t
     → AddsYear year old new t → ReadSoFar first (year + 1) new t
 one_more_read first year old new t so_far adds = record {
   early = let to = adds.to in omega arith;
   none_yet = λ day late.
-      (let before = so_far.none_yet day (omega arith) in
+      let before = so_far.none_yet day (omega arith) in
       let here = adds.elsewhere day (λ same. absurd (omega arith)) in
-      adds.same day
-      ∙ (ap (λ b. b || is_holiday_in adds.given.items adds.added.items adds.changes.items day)
-      before
-      ∙ here));
-  had = λ earlier low high. elim (cases_last earlier year (omega arith)) [
-    | inl before ↦
-        (let k = so_far.had earlier low before in
-        record {
-          given = k.given;
-          is_given = k.is_given;
-          added = k.added;
-          are_added = k.are_added;
-          changes = k.changes;
-          are_changes = k.are_changes;
-          same = λ day in_year.
-              (let here = adds.elsewhere day (λ same. absurd (omega arith)) in
-              adds.same day ∙ (ap (λ b. is_holiday old day || b) here
-              ∙ (or-false (is_holiday old day) ∙ k.same day in_year)));
-        })
-    | inr last ↦ subst (λ y. HasHolidays t new y) (sym last) (record {
-      given = adds.given;
-      is_given = adds.is_given;
-      added = adds.added;
-      are_added = adds.are_added;
-      changes = adds.changes;
-      are_changes = adds.are_changes;
-      same = λ day in_year.
-          (let before = so_far.none_yet day (omega arith) in
-          adds.same day
-          ∙ ap (λ b. b || is_holiday_in adds.given.items adds.added.items adds.changes.items day)
-          before);
-    })
+      rw (before, here) at (adds.same day);
+  had = λ earlier low high. elim (at_or_before earlier year high) [
+    | inl before ↦ same_holidays earlier old new t
+        (λ day here. rw (adds.elsewhere day (λ same. absurd (omega arith)), or-false) at (adds.same
+        day)) (so_far.had earlier low before)
+    | inr last ↦ subst (HasHolidays t new) (sym last)
+        (holidays_added year old new t (λ day here. so_far.none_yet day (omega arith)) adds)
   ];
 }
-  where
-    cases_last : (a b : ℕ) → a < b + 1 → (a < b) ⊎ (a ≡ b)
-    cases_last a b h = elim (cases_Bool (a == b)) [
-      | inl same ↦ inr (eqb-true a b same)
-      | inr apart ↦ inl (grind (arith, nat_tests))
-    ]
 
 -- all years are through
 pub all_read : (first last year : ℕ) (holidays : List ℕ) (t : Tables) → last < year

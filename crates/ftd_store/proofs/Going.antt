@@ -110,6 +110,13 @@ fails_after {C = C} {g = g} {old = old} {new = new} {Does = Does} is p q =
     subst (λ r. Calls {A = C} g old new r Does) (sym is)
     (record { frame = then_fails p q; does = λ clean. tt })
 
+pub call_fails_after : {S A B C : Type 0} {g : store.Ghosts S} {old mid new : Tx S} {x : A}
+    {e : StoreFault} {result : Result C StoreFault} {First : A → State → State → Tables → Type 0}
+    {Second : B → State → State → Tables → Type 0} {Does : C → State → State → Tables → Type 0}
+    → result ≡ Err e → Calls g old mid (Ok x) First → Calls g mid new (Err e) Second
+    → Calls g old new result Does
+call_fails_after is p q = fails_after is p.frame q.frame
+
 -- two changes, one after the other
 pub then_writes : {S A B C : Type 0} {g : store.Ghosts S} {old mid new : Tx S} {x : A} {y : B}
     {f h : Tables → Tables} (z : C) (both : Tables → Tables)

@@ -2,8 +2,10 @@
 use Rattle.std.proofs.Common.{◌≡◌, ◌⊎◌, ℕ, zero, suc, ◌+◌, ◌<◌, inl, inr, List, [], ◌∷◌, ◌++◌, take}
 use Rattle.std.proofs.Common.{length, get_or, refl, sym, ap, subst, ◌∙◌, arith, Bool, true, false}
 use Rattle.std.specs.Prelude.{filter}
+use Rattle.std.specs.List.{sum_by}
 use Rattle.std.proofs.lemmas.List.{take_more, append-nil}
 use Rattle.std.proofs.lemmas.List.Elements.{filter-append}
+use Rattle.std.proofs.lemmas.List.Sums.{sum_by_more}
 use Rattle.ftd_rules.specs.Lists.{Has}
 use Rattle.ftd_rules.proofs.Owed.{has_append, has_left, has_right}
 use Rattle.ftd_rows.specs.Lists.{Pairs}
@@ -12,6 +14,12 @@ use Rattle.ftd_rows.specs.Lists.{Pairs}
 pub taken : {X : Type 0} (xs : List X) (i : ℕ) (x : X) → i < length xs → x ≡ get_or xs i x
     → take (i + 1) xs ≡ take i xs ++ x ∷ []
 taken {X = X} xs i x some is = take_more xs i x some ∙ ap (λ (y : X). take i xs ++ y ∷ []) (sym is)
+
+-- what the items amount to, with one more
+pub sum_taken : {X : Type 0} (amount : X → ℕ) (xs : List X) (i : ℕ) (x : X) → i < length xs
+    → x ≡ get_or xs i x → sum_by amount (take (i + 1) xs) ≡ sum_by amount (take i xs) + amount x
+sum_taken amount xs i x some is =
+    sum_by_more amount xs i x some ∙ ap (λ y. sum_by amount (take i xs) + amount y) (sym is)
 
 -- one pair more
 pub pairs_more : {X Y : Type 0} (R : X → Y → Type 0) (xs : List X) (ys : List Y) (x : X) (y : Y)

@@ -16,8 +16,8 @@ use Rattle.ftd_store.specs.declared.tx.Tx.{Tx}
 use Rattle.ftd_store.specs.Changes.{adding, put_among}
 use Rattle.ftd_store.specs.Seen.{shown}
 use Rattle.ftd_store.specs.Frame.{Frame, Writes}
-use Rattle.ftd_store.proofs.Going.{then_goes, then_fails}
-use Rattle.ftd_store.proofs.YearRows.{put_last}
+use Rattle.ftd_store.proofs.Going.{goes_on, then_goes, then_fails}
+use Rattle.ftd_store.proofs.YearRows.{put_in_place, put_last}
 
 -- the row that is added where none was changed is the one that is put
 same_rows : (y : YearRow) (t : Tables) → filter (is_year y.account y.year) (t Years) ≡ []
@@ -26,6 +26,23 @@ same_rows : (y : YearRow) (t : Tables) → filter (is_year y.account y.year) (t 
     (put_among (filter (is_year y.account y.year) (t Years)) y (t Years)) t n
 same_rows y t none n = set_twice Years (t Years) (t Years ++ y ∷ []) t n
     ∙ ap (λ rows. with_rows Years rows t n) (put_last y (t Years) none)
+
+-- the row takes the place of the one that the year had
+pub puts_in_place : {S A B : Type 0} (g : store.Ghosts S) (old new : Tx S) (x : A) (z : B)
+    (y : YearRow) → Frame g old new (Ok x)
+    → (HasCleanDisk (shown g new) → Executes SET_YEAR.now (cells_of Years y) (shown g old)
+    (shown g new) (Ok 1))
+    → Writes g old new (Ok z)
+    (λ t. with_rows Years (put_among (filter (is_year y.account y.year) (t Years)) y (t Years)) t)
+puts_in_place g old new x z y p ran = record {
+  frame = goes_on g old new x z p;
+  does = λ clean t stands.
+      let made = (figures_set y (shown g old) (shown g new) t stands).0 (ran clean) in (
+        stands_same (shown g new).now _ _ (λ n. ap (λ rows. with_rows Years rows t n)
+            (put_in_place y made.1.0 _ (t Years) made.1.1)) made.0.0,
+        made.0.1,
+      );
+}
 
 pub puts_after : {S A : Type 0} (g : store.Ghosts S) (old mid new : Tx S) (x : A)
     (result : Result (Unit {0}) StoreFault) (y : YearRow) → Frame g old mid (Ok x)

@@ -84,40 +84,43 @@ then_reads {g = g} {old = old} {mid = mid} {new = new} z Both p q tells = record
 }
 
 -- the value of a key, or none
-pub finds : {S Y : Type 0} (g : store.Ghosts S) (old new : Tx S)
-    (result : Result (Option Y) StoreFault) (n : TableName) (sql : List ℕ) (params : Row)
-    (test : RowOf n → Bool) (see : RowOf n → Row) (seen : Y → Row) (row : Y → RowOf n)
+pub finds : {S Y : Type 0} {g : store.Ghosts S} {old new : Tx S}
+    {result : Result (Option Y) StoreFault} {n : TableName} {sql : List ℕ} {params : Row}
+    (test : RowOf n → Bool) {see : RowOf n → Row} {seen : Y → Row} (row : Y → RowOf n)
     → meaning.ShowsTested n sql params test see → ((x : RowOf n) (y : Y) → test x ≡ true
     → see x ≡ seen y → x ≡ row y)
     → Queries g old new result sql params (λ found rows. rows ≡ rows_of seen found)
     → Reads g old new result (λ found t. filter test (t n) ≡ rows_of row found)
-finds g old new result n sql params test see seen row means same q =
+finds {g = g} {old = old} {new = new} {result = result} {n = n} {sql = sql} {params = params}
+    test {see = see} {seen = seen} row means same q =
     reads_by g old new result sql params _ _ (λ found rows t stands showed is.
     only_shown see seen row test (t n) found rows same
     (means (shown g old) (shown g new) rows t stands showed) is) q
 
 -- the values of some rows, in an order
-pub lists : {S A Y : Type 0} (g : store.Ghosts S) (old new : Tx S) (result : Result A StoreFault)
-    (items : A → List Y) (n : TableName) (sql : List ℕ) (params : Row) (test : RowOf n → Bool)
-    (see : RowOf n → Row) (seen : Y → Row)
-    (Rise : RowOf n → RowOf n → Type 0) (IsRowOf : RowOf n → Y → Type 0)
-    → meaning.ListsTested n sql params test see Rise → ((x : RowOf n) (y : Y) → test x ≡ true
+pub lists : {S A Y : Type 0} {g : store.Ghosts S} {old new : Tx S} {result : Result A StoreFault}
+    (items : A → List Y) (n : TableName) {sql : List ℕ} {params : Row} (test : RowOf n → Bool)
+    {see : RowOf n → Row} {seen : Y → Row} {Rise : RowOf n → RowOf n → Type 0}
+    (IsRowOf : RowOf n → Y → Type 0) → meaning.ListsTested n sql params test see Rise →
+    ((x : RowOf n) (y : Y) → test x ≡ true
     → see x ≡ seen y → IsRowOf x y)
     → Queries g old new result sql params (λ listed rows. rows ≡ map seen (items listed))
     → Reads g old new result (λ listed t. Lists Rise IsRowOf (filter test (t n)) (items listed))
-lists g old new result items n sql params test see seen Rise IsRowOf means same q =
+lists {g = g} {old = old} {new = new} {result = result} items n {sql = sql} {params = params} test
+    {see = see} {seen = seen} {Rise = Rise} IsRowOf means same q =
     reads_by g old new result sql params _ _ (λ listed rows t stands showed is.
     let read = means (shown g old) (shown g new) rows t stands showed in
     lists_shown Rise IsRowOf test see seen same (t n) read.0 (items listed) read.1 read.3
     (sym read.2 ∙ is)) q
 
 -- how many rows there are
-pub counts : {S : Type 0} (g : store.Ghosts S) (old new : Tx S) (result : Result ℕ StoreFault)
-    (n : TableName) (sql : List ℕ) (params : Row) (test : RowOf n → Bool)
+pub counts : {S : Type 0} {g : store.Ghosts S} {old new : Tx S} {result : Result ℕ StoreFault}
+    {n : TableName} {sql : List ℕ} {params : Row} (test : RowOf n → Bool)
     → meaning.IsCounted n sql params test
     → Queries g old new result sql params (λ count rows. (rows ≡ count_cells count ∷ [])
     × (count < 2 ^ 32)) → Reads g old new result (λ count t. count ≡ length (filter test (t n)))
-counts g old new result n sql params test means q =
+counts {g = g} {old = old} {new = new} {result = result} {n = n} {sql = sql} {params = params}
+    test means q =
     reads_by g old new result sql params _ _ (λ count rows t stands showed is. same count
     (length (filter test (t n))) rows is.1 is.0
     (means (shown g old) (shown g new) rows t stands showed)) q
@@ -129,8 +132,8 @@ counts g old new result n sql params test means q =
         omega arith
 
 -- the one row of a key is changed
-pub changes_one : {S : Type 0} (g : store.Ghosts S) (old new : Tx S)
-    (result : Result (Unit {0}) StoreFault) (n : TableName) (sql : List ℕ) (params : Row)
+pub changes_one : {S : Type 0} {g : store.Ghosts S} {old new : Tx S}
+    {result : Result (Unit {0}) StoreFault} (n : TableName) (sql : List ℕ) (params : Row)
     (test : RowOf n → Bool) (change : RowOf n → RowOf n)
     → meaning.ChangesOne n sql params test change
     → Frame g old new result
@@ -138,10 +141,11 @@ pub changes_one : {S : Type 0} (g : store.Ghosts S) (old new : Tx S)
     → OnOk result (Executes sql params (shown g old) (shown g new) (Ok 1)))
     → WritesOne g old new result (λ t. filter test (t n))
     (λ t. with_rows n (map (changed test change) (t n)) t)
-changes_one g old new (Ok x) n sql params test change means frame ran = record {
-  frame = frame;
-  does = λ clean t stands. let made = (means (shown g old) (shown g new) t stands).0 (ran clean) in
-      (made.1, made.0);
-}
-changes_one g old new (Err e) n sql params test change means frame ran =
+changes_one {g = g} {old = old} {new = new} {result = Ok x} n sql params test change means frame ran
+    = record {
+      frame = frame;
+      does = λ clean t stands.
+          let made = (means (shown g old) (shown g new) t stands).0 (ran clean) in (made.1, made.0);
+    }
+changes_one {result = Err e} n sql params test change means frame ran =
     record { frame = frame; does = λ clean. tt }

@@ -1,10 +1,8 @@
 -- The rows of the open years.
-use Rattle.std.proofs.Common.{◌≡◌, ℕ, ℤ, pos, Bool, true, false, Option, None, Some, List, [], ◌∷◌}
+use Rattle.std.proofs.Common.{◌≡◌, ℕ, ℤ, Bool, true, false, Option, None, Some, List, [], ◌∷◌}
 use Rattle.std.proofs.Common.{◌++◌, map, inl, inr, refl, sym, ap, ◌∙◌}
-use Rattle.std.specs.Prelude.{filter, bytes_eq, option_map}
-use Rattle.std.specs.Ordering.{int_eq}
-use Rattle.std.proofs.lemmas.Bool.{cases_Bool, and_parts}
-use Rattle.ftd_days.proofs.Spelling.{same_text}
+use Rattle.std.specs.Prelude.{filter, option_map}
+use Rattle.std.proofs.lemmas.Bool.{cases_Bool}
 use Rattle.sqlite.specs.declared.types.Value.TheVariants.{Int}
 use Rattle.sqlite.specs.Values.{or_null, bound_value}
 use Rattle.ftd_tables.specs.Kept.{changed}
@@ -14,30 +12,19 @@ use Rattle.ftd_schema.specs.Orders.{YearsRise}
 use Rattle.ftd_schema.specs.Tests.{is_year, is_year_of, with_figures}
 use Rattle.ftd_rows.specs.declared.cells.StoredDay.{StoredDay}
 use Rattle.ftd_rows.specs.declared.years.StoredYear.{StoredYear}
-use Rattle.ftd_rows.specs.Cells.{day_number, schedule_number, year_cells}
+use Rattle.ftd_rows.specs.Cells.{day_number, year_cells}
 use Rattle.ftd_rows.specs.Lists.{Pairs, Lists}
 use Rattle.ftd_rows.specs.Years.{year_line, year_lines}
 use Rattle.ftd_store.specs.Changes.{put_among}
 use Rattle.ftd_store.specs.Finds.{IsYear}
-use Rattle.ftd_store.proofs.Same.{same_int}
+use Rattle.ftd_store.proofs.Same.{row_told}
 
 -- ---- put
 
 -- the row of a year with the figures of another row of that year is that row
 figures_are : (y x : YearRow) → is_year y.account y.year x ≡ true
     → with_figures y.lookback y.opening y.turn x ≡ y
-figures_are y x passes =
-    let a = and_parts (bytes_eq x.account y.account) (int_eq x.year y.year) passes in
-    let who = same_text x.account y.account a.0 in
-    let which = same_int x.year y.year a.1 in
-    let whole : y ≡ record {
-      account = y.account;
-      year = y.year;
-      lookback = y.lookback;
-      opening = y.opening;
-      turn = y.turn;
-    } = refl in
-    rw (who, which) (sym whole)
+figures_are y x passes = search row_told
 
 put_same : (y x : YearRow) → changed (is_year y.account y.year)
     (with_figures y.lookback y.opening y.turn) x ≡ changed (is_year y.account y.year) (λ z. y) x
@@ -88,12 +75,8 @@ IsStoredYear account row y = (carried : Bool) → IsYear account row (year_line 
 pub stored_year_is : (account : List ℕ) (x : YearRow) (y : StoredYear) → is_year_of account x ≡ true
     → year_shown x ≡ year_cells y → IsStoredYear account x y
 stored_year_is account x y passes h carried =
-    let who = same_text x.account account passes in
-    let year : x.year ≡ pos y.year = cc in
-    let lookback : x.lookback ≡ pos y.lookback.0 = cc in
-    let opening : x.opening ≡ schedule_number y.opening = cc in
     let turn = same_turn x.turn y.turn cc in
-    rw (who, year, lookback, opening, turn) refl
+    search row_told
 
 lines_are : (account : List ℕ) (carried : Bool) (xs : List YearRow) (ys : List StoredYear)
     → Pairs (IsStoredYear account) xs ys → Pairs (IsYear account) xs (year_lines carried ys)

@@ -2,7 +2,7 @@
 use Rattle.std.proofs.Common.{negsuc, Option, None, Some, slice_get, unwrap_or, nat_le, ◌-◌, ◌^◌}
 use Rattle.std.proofs.Common.{◌≡◌, ℕ, ℤ, pos, List, [], ◌∷◌, map, Bool, true, false, cond, refl}
 use Rattle.std.proofs.Common.{sym, ap, subst, ◌∙◌, is_eq}
-use Rattle.std.specs.Prelude.{filter, flat_map, ◌&&◌, bytes_eq}
+use Rattle.std.specs.Prelude.{filter, flat_map, bytes_eq}
 use Rattle.std.specs.List.{list_all}
 use Rattle.std.proofs.lemmas.Map.Text.{is_eq-slice_cmp}
 use Rattle.sqlite.specs.declared.types.Value.{Value}

@@ -60,8 +60,8 @@ pub takes_out : {X : Type 0} {acted : Bool} (old new : State) (name : List ℕ)
     (filter (λ x. not (test x)) xs)
 takes_out old new name columns key references cells xs test h acts filters text params count tested
     w =
-    let made = deleted old new h.at name columns key references h.tree _ text params count
-    h.place.listed (λ olds. quiet old.now.schema h.tree olds [] (h.spared acts)) w in
+    let made = deleted old new h.at name columns key references h.tree _ text params
+    h.place.listed count (λ olds. quiet old.now.schema h.tree olds [] (h.spared acts)) w in
     let found = answer_unordered h.tree filters (col 1 0 ∷ []) old.now.trees params made.1 made.2 in
     let ids : map (λ (r : Row). id_in (rowid r))
     (map (eval_all (col 1 0 ∷ [])) (scan filters params (old.now.trees h.tree))) ≡ ids_that test

@@ -29,47 +29,12 @@ pub record WritesOne (old new : Database) (tree : ℕ) : Type 0 where
   pub others : AllByRecursion (λ (v : Table). v.tree ≢ tree → next v.tree ≡ old.trees v.tree)
       old.schema.tables
 
--- a table that is not the written one keeps its rows
-pub still : {X : Type 0} {acted : Bool} (old new : Database) (name other : List ℕ)
-    (columns : List Column) (key : List ℕ) (references : List Reference) (cells : X → Row)
-    (xs : List X) (written : Table) (i : ℕ)
-    → IsAt old.schema other written i → WritesOne old new written.tree
-    → (h : Holds acted old name (a_table name columns key references) cells xs)
-    → a_table name columns key references h.tree ≢ written
-    → Holds acted new name (a_table name columns key references) cells xs
-still {X = X} {acted = acted} old new name other columns key references cells xs written i there w h
-    differ =
-    let away = apart old.schema name other (a_table name columns key references h.tree) written h.at
-    i h.place there differ in
-    let same = stays old.schema name (a_table name columns key references h.tree) h.at written.tree
-    old.trees w.next h.place w.others away in
-    let P : Database → Type 0 = λ d. Holds acted d name (a_table name columns key references) cells
-    xs in
-    subst P (sym w.is) (record {
-      at = h.at;
-      tree = h.tree;
-      place = h.place;
-      spared = h.spared;
-      rows = subst (λ rows. HasCells cells rows xs) (sym same) h.rows;
-    })
-
--- so does any table that is not the written one
-pub others_stay : (old new : Database) (other : List ℕ) (written : Table) (i : ℕ)
-    → IsAt old.schema other written i → WritesOne old new written.tree
-    → (name : List ℕ) (t : Table) (at : ℕ) → IsAt old.schema name t at → t ≢ written
-    → IsAt new.schema name t at × (new.trees t.tree ≡ old.trees t.tree)
-others_stay old new other written i there w name t at place differ =
-    let away = apart old.schema name other t written at i place there differ in
-    let same = stays old.schema name t at written.tree old.trees w.next place w.others away in
-    subst (λ (d : Database). IsAt d.schema name t at × (d.trees t.tree ≡ old.trees t.tree))
-    (sym w.is) (place, same)
-
--- the written table holds these rows
-pub holds_now : {X : Type 0} {acted : Bool} (old new : Database) (name : List ℕ)
+-- a table with these rows in the new trees holds them
+pub holds_now : {X : Type 0} {acted : Bool} {tree : ℕ} (old new : Database) (name : List ℕ)
     (columns : List Column) (key : List ℕ) (references : List Reference) (cells : X → Row)
     (xs ys : List X)
     → (h : Holds acted old name (a_table name columns key references) cells xs)
-    → (w : WritesOne old new h.tree) → HasCells cells (w.next h.tree) ys
+    → (w : WritesOne old new tree) → HasCells cells (w.next h.tree) ys
     → Holds acted new name (a_table name columns key references) cells ys
 holds_now {acted = acted} old new name columns key references cells xs ys h w k =
     let P : Database → Type 0 = λ d. Holds acted d name (a_table name columns key references) cells
@@ -81,6 +46,33 @@ holds_now {acted = acted} old new name columns key references cells xs ys h w k 
       spared = h.spared;
       rows = k;
     })
+
+-- a table that is not the written one keeps its rows
+pub still : {X : Type 0} {acted : Bool} (old new : Database) (name other : List ℕ)
+    (columns : List Column) (key : List ℕ) (references : List Reference) (cells : X → Row)
+    (xs : List X) (written : Table) (i : ℕ)
+    → IsAt old.schema other written i → WritesOne old new written.tree
+    → (h : Holds acted old name (a_table name columns key references) cells xs)
+    → a_table name columns key references h.tree ≢ written
+    → Holds acted new name (a_table name columns key references) cells xs
+still old new name other columns key references cells xs written i there w h differ =
+    let away = apart old.schema name other (a_table name columns key references h.tree) written h.at
+    i h.place there differ in
+    let same = stays old.schema name (a_table name columns key references h.tree) h.at written.tree
+    old.trees w.next h.place w.others away in
+    holds_now old new name columns key references cells xs xs h w
+    (subst (λ rows. HasCells cells rows xs) (sym same) h.rows)
+
+-- so does any table that is not the written one
+pub others_stay : (old new : Database) (other : List ℕ) (written : Table) (i : ℕ)
+    → IsAt old.schema other written i → WritesOne old new written.tree
+    → (name : List ℕ) (t : Table) (at : ℕ) → IsAt old.schema name t at → t ≢ written
+    → IsAt new.schema name t at × (new.trees t.tree ≡ old.trees t.tree)
+others_stay old new other written i there w name t at place differ =
+    let away = apart old.schema name other t written at i place there differ in
+    let same = stays old.schema name t at written.tree old.trees w.next place w.others away in
+    subst (λ (d : Database). IsAt d.schema name t at × (d.trees t.tree ≡ old.trees t.tree))
+    (sym w.is) (place, same)
 
 -- an INSERT of one row adds it last
 pub adds_row : {X : Type 0} {acted : Bool} (old new : State) (name : List ℕ) (columns : List Column)

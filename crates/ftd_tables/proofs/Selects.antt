@@ -71,16 +71,20 @@ abbrev pub said : Option Phrase → Option Expr
 said None = None
 said (Some p) = Some (say p)
 
+-- what the parts of the statement hold, once opened
+abbrev pub core_in : List ℕ → List (Phrase × List ℕ) → Option Phrase
+    → Core-F Expr Shown Arm Core ast.Select Sort Source
+core_in name columns test = record {
+  distinct = false;
+  shown = map show columns;
+  from = source name ∷ [];
+  filter = said test;
+  group = [];
+  having = None;
+}
+
 abbrev pub core : List ℕ → List (Phrase × List ℕ) → Option Phrase → Core
-core name columns test =
-    roll-Core (record {
-      distinct = false;
-      shown = map show columns;
-      from = source name ∷ [];
-      filter = said test;
-      group = [];
-      having = None;
-    })
+core name columns test = roll-Core (core_in name columns test)
 
 abbrev pub a_select : List ℕ → List (Phrase × List ℕ) → Option Phrase → List (Phrase × Bool)
     → ast.Select
@@ -99,18 +103,6 @@ bound at name = record { name = name; table = at; slot = 1; shared = [] }
 
 abbrev pub page : Term × Term
 page = (lit (Int (negsuc 0)), number 0)
-
--- what the parts of the statement hold, once opened
-abbrev pub core_in : List ℕ → List (Phrase × List ℕ) → Option Phrase
-    → Core-F Expr Shown Arm Core ast.Select Sort Source
-core_in name columns test = record {
-  distinct = false;
-  shown = map show columns;
-  from = source name ∷ [];
-  filter = said test;
-  group = [];
-  having = None;
-}
 
 body_is : (s : Schema) (at : ℕ) (name : List ℕ) (t : Table) (columns : List (Phrase × List ℕ))
     (test : Option Phrase) (c : Core) (outs : List Output) (filters : List Term) (st1 st2 : State)

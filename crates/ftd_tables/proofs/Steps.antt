@@ -1,9 +1,9 @@
 -- What one INSERT, UPDATE or DELETE does to the trees, for any table with no counter, whose rows no
 -- foreign key acts on.
 use Rattle.std.proofs.Common.{◌≡◌, ◌⊎◌, inl, inr, ℕ, List, [], ◌∷◌, map, slice_get}
-use Rattle.std.proofs.Common.{cond, Some, None, Option, Ok, Err, Result, refl, sym, ap}
+use Rattle.std.proofs.Common.{Some, None, Option, Ok, Err, Result, refl, sym, ap}
 use Rattle.std.proofs.Common.{subst, ◌∙◌, length, append-nil, ◌≢◌, arith, drop, unwrap_or}
-use Rattle.std.specs.Prelude.{◌/◌, ◌&&◌, ◌==◌}
+use Rattle.std.specs.Prelude.{◌/◌, ◌==◌}
 use Rattle.std.specs.List.{filter_map}
 use Rattle.sqlite.specs.Order.{Row}
 use Rattle.sqlite.specs.Term.{Term}
@@ -45,22 +45,19 @@ went (inr on) = on
 pub same_value : {B E : Type 0} {a b : B} → ◌≡◌ {A = Result B E} (Ok a) (Ok b) → a ≡ b
 same_value e = cc
 
+-- the database that a statement leaves has the trees that were written last
+ends_with : {p q : Tally × Database} {next : Trees} → p ≡ q → q.1.trees ≡ next
+    → p.1 ≡ record { schema = q.1.schema; trees = next }
+ends_with {q = q} e written = ap (λ (p : Tally × Database). p.1) e
+    ∙ ap (λ ts. (let d : Database = record { schema = q.1.schema; trees = ts } in d)) written
+
 -- where no row goes, no foreign key acts
 no_moves : (depth tree : ℕ) (child : Table) (ref : Reference) (deed : Option Deed)
     (key : Option ParentKey) → work_by depth tree [] child ref deed key ≡ None
 no_moves depth tree child ref None key = refl
 no_moves depth tree child ref (Some deed) None = refl
 no_moves depth tree child ref (Some deed) (Some key) =
-    ap (λ b. cond b
-    (Some (record {
-      depth = depth;
-      child = child;
-      ref = ref;
-      places = key.1;
-      order = key.2;
-      deed = deed;
-      moves = [];
-    })) None) (and-false (key.0 == tree))
+    rw (and-false (key.0 == tree)) refl
 
 none_at : {X Y : Type 0} (f : X → Option Y) → ((x : X) → f x ≡ None) → (xs : List X)
     → filter_map f xs ≡ []
@@ -87,10 +84,7 @@ pub inserted : (old new : State) (at width : ℕ) (name : List ℕ) (columns : L
 inserted old new at width name columns key references tree terms text params count there w =
     let table = a_table name columns key references tree in
     let db = old.now.trees in
-    let schema = old.now.schema in
     let done = went (rw there at w.changed) in
-    let after : new.now ≡ record { schema = schema; trees = done.0.trees } =
-    ap (λ (p : Tally × Database). p.1) (same_value (went (went done.2).2).2) in
     let given = went done.1 in
     let counter = went given.2 in
     let written = went counter.2 in
@@ -101,47 +95,16 @@ inserted old new at width name columns key references tree terms text params cou
     let rows : given.0 ≡ value_rows params width (length terms / width) terms = given.1.1
     ∙ ap (λ ps. value_rows ps width (length terms / width) terms) (append-nil params) in
     let edit : Edit = edit_of db table [] Chosen 0 given.0 in
-    let writes : WritesEdit schema Enforced db edit (Ok written.0) = written.1 in
-    let step = one_step schema Enforced db written.0 edit
-    (no_works schema Enforced 0 table.tree edit.news) writes in (
+    let writes : WritesEdit old.now.schema Enforced db edit (Ok written.0) = written.1 in
+    let step = one_step old.now.schema Enforced db written.0 edit
+    (no_works old.now.schema Enforced 0 table.tree edit.news) writes in (
       written.0,
-      after ∙ ap (λ ts. (let d : Database = record { schema = schema; trees = ts } in
-          d)) next,
-      subst (λ rs. Applies schema Enforced db (edit_of db table [] Chosen 0 rs) written.0) rows
-          step,
+      ends_with (same_value (went (went done.2).2).2) next,
+      subst (λ rs. Applies old.now.schema Enforced db (edit_of db table [] Chosen 0 rs) written.0)
+          rows step,
     )
 
 -- ---- rows that are taken out or changed
-
-pub deleted : (old new : State) (at : ℕ) (name : List ℕ) (columns : List Column) (key : List ℕ)
-    (references : List Reference) (tree : ℕ) (q : Query) (text : List ℕ) (params : Row) (count : ℕ)
-    → slice_get old.now.schema.tables at ≡ Some (a_table name columns key references tree)
-    → ((olds : List Row) → works old.now.schema Enforced 0 tree olds [] ≡ [])
-    → Writes old new None (Delete at (record { lets = []; body = q })) text params count
-    → (next : Trees) × (rows : List Row) × IsAnswer q (overlay old.now.trees []) params rows
-    × (new.now ≡ record { schema = old.now.schema; trees = next })
-    × Applies old.now.schema Enforced old.now.trees
-    (edit_of old.now.trees (a_table name columns key references tree) (ids_of rows) Given 0 []) next
-deleted old new at name columns key references tree q text params count there quiet w =
-    let table = a_table name columns key references tree in
-    let db = old.now.trees in
-    let schema = old.now.schema in
-    let done = went (rw there at w.changed) in
-    let after : new.now ≡ record { schema = schema; trees = done.0.trees } =
-    ap (λ (p : Tally × Database). p.1) (same_value (went (went done.2).2).2) in
-    let found = went done.1 in
-    let edit : Edit = edit_of db table (ids_of found.0) Given 0 [] in
-    let written = went found.2 in
-    let next : done.0.trees ≡ written.0 = ap (λ (it : Written). it.trees) (same_value written.2) in
-    let writes : WritesEdit schema Enforced db edit (Ok written.0) = written.1 in
-    let step = one_step schema Enforced db written.0 edit (quiet (taken_by db edit)) writes in (
-      written.0,
-      found.0,
-      found.1.answer Null,
-      after
-          ∙ ap (λ ts. (let d : Database = record { schema = schema; trees = ts } in d)) next,
-      step,
-    )
 
 numbered_given : (rows sources : List Row) → numbered Given rows sources ≡ sources
 numbered_given rows [] = refl
@@ -152,91 +115,100 @@ alone_in [] one = absurd (omega arith)
 alone_in (x ∷ []) one = (x, refl)
 alone_in (x ∷ y ∷ more) one = absurd (omega arith)
 
-updates : (old new : State) (at : ℕ) (name : List ℕ) (columns : List Column) (key : List ℕ)
-    (references : List Reference) (tree : ℕ) (q : Query) (text : List ℕ) (params : Row) (count : ℕ)
-    → slice_get old.now.schema.tables at ≡ Some (a_table name columns key references tree)
-    → Writes old new None (Update at (record { lets = []; body = q })) text params count
-    → (next : Trees) × (rows : List Row) × IsAnswer q (overlay old.now.trees []) params rows
-    × (new.now ≡ record { schema = old.now.schema; trees = next })
-    × WritesEdit old.now.schema Enforced old.now.trees
-    (edit_of old.now.trees (a_table name columns key references tree) (ids_of rows) Given 1 rows)
-    (Ok next)
-    × (count ≡ length (edit_of old.now.trees (a_table name columns key references tree)
-    (ids_of rows) Given 1 rows).news)
-updates old new at name columns key references tree q text params count there w =
-    let table = a_table name columns key references tree in
-    let db = old.now.trees in
-    let schema = old.now.schema in
-    let done = went (rw there at w.changed) in
-    let last = same_value (went (went done.2).2).2 in
-    let after : new.now ≡ record { schema = schema; trees = done.0.trees } =
-    ap (λ (p : Tally × Database). p.1) last in
-    let found = went done.1 in
-    let written = went found.2 in
-    let is = same_value written.2 in
-    let next : done.0.trees ≡ written.0 = ap (λ (it : Written). it.trees) is in (
-      written.0,
-      found.0,
-      found.1.answer Null,
-      after ∙ ap (λ ts. (let d : Database = record { schema = schema; trees = ts } in d)) next,
-      written.1,
-      w.counted ∙ ap (λ (p : Tally × Database). unwrap_or p.0.rows 0) last
-          ∙ ap (λ (it : Written). length it.rows) is,
-    )
+none_in : {X : Type 0} (xs : List X) → length xs ≡ 0 → xs ≡ []
+none_in [] e = refl
+none_in (x ∷ xs) e = absurd (omega arith)
 
-pub updated_one : (old new : State) (at : ℕ) (name : List ℕ) (columns : List Column) (key : List ℕ)
+module _ (old new : State) (at : ℕ) (name : List ℕ) (columns : List Column) (key : List ℕ)
     (references : List Reference) (tree : ℕ) (q : Query) (text : List ℕ) (params : Row)
-    → slice_get old.now.schema.tables at ≡ Some (a_table name columns key references tree)
-    → ((olds : List Row) (row : Row) → works old.now.schema Enforced 0 tree olds (row ∷ []) ≡ [])
-    → Writes old new None (Update at (record { lets = []; body = q })) text params 1
-    → (next : Trees) × (row : Row) × IsAnswer q (overlay old.now.trees []) params (row ∷ [])
-    × (new.now ≡ record { schema = old.now.schema; trees = next })
-    × (next tree ≡ put_row (cast_row (a_table name columns key references tree) (drop 1 row))
-    (without_rowid (id_in (rowid row)) (old.now.trees tree)))
-    × AllByRecursion (λ t. t.tree ≢ tree → next t.tree ≡ old.now.trees t.tree) old.now.schema.tables
-updated_one old new at name columns key references tree q text params there quiet w =
-    let table = a_table name columns key references tree in
-    let db = old.now.trees in
-    let schema = old.now.schema in
-    let u = updates old new at name columns key references tree q text params 1 there w in
-    let one = alone_in u.1
-    (sym (u.5 ∙ ap length (numbered_given _ (map (λ (s : Row). cast_row table (drop 1 s)) u.1))
-    ∙ length-map u.1 (λ (s : Row). cast_row table (drop 1 s)))) in
-    let row = one.0 in
-    let edit : Edit = edit_of db table (ids_of (row ∷ [])) Given 1 (row ∷ []) in
-    let writes : WritesEdit schema Enforced db edit (Ok u.0) =
-    subst (λ rs. WritesEdit schema Enforced db (edit_of db table (ids_of rs) Given 1 rs) (Ok u.0))
-    one.1 u.4 in
-    let step = one_step schema Enforced db u.0 edit
-    (quiet (taken_by db edit) (cast_row table (drop 1 row))) writes in
-    (u.0, row, subst (IsAnswer q (overlay db []) params) one.1 u.2, u.3, step.rows, step.tables)
+    (there : slice_get old.now.schema.tables at
+    ≡ Some (a_table name columns key references tree)) where
+  abbrev db : Trees
+  db = old.now.trees
 
--- an UPDATE that finds no row changes none
-pub updated_none : (old new : State) (at : ℕ) (name : List ℕ) (columns : List Column) (key : List ℕ)
-    (references : List Reference) (tree : ℕ) (q : Query) (text : List ℕ) (params : Row)
-    → slice_get old.now.schema.tables at ≡ Some (a_table name columns key references tree)
-    → ((olds : List Row) → works old.now.schema Enforced 0 tree olds [] ≡ [])
-    → Writes old new None (Update at (record { lets = []; body = q })) text params 0
-    → (next : Trees) × IsAnswer q (overlay old.now.trees []) params []
-    × (new.now ≡ record { schema = old.now.schema; trees = next })
-    × (next tree ≡ old.now.trees tree)
-    × AllByRecursion (λ t. t.tree ≢ tree → next t.tree ≡ old.now.trees t.tree) old.now.schema.tables
-updated_none old new at name columns key references tree q text params there quiet w =
-    let table = a_table name columns key references tree in
-    let db = old.now.trees in
-    let schema = old.now.schema in
-    let u = updates old new at name columns key references tree q text params 0 there w in
-    let bare =
-    none_in u.1
-    (sym (u.5 ∙ ap length (numbered_given _ (map (λ (s : Row). cast_row table (drop 1 s)) u.1))
-    ∙ length-map u.1 (λ (s : Row). cast_row table (drop 1 s)))) in
-    let edit : Edit = edit_of db table [] Given 1 [] in
-    let writes : WritesEdit schema Enforced db edit (Ok u.0) =
-    subst (λ rs. WritesEdit schema Enforced db (edit_of db table (ids_of rs) Given 1 rs) (Ok u.0))
-    bare u.4 in
-    let step = one_step schema Enforced db u.0 edit (quiet (taken_by db edit)) writes in
-    (u.0, subst (IsAnswer q (overlay db []) params) bare u.2, u.3, step.rows, step.tables)
-  where
-    none_in : (xs : List Row) → length xs ≡ 0 → xs ≡ []
-    none_in [] e = refl
-    none_in (x ∷ xs) e = absurd (omega arith)
+  abbrev schema : Schema
+  schema = old.now.schema
+
+  abbrev table : Table
+  table = a_table name columns key references tree
+
+  -- the edit that takes rows out, and puts others in their places
+  abbrev edit : List Row → ℕ → List Row → Edit
+  edit rows kind news = edit_of db table (ids_of rows) Given kind news
+
+  pub deleted : (count : ℕ)
+      → ((olds : List Row) → works schema Enforced 0 tree olds [] ≡ [])
+      → Writes old new None (Delete at (record { lets = []; body = q })) text params count
+      → (next : Trees) × (rows : List Row) × IsAnswer q (overlay db []) params rows
+      × (new.now ≡ record { schema = schema; trees = next })
+      × Applies schema Enforced db (edit rows 0 []) next
+  deleted count quiet w =
+      let done = went (rw there at w.changed) in
+      let found = went done.1 in
+      let written = went found.2 in
+      let next : done.0.trees ≡ written.0 =
+      ap (λ (it : Written). it.trees) (same_value written.2) in
+      let step = one_step schema Enforced db written.0 (edit found.0 0 [])
+      (quiet (taken_by db (edit found.0 0 []))) written.1 in (
+        written.0,
+        found.0,
+        found.1.answer Null,
+        ends_with (same_value (went (went done.2).2).2) next,
+        step,
+      )
+
+  updates : (count : ℕ) → Writes old new None (Update at (record { lets = []; body = q })) text
+      params count
+      → (next : Trees) × (rows : List Row) × IsAnswer q (overlay db []) params rows
+      × (new.now ≡ record { schema = schema; trees = next })
+      × WritesEdit schema Enforced db (edit rows 1 rows) (Ok next)
+      × (length rows ≡ count)
+  updates count w =
+      let done = went (rw there at w.changed) in
+      let last = same_value (went (went done.2).2).2 in
+      let found = went done.1 in
+      let written = went found.2 in
+      let is = same_value written.2 in
+      let next : done.0.trees ≡ written.0 = ap (λ (it : Written). it.trees) is in (
+        written.0,
+        found.0,
+        found.1.answer Null,
+        ends_with last next,
+        written.1,
+        sym (w.counted ∙ ap (λ (p : Tally × Database). unwrap_or p.0.rows 0) last
+            ∙ ap (λ (it : Written). length it.rows) is
+            ∙ ap length (numbered_given _ (map (λ (s : Row). cast_row table (drop 1 s)) found.0))
+            ∙ length-map found.0 (λ (s : Row). cast_row table (drop 1 s))),
+      )
+
+  pub updated_one : ((olds : List Row) (row : Row) → works schema Enforced 0 tree olds (row ∷ [])
+      ≡ [])
+      → Writes old new None (Update at (record { lets = []; body = q })) text params 1
+      → (next : Trees) × (row : Row) × IsAnswer q (overlay db []) params (row ∷ [])
+      × (new.now ≡ record { schema = schema; trees = next })
+      × (next tree ≡ put_row (cast_row table (drop 1 row))
+      (without_rowid (id_in (rowid row)) (db tree)))
+      × AllByRecursion (λ t. t.tree ≢ tree → next t.tree ≡ db t.tree) schema.tables
+  updated_one quiet w =
+      let u = updates 1 w in
+      let one = alone_in u.1 u.5 in
+      let row = one.0 in
+      let news = row ∷ [] in
+      let step = one_step schema Enforced db u.0 (edit news 1 news)
+      (quiet (taken_by db (edit news 1 news)) (cast_row table (drop 1 row)))
+      (subst (λ rs. WritesEdit schema Enforced db (edit rs 1 rs) (Ok u.0)) one.1 u.4) in
+      (u.0, row, subst (IsAnswer q (overlay db []) params) one.1 u.2, u.3, step.rows, step.tables)
+
+  -- an UPDATE that finds no row changes none
+  pub updated_none : ((olds : List Row) → works schema Enforced 0 tree olds [] ≡ [])
+      → Writes old new None (Update at (record { lets = []; body = q })) text params 0
+      → (next : Trees) × IsAnswer q (overlay db []) params []
+      × (new.now ≡ record { schema = schema; trees = next })
+      × (next tree ≡ db tree)
+      × AllByRecursion (λ t. t.tree ≢ tree → next t.tree ≡ db t.tree) schema.tables
+  updated_none quiet w =
+      let u = updates 0 w in
+      let bare = none_in u.1 u.5 in
+      let step = one_step schema Enforced db u.0 (edit [] 1 []) (quiet (taken_by db (edit [] 1 [])))
+      (subst (λ rs. WritesEdit schema Enforced db (edit rs 1 rs) (Ok u.0)) bare u.4) in
+      (u.0, subst (IsAnswer q (overlay db []) params) bare u.2, u.3, step.rows, step.tables)

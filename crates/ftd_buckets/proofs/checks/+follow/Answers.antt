@@ -1,4 +1,4 @@
-use Rattle.std.proofs.Common.{◌≡◌, ◌∷◌, List, drop, sym, ◌∙◌, subst}
+use Rattle.std.proofs.Common.{List, sym, ◌∙◌, subst}
 use Rattle.std.specs.Prelude.{All}
 use Rattle.std.proofs.lemmas.Bool.{false≢true}
 use Rattle.std.proofs.lemmas.List.Elements.{All-head}
@@ -12,12 +12,8 @@ pub returns-else-is_line_of : goal.returns-else-is_line_of
 returns-else-is_line_of t c = (
   (λ h. absurd (false≢true (sym c.if-is_line_of.false ∙ h))),
   (λ m.
-      let lines : List YearLine = c.args.lines.now in
-      let x : YearLine = c.line-item.result in
-      let e : lines ≡ x ∷ drop 1 lines = head_item lines x c.in-len1-up.len_at_least
-      c.line-item.is in
-      let y = years_head c.args.year lines x (drop 1 lines) e m.0 in
-      let turns : All TurnsWithin (x ∷ drop 1 lines) =
-      subst (λ (z : List YearLine). All TurnsWithin z) e m.1 in
-      c.is_line_of.ensures.1 (y.0, y.1, All-head TurnsWithin x (drop 1 lines) turns)),
+      let e = head_item c.args.lines.now _ c.in-len1-up.len_at_least c.line-item.is in
+      let y = years_head c.args.year c.args.lines.now _ _ e m.0 in
+      let turns = subst (λ (z : List YearLine). All TurnsWithin z) e m.1 in
+      c.is_line_of.ensures.1 (y.0, y.1, All-head TurnsWithin _ _ turns)),
 )

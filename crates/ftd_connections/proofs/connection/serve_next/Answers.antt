@@ -22,27 +22,27 @@ pub returns-in-Closed : goal.returns-in-Closed
 returns-in-Closed g c =
     let found = rw c.in-Closed.is at c.in-Ok.ensures.next in
     rw c.ended-in-Closed.ensures (λ start first said talk.
-    ends_closed g.M.Machine.goes _ _ _ _ _ _ _ _ _
+    ends_closed g.M.Machine.goes
     (reads g.M.Machine.goes _ _ _ _ _ _ _ _ _ _ talk c.in-Ok.ensures.reads) found.0 found.1)
 
 pub returns-in-Idle : goal.returns-in-Idle
 returns-in-Idle g c =
     let found = rw c.in-Idle.is at c.in-Ok.ensures.next in
     rw c.ended-in-Idle.ensures (λ start first said talk.
-    ends_idle g.M.Machine.goes _ _ _ _ _ _ _ _ _
+    ends_idle g.M.Machine.goes
     (reads g.M.Machine.goes _ _ _ _ _ _ _ _ _ _ talk c.in-Ok.ensures.reads) found.0 found.1)
 
 pub returns-in-Truncated : goal.returns-in-Truncated
 returns-in-Truncated g c =
     let found = rw c.in-Truncated.is at c.in-Ok.ensures.next in
     rw c.ended-in-Truncated.ensures (λ start first said talk.
-    ends_truncated g.M.Machine.goes _ _ _ _ _ _ _ _ _
+    ends_truncated g.M.Machine.goes
     (reads g.M.Machine.goes _ _ _ _ _ _ _ _ _ _ talk c.in-Ok.ensures.reads) found.0 found.1)
 
 pub returns-in-Ok-refuse : goal.returns-in-Ok-refuse
 returns-in-Ok-refuse g c =
     rw c.ended.ensures (λ start first said talk.
-    ends_refused g.M.Machine.goes _ _ _ _ _ _ _ _ _ _ c.in-Refused.status
+    ends_refused g.M.Machine.goes c.in-Refused.status
     (reads g.M.Machine.goes _ _ _ _ _ _ _ _ _ _ talk c.in-Ok.ensures.reads)
     (rw c.in-Refused.is at c.in-Ok.ensures.next) c.in-Ok-refuse.ensures.ok)
 

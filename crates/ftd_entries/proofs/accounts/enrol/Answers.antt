@@ -6,20 +6,18 @@ use Rattle.ftd_entries.proofs.accounts.enrol.Goals as goal
 
 pub returns-in-Some : goal.returns-in-Some
 returns-in-Some g c =
-    let name = c.args.name.now in
     let account = c.args.account in
     record {
-      call = served_looked (Enrol name account.start account.carried account.form) c.in-Some.answer
-          c.in_ok-known.ensures.call
-          (enrol_decided name account c.in_ok-known.known c.in-Some.answer (search rules));
+      call = served_looked (Enrol c.args.name.now account.start account.carried account.form)
+          c.in-Some.answer c.in_ok-known.ensures.call (enrol_decided c.args.name.now account
+          c.in_ok-known.known c.in-Some.answer (search rules));
     }
 
 pub returns : goal.returns
 returns g c =
-    let name = c.args.name.now in
     let account = c.args.account in
     record {
-      call = served_changed (Enrol name account.start account.carried account.form) _
+      call = served_changed (Enrol c.args.name.now account.start account.carried account.form) _
           c.in_ok-known.ensures.call c.in_ok-add.ensures.call
-          (enrol_done name account c.in_ok-known.known (search rules));
+          (enrol_done c.args.name.now account c.in_ok-known.known (search rules));
     }

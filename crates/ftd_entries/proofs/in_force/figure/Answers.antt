@@ -1,17 +1,9 @@
 use Rattle.ftd_store.proofs.Telling.{then_reads}
-use Rattle.ftd_entries.specs.Known.{KnowsFigure}
 use Rattle.ftd_entries.proofs.Corrected.{figure_known}
 use Rattle.ftd_entries.proofs.in_force.figure.Goals as goal
 
 pub returns : goal.returns
-returns g c =
-    let name = c.args.name.now in
-    let quarter = c.args.quarter in
-    let reported = c.in_ok-reported.reported in
-    let corrections = c.in_ok-corrections.corrections in
-    record {
-      call = then_reads c.in_force.result (KnowsFigure name quarter) c.in_ok-reported.ensures.call
-          c.in_ok-corrections.ensures.call
-          (λ t finds lists. rw (c.in_force.ensures, c.deref.ensures.value)
-          (figure_known name quarter reported corrections t finds lists));
-    }
+returns g c = rw (c.in_force.ensures, c.deref.ensures.value) (record {
+  call = then_reads _ _ c.in_ok-reported.ensures.call c.in_ok-corrections.ensures.call
+      (figure_known c.args.name.now c.args.quarter _ c.in_ok-corrections.corrections);
+})

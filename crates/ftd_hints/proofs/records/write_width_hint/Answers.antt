@@ -1,21 +1,8 @@
+use Rattle.std.proofs.Common.{subst}
+use Rattle.ftd_ports.specs.Writing.{Writes}
 use Rattle.ftd_hints.specs.Hints.{width_hint}
 use Rattle.ftd_hints.proofs.records.write_width_hint.Goals as goal
 
 pub returns : goal.returns
 unfolding width_hint
-returns g c =
-    let told = rw (
-      c.as_bytes-number.ensures.value,
-      c.format.ensures.text,
-      c.as_bytes-digits.ensures.value,
-      c.format-2.ensures.text,
-      c.fields_text.ensures,
-      c.as_bytes-asked.ensures.value,
-      c.format-3.ensures.text,
-      c.width.ensures,
-    ) at c.write_pieces.ensures in
-    record {
-      ok = told.ok;
-      err = told.err;
-      fault = told.fault;
-    }
+returns g c = subst (Writes _ _ _ _) (cc) c.write_pieces.ensures

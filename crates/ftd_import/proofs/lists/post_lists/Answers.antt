@@ -23,8 +23,6 @@ read_list-requires-clause-there g c =
     let so_far = c.loop-told.invariant.passed in
     let count = left_count c.args.records.now c.loop-told.records so_far.0 so_far.1 in
     let told = so_far.3 in
-    let all = c.requires.all in
-    let least = c.min-count.ensures in
     omega arith
 
 pub returns-in_default : goal.returns-in_default
@@ -33,8 +31,6 @@ returns-in_default g c =
     let count = left_count c.args.records.now c.loop-told.records so_far.0 so_far.1 in
     let left = length_left c.loop-told.records in
     let told = so_far.3 in
-    let all = c.requires.all in
-    let more = c.loop-told-test.true in
     stops_unread (IsStopped c.loop-told.desk) (held g.S.Store c.args.desk.now)
     (held g.S.Store c.loop-told.desk) so_far.0 (records_left c.loop-told.records)
     (records_left c.args.records.now) c.args.done.now c.loop-told.done so_far.1 (omega arith)
@@ -82,8 +78,6 @@ returns g c =
     let count = left_count c.args.records.now c.loop-told.records so_far.0 so_far.1 in
     let left = length_left c.loop-told.records in
     let told = so_far.3 in
-    let all = c.requires.all in
-    let more = c.loop-told-test.false in
     let none : records_left c.loop-told.records ≡ [] =
     nothing (records_left c.loop-told.records) (omega arith) in
     let whole : records_left c.args.records.now ≡ so_far.0 = so_far.1

@@ -1,9 +1,7 @@
-use Rattle.std.proofs.Common.{◌≡◌, ◌∙◌, refl, sym, subst, ap, length, List}
+use Rattle.std.proofs.Common.{◌∙◌, refl, sym, ap, length, List}
 use Rattle.std.specs.List.{filter}
-use Rattle.ftd_machine.specs.Checks.{Answer}
 use Rattle.ftd_desk.specs.Desks.{IsStopped, held}
 use Rattle.ftd_import.specs.Lists.{has_post}
-use Rattle.ftd_import.specs.Outcomes.{CountsAnswers, posts_of}
 use Rattle.ftd_import.specs.declared.reading.Place.{Place}
 use Rattle.ftd_import.specs.declared.summary.Summary.{Summary}
 use Rattle.ftd_import.proofs.Again.{none_posted, posts_together}
@@ -28,14 +26,13 @@ count_all-requires-clause-answers g c =
 
 pub returns-clause-posts : goal.returns-clause-posts
 returns-clause-posts g c =
-    let answers = c.in_ok-answers.answers.items in
     let q : Summary = record c.args.done.now { notes = c.reserve.new.self } in
     let room = with_room c.args.done.now q refl refl refl refl c.in-Ok.ensures.items in
     λ records is.
-    let posts : c.deref.result.now ≡ posts_of records = c.deref.ensures.value ∙ is.posts in
     posts_together (held g.S.Store c.args.desk.now) (held g.S.Store c.together.new.self) records
-    c.deref.result.now answers c.args.done.now q c.count_all.new.done posts
-    c.in_ok-answers.ensures.together c.in_ok-answers.ensures.answers room
-    (subst (λ (said : List Answer). CountsAnswers q records said c.count_all.new.done)
-    c.deref-3.ensures.value (c.count_all.ensures.counts records
+    c.deref.result.now c.in_ok-answers.answers.items c.args.done.now q c.count_all.new.done
+    (c.deref.ensures.value ∙ is.posts)
+    c.in_ok-answers.ensures.answers room
+    (rw c.deref-3.ensures.value at (c.count_all.ensures.counts records
     (c.deref-2.ensures.value ∙ is.places)))
+    c.in_ok-answers.ensures.together

@@ -1,7 +1,7 @@
 use Rattle.std.proofs.Common.{◌≡◌, ◌∷◌, [], refl, sym, subst, rules, ℕ}
 use Rattle.ftd_csv.specs.Records.{SaidEntry}
 use Rattle.ftd_desk.specs.Desks.{IsStopped, held}
-use Rattle.ftd_import.specs.Imports.{Posts, StopsAt}
+use Rattle.ftd_import.specs.Imports.{Posts}
 use Rattle.ftd_import.specs.declared.summary.Summary.{Summary}
 use Rattle.ftd_import.proofs.Outcomes.{counts_then, no_room, posts_same, skips_one, with_room}
 use Rattle.ftd_import.proofs.Places.{first_post, is_malformed, is_entry}
@@ -26,26 +26,15 @@ returns-in-Ok-post_entry-clause-posts g c =
     let q : Summary = record c.args.done.now { notes = c.reserve.new.self } in
     let room = with_room c.args.done.now q refl refl refl refl c.in-Ok.ensures.items in
     let first : c.args.posts.now ≡ c.unwrap.result.0.now ∷ c.unwrap.result.1.now = search rules in
-    let before = held g.S.Store c.args.desk.now in
-    let after = held g.S.Store c.post_entry.new.desk in
     λ at later kept posts.
     let (it, is) = is_entry at c.args.place.now kept c.in-None.is in
-    let post = first_post c.args.place.now.number it at later c.args.posts.now _ _ is posts first
-    in
-    subst (λ (x : ℕ × SaidEntry). Posts before after (x ∷ []) c.args.done.now c.post_entry.new.done)
-    (sym is) (posts_same before after _ c.args.done.now q c.post_entry.new.done room
-    (c.in-Ok-post_entry.ensures.posts it post))
+    let post = first_post _ it at later _ _ _ is posts first in
+    rw is (posts_same (held g.S.Store c.args.desk.now) (held g.S.Store c.post_entry.new.desk) _
+    c.args.done.now q c.post_entry.new.done room (c.in-Ok-post_entry.ensures.posts it post))
 
 pub returns-in-Err-clause-stops : goal.returns-in-Err-clause-stops
 returns-in-Err-clause-stops g c =
     let first : c.args.posts.now ≡ c.unwrap.result.0.now ∷ c.unwrap.result.1.now = search rules in
-    let before = held g.S.Store c.args.desk.now in
-    let after = held g.S.Store c.post_entry.new.desk in
     λ at later kept posts.
     let (it, is) = is_entry at c.args.place.now kept c.in-None.is in
-    let post = first_post c.args.place.now.number it at later c.args.posts.now _ _ is posts first
-    in
-    subst
-    (λ (x : ℕ × SaidEntry). StopsAt (IsStopped c.post_entry.new.desk) before after x c.in-Err.cause)
-    (sym is)
-    (c.in-Err.ensures.stops it post)
+    rw is (c.in-Err.ensures.stops it (first_post _ it at later _ _ _ is posts first))

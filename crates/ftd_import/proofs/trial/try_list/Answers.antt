@@ -1,14 +1,12 @@
-use Rattle.std.proofs.Common.{◌≡◌, ◌∙◌, refl, sym, subst, ap, length, List}
+use Rattle.std.proofs.Common.{◌∙◌, refl, sym, ap, length, List}
 use Rattle.std.specs.List.{filter}
-use Rattle.ftd_machine.specs.Checks.{Answer}
 use Rattle.ftd_desk.specs.Desks.{held}
 use Rattle.ftd_import.specs.Lists.{has_post}
-use Rattle.ftd_import.specs.Outcomes.{CountsAnswers, posts_of}
 use Rattle.ftd_import.specs.declared.reading.Place.{Place}
 use Rattle.ftd_import.specs.declared.summary.Summary.{Summary}
 use Rattle.ftd_import.proofs.Outcomes.{with_room}
 use Rattle.ftd_import.proofs.Places.{posts_count}
-use Rattle.ftd_import.proofs.Tried.{tried_together}
+use Rattle.ftd_import.proofs.Again.{tried_together}
 use Rattle.ftd_import.proofs.trial.try_list.Goals as goal
 
 pub count_all-requires-clause-answers : goal.count_all-requires-clause-answers
@@ -21,14 +19,13 @@ count_all-requires-clause-answers g c =
 
 pub returns-in-Ok-trial-clause-tells : goal.returns-in-Ok-trial-clause-tells
 returns-in-Ok-trial-clause-tells g c =
-    let answers = c.in-Ok-trial.answers.items in
     let q : Summary = record c.args.done.now { notes = c.reserve.new.self } in
     let room = with_room c.args.done.now q refl refl refl refl c.in-Ok.ensures.items in
     λ records is.
-    let posts : c.deref.result.now ≡ posts_of records = c.deref.ensures.value ∙ is.posts in
     tried_together (held g.S.Store c.args.desk.now) (held g.S.Store c.trial.new.self) records
-    c.deref.result.now answers c.args.done.now q c.count_all.new.done posts
-    c.in-Ok-trial.ensures.trial c.in-Ok-trial.ensures.answers room
-    (subst (λ (said : List Answer). CountsAnswers q records said c.count_all.new.done)
-    c.deref-in-Ok-trial-2.ensures.value (c.count_all.ensures.counts records
+    c.deref.result.now c.in-Ok-trial.answers.items c.args.done.now q c.count_all.new.done
+    (c.deref.ensures.value ∙ is.posts)
+    c.in-Ok-trial.ensures.answers room
+    (rw c.deref-in-Ok-trial-2.ensures.value at (c.count_all.ensures.counts records
     (c.deref-in-Ok-trial.ensures.value ∙ is.places)))
+    c.in-Ok-trial.ensures.trial

@@ -1,4 +1,4 @@
-use Rattle.std.proofs.Common.{◌≡◌, ◌∙◌, None, Some, ap, refl, rules, subst, sym, map}
+use Rattle.std.proofs.Common.{◌≡◌, ◌∙◌, None, ap, refl, rules, subst, sym, map}
 use Rattle.ftd_rules.specs.Lists.{Has}
 use Rattle.ftd_store.specs.Kept.{ListsKeptRuns}
 use Rattle.ftd_store.proofs.Telling.{then_reads}
@@ -19,19 +19,14 @@ use Rattle.ftd_entries.proofs.QuarterDays.{early_quarter}
 use Rattle.ftd_kept.proofs.lists.runs.Goals as goal
 
 pub returns-in-Some : goal.returns-in-Some
-returns-in-Some g c =
-    let name = c.args.name.now in
-    let quarter = c.args.quarter in
-    let account = c.in_ok-account.account in
-    let read = then_reads account (λ a. KnowsAccount name a) c.in_ok-account.ensures.call
-    c.in_ok-found.ensures.call (λ t knows lists. knows) in
-    let is : first_of (kept_in_quarter_checks name quarter account) ≡ Some c.in-Some.answer =
-    search rules in
-    record {
-      call = served_looked (Question (questions.Kept (kept.Runs name quarter))) c.in-Some.answer
-          read (λ t s stands sound knows. decided _ s c.in-Some.answer _
-          (ap (λ a. first_of (kept_in_quarter_checks name quarter a)) (knows s stands) ∙ is));
-    }
+returns-in-Some g c = record {
+  call = served_looked (Question (questions.Kept (kept.Runs c.args.name.now c.args.quarter)))
+      c.in-Some.answer (then_reads c.in_ok-account.account
+      (KnowsAccount c.args.name.now) c.in_ok-account.ensures.call c.in_ok-found.ensures.call
+      (λ t knows lists. knows)) (λ t s stands sound knows. decided _ s c.in-Some.answer _
+      (ap (λ a. first_of (kept_in_quarter_checks c.args.name.now c.args.quarter a))
+      (knows s stands) ∙ search rules));
+}
 
 pub returns-in-Ok : goal.returns-in-Ok
 returns-in-Ok g c =
@@ -39,15 +34,15 @@ returns-in-Ok g c =
     let quarter = c.args.quarter in
     let account = c.in_ok-account.account in
     let found = c.in_ok-found.found in
-    let read = then_reads account
-    (λ a t. KnowsAccount name a t × ListsKeptRuns name c.first.result c.last.result found t)
-    c.in_ok-account.ensures.call c.in_ok-found.ensures.call (λ t knows lists. (knows, lists)) in
     let is : first_of (kept_in_quarter_checks name quarter account) ≡ None = search rules in
-    let early = early_quarter name quarter account is in
     let told = c.in-Ok.ensures in
     let answer = told_rows (rows.Runs c.from_vec.result) in
     record {
-      call = served_looked (Question (questions.Kept (kept.Runs name quarter))) answer read
+      call = served_looked (Question (questions.Kept (kept.Runs name quarter))) answer
+          (then_reads account
+          (λ a t. KnowsAccount name a t × ListsKeptRuns name c.first.result c.last.result found t)
+          c.in_ok-account.ensures.call c.in_ok-found.ensures.call
+          (λ t knows lists. (knows, lists)))
           (λ t s stands sound knows. passed _ s answer s _
           (ap (λ a. first_of (kept_in_quarter_checks name quarter a)) (knows.0 s stands) ∙ is) (
             refl,
@@ -57,8 +52,8 @@ returns-in-Ok g c =
               all = λ x. subst (λ xs. (Has xs x → IsRunIn (entries_of s name) quarter x)
                   × (IsRunIn (entries_of s name) quarter x → Has xs x))
                   (sym (told.told ∙ ap (map kept_run) c.deref.ensures.value))
-                  (runs_are name quarter c.last.result c.last.ensures early t s stands sound
-                  found.items
+                  (runs_are name quarter c.last.result c.last.ensures
+                  (early_quarter name quarter account is) t s stands sound found.items
                   (subst (λ d. ListsKeptRuns name d c.last.result found t) c.first.ensures knows.1)
                   x);
               told = ap (λ xs. told_rows (rows.Runs xs)) c.from_vec.ensures;

@@ -1,4 +1,4 @@
-use Rattle.std.proofs.Common.{◌≡◌, ◌∙◌, None, Some, ap, refl, rules}
+use Rattle.std.proofs.Common.{◌∙◌, ap, refl, rules}
 use Rattle.ftd_store.proofs.Telling.{then_reads}
 use Rattle.ftd_machine.specs.Checks.{first_of}
 use Rattle.ftd_machine.specs.Kept.{told_rows}
@@ -14,33 +14,28 @@ use Rattle.ftd_kept.specs.Kept.{KnowsYears}
 use Rattle.ftd_kept.proofs.lists.years.Goals as goal
 
 pub returns-in-Some : goal.returns-in-Some
-returns-in-Some g c =
-    let name = c.args.name.now in
-    let found = c.in_ok-found.found in
-    let is : first_of (kept_of_checks name found) ≡ Some c.in-Some.answer = search rules in
-    record {
-      call = served_looked (Question (questions.Kept (kept.Years name))) c.in-Some.answer
-          c.in_ok-found.ensures.call (λ t s stands sound knows. decided _ s c.in-Some.answer _
-          (ap (λ a. first_of (kept_of_checks name a)) (knows s stands) ∙ is));
-    }
+returns-in-Some g c = record {
+  call = served_looked (Question (questions.Kept (kept.Years c.args.name.now))) c.in-Some.answer
+      c.in_ok-found.ensures.call (λ t s stands sound knows.
+      decided _ s c.in-Some.answer _ (ap (λ a. first_of (kept_of_checks c.args.name.now a))
+      (knows s stands) ∙ search rules));
+}
 
 pub returns : goal.returns
 returns g c =
     let name = c.args.name.now in
-    let found = c.in_ok-found.found in
     let account = c.in-Some-found.account in
     let listed = c.in_ok-rows.rows in
-    let read = then_reads found
-    (λ a t. KnowsAccount name a t × KnowsYears name account listed.items t)
-    c.in_ok-found.ensures.call c.in_ok-rows.ensures.call (λ t knows years. (knows, years)) in
-    let is : first_of (kept_of_checks name found) ≡ None = search rules in
     let answer = told_rows (rows.Years c.from_vec.result) in
     record {
-      call = served_looked (Question (questions.Kept (kept.Years name))) answer read
+      call = served_looked (Question (questions.Kept (kept.Years name))) answer
+          (then_reads c.in_ok-found.found
+          (λ a t. KnowsAccount name a t × KnowsYears name account listed.items t)
+          c.in_ok-found.ensures.call c.in_ok-rows.ensures.call (λ t knows years. (knows, years)))
           (λ t s stands sound knows.
           (let years = knows.1 s stands sound (knows.0 s stands ∙ c.in-Some-found.is) in
           passed _ s answer s _
-          (ap (λ a. first_of (kept_of_checks name a)) (knows.0 s stands) ∙ is) (
+          (ap (λ a. first_of (kept_of_checks name a)) (knows.0 s stands) ∙ search rules) (
             refl,
             record {
               listed = listed.items;

@@ -11,42 +11,37 @@ pub returns-in_err-write_schedule : goal.returns-in_err-write_schedule
 unfolding explanation_text
 returns-in_err-write_schedule g c =
     then_writes c.in_ok-write_obligation.ensures
-    (stops_in _ c.from_residual-in_err-write_schedule.ensures.0
-    c.in_err-write_schedule.ensures)
+    (stops_in _ c.from_residual-in_err-write_schedule.ensures.0 c.in_err-write_schedule.ensures)
 
 pub returns-in_err-write_table : goal.returns-in_err-write_table
 unfolding explanation_text
 returns-in_err-write_table g c =
-    then_writes c.in_ok-write_obligation.ensures
-    (then_writes c.in_ok-write_schedule.ensures
-    (stops_in _ c.from_residual-in_err-write_table.ensures.0
-    (rw c.as_slice.ensures at c.in_err-write_table.ensures)))
+    let failed = rw c.as_slice.ensures at c.in_err-write_table.ensures in
+    then_writes c.in_ok-write_obligation.ensures (then_writes c.in_ok-write_schedule.ensures
+    (stops_in _ c.from_residual-in_err-write_table.ensures.0 failed))
 
 pub returns-in_err-write_table-2 : goal.returns-in_err-write_table-2
 unfolding explanation_text
 returns-in_err-write_table-2 g c =
-    then_writes c.in_ok-write_obligation.ensures
-    (then_writes c.in_ok-write_schedule.ensures
-    (then_writes (rw c.as_slice.ensures at c.in_ok-write_table.ensures)
-    (stops_in _ c.from_residual-in_err-write_table-2.ensures.0
-    (rw c.as_slice-2.ensures at c.in_err-write_table-2.ensures))))
+    let paydays = rw c.as_slice.ensures at c.in_ok-write_table.ensures in
+    let failed = rw c.as_slice-2.ensures at c.in_err-write_table-2.ensures in
+    then_writes c.in_ok-write_obligation.ensures (then_writes c.in_ok-write_schedule.ensures
+    (then_writes paydays (stops_in _ c.from_residual-in_err-write_table-2.ensures.0 failed)))
 
 pub returns-in_err-write_return : goal.returns-in_err-write_return
 unfolding explanation_text
 returns-in_err-write_return g c =
-    then_writes c.in_ok-write_obligation.ensures
-    (then_writes c.in_ok-write_schedule.ensures
-    (then_writes (rw c.as_slice.ensures at c.in_ok-write_table.ensures)
-    (then_writes (rw c.as_slice-2.ensures at c.in_ok-write_table-2.ensures)
-    (stops_in _ c.from_residual-in_err-write_return.ensures.0
-    c.in_err-write_return.ensures))))
+    let paydays = rw c.as_slice.ensures at c.in_ok-write_table.ensures in
+    let days = rw c.as_slice-2.ensures at c.in_ok-write_table-2.ensures in
+    then_writes c.in_ok-write_obligation.ensures (then_writes c.in_ok-write_schedule.ensures
+    (then_writes paydays (then_writes days (stops_in _
+    c.from_residual-in_err-write_return.ensures.0 c.in_err-write_return.ensures))))
 
 pub returns : goal.returns
 unfolding explanation_text
 returns g c =
-    then_writes c.in_ok-write_obligation.ensures
-    (then_writes c.in_ok-write_schedule.ensures
-    (then_writes (rw c.as_slice.ensures at c.in_ok-write_table.ensures)
-    (then_writes (rw c.as_slice-2.ensures at c.in_ok-write_table-2.ensures)
-    (then_writes c.in_ok-write_return.ensures
-    (rw c.as_slice-3.ensures at c.write_table-3.ensures)))))
+    let paydays = rw c.as_slice.ensures at c.in_ok-write_table.ensures in
+    let days = rw c.as_slice-2.ensures at c.in_ok-write_table-2.ensures in
+    let payments = rw c.as_slice-3.ensures at c.write_table-3.ensures in
+    then_writes c.in_ok-write_obligation.ensures (then_writes c.in_ok-write_schedule.ensures
+    (then_writes paydays (then_writes days (then_writes c.in_ok-write_return.ensures payments))))

@@ -1,10 +1,6 @@
-use Rattle.ftd_ports.proofs.WritingFacts.{then_writes, stops_in}
+use Rattle.ftd_ports.proofs.WritingFacts.{then_writes}
 use Rattle.ftd_listings.specs.Explanations.{explanation_told}
 use Rattle.ftd_listings.proofs.explanations.write_explanation.Goals as goal
-
-pub returns-in_err-write_head : goal.returns-in_err-write_head
-unfolding explanation_told
-returns-in_err-write_head g c = stops_in _ c.from_residual.ensures.0 c.in_err-write_head.ensures
 
 pub returns : goal.returns
 unfolding explanation_told

@@ -7,8 +7,4 @@ returns g c =
     c.amount_column-amount.result.dollars.now c.amount_column-amount.result.cents in
     let line = rw c.amount_column-amount.ensures at whole in
     let told = c.write_pieces.ensures in
-    record {
-      ok = rw line told.ok;
-      err = rw line told.err;
-      fault = told.fault;
-    }
+    rw line told

@@ -11,8 +11,4 @@ returns g c =
     whole in
     let told = rw (c.form_bytes-form.ensures, c.day_bytes-start.ensures, c.carried_end.ensures)
     at c.write_pieces.ensures in
-    record {
-      ok = rw line told.ok;
-      err = rw line told.err;
-      fault = told.fault;
-    }
+    rw line told

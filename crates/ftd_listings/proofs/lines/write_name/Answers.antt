@@ -8,8 +8,4 @@ returns g c =
     let whole = name_parts c.args.name.now c.spaces_after-spaces.result.now in
     let line = rw c.spaces_after-spaces.ensures at whole in
     let told = rw c.as_bytes.ensures.value at c.write_pieces.ensures in
-    record {
-      ok = rw line told.ok;
-      err = rw line told.err;
-      fault = told.fault;
-    }
+    rw line told

@@ -4,14 +4,9 @@ use Rattle.ftd_program.proofs.deposits.write_record.Goals as goal
 pub returns : goal.returns
 unfolding record_line
 returns g c =
-    let told = rw (
+    rw (
       c.as_bytes-number.ensures.value,
       c.format.ensures.text,
       c.as_bytes-field.ensures.value,
       c.format-2.ensures.text,
-    ) at c.write_pieces.ensures in
-    record {
-      ok = told.ok;
-      err = told.err;
-      fault = told.fault;
-    }
+    ) at c.write_pieces.ensures

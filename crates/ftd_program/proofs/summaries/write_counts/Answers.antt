@@ -4,7 +4,7 @@ use Rattle.ftd_program.proofs.summaries.write_counts.Goals as goal
 pub returns : goal.returns
 unfolding counts_text
 returns g c =
-    let told = rw (
+    rw (
       c.as_bytes-posted.ensures.value,
       c.format.ensures.text,
       c.as_bytes-already.ensures.value,
@@ -13,9 +13,4 @@ returns g c =
       c.format-3.ensures.text,
       c.as_bytes-malformed.ensures.value,
       c.format-4.ensures.text,
-    ) at c.write_pieces.ensures in
-    record {
-      ok = told.ok;
-      err = told.err;
-      fault = told.fault;
-    }
+    ) at c.write_pieces.ensures

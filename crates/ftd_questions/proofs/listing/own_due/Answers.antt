@@ -5,32 +5,19 @@ use Rattle.ftd_store.proofs.Going.{then_goes}
 use Rattle.ftd_store.proofs.Telling.{reads_on, then_reads}
 use Rattle.ftd_store.proofs.Turning.{gave_up_after}
 use Rattle.ftd_entries.proofs.OwedRows.{obligations_known}
-use Rattle.ftd_questions.specs.Listing.{KnowsOwn, is_unpaid}
+use Rattle.ftd_questions.specs.Listing.{is_unpaid}
 use Rattle.ftd_questions.proofs.OwnDue.{own_read, own_unpaid}
 use Rattle.ftd_questions.proofs.listing.own_due.Goals as goal
 
 pub returns-in_default : goal.returns-in_default
-returns-in_default g c =
-    let name = c.args.name.now in
-    let from = c.args.from in
-    let to = c.args.to in
-    let first = c.year_before.result in
-    let found = c.in_ok-owed.owed in
-    record {
-      call = reads_on found (λ xs. KnowsOwn c.args.unpaid.now from to name xs.items)
-          c.in_ok-owed.ensures.call
-          (λ t lists. own_read c.args.unpaid.now from to name first found.items t
-          c.in_default.not-Some c.year_before.ensures
-          (obligations_known name first to found t lists));
-    }
+returns-in_default g c = record {
+  call = reads_on c.in_ok-owed.owed _ c.in_ok-owed.ensures.call (λ t lists.
+      own_read _ _ c.args.to c.args.name.now _ _ t c.in_default.not-Some c.year_before.ensures
+      (obligations_known c.args.name.now _ c.args.to c.in_ok-owed.owed t lists));
+}
 
 pub returns-in-Ok : goal.returns-in-Ok
 returns-in-Ok g c =
-    let name = c.args.name.now in
-    let from = c.args.from in
-    let to = c.args.to in
-    let first = c.year_before.result in
-    let zeroth = c.first_of_month.result in
     let found = c.in_ok-owed.owed in
     let payments = c.in_ok-payments.payments in
     let left = c.in-Ok.left in
@@ -40,19 +27,16 @@ returns-in-Ok g c =
     (subst (λ os. left.items ≡ filter (is_unpaid c.deref-2.result.now as_of) os)
     c.deref.ensures.value c.in-Ok.ensures) in
     record {
-      call = then_reads left (λ xs. KnowsOwn c.args.unpaid.now from to name xs.items)
-          c.in_ok-owed.ensures.call c.in_ok-payments.ensures.call
-          (λ t lists counts. own_unpaid c.args.unpaid.now from to name first zeroth as_of
-          found.items left.items payments.items t c.in-Some.is c.year_before.ensures
+      call = then_reads left _ c.in_ok-owed.ensures.call c.in_ok-payments.ensures.call
+          (λ t lists counts. own_unpaid _ _ c.args.to c.args.name.now _ _ as_of found.items
+          left.items
+          payments.items t c.in-Some.is c.year_before.ensures
           (c.first_of_month.ensures.value ∙ month_start-zero) left_is
-          (obligations_known name first to found t lists) counts);
+          (obligations_known c.args.name.now _ c.args.to found t lists) counts);
     }
 
 pub returns : goal.returns
-returns g c =
-    let payments = c.in_ok-payments.payments in
-    let two = then_goes payments c.in_ok-owed.ensures.call.frame
-    c.in_ok-payments.ensures.call.frame in
-    record {
-      call = gave_up_after two c.give_up.ensures.frame c.give_up.ensures.fails;
-    }
+returns g c = record {
+  call = gave_up_after (then_goes (tt {0}) c.in_ok-owed.ensures.call.frame
+      c.in_ok-payments.ensures.call.frame) c.give_up.ensures.frame c.give_up.ensures.fails;
+}

@@ -1,15 +1,10 @@
-use Rattle.std.proofs.Common.{◌≡◌, ◌∙◌, rules, tests}
-use Rattle.std.specs.List.{find}
-use Rattle.std.specs.Option.{option_map}
+use Rattle.std.proofs.Common.{◌∙◌, rules, tests}
 use Rattle.std.proofs.lemmas.Iterator.{YieldsList-from_slice}
 use Rattle.std.proofs.lemmas.Iterator.Search.{find_from_yields_List}
 use Rattle.ftd_reasons.proofs.ExplainedKnown.{ends_late, end_found}
 use Rattle.ftd_reasons.proofs.explaining.ends_from.Goals as goal
 
 pub returns : goal.returns
-returns c =
-    let xs = c.args.obligations.now in
-    let is : option_map (λ y. y.now) c.find.result ≡ find (ends_late c.args.day) xs =
-    find_from_yields_List (ends_late c.args.day) _ _ c.find.result c.find.ensures.ran
-    (YieldsList-from_slice xs cc) (λ x b q k. search (rules, tests)) in
-    end_found xs c.args.day c.copied.result (c.copied.ensures ∙ is)
+returns c = end_found c.args.obligations.now c.args.day c.copied.result
+    (c.copied.ensures ∙ find_from_yields_List (ends_late c.args.day) _ _ c.find.result
+    c.find.ensures.ran (YieldsList-from_slice _ cc) (λ x b q k. search (rules, tests)))

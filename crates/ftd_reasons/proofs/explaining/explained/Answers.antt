@@ -2,34 +2,24 @@ use Rattle.std.proofs.Common.{None, Some, subst, sym}
 use Rattle.ftd_store.proofs.Telling.{reads_on, then_reads}
 use Rattle.ftd_rules.specs.declared.Obligation.{Obligation}
 use Rattle.ftd_rules.specs.Laws.{Covers}
-use Rattle.ftd_reasons.specs.Explained.{KnowsCovering, KnowsExplained}
+use Rattle.ftd_reasons.specs.Explained.{KnowsCovering}
 use Rattle.ftd_reasons.proofs.explaining.explained.Goals as goal
 
 pub returns-in_default : goal.returns-in_default
-returns-in_default g c =
-    let name = c.args.name.now in
-    let form = c.args.form in
-    let lines = c.args.lines.now in
-    let day = c.args.day in
-    record {
-      call = reads_on None (KnowsExplained name form lines day) c.in_ok-obligation.ensures.call
-          (λ t knows s stands sound form_is lines_are. subst (λ o. KnowsCovering name day o t)
-          c.in_default.is knows s stands);
-    }
+returns-in_default g c = record {
+  call = reads_on None _ c.in_ok-obligation.ensures.call
+      (λ t knows s stands sound form_is lines_are. subst
+      (λ o. KnowsCovering c.args.name.now c.args.day o t) c.in_default.is knows s stands);
+}
 
 pub returns : goal.returns
 returns g c =
-    let name = c.args.name.now in
-    let form = c.args.form in
-    let lines = c.args.lines.now in
     let day = c.args.day in
-    let explanation = c.in_ok-explanation.explanation in
     record {
-      call = then_reads (Some explanation) (KnowsExplained name form lines day)
-          c.in_ok-obligation.ensures.call c.in_ok-explanation.ensures.call
-          (λ t covers knows s stands sound form_is lines_are.
-          (let its = subst (λ found. KnowsCovering name day found t) c.in-Some.is covers s
-          stands in
+      call = then_reads (Some c.in_ok-explanation.explanation) _ c.in_ok-obligation.ensures.call
+          c.in_ok-explanation.ensures.call (λ t covers knows s stands sound form_is lines_are.
+          (let its = subst (λ found. KnowsCovering c.args.name.now day found t) c.in-Some.is covers
+          s stands in
           let told = knows s stands sound form_is lines_are its.0 in
           (told.1, subst (λ (p : Obligation). Covers p day) (sym told.0) its.1)));
     }

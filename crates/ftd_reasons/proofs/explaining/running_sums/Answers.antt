@@ -1,25 +1,21 @@
-use Rattle.std.proofs.Common.{◌≡◌, ◌<◌, ℕ, List, length, get_or, ap, sym, arith, refl}
-use Rattle.std.proofs.lemmas.List.Sums.{sum_by_more}
-use Rattle.ftd_rules.specs.declared.DaySum.{DaySum}
+use Rattle.std.proofs.Common.{arith, refl}
 use Rattle.ftd_rules.specs.Liability.{cents_of}
-use Rattle.ftd_store.proofs.Items.{taken}
+use Rattle.ftd_store.proofs.Items.{sum_taken, taken}
 use Rattle.ftd_reasons.proofs.Paydays.{running_more}
 use Rattle.ftd_reasons.proofs.explaining.running_sums.Goals as goal
 
 pub loop-sum-preserved : goal.loop-sum-preserved
 loop-sum-preserved c =
-    let xs : List DaySum = c.args.sums.now in
-    let i : ℕ = c.loop-sum.sum-index in
-    let x : DaySum = c.sum-item.result in
-    let some : i < length xs = c.loop-sum-test.true in
-    let more = sum_by_more cents_of xs i x some in
-    let same : cents_of (get_or xs i x) ≡ x.cents.0 = ap cents_of (sym c.sum-item.is) in
-    let so_far = c.loop-sum.invariant.total in
-    let small = c.loop-sum.invariant.small in
+    let some = c.loop-sum-test.true in
+    let more = sum_taken cents_of c.args.sums.now c.loop-sum.sum-index c.sum-item.result some
+    c.sum-item.is in
     record {
-      running = rw (c.in_ok-push.ensures.items, taken xs i x some c.sum-item.is)
-          (running_more 0 _ c.loop-sum.rows.items x _ c.loop-sum.invariant.running refl refl
-          (omega arith));
+      running = rw (
+        c.in_ok-push.ensures.items,
+        taken c.args.sums.now c.loop-sum.sum-index c.sum-item.result some c.sum-item.is,
+      )
+          (running_more 0 _ c.loop-sum.rows.items c.sum-item.result _ c.loop-sum.invariant.running
+          refl refl (omega arith));
       total = omega arith;
       small = omega arith;
     }

@@ -27,7 +27,6 @@ loop-other-preserved c other has same =
 
 pub returns : goal.returns
 returns c other has =
-    let xs : List YearLine = c.args.changed.now in
     let end = c.loop-other-test.false in
-    let all = all_taken xs c.loop-other.other-index (omega arith) in
-    c.loop-other.invariant other (subst (λ (ls : List YearLine). Has ls other) (sym all) has)
+    c.loop-other.invariant other (subst (λ (ls : List YearLine). Has ls other)
+    (sym (all_taken c.args.changed.now c.loop-other.other-index (omega arith))) has)

@@ -30,7 +30,6 @@ loop-line-preserved c line has early =
 
 pub returns : goal.returns
 returns c line has =
-    let xs : List YearLine = c.args.lines.now in
     let end = c.loop-line-test.false in
-    let all = all_taken xs c.loop-line.line-index (omega arith) in
-    c.loop-line.invariant line (subst (λ (ls : List YearLine). Has ls line) (sym all) has)
+    c.loop-line.invariant line (subst (λ (ls : List YearLine). Has ls line)
+    (sym (all_taken c.args.lines.now c.loop-line.line-index (omega arith))) has)

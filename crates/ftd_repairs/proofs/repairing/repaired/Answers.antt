@@ -1,29 +1,25 @@
-use Rattle.std.proofs.Common.{◌≡◌, ◌≤◌, ◌+◌, ℕ, List, inl, inr, refl, ◌∙◌, subst, arith}
+use Rattle.std.proofs.Common.{◌≡◌, ◌≤◌, ◌+◌, List, inl, inr, refl, ◌∙◌, subst, arith}
 use Rattle.std.specs.List.{sum_by}
-use Rattle.ftd_days.specs.Holidays.{holidays_of}
 use Rattle.ftd_rules.specs.declared.DaySum.{DaySum}
 use Rattle.ftd_rules.specs.declared.Form.{Form}
-use Rattle.ftd_rules.specs.declared.YearLine.{YearLine}
 use Rattle.ftd_rules.specs.Liability.{cents_of}
 use Rattle.ftd_buckets.specs.declared.Window.{Window}
 use Rattle.ftd_buckets.specs.declared.state.Next.TheVariants.{Need}
 use Rattle.ftd_buckets.specs.Ready.{Repairing}
 use Rattle.ftd_buckets.specs.Standing.{amount_held}
-use Rattle.ftd_repairs.specs.Repaired.{AreLiveIn, Repairs}
 use Rattle.ftd_repairs.proofs.Begun.{begun_reads}
-use Rattle.ftd_repairs.proofs.Fed.{Serves, Needs, Ends, needs, ends, first_needed, serves_more}
+use Rattle.ftd_repairs.proofs.Fed.{Needs, Ends, needs, ends, first_needed, serves_more}
 use Rattle.ftd_repairs.proofs.Fed.{serves_last}
 use Rattle.ftd_repairs.proofs.repairing.repaired.Goals as goal
 
 pub loop-init : goal.loop-init
 loop-init g c =
     let begun = c.begin-repair.ensures in
-    let none = begun.held in
     record {
       form = begun.form;
       asked = begun.asked;
-      held = omega arith;
-      small = omega arith;
+      held = omega (arith, begun.held);
+      small = omega (arith, begun.held);
       begun = inl (
         refl,
         λ t before after change last runs. (
@@ -36,11 +32,6 @@ loop-init g c =
 
 pub returns-in-Ok-Done : goal.returns-in-Ok-Done
 returns-in-Ok-Done g c =
-    let name = c.args.account.now in
-    let form = c.args.form in
-    let day = c.args.day in
-    let lines : List YearLine = c.args.lines.now in
-    let holidays : List ℕ = holidays_of c.args.holidays.now in
     let inv = c.loop.invariant in
     let w : Window = c.loop.window in
     let sums : List DaySum = c.in_ok-read.read.sums.items in
@@ -48,22 +39,17 @@ returns-in-Ok-Done g c =
     let patch = c.in-Ok-Done.patch in
     let done : Ends r.form r sums patch = ends (Ends r.form r sums) c.in-Ok-Done.field-0 patch
     c.in-Ok-Done.field-0-is (rw c.deref.ensures.value at c.in-Ok-Done.ensures.done) in
-    let end : Ends form r sums patch = subst (λ (f : Form). Ends f r sums patch) inv.form done in
+    let end : Ends c.args.form r sums patch =
+    subst (λ (f : Form). Ends f r sums patch) inv.form done in
     record {
       call = begun_reads g.S.Store c.args.tx.now c.loop.tx c.window_sums.new.tx c.in_ok-read.read
-          patch (Serves name form day lines holidays r w)
-          (λ read t. AreLiveIn name t w read.sums.items) (Repairs name form day lines holidays)
-          (λ t so_far read. serves_last name form day lines holidays r w sums patch t inv.asked end
-          so_far read) inv.begun c.in_ok-read.ensures.call;
+          patch _ _ _
+          (λ t so_far read. serves_last _ _ _ _ _ r w sums patch t inv.asked end so_far read)
+          inv.begun c.in_ok-read.ensures.call;
     }
 
 pub loop-preserved : goal.loop-preserved
 loop-preserved g c =
-    let name = c.args.account.now in
-    let form = c.args.form in
-    let day = c.args.day in
-    let lines : List YearLine = c.args.lines.now in
-    let holidays : List ℕ = holidays_of c.args.holidays.now in
     let inv = c.loop.invariant in
     let w : Window = c.loop.window in
     let sums : List DaySum = c.in_ok-read.read.sums.items in
@@ -80,17 +66,15 @@ loop-preserved g c =
     (rw c.deref.ensures.value at fed.held) in
     let needed : Needs r.form r sums next after = needs (Needs r.form r sums) c.in-Ok-Need.field-0
     next after is (rw c.deref.ensures.value at fed.need) in
-    let need : Needs form r sums next after = subst (λ (f : Form). Needs f r sums next after)
-    inv.form needed in
+    let need : Needs c.args.form r sums next after =
+    subst (λ (f : Form). Needs f r sums next after) inv.form needed in
     record {
       form = needs (λ q v. q.form ≡ r.form) c.in-Ok-Need.field-0 next after is fed.form ∙ inv.form;
       asked = needs (λ q v. q.asked ≡ v) c.in-Ok-Need.field-0 next after is fed.asked;
       held = omega arith;
       small = c.in_ok-read.ensures.small;
       begun = inr (begun_reads g.S.Store c.args.tx.now c.loop.tx c.window_sums.new.tx
-          c.in_ok-read.read tt (Serves name form day lines holidays r w)
-          (λ read t. AreLiveIn name t w read.sums.items)
-          (λ none. Serves name form day lines holidays next after)
-          (λ t so_far read. serves_more name form day lines holidays r next w after sums t inv.asked
-          need so_far read) inv.begun c.in_ok-read.ensures.call);
+          c.in_ok-read.read tt _ _ _
+          (λ t so_far read. serves_more _ _ _ _ _ r next w after sums t inv.asked need so_far read)
+          inv.begun c.in_ok-read.ensures.call);
     }

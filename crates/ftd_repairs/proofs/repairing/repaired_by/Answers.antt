@@ -67,9 +67,6 @@ loop-preserved c =
 
 pub returns-in-Done : goal.returns-in-Done
 returns-in-Done c =
-    let form = c.args.form in
-    let day = c.args.day in
-    let all : List DaySum = c.args.sums.now in
     let inv = c.loop.invariant in
     let w : Window = c.loop.window in
     let sums : List DaySum = c.in_ok-known.known.sums.items in
@@ -77,7 +74,8 @@ returns-in-Done c =
     let patch = c.in-Done.patch in
     let done : Ends r.form r sums patch = ends (Ends r.form r sums) c.in_ok-patch.field-0 patch
     c.in-Done.is (rw c.deref.ensures.value at c.in_ok-patch.ensures.done) in
-    let end : Ends form r sums patch = subst (λ (f : Form). Ends f r sums patch) inv.form done in
-    last_where (SumsAre form day all) form day c.args.lines.now (holidays_of c.args.holidays.now) r
-    w sums (told_within form day w all sums c.in_ok-known.ensures.within) inv.asked inv.serves patch
-    end
+    let end : Ends c.args.form r sums patch =
+    subst (λ (f : Form). Ends f r sums patch) inv.form done in
+    last_where _ _ _ c.args.lines.now (holidays_of c.args.holidays.now) r w sums
+    (told_within c.args.form c.args.day w c.args.sums.now sums c.in_ok-known.ensures.within)
+    inv.asked inv.serves patch end

@@ -26,8 +26,7 @@ returns-in-VoidPay g c = rw (sym c.hint_of.ensures ∙ c.in-VoidPay.is)
 
 pub returns-in-Calendar : goal.returns-in-Calendar
 unfolding hint_text
-returns-in-Calendar g c = rw (sym c.hint_of.ensures ∙ c.in-Calendar.is)
-    c.write_year.ensures
+returns-in-Calendar g c = rw (sym c.hint_of.ensures ∙ c.in-Calendar.is) c.write_year.ensures
 
 pub returns-in-Report : goal.returns-in-Report
 unfolding hint_text
@@ -46,10 +45,8 @@ returns-in-OpenYear g c = rw (sym c.hint_of.ensures ∙ c.in-OpenYear.is)
 
 pub returns-in-Correct : goal.returns-in-Correct
 unfolding hint_text
-returns-in-Correct g c = rw (sym c.hint_of.ensures ∙ c.in-Correct.is)
-    c.write_correct.ensures
+returns-in-Correct g c = rw (sym c.hint_of.ensures ∙ c.in-Correct.is) c.write_correct.ensures
 
 pub returns-in-Next : goal.returns-in-Next
 unfolding hint_text
-returns-in-Next g c = rw (sym c.hint_of.ensures ∙ c.in-Next.is)
-    c.write_next.ensures
+returns-in-Next g c = rw (sym c.hint_of.ensures ∙ c.in-Next.is) c.write_next.ensures

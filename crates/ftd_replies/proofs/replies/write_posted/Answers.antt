@@ -4,16 +4,11 @@ use Rattle.ftd_replies.proofs.replies.write_posted.Goals as goal
 pub returns : goal.returns
 unfolding posted_text
 returns g c =
-    let told = rw (
+    rw (
       c.day_bytes-from.ensures,
       c.day_bytes-to.ensures,
       c.as_bytes-removed.ensures.value,
       c.format.ensures.text,
       c.as_bytes-added.ensures.value,
       c.format-2.ensures.text,
-    ) at c.write_pieces.ensures in
-    record {
-      ok = told.ok;
-      err = told.err;
-      fault = told.fault;
-    }
+    ) at c.write_pieces.ensures

@@ -11,11 +11,10 @@ returns-in_err-write_head g c = stops_in _ c.from_residual.ensures.0 c.in_err-wr
 
 pub loop-row-init : goal.loop-row-init
 unfolding due_text
-loop-row-init g c =
-    record {
-      written = goes_on _ _ begins refl c.in_ok-write_head.ensures.ok;
-      total = omega arith;
-    }
+loop-row-init g c = record {
+  written = goes_on _ _ begins refl c.in_ok-write_head.ensures.ok;
+  total = omega arith;
+}
 
 pub returns-in_err-write_row : goal.returns-in_err-write_row
 returns-in_err-write_row g c =
@@ -24,15 +23,14 @@ returns-in_err-write_row g c =
     c.row-item.is) c.in_err-write_row.ensures
 
 pub loop-row-preserved : goal.loop-row-preserved
-loop-row-preserved g c =
-    record {
-      written = goes_on _ _ c.loop-row.invariant.written
-          (rows_at due_line c.args.rows.now c.loop-row.row-index c.row-item.result _
-          c.loop-row-test.true c.row-item.is) c.in_ok-write_row.ensures.ok;
-      total = let more = amounts_at amount_of c.args.rows.now c.loop-row.row-index c.row-item.result
-          c.loop-row-test.true c.row-item.is in let before = c.loop-row.invariant.total in
-          omega arith;
-    }
+loop-row-preserved g c = record {
+  written = goes_on _ _ c.loop-row.invariant.written
+      (rows_at due_line c.args.rows.now c.loop-row.row-index c.row-item.result _
+      c.loop-row-test.true c.row-item.is) c.in_ok-write_row.ensures.ok;
+  total = let more = amounts_at amount_of c.args.rows.now c.loop-row.row-index c.row-item.result
+      c.loop-row-test.true c.row-item.is in let before = c.loop-row.invariant.total in
+      omega arith;
+}
 
 pub returns : goal.returns
 returns g c =

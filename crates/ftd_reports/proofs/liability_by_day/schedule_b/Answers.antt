@@ -1,29 +1,8 @@
 use Rattle.std.proofs.Common.{refl}
-use Rattle.ftd_ports.proofs.WritingFacts.{begins, goes_on, stops_in, stops_after, ends_in}
+use Rattle.ftd_ports.proofs.WritingFacts.{begins, goes_on, stops_after, ends_in}
 use Rattle.ftd_reports.specs.SchedulesB.{b_text}
 use Rattle.ftd_reports.proofs.MonthFacts.{months_rest}
 use Rattle.ftd_reports.proofs.liability_by_day.schedule_b.Goals as goal
-
-pub returns-in_err-write_head : goal.returns-in_err-write_head
-unfolding b_text
-returns-in_err-write_head g c = stops_in _ c.from_residual.ensures.0 c.in_err-write_head.ensures
-
-pub returns-in_err-write_month : goal.returns-in_err-write_month
-unfolding b_text
-returns-in_err-write_month g c =
-    let head = goes_on _ _ begins refl c.in_ok-write_head.ensures.ok in
-    stops_after _ c.from_residual-in_err-write_month.ensures.0 head
-    (months_rest c.args.sums.now c.args.quarter _)
-    (rw c.quarters-first.ensures.value at c.in_err-write_month.ensures)
-
-pub returns-in_err-write_month-2 : goal.returns-in_err-write_month-2
-unfolding b_text
-returns-in_err-write_month-2 g c =
-    let head = goes_on _ _ begins refl c.in_ok-write_head.ensures.ok in
-    let first = goes_on _ _ head (months_rest c.args.sums.now c.args.quarter _)
-    (rw c.quarters-first.ensures.value at c.in_ok-write_month.ensures.ok) in
-    stops_after _ c.from_residual-in_err-write_month-2.ensures.0 first refl
-    (rw c.quarters-first.ensures.value at c.in_err-write_month-2.ensures)
 
 pub returns-in_err-write_month-3 : goal.returns-in_err-write_month-3
 unfolding b_text

@@ -1,4 +1,4 @@
-use Rattle.std.proofs.Common.{arith, ◌≡◌, ◌<◌, ◌≤◌, ap, ◌∙◌}
+use Rattle.std.proofs.Common.{arith, ◌≡◌, ap, ◌∙◌}
 use Rattle.std.proofs.lemmas.Bool.{lt-ltb, le-ltb}
 use Rattle.std.proofs.lemmas.Bool.Decides.{nat_tests}
 use Rattle.std.proofs.lemmas.Grind.{common_steps}
@@ -11,25 +11,16 @@ use Rattle.ftd_rules.proofs.period.period_of.Goals as goal
 first_monthly : (c : goal.After-min) → c.first_of_month.result ≡ period_first c.args.form
     c.args.semiweekly_from c.args.day
 first_monthly c =
-    let early : c.args.day < c.args.semiweekly_from = grind (
-      arith,
-      nat_tests,
-      c.if-lt.true,
-      c.lt.ensures,
-    ) in
-    rw (lt-ltb c.args.day c.args.semiweekly_from early) (c.first_of_month.ensures.value
+    rw (lt-ltb c.args.day c.args.semiweekly_from
+    (grind (arith, nat_tests, c.if-lt.true, c.lt.ensures)))
+    (c.first_of_month.ensures.value
     ∙ ap month_start c.month_number-month.ensures.value)
 
 last_monthly : (c : goal.After-min) → c.min.result ≡ period_last c.args.form c.args.semiweekly_from
     c.args.day
 last_monthly c =
-    let early : c.args.day < c.args.semiweekly_from = grind (
-      arith,
-      nat_tests,
-      c.if-lt.true,
-      c.lt.ensures,
-    ) in
-    rw (lt-ltb c.args.day c.args.semiweekly_from early)
+    rw (lt-ltb c.args.day c.args.semiweekly_from
+    (grind (arith, nat_tests, c.if-lt.true, c.lt.ensures)))
     (grind (
       arith,
       common_steps,
@@ -41,15 +32,10 @@ last_monthly c =
 
 pub returns-else-lt-clause-first : goal.returns-else-lt-clause-first
 returns-else-lt-clause-first c =
-    let late : c.args.semiweekly_from ≤ c.args.day = grind (
-      arith,
-      nat_tests,
-      c.if-lt.false,
-      c.lt.ensures,
-    ) in
     let start = start_only c.args.day c.interval_start.result c.requires.early
     c.interval_start.ensures in
-    rw (le-ltb c.args.day c.args.semiweekly_from late)
+    rw (le-ltb c.args.day c.args.semiweekly_from
+    (grind (arith, nat_tests, c.if-lt.false, c.lt.ensures)))
     (grind (
       arith,
       common_steps,
@@ -61,14 +47,9 @@ returns-else-lt-clause-first c =
 
 pub returns-else-lt-clause-last : goal.returns-else-lt-clause-last
 returns-else-lt-clause-last c =
-    let late : c.args.semiweekly_from ≤ c.args.day = grind (
-      arith,
-      nat_tests,
-      c.if-lt.false,
-      c.lt.ensures,
-    ) in
     let close = close_only c.args.day c.interval_close.result c.interval_close.ensures in
-    rw (le-ltb c.args.day c.args.semiweekly_from late)
+    rw (le-ltb c.args.day c.args.semiweekly_from
+    (grind (arith, nat_tests, c.if-lt.false, c.lt.ensures)))
     (grind (arith, common_steps, close, c.return_period-first.ensures.last, c.min-else-lt.ensures))
 
 pub returns-then-lt-clause-shared : goal.returns-then-lt-clause-shared

@@ -9,8 +9,8 @@ pub loop-name-preserved : goal.loop-name-preserved
 loop-name-preserved g c =
     let i = c.loop-name.name-index in
     let names : List TableName = c.args.names.now in
-    steps_both g.S.Store c.args.tx.now c.loop-name.tx c.run.new.tx _ _ _
-    (λ _ old new. AreFree names old.now.schema → AreMade (take i names) old.now new.now) _
+    steps_both _
     (λ _ old new. AreFree names old.now.schema → AreMade (take (i + 1) names) old.now new.now)
+    c.loop-name.invariant c.in_ok-run.ensures.step
     (λ so ran free. next_made names i _ _ _ _ _ c.loop-name-test.true c.create.ensures free
-    (so free) ran) c.loop-name.invariant c.in_ok-run.ensures.step
+    (so free) ran)

@@ -13,7 +13,7 @@ use Rattle.ftd_setup.proofs.Stepping.{steps_none, steps_both, steps_so}
 use Rattle.ftd_setup.proofs.migrating.add_forms.Goals as goal
 
 pub loop-name-init : goal.loop-name-init
-loop-name-init g c = steps_none g.S.Store c.args.tx.now _ _
+loop-name-init g c = steps_none
     (λ accounts t are stands. no_form_added (within g.S.Store c.args.tx.now).now t stands)
 
 pub loop-name-preserved : goal.loop-name-preserved
@@ -24,25 +24,24 @@ loop-name-preserved g c =
     let cut0 : drop i names ≡ get_or names i row ∷ drop (i + 1) names =
     rw add-one (drop-cons names i row c.loop-name-test.true) in
     let cut : drop i names ≡ row ∷ drop (i + 1) names = rw (← c.name-item.is) at cut0 in
-    steps_both g.S.Store c.args.tx.now c.loop-name.tx c.add_form.new.tx _ _ (tt {0}) _ _
+    steps_both (tt {0})
     (λ _ old new. (accounts : List AccountRow) (t : Tables) → names ≡ map name_shown accounts
     → Stands old.now t
     → Becomes old.now new.now (with_rows Forms (t Forms ++ map on_form_941 (take (i + 1) accounts))
-    t))
+    t)) c.loop-name.invariant c.in_ok-add_form.ensures.step
     (λ before adds accounts t are stands. more_forms (within g.S.Store c.args.tx.now).now
     (within g.S.Store c.loop-name.tx).now (within g.S.Store c.add_form.new.tx).now accounts names i
     row t are cut (before accounts t are stands) (λ account u. adds account u))
-    c.loop-name.invariant c.in_ok-add_form.ensures.step
 
 pub returns : goal.returns
 returns g c =
     let i = c.loop-name.name-index in
     record {
-      step = steps_so g.S.Store c.args.tx.now c.loop-name.tx _ _ _ _ (λ so accounts t are stands.
+      step = steps_so c.loop-name.invariant (λ so accounts t are stands.
           let all : take i accounts ≡ accounts =
           take_all i accounts (let over = c.loop-name-test.false in
           omega (arith, over, ap length are, length-map accounts name_shown)) in
           subst (λ xs. Becomes (within g.S.Store c.args.tx.now).now
           (within g.S.Store c.loop-name.tx).now (with_rows Forms (t Forms ++ map on_form_941 xs) t))
-          all (so accounts t are stands)) c.loop-name.invariant;
+          all (so accounts t are stands));
     }

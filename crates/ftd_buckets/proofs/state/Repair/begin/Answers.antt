@@ -1,14 +1,29 @@
-use Rattle.std.proofs.Common.{arith, ◌≡◌, refl, ◌∙◌, ap, drop}
+use Rattle.std.proofs.Common.{arith, ◌≡◌, ◌<◌, ◌≤◌, ℕ, List, get_or, refl, ◌∙◌, ap, drop}
+use Rattle.std.specs.List.{All}
 use Rattle.ftd_days.specs.Holidays.{holidays_of}
 use Rattle.ftd_rules.specs.declared.YearLine.{YearLine}
 use Rattle.ftd_rules.specs.Private.Years.{semiweekly_from}
-use Rattle.ftd_rules.specs.Private.Walk.{period_first, period_last}
+use Rattle.ftd_rules.specs.Years.{AreOpenYears}
+use Rattle.ftd_rules.specs.Private.Walk.{period_first, period_last, years_end}
 use Rattle.ftd_rules.proofs.Schedules.{year_facts}
 use Rattle.ftd_buckets.specs.declared.Window.{Window}
 use Rattle.ftd_buckets.specs.declared.state.Stage.TheVariants as stage
+use Rattle.ftd_buckets.specs.Histories.{BeginWith, TurnsWithin}
 use Rattle.ftd_buckets.specs.Ready.{Repairing}
 use Rattle.ftd_buckets.proofs.Begun.{day_period, stands_first, first_line, begin_some, begin_with}
 use Rattle.ftd_buckets.proofs.state.Repair.begin.Goals as goal
+
+-- the day lies in the years that may be open
+begun : (day : ℕ) (lines : List YearLine) (x : YearLine) → BeginWith day lines
+    → x ≡ get_or lines 0 x → AreOpenYears lines → All TurnsWithin lines
+    → (7 ≤ day) × (day < years_end)
+begun day lines x first is years turns =
+    let l = first_line lines x (begin_some day lines first) is years turns in
+    let w = begin_with day lines x first l.are in
+    let w0 = w.0 in let w1 = w.1 in
+    let f = year_facts x.year l.begin l.end in
+    let f0 = f.0 in let f2 = f.2 in
+    (omega arith, omega arith)
 
 pub first_semiweekly_day-requires-clause-to : goal.first_semiweekly_day-requires-clause-to
 first_semiweekly_day-requires-clause-to c =
@@ -24,23 +39,15 @@ first_semiweekly_day-requires-clause-turn c =
 
 pub period_of-period-requires-clause-early : goal.period_of-period-requires-clause-early
 period_of-period-requires-clause-early c =
-    let x : YearLine = c.index-lines-0.result in
-    let l = first_line c.args.lines.now x (begin_some c.args.day c.args.lines.now c.requires.first)
-    c.index-lines-0.is c.requires.years c.requires.turns in
-    let w = begin_with c.args.day c.args.lines.now x c.requires.first l.are in
-    let w0 = w.0 in
-    let f = year_facts x.year l.begin l.end in
-    let f0 = f.0 in omega arith
+    let l = begun c.args.day c.args.lines.now _ c.requires.first c.index-lines-0.is
+    c.requires.years c.requires.turns in
+    omega (arith, l.0)
 
 pub period_of-period-requires-clause-late : goal.period_of-period-requires-clause-late
 period_of-period-requires-clause-late c =
-    let x : YearLine = c.index-lines-0.result in
-    let l = first_line c.args.lines.now x (begin_some c.args.day c.args.lines.now c.requires.first)
-    c.index-lines-0.is c.requires.years c.requires.turns in
-    let w = begin_with c.args.day c.args.lines.now x c.requires.first l.are in
-    let w1 = w.1 in
-    let f = year_facts x.year l.begin l.end in
-    let f2 = f.2 in omega arith
+    let l = begun c.args.day c.args.lines.now _ c.requires.first c.index-lines-0.is
+    c.requires.years c.requires.turns in
+    omega (arith, l.1)
 
 pub invariant_of-repair : goal.invariant_of-repair
 invariant_of-repair c =

@@ -5,8 +5,7 @@ use Rattle.ftd_buckets.specs.declared.state.Stage.TheVariants as stage
 use Rattle.ftd_buckets.specs.Histories.{History, TurnsWithin}
 use Rattle.ftd_buckets.specs.Ready.{repairing}
 use Rattle.ftd_buckets.specs.Private.Ready.{with_turn, IsWhole}
-use Rattle.ftd_buckets.proofs.Begun.{ready_line}
-use Rattle.ftd_buckets.proofs.Turns.{line_year}
+use Rattle.ftd_buckets.proofs.Begun.{line_read, read_to}
 use Rattle.std.specs.Prelude.{⊤}
 use Rattle.ftd_days.specs.Holidays.{holidays_of}
 use Rattle.ftd_rules.specs.Liability.{liability}
@@ -21,78 +20,41 @@ use Rattle.ftd_buckets.specs.Standing.{Stands}
 use Rattle.ftd_buckets.specs.Private.Answered.{Serves, IsSettledYear}
 use Rattle.ftd_buckets.proofs.Onward.{same_line}
 use Rattle.ftd_buckets.proofs.Fed.{if_ok2, if_ok_true}
-use Rattle.ftd_buckets.proofs.Split.{Split, split_turn, cut_of, whole_last, last_settled}
+use Rattle.ftd_buckets.proofs.Split.{split_turn, turning, whole_last, last_settled}
 use Rattle.ftd_buckets.proofs.state.Settled.feed_turned_last.Goals as goal
 
 pub add_rows-requires-clause-to : goal.add_rows-requires-clause-to
-add_rows-requires-clause-to c =
-    let h = c.requires.ready in
-    let l = ready_line (repairing c.args.self stage.Period) h in
-    let x : slice_index_or c.args.self.lines.now 0 c.index-self-0.result ≡ h.line =
-    rw h.lines_are refl in
-    rw x l.1
+add_rows-requires-clause-to c = read_to c.requires.ready _
 
 pub add_rows-requires-clause-turn : goal.add_rows-requires-clause-turn
 add_rows-requires-clause-turn c =
     let h = c.requires.ready in
     let s : Settled = c.args.self in
-    let l = ready_line (repairing s stage.Period) h in
-    let x : slice_index_or s.lines.now 0 c.index-self-0.result ≡ h.line = rw h.lines_are refl in
-    let split : Split c.args.self.form h.line s.asked.from s.asked.to c.args.turn =
-    record {
-      year = (line_year h.line l.0 l.1 l.2).0;
-      period = h.at.0;
-      within = c.requires.within h.line h.later h.lines_are;
-    } in
-    subst (λ (z : YearLine). TurnsWithin (with_turn z c.args.turn)) (sym x)
-    (split_turn c.args.self.form h.line s.asked.from s.asked.to c.args.turn split)
+    subst (λ (z : YearLine). TurnsWithin (with_turn z c.args.turn))
+    (sym (line_read h c.index-self-0.result))
+    (split_turn s.form h.line s.asked.from s.asked.to c.args.turn
+    (turning s c.args.turn h c.requires.within).split)
 
 pub add_rows-requires-clause-whole : goal.add_rows-requires-clause-whole
 add_rows-requires-clause-whole c =
     let h = c.requires.ready in
     let s : Settled = c.args.self in
-    let l = ready_line (repairing s stage.Period) h in
-    let x : slice_index_or s.lines.now 0 c.index-self-0.result ≡ h.line = rw h.lines_are refl in
-    let split : Split c.args.self.form h.line s.asked.from s.asked.to c.args.turn =
-    record {
-      year = (line_year h.line l.0 l.1 l.2).0;
-      period = h.at.0;
-      within = c.requires.within h.line h.later h.lines_are;
-    } in
-    subst (λ (z : YearLine). IsWhole c.args.self.form (with_turn z c.args.turn) s.asked.from
-    s.asked.to) (sym x)
-    (whole_last c.args.self.form h.line s.asked.from s.asked.to c.args.turn
-    (cut_of c.args.self.form h.line s.asked.from s.asked.to c.args.turn split)
-    (c.requires.last h.line h.later h.lines_are))
+    subst (λ (z : YearLine). IsWhole s.form (with_turn z c.args.turn) s.asked.from s.asked.to)
+    (sym (line_read h c.index-self-0.result))
+    (whole_last s.form h.line s.asked.from s.asked.to c.args.turn
+    (turning s c.args.turn h c.requires.within).cut (c.requires.last h.line h.later h.lines_are))
 
 pub returns-clause-serves : goal.returns-clause-serves
 returns-clause-serves c =
     let h = c.requires.ready in
     let s : Settled = c.args.self in
     let sums = c.args.sums.now in
-    let l = ready_line (repairing s stage.Period) h in
-    let x : slice_index_or s.lines.now 0 c.index-self-0.result ≡ h.line = rw h.lines_are refl in
-    let split : Split c.args.self.form h.line s.asked.from s.asked.to c.args.turn =
-    record {
-      year = (line_year h.line l.0 l.1 l.2).0;
-      period = h.at.0;
-      within = c.requires.within h.line h.later h.lines_are;
-    } in
     let ends = c.requires.last h.line h.later h.lines_are in
-    let whole = whole_last c.args.self.form h.line s.asked.from s.asked.to c.args.turn
-    (cut_of c.args.self.form h.line s.asked.from s.asked.to c.args.turn split) ends in
+    let whole = whole_last s.form h.line s.asked.from s.asked.to c.args.turn
+    (turning s c.args.turn h c.requires.within).cut ends in
     let given_line : YearLine = slice_index_or s.lines.now 0 c.index-self-0.result in
     let rows = c.in_ok-add_rows.ensures.rows in
-    let t : Settled = record {
-      form = c.args.self.form;
-      lines = s.lines;
-      holidays = s.holidays;
-      from = s.from;
-      asked = s.asked;
-      rows = c.add_rows.new.rows;
-      years = s.years;
-      held = s.held;
-    } in
+    let t : Settled = record s { rows = c.add_rows.new.rows } in
     if_ok2 (λ (next : Next). ⊤)
     (λ (next : Next). (day : ℕ) (holidays : List ℕ) (before after : History)
     → IsSettledYear c.args.self.form day holidays before after t (with_turn given_line c.args.turn)
@@ -105,7 +67,8 @@ returns-clause-serves c =
     (λ next nothing serves. λ day holidays before after st agree told.
     (let line : h.line ≡ st.old = same_line s.lines.now h.line st.old h.later st.common.later
     h.lines_are st.common.lines_are in
-    let is_old : given_line ≡ st.old = x ∙ line in
+    let is_old : given_line ≡ st.old =
+    line_read h c.index-self-0.result ∙ line in
     let ends_old : s.asked.to ≡ year_last st.old.year = ends
     ∙ ap (λ (z : YearLine). year_last z.year) line in
     let whole_old =

@@ -1,4 +1,4 @@
-use Rattle.std.proofs.Common.{arith, ◌≡◌, ◌+◌, ℕ, List, refl, ◌∙◌, ap, slice_index_or}
+use Rattle.std.proofs.Common.{arith, ◌≡◌, ◌+◌, ℕ, List, refl, ◌∙◌, ap}
 use Rattle.std.specs.List.{sum_by}
 use Rattle.ftd_rules.specs.declared.YearLine.{YearLine}
 use Rattle.ftd_rules.specs.Liability.{cents_of}
@@ -9,37 +9,23 @@ use Rattle.ftd_buckets.specs.declared.state.Next.{Next}
 use Rattle.ftd_buckets.specs.Histories.{History}
 use Rattle.ftd_buckets.specs.Ready.{repairing}
 use Rattle.ftd_buckets.specs.Private.Answered.{Answers, Serves, Holds, IsSettledYear}
-use Rattle.ftd_buckets.proofs.Begun.{ready_line}
+use Rattle.ftd_buckets.proofs.Begun.{line_read, read_to}
 use Rattle.ftd_buckets.proofs.Onward.{same_line}
 use Rattle.ftd_buckets.proofs.Fed.{if_ok2, holds_more, year_settled}
 use Rattle.ftd_buckets.proofs.state.Settled.feed_year.Goals as goal
 
 pub add_year-requires-clause-to : goal.add_year-requires-clause-to
-add_year-requires-clause-to c =
-    let h = c.requires.ready in
-    let l = ready_line (repairing c.args.self (stage.Year c.args.turned)) h in
-    let x : slice_index_or c.args.self.lines.now 0 c.index-self-0.result ≡ h.line =
-    rw h.lines_are refl in
-    rw x l.1
+add_year-requires-clause-to c = read_to c.requires.ready _
 
 pub returns : goal.returns
 returns c =
     let s : Settled = c.args.self in
     let sums = c.args.sums.now in
     let h = c.requires.ready in
-    let x : slice_index_or s.lines.now 0 c.index-self-0.result ≡ h.line = rw h.lines_are refl in
+    let x = line_read h c.index-self-0.result in
     let new : YearLine = c.in_ok-new.new in
     let rows = c.in_ok-new.ensures.rows in
-    let t : Settled = record {
-      form = c.args.self.form;
-      lines = s.lines;
-      holidays = s.holidays;
-      from = s.from;
-      asked = s.asked;
-      rows = c.add_year.new.rows;
-      years = s.years;
-      held = s.held;
-    } in
+    let t : Settled = record s { rows = c.add_year.new.rows } in
     if_ok2 (Holds c.args.self.form (sum_by cents_of s.held.items))
     (λ (next : Next). (day : ℕ) (holidays : List ℕ) (before after : History)
     → IsSettledYear c.args.self.form day holidays before after t new

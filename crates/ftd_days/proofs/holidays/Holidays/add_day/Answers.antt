@@ -31,10 +31,10 @@ at_place years day place given h e =
     record { within = w.0; passes = w.1; first = w.2; is = e })
 
 -- whether the day may be added rests on that calendar alone
-may_is : (years : List Year) (day place : ℕ) (given : Year) → IsPlace years day place given
+may_is : {years : List Year} {day place : ℕ} {given : Year} → IsPlace years day place given
     → MayAddDay (given_of years) day ↔ ((is_holiday given.days.items day ≡ false)
     × (length given.days.items < 60))
-may_is years day place given w =
+may_is {years} {day} {place} {given} w =
     let found = find_place (λ (y : Year). y.year == year_of day) years place given w.within w.passes
     w.first in
     let calendar : calendar_of (given_of years) (year_of day) ≡ Some (entry given) =
@@ -42,18 +42,20 @@ may_is years day place given w =
     ((λ m. rw calendar at m), (λ m. rw calendar m))
 
 -- the list with the changed calendar, where it has the day more and where it has not
-changed : (years : List Year) (day place : ℕ) (given new : Year) → IsPlace years day place given
+changed : {years : List Year} {day place : ℕ} {given : Year} (new : Year)
+    → IsPlace years day place given
     → new.year ≡ given.year → new.days.items ≡ given.days.items ++ day ∷ []
     → given_of (set years place new) ≡ with_day day (given_of years)
-changed years day place given new w year days =
+changed {years} {day} {place} {given} new w year days =
     adds_at years place given new day w.within w.passes w.first
     (year ∙ ap (λ (y : Year). y.year) w.is)
     (days ∙ ap (λ (y : Year). y.days.items ++ day ∷ []) w.is)
 
-kept : (years : List Year) (day place : ℕ) (given new : Year) → IsPlace years day place given
+kept : {years : List Year} {day place : ℕ} {given : Year} (new : Year)
+    → IsPlace years day place given
     → new.year ≡ given.year → new.days.items ≡ given.days.items
     → given_of (set years place new) ≡ given_of years
-kept years day place given new w year days =
+kept {years} {day} {place} {given} new w year days =
     same_at years place given new w.within (year ∙ ap (λ (y : Year). y.year) w.is)
     (days ∙ ap (λ (y : Year). y.days.items) w.is)
 
@@ -85,97 +87,55 @@ returns-in_default-clause-bad c =
       λ _. search rules,
     )
 
+-- where the search stopped
+stops : (c : goal.After-self-1)
+    → IsPlace c.self.inside.years.items c.args.day c.in-Some.place c.index_mut.result.now
+stops c =
+    let found = position_from_yields_List (λ (y : Year). y.year == year_of c.args.day) _ _
+    c.position.result c.position.ensures.ran
+    (YieldsList-from_slice c.self.inside.years.items cc) (λ x b q k. search (rules, tests)) in
+    at_place _ _ c.in-Some.place c.index_mut.result.now (sym found ∙ c.in-Some.is)
+    c.index_mut.ensures.value
+
 pub invariant_of-self : goal.invariant_of-self
 invariant_of-self c =
-    let years : List Year = c.self.inside.years.items in
-    let day = c.args.day in
-    let test : Year → Bool = λ y. y.year == year_of day in
-    let found : c.position.result ≡ position test years =
-    position_from_yields_List test _ _ c.position.result c.position.ensures.ran
-    (YieldsList-from_slice years cc) (λ x b q k. search (rules, tests)) in
-    let given : Year = c.index_mut.result.now in
-    let at = at_place years day c.in-Some.place given (sym found ∙ c.in-Some.is)
-    c.index_mut.ensures.value in
-    let may = may_is years day c.in-Some.place given at in
-    let new : Year = c.add.new.self in
+    let at = stops c in
     either c.add.result c.add.ensures.ok c.add.ensures.err
-    (λ more. rw (changed years day c.in-Some.place given new at c.add.ensures.year more.2)
-    (years_with (given_of years) day c.self.invariant (may.1 (more.0, more.1))))
-    (λ same. rw (kept years day c.in-Some.place given new at c.add.ensures.year same)
-    c.self.invariant)
+    (λ more. rw (changed c.add.new.self at c.add.ensures.year more.2)
+    (years_with (given_of c.self.inside.years.items) c.args.day c.self.invariant
+    ((may_is at).1 (more.0, more.1))))
+    (λ same. rw (kept c.add.new.self at c.add.ensures.year same) c.self.invariant)
 
 pub returns-clause-ok : goal.returns-clause-ok
 returns-clause-ok c =
-    let years : List Year = c.self.inside.years.items in
+    let at = stops c in
     let day = c.args.day in
-    let test : Year → Bool = λ y. y.year == year_of day in
-    let found : c.position.result ≡ position test years =
-    position_from_yields_List test _ _ c.position.result c.position.ensures.ran
-    (YieldsList-from_slice years cc) (λ x b q k. search (rules, tests)) in
-    let given : Year = c.index_mut.result.now in
-    let at = at_place years day c.in-Some.place given (sym found ∙ c.in-Some.is)
-    c.index_mut.ensures.value in
-    let may = may_is years day c.in-Some.place given at in
-    let new : Year = c.add.new.self in
     on_ok c.add.result c.add.ensures.ok
     (λ more. (
-      subst (λ (g : List YearDays). MayAddDay g day) c.self.view_is (may.1 (more.0, more.1)),
-      changed years day c.in-Some.place given new at c.add.ensures.year more.2
-          ∙ ap (with_day day) c.self.view_is,
+      subst (λ (g : List YearDays). MayAddDay g day) c.self.view_is
+          ((may_is at).1 (more.0, more.1)),
+      changed c.add.new.self at c.add.ensures.year more.2 ∙ ap (with_day day) c.self.view_is,
     ))
 
 pub returns-clause-holiday : goal.returns-clause-holiday
 returns-clause-holiday c =
-    let years : List Year = c.self.inside.years.items in
+    let at = stops c in
     let day = c.args.day in
-    let test : Year → Bool = λ y. y.year == year_of day in
-    let found : c.position.result ≡ position test years =
-    position_from_yields_List test _ _ c.position.result c.position.ensures.ran
-    (YieldsList-from_slice years cc) (λ x b q k. search (rules, tests)) in
-    let given : Year = c.index_mut.result.now in
-    let at = at_place years day c.in-Some.place given (sym found ∙ c.in-Some.is)
-    c.index_mut.ensures.value in
-    let may = may_is years day c.in-Some.place given at in
-    let new : Year = c.add.new.self in
     on_ok c.add.result c.add.ensures.ok
     (λ more.
-    let now = changed years day c.in-Some.place given new at c.add.ensures.year more.2 in
-    let with = holiday_with (given_of years) day (may.1 (more.0, more.1)) in
-    rw now (subst (λ (g : List YearDays). IsWithHoliday (holidays_of g) day
-    (holidays_of (with_day day (given_of years)))) c.self.view_is with))
+    let with = holiday_with (given_of c.self.inside.years.items) day
+    ((may_is at).1 (more.0, more.1)) in
+    rw (changed c.add.new.self at c.add.ensures.year more.2)
+    (subst (λ (g : List YearDays). IsWithHoliday (holidays_of g) day
+    (holidays_of (with_day day (given_of c.self.inside.years.items)))) c.self.view_is with))
 
 pub returns-clause-bad : goal.returns-clause-bad
 returns-clause-bad c =
-    let years : List Year = c.self.inside.years.items in
-    let day = c.args.day in
-    let test : Year → Bool = λ y. y.year == year_of day in
-    let found : c.position.result ≡ position test years =
-    position_from_yields_List test _ _ c.position.result c.position.ensures.ran
-    (YieldsList-from_slice years cc) (λ x b q k. search (rules, tests)) in
-    let given : Year = c.index_mut.result.now in
-    let at = at_place years day c.in-Some.place given (sym found ∙ c.in-Some.is)
-    c.index_mut.ensures.value in
-    let may = may_is years day c.in-Some.place given at in
-    let now : MayAddDay c.args.self.now day ↔ ((is_holiday given.days.items day ≡ false)
-    × (length given.days.items < 60)) =
-    subst (λ (g : List YearDays). MayAddDay g day ↔ ((is_holiday given.days.items day ≡ false)
-    × (length given.days.items < 60))) c.self.view_is may in (
-      (λ e m. c.add.ensures.bad.0 e (now.0 m)),
-      (λ never. c.add.ensures.bad.1 (λ m. never (now.1 m))),
+    let may = rw c.self.view_is at (may_is (stops c)) in (
+      (λ e m. c.add.ensures.bad.0 e (may.0 m)),
+      (λ never. c.add.ensures.bad.1 (λ m. never (may.1 m))),
     )
 
 pub returns-clause-err : goal.returns-clause-err
-returns-clause-err c =
-    let years : List Year = c.self.inside.years.items in
-    let day = c.args.day in
-    let test : Year → Bool = λ y. y.year == year_of day in
-    let found : c.position.result ≡ position test years =
-    position_from_yields_List test _ _ c.position.result c.position.ensures.ran
-    (YieldsList-from_slice years cc) (λ x b q k. search (rules, tests)) in
-    let given : Year = c.index_mut.result.now in
-    let at = at_place years day c.in-Some.place given (sym found ∙ c.in-Some.is)
-    c.index_mut.ensures.value in
-    let may = may_is years day c.in-Some.place given at in
-    on_err c.add.result c.add.ensures.err
-    (λ same. kept years day c.in-Some.place given c.add.new.self at c.add.ensures.year same
-    ∙ c.self.view_is)
+returns-clause-err c = on_err c.add.result c.add.ensures.err
+    (λ same. kept c.add.new.self (stops c) c.add.ensures.year same ∙ c.self.view_is)

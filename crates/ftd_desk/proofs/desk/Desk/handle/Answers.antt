@@ -1,6 +1,5 @@
 use Rattle.std.proofs.Common.{◌≡◌, true, false, inl, inr, Err, rules, refl, sym, subst}
 use Rattle.std.specs.Prelude.{is_err}
-use Rattle.ftd_schema.specs.States.{CrashKeeps}
 use Rattle.ftd_schema.proofs.Controls.{crash_then, on_err}
 use Rattle.ftd_store.specs.Seen.{seen, shown}
 use Rattle.ftd_store.specs.declared.store.Store.{Store as StoreOf}
@@ -40,29 +39,17 @@ returns-in-Err-clause-handles g c =
 
 pub returns-then-not-is_change-clause-stops : goal.returns-then-not-is_change-clause-stops
 returns-then-not-is_change-clause-stops g c =
-    let old = seen g.S.Store c.args.self.now.store in
-    let b = shown g.S.Store c.in-Ok.tx in
-    let m = shown g.S.Store c.serve_alone.new.tx in
-    let end = c.drop-tx-then-not-is_change.new.self.0 in
-    let call = c.in-Ok-serve_alone.ensures.call in
-    let same : end ≡ c.self-then-not-is_change-1.given.0 = search rules in
-    on_err c.bounded.result
-    (inr (subst (λ (store : StoreOf g.row.S.Denot). CrashKeeps old (seen g.S.Store store)) same
-    (crash_then old b (seen g.S.Store end) c.in-Ok.ensures.crash
-    (crash_then b m (seen g.S.Store end) call.frame.crash
+    let same : c.self-then-not-is_change-1.given.0 ≡ c.drop-tx-then-not-is_change.new.self.0 =
+    sym (search rules) in
+    rw same (on_err c.bounded.result (inr (crash_then _ _ _ c.in-Ok.ensures.crash
+    (crash_then _ _ _ c.in-Ok-serve_alone.ensures.call.frame.crash
     c.drop-tx-then-not-is_change.ensures.crash))))
 
 pub returns-in-Err-serve_alone-clause-stops : goal.returns-in-Err-serve_alone-clause-stops
 returns-in-Err-serve_alone-clause-stops g c =
-    let old = seen g.S.Store c.args.self.now.store in
-    let b = shown g.S.Store c.in-Ok.tx in
-    let m = shown g.S.Store c.serve_alone.new.tx in
-    let end = c.drop-tx.new.self.0 in
-    let call = c.in-Err-serve_alone.ensures.call in
-    let same : end ≡ c.self-in-Err-serve_alone-1.given.0 = search rules in
-    inr (subst (λ (store : StoreOf g.row.S.Denot). CrashKeeps old (seen g.S.Store store)) same
-    (crash_then old b (seen g.S.Store end) c.in-Ok.ensures.crash
-    (crash_then b m (seen g.S.Store end) call.frame.crash c.drop-tx.ensures.crash)))
+    let same : c.self-in-Err-serve_alone-1.given.0 ≡ c.drop-tx.new.self.0 = sym (search rules) in
+    inr (rw same (crash_then _ _ _ c.in-Ok.ensures.crash
+    (crash_then _ _ _ c.in-Err-serve_alone.ensures.call.frame.crash c.drop-tx.ensures.crash)))
 
 pub returns-then-not-is_change-clause-handles : goal.returns-then-not-is_change-clause-handles
 returns-then-not-is_change-clause-handles g c =
@@ -101,73 +88,37 @@ returns-then-not-is_change-clause-handles g c =
 
 pub returns-then-is_err-clause-handles : goal.returns-then-is_err-clause-handles
 returns-then-is_err-clause-handles g c =
-    let old = held g.S.Store c.args.self.now in
-    let b = shown g.S.Store c.in-Ok.tx in
-    let m = shown g.S.Store c.serve_alone.new.tx in
-    let end = c.commit.new.self.0 in
-    let served = c.in-Ok-serve_alone.served in
-    let none = c.replace-known.new.dest in
-    let new : StoreOf g.row.S.Denot → Held = λ store. record {
-      db = seen g.S.Store store;
-      known = none;
-    } in
     let failed : is_err c.commit.result ≡ true = search rules in
-    let same : end ≡ c.self-2-1.given.0 = search rules in
-    subst (λ store. Handles old (new store) c.args.request.now (Err _)) same
-    (handles_uncommitted old (new end) b m served.known c.args.request.now served.answer
-    c.in-Ok.ensures.crash c.in-Ok.ensures.begun
-    (served_ok g.S.Store c.args.request.now old.known c.replace-known.result c.in-Ok.tx
-    c.serve_alone.new.tx served (search rules) c.in-Ok-serve_alone.ensures.call)
+    let same : c.self-2-1.given.0 ≡ c.commit.new.self.0 = sym (search rules) in
+    rw same (handles_uncommitted _ _ _ _ _ _ _ c.in-Ok.ensures.crash c.in-Ok.ensures.begun
+    (served_ok g.S.Store _ c.args.self.now.known _ _ _ c.in-Ok-serve_alone.served (search rules)
+    c.in-Ok-serve_alone.ensures.call)
     (λ clean opened. at_err c.commit.result failed (c.commit.ensures.kept clean opened))
-    c.commit.ensures.crash (none_known none (search rules) (search rules) (search rules))
+    c.commit.ensures.crash
+    (none_known c.replace-known.new.dest (search rules) (search rules) (search rules))
     (search rules))
 
 pub returns-clause-handles : goal.returns-clause-handles
 returns-clause-handles g c =
-    let old = held g.S.Store c.args.self.now in
-    let b = shown g.S.Store c.in-Ok.tx in
-    let m = shown g.S.Store c.serve_alone.new.tx in
-    let end = c.commit.new.self.0 in
-    let served = c.in-Ok-serve_alone.served in
-    let new : StoreOf g.row.S.Denot → Held = λ store. record {
-      db = seen g.S.Store store;
-      known = served.known;
-    } in
     let went : is_err c.commit.result ≡ false = search rules in
-    let same : end ≡ c.self-2-1.given.0 = search rules in
-    subst (λ store. Handles old (new store) c.args.request.now served.answer) same
-    (handles_committed old (new end) b m served.known c.args.request.now served.answer
-    c.in-Ok.ensures.crash c.in-Ok.ensures.begun
-    (served_ok g.S.Store c.args.request.now old.known c.replace-known.result c.in-Ok.tx
-    c.serve_alone.new.tx served (search rules) c.in-Ok-serve_alone.ensures.call)
+    let same : c.self-2-1.given.0 ≡ c.commit.new.self.0 = sym (search rules) in
+    rw same (handles_committed _ _ _ _ _ _ _ c.in-Ok.ensures.crash c.in-Ok.ensures.begun
+    (served_ok g.S.Store _ c.args.self.now.known _ _ _ c.in-Ok-serve_alone.served (search rules)
+    c.in-Ok-serve_alone.ensures.call)
     (λ clean. at_ok c.commit.result went (c.commit.ensures.ok clean))
     (λ clean. at_ok c.commit.result went (c.commit.ensures.lasts clean)) c.commit.ensures.crash refl
     (search rules))
 
 pub returns-in-Err-serve_alone-clause-handles : goal.returns-in-Err-serve_alone-clause-handles
 returns-in-Err-serve_alone-clause-handles g c =
-    let old = held g.S.Store c.args.self.now in
-    let b = shown g.S.Store c.in-Ok.tx in
-    let m = shown g.S.Store c.serve_alone.new.tx in
-    let end = c.drop-tx.new.self.0 in
-    let fault = c.in-Err-serve_alone.fault in
     let none = c.replace-known.new.dest in
-    let new : StoreOf g.row.S.Denot → Held = λ store. record {
-      db = seen g.S.Store store;
-      known = none;
-    } in
-    let same : end ≡ c.self-in-Err-serve_alone-1.given.0 = search rules in
+    let same : c.self-in-Err-serve_alone-1.given.0 ≡ c.drop-tx.new.self.0 = sym (search rules) in
     let forgotten = none_known none (search rules) (search rules) (search rules) in
-    subst (λ store. Handles old (new store) c.args.request.now
-    (Err c.refusal_of-in-Err-serve_alone.result)) same
-    (subst (λ refusal. Handles old (new end) c.args.request.now (Err refusal))
-    (sym c.refusal_of-in-Err-serve_alone.ensures)
-    (handles_dropped old (new end) b m none c.args.request.now (Err (refusal_of fault))
-    c.in-Ok.ensures.crash c.in-Ok.ensures.begun
-    (served_err g.S.Store c.args.request.now old.known none c.replace-known.result c.in-Ok.tx
-    c.serve_alone.new.tx fault (search rules) c.in-Err-serve_alone.ensures.call forgotten)
-    c.drop-tx.ensures.undone c.drop-tx.ensures.crash c.drop-tx.ensures.opens (λ s counted. counted)
-    refl))
+    rw (same, c.refusal_of-in-Err-serve_alone.ensures)
+    (handles_dropped _ _ _ _ _ _ _ c.in-Ok.ensures.crash c.in-Ok.ensures.begun
+    (served_err g.S.Store _ c.args.self.now.known none _ _ _ c.in-Err-serve_alone.fault
+    (search rules) c.in-Err-serve_alone.ensures.call forgotten) c.drop-tx.ensures.undone
+    c.drop-tx.ensures.crash c.drop-tx.ensures.opens (λ s counted. counted) refl)
 
 pub returns-then-self-clause-shows : goal.returns-then-self-clause-shows
 returns-then-self-clause-shows g c =

@@ -1,14 +1,10 @@
-use Rattle.std.proofs.Common.{◌≡◌, [], ◌∷◌, true, false, inr, rules, refl, sym, subst, Ok, Err}
+use Rattle.std.proofs.Common.{◌≡◌, [], ◌∷◌, true, false, inr, rules, refl, sym}
 use Rattle.std.specs.Prelude.{is_err}
 use Rattle.std.proofs.lemmas.List.{nil_from_length}
 use Rattle.ftd_machine.specs.declared.replies.Refusal.TheVariants as refusal
-use Rattle.ftd_questions.specs.Faults.{refusal_of}
-use Rattle.ftd_schema.specs.States.{CrashKeeps}
 use Rattle.ftd_schema.proofs.Controls.{crash_then}
-use Rattle.ftd_store.specs.Seen.{seen, shown}
 use Rattle.ftd_store.specs.declared.store.Store.{Store}
-use Rattle.ftd_desk.specs.Desks.{Held, held}
-use Rattle.ftd_desk.specs.Words.{HandlesTogether}
+use Rattle.ftd_desk.specs.Desks.{held}
 use Rattle.ftd_desk.proofs.Handling.{none_known, at_err, at_ok}
 use Rattle.ftd_desk.proofs.Handled.{refused, together_dropped, together_uncommitted}
 use Rattle.ftd_desk.proofs.Handled.{together_committed, together_none, together_still}
@@ -27,87 +23,46 @@ returns-in_default-clause-together g c =
 
 pub returns-then-is_err-clause-together : goal.returns-then-is_err-clause-together
 returns-then-is_err-clause-together g c =
-    let old = held g.S.Store c.args.self.now in
-    let b = shown g.S.Store c.in-Ok.tx in
-    let m = shown g.S.Store c.serve_all.new.tx in
-    let end = c.commit.new.self.0 in
     let call = c.in-Ok-serve_all.ensures.call in
     let served = c.in-Ok-serve_all.served in
-    let none = c.replace-known.new.dest in
     let all = c.in-Some.first.now ∷ c.in-Some.later.now in
-    let new : Store g.row.S.Denot → Held = λ store. record {
-      db = seen g.S.Store store;
-      known = none;
-    } in
     let failed : is_err c.commit.result ≡ true = search rules in
-    let whole : c.args.requests.now ≡ c.in-Some.first.now ∷ c.in-Some.later.now = search rules in
-    let same : end ≡ c.self-2-1.given.0 = search rules in
-    subst (λ store. HandlesTogether old (new store) c.args.requests.now (Err refusal.Store)) same
-    (rw whole (together_uncommitted old (new end) b m all c.in-Ok.ensures.crash
-    c.in-Ok.ensures.begun call.frame.crash call.frame.kept
-    served.answers.items served.known
-    (served_all g.S.Store old.known all c.replace-known.result c.in-Ok.tx c.serve_all.new.tx served
-    (search rules) call) c.commit.ensures.crash
+    let whole : c.args.requests.now ≡ all = search rules in
+    let same : c.self-2-1.given.0 ≡ c.commit.new.self.0 = sym (search rules) in
+    rw (same, whole) (together_uncommitted _ _ _ _ _ c.in-Ok.ensures.crash c.in-Ok.ensures.begun
+    call.frame.crash call.frame.kept served.answers.items served.known
+    (served_all g.S.Store c.args.self.now.known all _ _ _ served (search rules) call)
+    c.commit.ensures.crash
     (λ clean opened. at_err c.commit.result failed (c.commit.ensures.kept clean opened))
-    (none_known none (search rules) (search rules) (search rules))))
+    (none_known c.replace-known.new.dest (search rules) (search rules) (search rules)))
 
 pub returns-clause-together : goal.returns-clause-together
 returns-clause-together g c =
-    let old = held g.S.Store c.args.self.now in
-    let b = shown g.S.Store c.in-Ok.tx in
-    let m = shown g.S.Store c.serve_all.new.tx in
-    let end = c.commit.new.self.0 in
     let call = c.in-Ok-serve_all.ensures.call in
     let served = c.in-Ok-serve_all.served in
     let all = c.in-Some.first.now ∷ c.in-Some.later.now in
-    let new : Store g.row.S.Denot → Held = λ store. record {
-      db = seen g.S.Store store;
-      known = served.known;
-    } in
     let went : is_err c.commit.result ≡ false = search rules in
-    let whole : c.args.requests.now ≡ c.in-Some.first.now ∷ c.in-Some.later.now = search rules in
-    let same : end ≡ c.self-2-1.given.0 = search rules in
-    subst (λ store. HandlesTogether old (new store) c.args.requests.now (Ok served.answers.items))
-    same
-    (rw whole (together_committed old (new end) b m all c.in-Ok.ensures.crash c.in-Ok.ensures.begun
-    call.frame.crash call.frame.kept
-    served.answers.items served.known
-    (served_all g.S.Store old.known all c.replace-known.result c.in-Ok.tx c.serve_all.new.tx served
-    (search rules) call) c.commit.ensures.crash
+    let whole : c.args.requests.now ≡ all = search rules in
+    let same : c.self-2-1.given.0 ≡ c.commit.new.self.0 = sym (search rules) in
+    rw (same, whole) (together_committed _ _ _ _ _ c.in-Ok.ensures.crash c.in-Ok.ensures.begun
+    call.frame.crash call.frame.kept served.answers.items served.known
+    (served_all g.S.Store c.args.self.now.known all _ _ _ served (search rules) call)
+    c.commit.ensures.crash
     (λ clean. at_ok c.commit.result went (c.commit.ensures.ok clean))
-    (λ clean. at_ok c.commit.result went (c.commit.ensures.lasts clean)) refl))
+    (λ clean. at_ok c.commit.result went (c.commit.ensures.lasts clean)) refl)
 
 pub returns-in-Err-serve_all-clause-together : goal.returns-in-Err-serve_all-clause-together
 returns-in-Err-serve_all-clause-together g c =
-    let old = held g.S.Store c.args.self.now in
-    let b = shown g.S.Store c.in-Ok.tx in
-    let m = shown g.S.Store c.serve_all.new.tx in
-    let end = c.drop-tx.new.self.0 in
     let call = c.in-Err-serve_all.ensures.call in
-    let fault = c.in-Err-serve_all.fault in
-    let none = c.replace-known.new.dest in
-    let new : Store g.row.S.Denot → Held = λ store. record {
-      db = seen g.S.Store store;
-      known = none;
-    } in
-    let same : end ≡ c.self-in-Err-serve_all-1.given.0 = search rules in
-    subst (λ store. HandlesTogether old (new store) c.args.requests.now
-    (Err c.refusal_of-in-Err-serve_all.result)) same
-    (subst (λ refusal. HandlesTogether old (new end) c.args.requests.now (Err refusal))
-    (sym c.refusal_of-in-Err-serve_all.ensures)
-    (together_dropped old (new end) b m c.args.requests.now c.in-Ok.ensures.crash
-    c.in-Ok.ensures.begun call.frame.crash call.frame.kept (refusal_of fault) (refused fault)
-    c.drop-tx.ensures.undone c.drop-tx.ensures.crash c.drop-tx.ensures.opens
-    (none_known none (search rules) (search rules) (search rules))))
+    let same : c.self-in-Err-serve_all-1.given.0 ≡ c.drop-tx.new.self.0 = sym (search rules) in
+    rw (same, c.refusal_of-in-Err-serve_all.ensures)
+    (together_dropped _ _ _ _ _ c.in-Ok.ensures.crash c.in-Ok.ensures.begun call.frame.crash
+    call.frame.kept _ (refused c.in-Err-serve_all.fault) c.drop-tx.ensures.undone
+    c.drop-tx.ensures.crash c.drop-tx.ensures.opens
+    (none_known c.replace-known.new.dest (search rules) (search rules) (search rules)))
 
 pub returns-in-Err-serve_all-clause-keeps : goal.returns-in-Err-serve_all-clause-keeps
 returns-in-Err-serve_all-clause-keeps g c =
-    let old = seen g.S.Store c.args.self.now.store in
-    let b = shown g.S.Store c.in-Ok.tx in
-    let m = shown g.S.Store c.serve_all.new.tx in
-    let end = c.drop-tx.new.self.0 in
-    let call = c.in-Err-serve_all.ensures.call in
-    let same : end ≡ c.self-in-Err-serve_all-1.given.0 = search rules in
-    inr (subst (λ (store : Store g.row.S.Denot). CrashKeeps old (seen g.S.Store store)) same
-    (crash_then old b (seen g.S.Store end) c.in-Ok.ensures.crash
-    (crash_then b m (seen g.S.Store end) call.frame.crash c.drop-tx.ensures.crash)))
+    let same : c.self-in-Err-serve_all-1.given.0 ≡ c.drop-tx.new.self.0 = sym (search rules) in
+    inr (rw same (crash_then _ _ _ c.in-Ok.ensures.crash
+    (crash_then _ _ _ c.in-Err-serve_all.ensures.call.frame.crash c.drop-tx.ensures.crash)))

@@ -3,8 +3,7 @@ use Rattle.sqlite.specs.Effect.{Database}
 use Rattle.std.proofs.Common.{true}
 use Rattle.sqlite.specs.State.{HasCleanDisk, KeepsCommit}
 use Rattle.sqlite.specs.Held.{state}
-use Rattle.sqlite.proofs.Callers.{survives_begin}
-use Rattle.ftd_schema.specs.States.{within, CrashKeeps}
+use Rattle.ftd_schema.specs.States.{within}
 use Rattle.ftd_setup.specs.Versions.{Becomes}
 use Rattle.ftd_setup.proofs.Surviving.{becoming_survives, kept_begin, undone}
 use Rattle.ftd_setup.proofs.opening.Found.carry_out.Goals as goal
@@ -23,23 +22,13 @@ returns-in-Ok-clause-done g c clean =
 
 pub returns-in-Ok-clause-crash : goal.returns-in-Ok-clause-crash
 returns-in-Ok-clause-crash g c =
-    let old = state g.S.Store c.args.self.now.conn in
-    let last = within g.S.Store c.apply.new.tx in
-    let inside : CrashKeeps old last = survives_begin g.S.Store c.args.self.now.conn last _
-    (rw c.transaction-tx.ensures.begun at c.apply.ensures.step.crash) in
-    becoming_survives c.args.how old last _ inside (λ clean. let made =
-    c.in_ok-apply.ensures.step.does clean in
-    rw c.transaction-tx.ensures.begun at made) c.commit.ensures.survives
+    becoming_survives g.S.Store c.args.how c.args.self.now.conn _ _ _ c.transaction-tx.ensures.begun
+    c.in_ok-apply.ensures.step.crash c.in_ok-apply.ensures.step.does c.commit.ensures.survives
 
 pub returns-in-Err-clause-crash : goal.returns-in-Err-clause-crash
 returns-in-Err-clause-crash g c =
-    let old = state g.S.Store c.args.self.now.conn in
-    let last = within g.S.Store c.apply.new.tx in
-    let inside : CrashKeeps old last = survives_begin g.S.Store c.args.self.now.conn last _
-    (rw c.transaction-tx.ensures.begun at c.apply.ensures.step.crash) in
-    becoming_survives c.args.how old last _ inside (λ clean. let made =
-    c.in_ok-apply.ensures.step.does clean in
-    rw c.transaction-tx.ensures.begun at made) c.commit.ensures.survives
+    becoming_survives g.S.Store c.args.how c.args.self.now.conn _ _ _ c.transaction-tx.ensures.begun
+    c.in_ok-apply.ensures.step.crash c.in_ok-apply.ensures.step.does c.commit.ensures.survives
 
 pub returns-in-Err-clause-kept : goal.returns-in-Err-clause-kept
 returns-in-Err-clause-kept g c clean opened =

@@ -1,41 +1,23 @@
-use Rattle.std.proofs.Common.{◌≡◌, ℕ, List, [], false, inl, inr, refl, sym, ◌∙◌, arith}
-use Rattle.sqlite.specs.Order.{Row}
-use Rattle.sqlite.specs.State.{State, HasCleanDisk, Shown, IsUnchanged}
+use Rattle.std.proofs.Common.{◌≡◌, false, inl, inr, refl, sym, ◌∙◌, arith}
+use Rattle.sqlite.specs.State.{HasCleanDisk}
 use Rattle.sqlite.specs.Held.{state}
-use Rattle.ftd_schema.specs.declared.texts.TheConstants.{LIST_METAS}
 use Rattle.ftd_setup.specs.declared.opening.Change.TheVariants.{MigrateFirst, MigrateSecond}
-use Rattle.ftd_setup.specs.Versions.{has_later, ReadsVersion}
-use Rattle.ftd_setup.proofs.Surviving.{Told, migrating_survives, migrated_opens}
+use Rattle.ftd_setup.specs.Versions.{has_later}
+use Rattle.ftd_setup.proofs.Surviving.{told, migrating_survives, migrated_opens}
 use Rattle.ftd_setup.proofs.opening.Found.open_tagged.Goals as goal
-
--- what the reading told
-told : (old mid : State) (rows : List Row) (version : ℕ)
-    → Shown LIST_METAS.now [] old old rows × IsUnchanged old mid → ReadsVersion rows version
-    → Told version old mid
-told old mid rows version read is =
-    record { rows = rows; shown = read.0; is = is; same = read.1.0.now_is }
 
 pub returns-in_err-carry_out-in-Some-eq1-clause-crash :
     goal.returns-in_err-carry_out-in-Some-eq1-clause-crash
 returns-in_err-carry_out-in-Some-eq1-clause-crash g c =
-    let old = state g.S.Store c.args.self.now.conn in
-    let mid = state g.S.Store c.read_tag.new.self.conn in
-    migrating_survives MigrateFirst 1 old mid (state g.S.Store c.carry_out.new.self.conn)
-    (λ db did. did) c.read_tag.ensures.crash
-    (λ clean. told old mid _ 1 (c.in_ok-rows.ensures.shown clean)
-    (rw (c.deref.ensures.value, c.in-Some-eq1.field-0-test) at (c.in-Some-eq1.ensures.read.1)))
-    c.carry_out.ensures.crash
+    migrating_survives MigrateFirst 1 _ _ _ _ (λ db did. did) c.read_tag.ensures.crash
+    c.in_ok-rows.ensures.shown (rw (c.deref.ensures.value, c.in-Some-eq1.field-0-test) at
+    (c.in-Some-eq1.ensures.read.1)) c.carry_out.ensures.crash
 
-pub returns-in-Some-eq1-clause-crash :
-    goal.returns-in-Some-eq1-clause-crash
+pub returns-in-Some-eq1-clause-crash : goal.returns-in-Some-eq1-clause-crash
 returns-in-Some-eq1-clause-crash g c =
-    let old = state g.S.Store c.args.self.now.conn in
-    let mid = state g.S.Store c.read_tag.new.self.conn in
-    migrating_survives MigrateFirst 1 old mid (state g.S.Store c.carry_out.new.self.conn)
-    (λ db did. did) c.read_tag.ensures.crash
-    (λ clean. told old mid _ 1 (c.in_ok-rows.ensures.shown clean)
-    (rw (c.deref.ensures.value, c.in-Some-eq1.field-0-test) at (c.in-Some-eq1.ensures.read.1)))
-    c.carry_out.ensures.crash
+    migrating_survives MigrateFirst 1 _ _ _ _ (λ db did. did) c.read_tag.ensures.crash
+    c.in_ok-rows.ensures.shown (rw (c.deref.ensures.value, c.in-Some-eq1.field-0-test) at
+    (c.in-Some-eq1.ensures.read.1)) c.carry_out.ensures.crash
 
 pub returns-in-Some-eq1-clause-read : goal.returns-in-Some-eq1-clause-read
 returns-in-Some-eq1-clause-read g c clean =
@@ -54,24 +36,15 @@ returns-in-Some-eq1-clause-read g c clean =
 pub returns-in_err-carry_out-in-Some-eq2-clause-crash :
     goal.returns-in_err-carry_out-in-Some-eq2-clause-crash
 returns-in_err-carry_out-in-Some-eq2-clause-crash g c =
-    let old = state g.S.Store c.args.self.now.conn in
-    let mid = state g.S.Store c.read_tag.new.self.conn in
-    migrating_survives MigrateSecond 2 old mid
-    (state g.S.Store c.carry_out-in-Some-eq2.new.self.conn) (λ db did. did) c.read_tag.ensures.crash
-    (λ clean. told old mid _ 2 (c.in_ok-rows.ensures.shown clean)
-    (rw (c.deref.ensures.value, c.in-Some-eq2.field-0-test) at (c.in-Some-eq2.ensures.read.1)))
-    c.carry_out-in-Some-eq2.ensures.crash
+    migrating_survives MigrateSecond 2 _ _ _ _ (λ db did. did) c.read_tag.ensures.crash
+    c.in_ok-rows.ensures.shown (rw (c.deref.ensures.value, c.in-Some-eq2.field-0-test) at
+    (c.in-Some-eq2.ensures.read.1)) c.carry_out-in-Some-eq2.ensures.crash
 
-pub returns-in-Some-eq2-clause-crash :
-    goal.returns-in-Some-eq2-clause-crash
+pub returns-in-Some-eq2-clause-crash : goal.returns-in-Some-eq2-clause-crash
 returns-in-Some-eq2-clause-crash g c =
-    let old = state g.S.Store c.args.self.now.conn in
-    let mid = state g.S.Store c.read_tag.new.self.conn in
-    migrating_survives MigrateSecond 2 old mid
-    (state g.S.Store c.carry_out-in-Some-eq2.new.self.conn) (λ db did. did) c.read_tag.ensures.crash
-    (λ clean. told old mid _ 2 (c.in_ok-rows.ensures.shown clean)
-    (rw (c.deref.ensures.value, c.in-Some-eq2.field-0-test) at (c.in-Some-eq2.ensures.read.1)))
-    c.carry_out-in-Some-eq2.ensures.crash
+    migrating_survives MigrateSecond 2 _ _ _ _ (λ db did. did) c.read_tag.ensures.crash
+    c.in_ok-rows.ensures.shown (rw (c.deref.ensures.value, c.in-Some-eq2.field-0-test) at
+    (c.in-Some-eq2.ensures.read.1)) c.carry_out-in-Some-eq2.ensures.crash
 
 pub returns-in-Some-eq2-clause-read : goal.returns-in-Some-eq2-clause-read
 returns-in-Some-eq2-clause-read g c clean =

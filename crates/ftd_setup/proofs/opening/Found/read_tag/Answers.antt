@@ -23,29 +23,20 @@ returns-in-Ok-clause-shown g c clean =
 
 pub returns-in-Ok-clause-kept : goal.returns-in-Ok-clause-kept
 returns-in-Ok-clause-kept g c clean opened =
-    let old = state g.S.Store c.args.self.now.conn in
-    let new = state g.S.Store c.query_all.new.self in
-    shows_again old new opened (c.is_autocommit.ensures.settled c.if-not-is_autocommit.false)
-    (inl (reading_stays old new _ _ _ (asking Metas _ _ _ _ lists_metas)
-    (c.in-Ok.ensures.ok clean)))
+    shows_again _ _ opened (c.is_autocommit.ensures.settled c.if-not-is_autocommit.false)
+    (inl (reading_stays _ _ _ _ _ (asking Metas _ _ _ _ lists_metas) (c.in-Ok.ensures.ok clean)))
 
 pub returns-in-Err-clause-kept : goal.returns-in-Err-clause-kept
 returns-in-Err-clause-kept g c clean opened =
-    let old = state g.S.Store c.args.self.now.conn in
-    let new = state g.S.Store c.query_all.new.self in
-    shows_again old new opened (c.is_autocommit.ensures.settled c.if-not-is_autocommit.false)
-    (query_leaves _ _ old new c.in-Err.error (c.in-Err.ensures.err clean))
+    shows_again _ _ opened (c.is_autocommit.ensures.settled c.if-not-is_autocommit.false)
+    (query_leaves _ _ _ _ c.in-Err.error (c.in-Err.ensures.err clean))
 
 pub returns-in-Ok-clause-crash : goal.returns-in-Ok-clause-crash
 returns-in-Ok-clause-crash g c =
-    let old = state g.S.Store c.args.self.now.conn in
-    weaker old (state g.S.Store c.query_all.new.self) _
-    (λ db. reading_commits_nothing old LIST_METAS.now _ db (asking Metas _ _ _ _ lists_metas))
-    c.query_all.ensures.survives
+    weaker _ _ _ (λ db. reading_commits_nothing _ LIST_METAS.now _ db (asking Metas _ _ _ _
+    lists_metas)) c.query_all.ensures.survives
 
 pub returns-in-Err-clause-crash : goal.returns-in-Err-clause-crash
 returns-in-Err-clause-crash g c =
-    let old = state g.S.Store c.args.self.now.conn in
-    weaker old (state g.S.Store c.query_all.new.self) _
-    (λ db. reading_commits_nothing old LIST_METAS.now _ db (asking Metas _ _ _ _ lists_metas))
-    c.query_all.ensures.survives
+    weaker _ _ _ (λ db. reading_commits_nothing _ LIST_METAS.now _ db (asking Metas _ _ _ _
+    lists_metas)) c.query_all.ensures.survives

@@ -1,10 +1,10 @@
-use Rattle.std.proofs.Common.{◌≡◌, List, ℕ, [], Err, take, refl, ap, ◌∙◌, append-nil, rules, arith}
+use Rattle.std.proofs.Common.{◌≡◌, List, ℕ, [], refl, ap, ◌∙◌, append-nil, rules, arith}
 use Rattle.ftd_schema.specs.declared.TableName.{TableName}
 use Rattle.ftd_schema.specs.declared.TableName.TheVariants.{CalendarYears, Holidays}
 use Rattle.ftd_schema.specs.Standing.{Tables, with_rows}
 use Rattle.ftd_rows.specs.Rows.{calendar_year_row, holiday_row}
 use Rattle.ftd_store.specs.Changes.{adding, with_calendar}
-use Rattle.ftd_store.proofs.Going.{fails_after, then_writes, writes_same}
+use Rattle.ftd_store.proofs.Going.{call_fails_after, then_writes, writes_same}
 use Rattle.ftd_store.proofs.Replaced.{one_more, all_taken}
 use Rattle.ftd_store.proofs.tx.Tx.add_calendar.Goals as goal
 
@@ -22,22 +22,17 @@ loop-day-init g c =
     (rw (append-nil (t Holidays)) refl))
 
 pub returns-in_err-add_holiday : goal.returns-in_err-add_holiday
-returns-in_err-add_holiday g c =
-    let is : c.from_residual-in_err-add_holiday.result ≡ Err c.in_err-add_holiday.field-0.0 =
-    search rules in
-    record {
-      call = fails_after is c.loop-day.invariant.frame c.in_err-add_holiday.ensures.call.frame;
-    }
+returns-in_err-add_holiday g c = record {
+  call = call_fails_after (search rules) c.loop-day.invariant c.in_err-add_holiday.ensures.call;
+}
 
 pub loop-day-preserved : goal.loop-day-preserved
 loop-day-preserved g c =
     let year = c.args.year in
-    let i = c.loop-day.day-index in
-    let xs : List ℕ = c.args.days.now in
-    let x : ℕ = c.day-item.result in
     then_writes _ _ c.loop-day.invariant c.in_ok-add_holiday.ensures.call
     (one_more Holidays (λ rows t. refl) (holiday_row year) (λ t. t Holidays)
-    (adding CalendarYears (calendar_year_row year)) xs i x c.loop-day-test.true c.day-item.is)
+    (adding CalendarYears (calendar_year_row year)) c.args.days.now c.loop-day.day-index
+    c.day-item.result c.loop-day-test.true c.day-item.is)
 
 pub returns : goal.returns
 returns g c =

@@ -1,6 +1,6 @@
 use Rattle.std.proofs.Common.{ℕ, List}
 use Rattle.ftd_days.specs.Holidays.{holidays_of}
-use Rattle.ftd_store.specs.Holidays.{AddsIfGiven, AddsYear}
+use Rattle.ftd_store.specs.Holidays.{AddsYear}
 use Rattle.ftd_store.proofs.Telling.{reads_on}
 use Rattle.ftd_store.proofs.tx.Tx.add_given.Goals as goal
 

@@ -1,7 +1,6 @@
 use Rattle.std.proofs.Common.{rules, ◌≡◌, ℕ, List, Option, None, Vec, Global, true, false, refl}
 use Rattle.std.proofs.Common.{subst}
 use Rattle.ftd_days.specs.Holidays.{holidays_of}
-use Rattle.ftd_store.specs.Corrections.{ListsHolidayChanges}
 use Rattle.ftd_store.specs.Finds.{FindsCalendar, ListsAdded}
 use Rattle.ftd_store.specs.Holidays.{AddsIfGiven}
 use Rattle.ftd_store.proofs.Telling.{reads_on, then_reads}

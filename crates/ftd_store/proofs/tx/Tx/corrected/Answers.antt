@@ -1,21 +1,14 @@
 use Rattle.std.proofs.Common.{rules}
-use Rattle.ftd_schema.specs.declared.TableName.TheVariants.{CorrectedQuarters}
-use Rattle.ftd_schema.specs.declared.texts.TheConstants.{LIST_CORRECTED}
-use Rattle.ftd_schema.specs.Answers.{quarter_correction_shown}
-use Rattle.ftd_schema.specs.Orders.{QuarterCorrectionsRise}
-use Rattle.ftd_schema.proofs.Meanings.{corrected_in_order}
-use Rattle.ftd_rows.specs.Corrections.{quarter_correction_cells}
 use Rattle.ftd_store.specs.Corrections.{IsQuarterCorrection}
+use Rattle.ftd_schema.specs.declared.TableName.TheVariants.{CorrectedQuarters}
+use Rattle.ftd_schema.proofs.Meanings.{corrected_in_order}
 use Rattle.ftd_store.proofs.SameCorrections.{quarter_correction_is}
 use Rattle.ftd_store.proofs.Telling.{lists}
 use Rattle.ftd_store.proofs.tx.Tx.corrected.Goals as goal
 
 pub returns : goal.returns
 returns g c = record {
-  call = lists g.S.Store c.args.self.now c.read_all.new.self c.read_all.result (λ xs. xs.items)
-      CorrectedQuarters LIST_CORRECTED.now _ _ quarter_correction_shown quarter_correction_cells
-      QuarterCorrectionsRise (IsQuarterCorrection c.args.account.now)
-      (corrected_in_order c.args.account.now)
-      (quarter_correction_is c.args.account.now)
+  call = lists (λ xs. xs.items) CorrectedQuarters _ (IsQuarterCorrection c.args.account.now)
+      (corrected_in_order c.args.account.now) (quarter_correction_is c.args.account.now)
       (search rules);
 }

@@ -1,21 +1,14 @@
 use Rattle.std.proofs.Common.{rules}
-use Rattle.ftd_schema.specs.declared.TableName.TheVariants.{CorrectedYears}
-use Rattle.ftd_schema.specs.declared.texts.TheConstants.{LIST_CORRECTED_YEARS}
-use Rattle.ftd_schema.specs.Answers.{year_correction_shown}
-use Rattle.ftd_schema.specs.Orders.{YearsCorrectionsRise}
-use Rattle.ftd_schema.proofs.Meanings.{corrected_years_in_order}
-use Rattle.ftd_rows.specs.Corrections.{year_correction_cells}
 use Rattle.ftd_store.specs.Corrections.{IsYearCorrection}
+use Rattle.ftd_schema.specs.declared.TableName.TheVariants.{CorrectedYears}
+use Rattle.ftd_schema.proofs.Meanings.{corrected_years_in_order}
 use Rattle.ftd_store.proofs.SameCorrections.{year_correction_is}
 use Rattle.ftd_store.proofs.Telling.{lists}
 use Rattle.ftd_store.proofs.tx.Tx.corrected_years.Goals as goal
 
 pub returns : goal.returns
 returns g c = record {
-  call = lists g.S.Store c.args.self.now c.read_all.new.self c.read_all.result (λ xs. xs.items)
-      CorrectedYears LIST_CORRECTED_YEARS.now _ _ year_correction_shown year_correction_cells
-      YearsCorrectionsRise (IsYearCorrection c.args.account.now)
-      (corrected_years_in_order c.args.account.now)
-      (year_correction_is c.args.account.now)
+  call = lists (λ xs. xs.items) CorrectedYears _ (IsYearCorrection c.args.account.now)
+      (corrected_years_in_order c.args.account.now) (year_correction_is c.args.account.now)
       (search rules);
 }

@@ -1,23 +1,16 @@
 use Rattle.std.proofs.Common.{pos, rules}
+use Rattle.ftd_store.specs.Corrections.{IsCorrection}
 use Rattle.ftd_schema.specs.declared.TableName.TheVariants.{CorrectedQuarters}
-use Rattle.ftd_schema.specs.declared.texts.TheConstants.{LIST_CORRECTIONS}
-use Rattle.ftd_schema.specs.Answers.{correction_shown}
-use Rattle.ftd_schema.specs.Orders.{CorrectionsRise}
 use Rattle.ftd_schema.proofs.Meanings.{corrections_in_order}
 use Rattle.ftd_days.specs.Calendar.{quarter_year, quarter_number}
-use Rattle.ftd_rows.specs.Corrections.{correction_cells}
-use Rattle.ftd_store.specs.Corrections.{IsCorrection}
 use Rattle.ftd_store.proofs.SameCorrections.{correction_is}
 use Rattle.ftd_store.proofs.Telling.{lists}
 use Rattle.ftd_store.proofs.tx.Tx.corrections.Goals as goal
 
 pub returns : goal.returns
 returns g c = record {
-  call = lists g.S.Store c.args.self.now c.read_all.new.self c.read_all.result (λ xs. xs.items)
-      CorrectedQuarters LIST_CORRECTIONS.now _ _ correction_shown correction_cells
-      CorrectionsRise (IsCorrection c.args.account.now c.args.quarter)
-      (corrections_in_order c.args.account.now
-      (pos (quarter_year c.args.quarter)) (pos (quarter_number c.args.quarter)))
-      (correction_is c.args.account.now c.args.quarter)
+  call = lists (λ xs. xs.items) CorrectedQuarters _ (IsCorrection c.args.account.now c.args.quarter)
+      (corrections_in_order c.args.account.now (pos (quarter_year c.args.quarter))
+      (pos (quarter_number c.args.quarter))) (correction_is c.args.account.now c.args.quarter)
       (search rules);
 }

@@ -1,13 +1,7 @@
 use Rattle.std.proofs.Common.{rules}
-use Rattle.ftd_schema.specs.declared.TableName.TheVariants.{Payments}
-use Rattle.ftd_schema.specs.declared.texts.TheConstants.{COUNT_PAYMENTS}
 use Rattle.ftd_schema.proofs.Meanings.{payments_counted}
 use Rattle.ftd_store.proofs.Telling.{counts}
 use Rattle.ftd_store.proofs.tx.Tx.count_payments.Goals as goal
 
 pub returns : goal.returns
-returns g c = record {
-  call = counts g.S.Store c.args.self.now c.count.new.self c.count.result Payments
-      COUNT_PAYMENTS.now _ _ (payments_counted c.args.account.now)
-      (search rules);
-}
+returns g c = record { call = counts _ (payments_counted c.args.account.now) (search rules) }

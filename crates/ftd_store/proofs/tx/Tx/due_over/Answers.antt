@@ -1,20 +1,15 @@
 use Rattle.std.proofs.Common.{rules}
-use Rattle.ftd_schema.specs.declared.TableName.TheVariants.{Obligations}
-use Rattle.ftd_schema.specs.declared.texts.TheConstants.{LIST_DUE_OVER}
-use Rattle.ftd_schema.specs.Answers.{account_obligation_shown}
-use Rattle.ftd_schema.specs.Orders.{AccountsRise}
-use Rattle.ftd_schema.proofs.Meanings.{due_over_in_order}
-use Rattle.ftd_rows.specs.Cells.{day_number, account_obligation_cells}
 use Rattle.ftd_store.specs.Finds.{IsAccountObligation}
+use Rattle.ftd_schema.specs.declared.TableName.TheVariants.{Obligations}
+use Rattle.ftd_schema.proofs.Meanings.{due_over_in_order}
+use Rattle.ftd_rows.specs.Cells.{day_number}
 use Rattle.ftd_store.proofs.Same.{account_obligation_is}
 use Rattle.ftd_store.proofs.Telling.{lists}
 use Rattle.ftd_store.proofs.tx.Tx.due_over.Goals as goal
 
 pub returns : goal.returns
 returns g c = record {
-  call = lists g.S.Store c.args.self.now c.read_all.new.self c.read_all.result
-      (λ xs. xs.items) Obligations LIST_DUE_OVER.now _ _ account_obligation_shown
-      account_obligation_cells AccountsRise (IsAccountObligation)
+  call = lists (λ xs. xs.items) Obligations _ (IsAccountObligation)
       (due_over_in_order (day_number c.args.day)) (λ x o passes. account_obligation_is x o)
       (search rules);
 }

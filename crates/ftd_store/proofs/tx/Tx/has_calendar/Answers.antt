@@ -1,11 +1,7 @@
 use Rattle.std.proofs.Common.{◌≡◌, ℕ, pos, Bool, Option, None, Some, Ok, List, [], ◌∷◌, rules}
 use Rattle.std.specs.Prelude.{is_some, if◌then◌else◌}
-use Rattle.ftd_schema.specs.declared.TableName.TheVariants.{CalendarYears}
 use Rattle.ftd_schema.specs.Rows.{CalendarYearRow}
-use Rattle.ftd_schema.specs.declared.texts.TheConstants.{READ_CALENDAR_YEAR}
-use Rattle.ftd_schema.specs.Answers.{calendar_year_shown}
 use Rattle.ftd_schema.proofs.Meanings.{shows_calendar_year}
-use Rattle.ftd_rows.specs.Cells.{count_cells}
 use Rattle.ftd_rows.specs.Reading.{rows_of}
 use Rattle.ftd_rows.specs.Rows.{calendar_year_row}
 use Rattle.ftd_store.proofs.Same.{calendar_year_is}
@@ -18,13 +14,9 @@ there row rows None b is same = rw is same
 there row rows (Some n) b is same = rw is same
 
 pub returns : goal.returns
-returns g c =
-    let year = c.args.year in
-    record {
-      call = reads_on c.is_some.result _
-          (finds g.S.Store c.args.self.now c.read_only.new.self (Ok c.in_ok-found.found)
-          CalendarYears READ_CALENDAR_YEAR.now _ _ calendar_year_shown count_cells
-          (λ n. calendar_year_row year) (shows_calendar_year (pos year)) (calendar_year_is year)
-          (search rules)) (λ t is. there (calendar_year_row year) _ c.in_ok-found.found
-          c.is_some.result c.is_some.ensures is);
-    }
+returns g c = record {
+  call = reads_on c.is_some.result _ (finds {result = Ok c.in_ok-found.found} _
+      (λ n. calendar_year_row c.args.year) (shows_calendar_year (pos c.args.year))
+      (calendar_year_is c.args.year) (search rules)) (λ t is. there (calendar_year_row c.args.year)
+      _ c.in_ok-found.found c.is_some.result c.is_some.ensures is);
+}

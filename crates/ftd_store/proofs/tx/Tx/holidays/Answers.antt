@@ -1,6 +1,6 @@
 use Rattle.std.proofs.Common.{◌≡◌, ◌+◌, ℕ, List, sym, ap, subst, arith}
 use Rattle.ftd_days.specs.Holidays.{holidays_of}
-use Rattle.ftd_store.specs.Holidays.{AddsYear, HasYears}
+use Rattle.ftd_store.specs.Holidays.{HasYears}
 use Rattle.ftd_store.proofs.Telling.{reads_on, then_reads}
 use Rattle.ftd_store.proofs.AddedYears.{ReadSoFar, none_read, one_more_read, all_read}
 use Rattle.ftd_store.proofs.tx.Tx.holidays.Goals as goal

@@ -1,8 +1,6 @@
-use Rattle.std.proofs.Common.{refl, inl, subst, sym}
+use Rattle.std.proofs.Common.{refl, inl}
 use Rattle.sqlite.specs.Held.{state}
-use Rattle.sqlite.specs.State.{Shown}
-use Rattle.sqlite.specs.Values.{bound}
-use Rattle.ftd_tables.specs.TextKinds.{IsReadText}
+use Rattle.sqlite.specs.State.{HasCleanDisk}
 use Rattle.ftd_tables.proofs.Commits.{reading_commits_nothing}
 use Rattle.ftd_schema.proofs.Controls.{keeps_left, weaker}
 use Rattle.ftd_schema.proofs.Inside.{reading_stays}
@@ -15,39 +13,29 @@ pub returns-in-Ok : goal.returns-in-Ok
 returns-in-Ok g c =
     let old = state g.S.Store c.args.self.now.store.now.conn in
     let new = state g.S.Store c.query_all.new.self in
-    let reads : IsReadText c.text.result.now =
-    subst IsReadText (sym c.text.ensures) (is_reading c.args.reading) in
+    let shown = λ (clean : HasCleanDisk new). rw c.text.ensures at (c.in-Ok.ensures.ok clean) in
+    let same = λ (clean : HasCleanDisk new). reading_stays old new _ _ _
+    (is_reading c.args.reading) (shown clean) in
     record {
       call = record {
         frame = record {
           same = refl;
           told = (c.if-self.false, c.if-self.false);
           stopped = λ failed. absurd (let sound = c.if-self.false in cc);
-          stays = λ clean. let same =
-              (reading_stays old new c.text.result.now _ _ reads
-              (c.in-Ok.ensures.ok clean)).0 in
-              record {
-                was_open = same.was_open;
-                is_open = same.is_open;
-                now_is = refl;
-                committed_is = same.committed_is;
-                mode = same.mode;
-              };
-          kept = λ clean. keeps_left old new
-              (inl (reading_stays old new c.text.result.now _ _ reads
-              (c.in-Ok.ensures.ok clean)));
+          stays = λ clean. record {
+            was_open = (same clean).0.was_open;
+            is_open = (same clean).0.is_open;
+            now_is = refl;
+            committed_is = (same clean).0.committed_is;
+            mode = (same clean).0.mode;
+          };
+          kept = λ clean. keeps_left old new (inl (same clean));
           crash = weaker old new _
-              (λ db. reading_commits_nothing old c.text.result.now _ db reads)
-              c.query_all.ensures.survives;
+              (λ db. reading_commits_nothing old _ _ db (is_reading c.args.reading))
+              (rw c.text.ensures at c.query_all.ensures.survives);
         };
-        same = λ clean. reading_stays old new c.text.result.now _ _ reads
-            (c.in-Ok.ensures.ok clean);
-        showed = λ clean. (
-          c.in-Ok.rows.items,
-          subst (λ text. Shown text (bound c.args.params.now) old new c.in-Ok.rows.items)
-              c.text.ensures (c.in-Ok.ensures.ok clean),
-          refl,
-        );
+        same = same;
+        showed = λ clean. (c.in-Ok.rows.items, shown clean, refl);
       };
     }
 
@@ -55,14 +43,11 @@ pub returns-in-Err : goal.returns-in-Err
 returns-in-Err g c =
     let old = state g.S.Store c.args.self.now.store.now.conn in
     let new = state g.S.Store c.query_all.new.self in
-    let reads : IsReadText c.text.result.now =
-    subst IsReadText (sym c.text.ensures) (is_reading c.args.reading) in
     record {
       call = fails_to_query g.S.Store c.args.self.now c.stop.new.self _ c.stop.result _ _ _ _
           c.stop.ensures.err c.stop.ensures.touched.0 c.stop.ensures.touched.1 refl c.if-self.false
           (λ clean. keeps_left old new (query_leaves c.text.result.now _ old new c.in-Err.error
           (c.in-Err.ensures.err clean)))
-          (weaker old new _
-          (λ db. reading_commits_nothing old c.text.result.now _ db reads)
-          c.query_all.ensures.survives);
+          (weaker old new _ (λ db. reading_commits_nothing old _ _ db (is_reading c.args.reading))
+          (rw c.text.ensures at c.query_all.ensures.survives));
     }

@@ -1,18 +1,13 @@
 use Rattle.std.proofs.Common.{pos, rules}
-use Rattle.ftd_days.specs.Calendar.{quarter_year, quarter_number}
-use Rattle.ftd_schema.specs.declared.TableName.TheVariants.{ReportedQuarters}
-use Rattle.ftd_schema.specs.declared.texts.TheConstants.{READ_REPORTED}
-use Rattle.ftd_schema.specs.Answers.{reported_shown}
 use Rattle.ftd_schema.proofs.Meanings.{shows_reported}
-use Rattle.ftd_rows.specs.Cells.{cents_cells}
+use Rattle.ftd_days.specs.Calendar.{quarter_year, quarter_number}
 use Rattle.ftd_store.proofs.Same.{reported_is}
 use Rattle.ftd_store.proofs.Telling.{finds}
 use Rattle.ftd_store.proofs.tx.Tx.reported.Goals as goal
 
 pub returns : goal.returns
 returns g c = record {
-  call = finds g.S.Store c.args.self.now c.read_only.new.self c.read_only.result ReportedQuarters
-      READ_REPORTED.now _ _ reported_shown cents_cells _
+  call = finds _ _
       (shows_reported c.args.account.now (pos (quarter_year c.args.quarter))
       (pos (quarter_number c.args.quarter))) (reported_is c.args.account.now c.args.quarter)
       (search rules);

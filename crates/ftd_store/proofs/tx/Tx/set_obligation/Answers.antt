@@ -1,22 +1,16 @@
 use Rattle.std.proofs.Common.{rules}
 use Rattle.ftd_schema.specs.declared.TableName.TheVariants.{Obligations}
-use Rattle.ftd_schema.specs.declared.texts.TheConstants.{SET_OBLIGATION}
 use Rattle.ftd_schema.proofs.Changing.{sets_obligation}
 use Rattle.ftd_schema.proofs.Writing.{changing}
 use Rattle.ftd_schema.proofs.Meanings.{obligation_set}
-use Rattle.ftd_rows.specs.Rows.{obligation_row}
 use Rattle.ftd_store.proofs.Telling.{changes_one}
 use Rattle.ftd_store.proofs.tx.Tx.set_obligation.Goals as goal
 
 pub change_one-requires : goal.change_one-requires
-change_one-requires g c =
-    record { of_rows = changing Obligations SET_OBLIGATION.now _ _ _ _ sets_obligation }
+change_one-requires g c = record { of_rows = changing _ _ _ _ _ _ sets_obligation }
 
 pub returns : goal.returns
 returns g c = record {
-  call = changes_one g.S.Store c.args.self.now c.change_one.new.self c.change_one.result Obligations
-      SET_OBLIGATION.now _ _ _
-      (obligation_set (obligation_row c.args.account.now c.args.obligation))
-      c.change_one.ensures.frame
+  call = changes_one Obligations _ _ _ _ (obligation_set _) c.change_one.ensures.frame
       (search rules);
 }

@@ -1,6 +1,5 @@
-use Rattle.std.proofs.Common.{pos, rules}
+use Rattle.std.proofs.Common.{rules}
 use Rattle.ftd_schema.specs.declared.TableName.TheVariants.{Payments}
-use Rattle.ftd_schema.specs.declared.texts.TheConstants.{VOID_PAYMENT}
 use Rattle.ftd_schema.proofs.Changing.{voids_payment}
 use Rattle.ftd_schema.proofs.Writing.{changing}
 use Rattle.ftd_schema.proofs.Meanings.{payment_voided}
@@ -8,13 +7,10 @@ use Rattle.ftd_store.proofs.Telling.{changes_one}
 use Rattle.ftd_store.proofs.tx.Tx.void_payment.Goals as goal
 
 pub change_one-requires : goal.change_one-requires
-change_one-requires g c =
-    record { of_rows = changing Payments VOID_PAYMENT.now _ _ _ _ voids_payment }
+change_one-requires g c = record { of_rows = changing _ _ _ _ _ _ voids_payment }
 
 pub returns : goal.returns
 returns g c = record {
-  call = changes_one g.S.Store c.args.self.now c.change_one.new.self c.change_one.result Payments
-      VOID_PAYMENT.now _ _ _ (payment_voided c.args.account.now (pos c.args.number))
-      c.change_one.ensures.frame
+  call = changes_one Payments _ _ _ _ (payment_voided _ _) c.change_one.ensures.frame
       (search rules);
 }

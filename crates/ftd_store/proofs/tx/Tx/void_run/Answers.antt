@@ -1,6 +1,5 @@
-use Rattle.std.proofs.Common.{pos, rules}
+use Rattle.std.proofs.Common.{rules}
 use Rattle.ftd_schema.specs.declared.TableName.TheVariants.{Runs}
-use Rattle.ftd_schema.specs.declared.texts.TheConstants.{VOID_RUN}
 use Rattle.ftd_schema.proofs.Changing.{voids_run}
 use Rattle.ftd_schema.proofs.Writing.{changing}
 use Rattle.ftd_schema.proofs.Meanings.{run_voided}
@@ -8,12 +7,9 @@ use Rattle.ftd_store.proofs.Telling.{changes_one}
 use Rattle.ftd_store.proofs.tx.Tx.void_run.Goals as goal
 
 pub change_one-requires : goal.change_one-requires
-change_one-requires g c = record { of_rows = changing Runs VOID_RUN.now _ _ _ _ voids_run }
+change_one-requires g c = record { of_rows = changing _ _ _ _ _ _ voids_run }
 
 pub returns : goal.returns
 returns g c = record {
-  call = changes_one g.S.Store c.args.self.now c.change_one.new.self c.change_one.result Runs
-      VOID_RUN.now _ _ _ (run_voided c.args.account.now (pos c.args.number))
-      c.change_one.ensures.frame
-      (search rules);
+  call = changes_one Runs _ _ _ _ (run_voided _ _) c.change_one.ensures.frame (search rules);
 }

@@ -1,13 +1,8 @@
-use Rattle.std.proofs.Common.{Ok, Vec, Global, sym, subst, rules}
+use Rattle.std.proofs.Common.{Ok, sym, subst, rules}
 use Rattle.ftd_schema.specs.declared.TableName.TheVariants.{Years}
-use Rattle.ftd_schema.specs.declared.texts.TheConstants.{LIST_YEARS}
-use Rattle.ftd_schema.specs.Answers.{year_shown}
 use Rattle.ftd_schema.specs.Orders.{YearsRise}
 use Rattle.ftd_schema.proofs.Meanings.{years_in_order}
-use Rattle.ftd_rules.specs.declared.YearLine.{YearLine}
 use Rattle.ftd_rules.specs.Years.{OnlyFirstCarried}
-use Rattle.ftd_rows.specs.declared.years.StoredYear.{StoredYear}
-use Rattle.ftd_rows.specs.Cells.{year_cells}
 use Rattle.ftd_rows.specs.Lists.{Lists}
 use Rattle.ftd_rows.specs.Years.{is_carried, FirstCarriedAs}
 use Rattle.ftd_rows.proofs.OpenYears.{only_first_carried, carried_as}
@@ -20,27 +15,27 @@ pub returns-in-Ok : goal.returns-in-Ok
 returns-in-Ok g c =
     let who = c.args.account.now in
     let found = c.in_ok-found.found in
-    let stored : Vec StoredYear Global = c.in_ok-stored.stored in
-    let lines : Vec YearLine Global = c.in-Ok.lines in
-    let listed = lists g.S.Store c.account_in_force.new.self c.read_all.new.self (Ok stored)
-    (λ xs. xs.items) Years LIST_YEARS.now _ _ year_shown year_cells YearsRise (IsStoredYear who)
-    (years_in_order who) (stored_year_is who)
-    (search rules) in
+    let stored = c.in_ok-stored.stored in
+    let listed = lists {g = g.S.Store} {old = c.account_in_force.new.self}
+    {new = c.read_all.new.self} {result = Ok stored} (λ xs. xs.items) Years _ (IsStoredYear who)
+    (years_in_order who)
+    (stored_year_is who) (search rules) in
     let is = rw c.deref.ensures.value at c.in-Ok.ensures.lines in
     let there = rw c.deref.ensures.value at c.in-Ok.ensures.there in
     record {
-      call = then_reads lines _ c.in_ok-found.ensures.call listed (λ t account years. record {
-        listed = subst (Lists YearsRise (IsYear who) _) (sym is)
-            (lines_listed who (is_carried found) _ stored.items years);
-        whole = c.in-Ok.ensures.whole;
-        turns = c.in-Ok.ensures.turns;
-        first = (
-          found,
-          account,
-          subst (FirstCarriedAs found) (sym is)
-              (carried_as found stored.items there),
-        );
-        others = subst OnlyFirstCarried (sym is)
-            (only_first_carried (is_carried found) stored.items);
-      });
+      call = then_reads c.in-Ok.lines _ c.in_ok-found.ensures.call listed
+          (λ t account years. record {
+            listed = subst (Lists YearsRise (IsYear who) _) (sym is)
+                (lines_listed who (is_carried found) _ stored.items years);
+            whole = c.in-Ok.ensures.whole;
+            turns = c.in-Ok.ensures.turns;
+            first = (
+              found,
+              account,
+              subst (FirstCarriedAs found) (sym is)
+                  (carried_as found stored.items there),
+            );
+            others = subst OnlyFirstCarried (sym is)
+                (only_first_carried (is_carried found) stored.items);
+          });
     }
