@@ -4,8 +4,7 @@ use Rattle.std.proofs.Common.{inl, inr, List, refl, sym, ◌∙◌, arith}
 use Rattle.std.specs.Prelude.{filter}
 use Rattle.std.specs.List.{list_any}
 use Rattle.std.proofs.lemmas.Bool.{cases_Bool, true≢false, eqb-true, eq-eqb, and_parts}
-use Rattle.ftd_accounts.proofs.Searching.{some_pass}
-use Rattle.ftd_accounts.proofs.Searching.{any_has}
+use Rattle.ftd_rules.proofs.Members.{some_pass, any_has}
 use Rattle.ftd_days.specs.Calendar.{quarter_of, quarter_year}
 use Rattle.ftd_rules.specs.declared.Form.{Form}
 use Rattle.ftd_rules.specs.declared.Form.TheVariants.{F941, F943}

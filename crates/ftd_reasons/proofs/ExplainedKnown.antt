@@ -49,7 +49,8 @@ use Rattle.ftd_reasons.specs.Explained.{KnowsPaydays, IsToldBy, KnowsExplanation
 use Rattle.ftd_reasons.specs.Schedules.{AreScheduled}
 use Rattle.ftd_reasons.proofs.Counted.{counted_are, counted_rise}
 use Rattle.ftd_accounts.proofs.ReturnDates.{AgreeIn, return_same}
-use Rattle.ftd_accounts.proofs.Searching.{found, not_found, any_has}
+use Rattle.ftd_rules.proofs.Members.{any_has}
+use Rattle.ftd_accounts.proofs.Searching.{found, not_found}
 use Rattle.ftd_accounts.proofs.YearsRead.{years_agree}
 use Rattle.ftd_entries.proofs.Settling.{owes}
 

@@ -36,7 +36,8 @@ use Rattle.ftd_entries.specs.Standing.{StandsFor}
 use Rattle.ftd_entries.proofs.KnownYears.{open_lines}
 use Rattle.ftd_entries.proofs.Lines.{lines_known}
 use Rattle.ftd_reasons.specs.Schedules.{AreScheduled, IsStatusBy}
-use Rattle.ftd_accounts.proofs.Searching.{found, not_found, some_pass}
+use Rattle.ftd_rules.proofs.Members.{some_pass}
+use Rattle.ftd_accounts.proofs.Searching.{found, not_found}
 
 -- ---- the line of a year
 

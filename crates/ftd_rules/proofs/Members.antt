@@ -1,9 +1,9 @@
--- Members of lists that are appended, mapped and filtered.
+-- Members of lists that are appended, mapped, filtered and tested.
 use Rattle.std.proofs.Common.{◌≡◌, ◌∙◌, ◌+◌, ◌⊎◌, inl, inr, refl, sym, ap, subst, ℕ, Bool, true}
-use Rattle.std.proofs.Common.{false, cond, List, [], ◌∷◌, ◌++◌, map, arith}
+use Rattle.std.proofs.Common.{false, cond, ◌||◌, List, [], ◌∷◌, ◌++◌, map, arith}
 use Rattle.std.specs.Prelude.{filter}
-use Rattle.std.specs.List.{sum_by}
-use Rattle.std.proofs.lemmas.Bool.{cases_Bool}
+use Rattle.std.specs.List.{sum_by, list_any}
+use Rattle.std.proofs.lemmas.Bool.{cases_Bool, true≢false}
 use Rattle.std.proofs.lemmas.List.Sums.{sum_by-cons}
 use Rattle.ftd_rules.specs.Lists.{Has}
 
@@ -71,3 +71,29 @@ kept_sum test f x xs = elim (cases_Bool (test x)) [
   | inl kept ↦ rw kept (sum_by-cons f x (filter test xs))
   | inr left ↦ rw left (omega arith)
 ]
+
+-- ---- tested
+
+-- where some pass, there is one
+pub some_pass : {X : Type 0} (test : X → Bool) (xs : List X) → list_any test xs ≡ true
+    → (x : X) × Has xs x × (test x ≡ true)
+some_pass test [] is = absurd (true≢false (sym is))
+some_pass {X = X} test (y ∷ xs) is = step (test y) refl is (some_pass test xs)
+  where
+    step : (b : Bool) → test y ≡ b → (b || list_any test xs) ≡ true
+        → (list_any test xs ≡ true → (x : X) × Has xs x × (test x ≡ true))
+        → (x : X) × Has (y ∷ xs) x × (test x ≡ true)
+    step true passes is more = (y, inl refl, passes)
+    step false fails is more = let later = more is in (later.0, inr later.1, later.2)
+
+-- where one passes, some do
+pub any_has : {X : Type 0} (p : X → Bool) (xs : List X) (x : X) → Has xs x → p x ≡ true
+    → list_any p xs ≡ true
+any_has p [] x has e = absurd has
+any_has p (y ∷ xs) x (inl is) e = let same = ap p (sym is) ∙ e in rw same refl
+any_has p (y ∷ xs) x (inr has) e =
+    let rest = any_has p xs x has e in or_true (p y) (list_any p xs) rest
+  where
+    or_true : (a b : Bool) → b ≡ true → (a || b) ≡ true
+    or_true true b e = refl
+    or_true false b e = e

@@ -317,7 +317,7 @@ counted_stated holidays rule last due day =
 
 -- ---- obligations
 
-pub piece_owed : (form : Form) (lines : List YearLine) (sums : List DaySum) (holidays : List ℕ)
+unfoldable pub piece_owed : (form : Form) (lines : List YearLine) (sums : List DaySum) (holidays : List ℕ)
     (o : Obligation) → IsObligation form lines sums holidays o
     → IsOwedPiece form lines sums holidays o
 piece_owed form lines sums holidays o h =
