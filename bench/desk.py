@@ -225,6 +225,9 @@ class Desk:
 
     # ---- due lists
 
+    def return_last(self, form, quarter):
+        return datetime.date(quarter[0], 12, 31) if form == "943" else last_of(quarter)
+
     def return_due(self, form, quarter):
         day = datetime.date(quarter[0] + 1, 1, 31) if form == "943" else month_end(last_of(quarter) + DAY)
         return self.on(day)
@@ -590,7 +593,9 @@ class Desk:
             for quarter in {quarter_of(row[0]) for row in self.obligations(name) if is_asked(row[4])}:
                 for first, last, rule, amount, due, makeup, paid, verdict in self.due_rows(name, quarter, as_of):
                     left = max(cents_of(amount) - cents_of(paid), 0)
-                    by = makeup if verdict == "short" else self.return_due(form, quarter) if verdict == "with-return" else due
+                    by = makeup if verdict == "short" else due
+                    if verdict == "with-return" and as_of > self.return_last(form, quarter):
+                        by = self.return_due(form, quarter)
                     if is_asked(due):
                         rows.append((due, name, first, left, f"{form} {first} {last} {rule:10} {amount:>17} {paid:>17}", by, verdict))
         return sorted(rows)

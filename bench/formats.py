@@ -94,12 +94,13 @@ def same(what, found, wanted):
 def event_of(row, as_of):
     """What an event says of a row."""
     due, account, form, first, last, rule, _, _, left, pay_by, verdict = row
+    condition = " if the total for the return stays below 2500.00" if verdict == "with-return" and pay_by == due else ""
     return {
         "UID": f"{account}-{form}-{first}@ftd",
         "DTSTAMP": datetime.datetime.fromisoformat(f"{as_of}T00:00:00+00:00"),
         "DTSTART": datetime.date.fromisoformat(due),
         "SUMMARY": f"{account} {form} {rule} {left}",
-        "DESCRIPTION": f"{first} to {last}, pay by {pay_by}, {verdict}",
+        "DESCRIPTION": f"{first} to {last}, pay by {pay_by}, {verdict}{condition}",
     }
 
 

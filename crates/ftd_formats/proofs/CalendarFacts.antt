@@ -9,6 +9,7 @@ use Rattle.ftd_rules.specs.Verdicts.{verdict_text}
 use Rattle.std.specs.List.{concat}
 use Rattle.ftd_machine.specs.declared.lists.AgendaRow.{AgendaRow}
 use Rattle.ftd_formats.specs.Calendars.{event_text, event_owner, event_deposit, crlf}
+use Rattle.ftd_formats.specs.Calendars.{condition_of}
 use Rattle.ftd_reports.specs.Agendas.{left_cents}
 
 -- an amount's two pieces, and what follows
@@ -27,7 +28,7 @@ pub event_deposit_parts : (x : AgendaRow) → event_deposit x
     ∷ (point ∷ two_digits (left_cents x)) ∷ (crlf ++ codes "DESCRIPTION:")
     ∷ day_text x.row.obligation.first ∷ codes " to " ∷ day_text x.row.obligation.last
     ∷ codes "\\, pay by " ∷ day_text x.pay_by ∷ codes "\\, " ∷ verdict_text x.row.verdict
-    ∷ (crlf ++ codes "END:VEVENT" ++ crlf) ∷ [])
+    ∷ condition_of x ∷ (crlf ++ codes "END:VEVENT" ++ crlf) ∷ [])
 unfolding event_deposit
 event_deposit_parts x = ap (λ z. rule_text x.row.obligation.rule ++ (32 ∷ z))
     (joins (decimal (left_cents x / 100)) (point ∷ two_digits (left_cents x)) _ _ refl)

@@ -1,11 +1,12 @@
 -- What is due over all accounts as a calendar of iCalendar.
-use Rattle.std.specs.Prelude.{ℕ, List, [], ◌∷◌, ◌++◌, codes}
+use Rattle.std.specs.Prelude.{ℕ, List, [], ◌∷◌, ◌++◌, codes, if◌then◌else◌}
 use Rattle.std.specs.List.{flat_map, concat}
 use Rattle.ftd_days.specs.Calendar.{year_of, month_in_year, day_of_month}
 use Rattle.ftd_days.specs.Digits.{two_digits, four_digits}
 use Rattle.ftd_days.specs.Text.{day_text, cents_text}
 use Rattle.ftd_rules.specs.Text.{rule_text}
 use Rattle.ftd_rules.specs.Verdicts.{verdict_text}
+use Rattle.ftd_machine.specs.Agenda.{depends_on_total}
 use Rattle.ftd_machine.specs.declared.lists.AgendaRow.{AgendaRow}
 use Rattle.ftd_reports.specs.Agendas.{form_number, left_cents}
 
@@ -22,6 +23,14 @@ abbrev pub plain_day : ℕ → List ℕ
 plain_day day =
     four_digits (year_of day) ++ two_digits (month_in_year day) ++ two_digits (day_of_month day)
 
+-- what follows the verdict of a deposit that may be paid with its return only if the total for the
+-- return stays small. The line would be too long, so it is folded: it goes on below, after a space.
+abbrev pub condition : List ℕ
+condition = crlf ++ codes "  if the total for the return stays below 2500.00"
+
+abbrev pub condition_of : AgendaRow → List ℕ
+condition_of x = if depends_on_total x then condition else []
+
 -- the lines of a row, as of a day. The name of the event is of the account, its form and the first
 -- day, so that the same deposit has the same name whenever it is told.
 abbrev pub event_lines : ℕ → AgendaRow → List (List ℕ)
@@ -35,7 +44,8 @@ event_lines as_of x =
     ∷ concat (codes "SUMMARY:" ∷ x.account ∷ codes " " ∷ form_number x.form ∷ codes " "
     ∷ rule_text o.rule ∷ codes " " ∷ cents_text (left_cents x) ∷ [])
     ∷ concat (codes "DESCRIPTION:" ∷ day_text o.first ∷ codes " to " ∷ day_text o.last
-    ∷ codes "\\, pay by " ∷ day_text x.pay_by ∷ codes "\\, " ∷ verdict_text x.row.verdict ∷ [])
+    ∷ codes "\\, pay by " ∷ day_text x.pay_by ∷ codes "\\, " ∷ verdict_text x.row.verdict
+    ∷ condition_of x ∷ [])
     ∷ codes "END:VEVENT" ∷ []
 
 -- the same lines, up to the rule and from it on
@@ -53,8 +63,8 @@ event_deposit x =
     let o = x.row.obligation in
     concat (rule_text o.rule ∷ codes " " ∷ cents_text (left_cents x) ∷ crlf
     ∷ codes "DESCRIPTION:" ∷ day_text o.first ∷ codes " to " ∷ day_text o.last
-    ∷ codes "\\, pay by " ∷ day_text x.pay_by ∷ codes "\\, " ∷ verdict_text x.row.verdict ∷ crlf
-    ∷ codes "END:VEVENT" ∷ crlf ∷ [])
+    ∷ codes "\\, pay by " ∷ day_text x.pay_by ∷ codes "\\, " ∷ verdict_text x.row.verdict
+    ∷ condition_of x ∷ crlf ∷ codes "END:VEVENT" ∷ crlf ∷ [])
 
 -- the event of a row
 unfoldable pub event_text : ℕ → AgendaRow → List ℕ

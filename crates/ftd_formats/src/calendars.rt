@@ -3,7 +3,7 @@
 ghost use Rattle.std.specs.Prelude.{◌≡◌};
 ghost use Rattle.ftd_ports.specs.Writing.{Writes};
 ghost use Rattle.ftd_formats.specs.Calendars.{agenda_calendar, event_text, event_owner};
-ghost use Rattle.ftd_formats.specs.Calendars.{event_deposit, plain_day};
+ghost use Rattle.ftd_formats.specs.Calendars.{condition_of, event_deposit, plain_day};
 
 use crate::rows::{RowFormat, write_rows};
 use ftd_days::Day;
@@ -89,6 +89,18 @@ fn write_event_owner<W: Target>(
     )
 }
 
+/// What follows the verdict of a row: the condition under which its deposit may be paid with its
+/// return, if that depends on a total which may still grow. It goes on in a line of its own.
+fn condition_of(row: &AgendaRow) -> &'static [u8]
+    ensures { result.now ≡ condition_of row.now }
+{
+    if row.depends_on_total() {
+        b"\r\n  if the total for the return stays below 2500.00"
+    } else {
+        b""
+    }
+}
+
 /// Writes its lines from the rule on.
 fn write_event_deposit<W: Target>(row: &AgendaRow, target: &mut W) -> Result<(), WriteFault>
     ensures { Writes result (W.taken target.old) (W.taken target.new)
@@ -97,7 +109,7 @@ fn write_event_deposit<W: Target>(row: &AgendaRow, target: &mut W) -> Result<(),
     let obligation = row.row.obligation;
     let mut dollars = Buffer::new();
     let left = amount_text(u128::from(left_of(&row.row).0), &mut dollars);
-    let pieces: [&[u8]; 13] = [
+    let pieces: [&[u8]; 14] = [
         rule_name(obligation.rule),
         b" ",
         left.dollars,
@@ -110,6 +122,7 @@ fn write_event_deposit<W: Target>(row: &AgendaRow, target: &mut W) -> Result<(),
         &day_bytes(row.pay_by),
         b"\\, ",
         verdict_name(row.row.verdict),
+        condition_of(row),
         b"\r\nEND:VEVENT\r\n",
     ];
     write_pieces(target, &pieces)

@@ -2,6 +2,7 @@
 use Rattle.std.proofs.Common.{◌≡◌, ◌∙◌, inl, inr, refl, sym, ap, subst, ℕ, List, [], ◌∷◌}
 use Rattle.std.proofs.Common.{◌++◌, Option, None, Some, Ok}
 use Rattle.std.specs.Prelude.{◌↔◌}
+use Rattle.std.proofs.lemmas.Bool.{cases_lt}
 use Rattle.ftd_days.specs.Calendar.{quarter_of}
 use Rattle.ftd_days.proofs.Business.{some_business}
 use Rattle.ftd_days.proofs.Spelling.{same_text}
@@ -19,7 +20,8 @@ use Rattle.ftd_machine.specs.State.{State, Enrolled, entries_of, holidays, is_na
 use Rattle.ftd_machine.specs.History.{AreLinesOf, AreOwed}
 use Rattle.ftd_machine.specs.Asking.{IsDueRow}
 use Rattle.ftd_machine.specs.Checks.{Answer}
-use Rattle.ftd_machine.specs.Agenda.{due_date_of, left_of, IsDayFor, IsAgendaRow, ComesBefore}
+use Rattle.ftd_machine.specs.Agenda.{due_date_of, left_of, return_last_of, IsDayFor, IsAgendaRow}
+use Rattle.ftd_machine.specs.Agenda.{ComesBefore}
 use Rattle.ftd_machine.specs.Agenda.{IsDueBetween, IsLeftBy, IsAgenda}
 use Rattle.ftd_machine.specs.declared.entries.Account.{Account}
 use Rattle.ftd_machine.specs.declared.lists.AgendaRow.{AgendaRow}
@@ -34,15 +36,20 @@ use Rattle.ftd_laws.proofs.Choosing.{chosen}
 use Rattle.ftd_machine.proofs.AgendaOrder.{agenda_row_one, comes_then, rows_total}
 
 -- the day by which to pay
-day_some : (form : Form) (hs : List ℕ) (row : DueRow) (verdict : Verdict)
-    → (day : ℕ) × IsDayFor form hs row verdict day
-day_some form hs row Met = (row.obligation.due, refl)
-day_some form hs row WithReturn =
-    some_business hs (month_after_ends form (quarter_of row.obligation.first))
-day_some form hs row Open = (row.obligation.due, refl)
-day_some form hs row MadeUp = (row.obligation.due, refl)
-day_some form hs row Short = (row.makeup, refl)
-day_some form hs row Late = (row.obligation.due, refl)
+day_some : (form : Form) (hs : List ℕ) (as_of : ℕ) (row : DueRow) (verdict : Verdict)
+    → (day : ℕ) × IsDayFor form hs as_of row verdict day
+day_some form hs as_of row Met = (row.obligation.due, refl)
+day_some form hs as_of row WithReturn =
+    elim (cases_lt (return_last_of form row) as_of) [
+      | inl over ↦
+          let due = some_business hs (month_after_ends form (quarter_of row.obligation.first)) in
+          (due.0, inl (over, due.1))
+      | inr runs ↦ (row.obligation.due, inr (runs, refl))
+    ]
+day_some form hs as_of row Open = (row.obligation.due, refl)
+day_some form hs as_of row MadeUp = (row.obligation.due, refl)
+day_some form hs as_of row Short = (row.makeup, refl)
+day_some form hs as_of row Late = (row.obligation.due, refl)
 
 module _ (s : State) (as_of : ℕ) (once : (name : List ℕ) → IsOnce (entries_of s name))
     (lines : (name : List ℕ) → (lines : List YearLine) × AreLinesOf (entries_of s name) lines) where
@@ -58,7 +65,7 @@ module _ (s : State) (as_of : ℕ) (once : (name : List ℕ) → IsOnce (entries
       let rest = rows_of name account enrolled owed are_owed some (λ p has. sub p (inr has)) in
       let row = row_some (holidays s) (entries_of s name) owed (quarter_of o.first) as_of o
       (sub o (inl refl)) refl in
-      let day = day_some account.form (holidays s) row.0 row.0.verdict in
+      let day = day_some account.form (holidays s) as_of row.0 row.0.verdict in
       let z : AgendaRow =
       record { account = name; form = account.form; row = row.0; pay_by = day.0 } in
       let is : IsAgendaRow s as_of z = record {

@@ -63,7 +63,7 @@ pub agenda_cuts : (s after then : State) (from to as_of : ℕ) (rows : List Agen
     → (entries_of s x.account).account ≡ Some account
     → Step s (Question (DueList x.account (quarter_of (first_day_of x)) as_of))
     (Ok (reply.Told (facts.Due due))) then
-    → Has rows x ↔ IsCutOf (holidays s) from to account due x
+    → Has rows x ↔ IsCutOf (holidays s) from to as_of account due x
 agenda_cuts s after then from to as_of rows x account due sound asked enrolled listing =
     let own = entries_of s x.account in
     let quarter = quarter_of (first_day_of x) in

@@ -12,3 +12,4 @@ pub mod Agendas
 pub mod AnswerSome
 pub mod Examples
 pub mod Deposit
+pub mod PaidInTime

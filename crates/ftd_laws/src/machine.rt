@@ -16,7 +16,10 @@ ghost use Rattle.ftd_machine.specs.Step.{Step};
 ghost use Rattle.ftd_machine.specs.Runs.{IsRun, IsReached};
 ghost use Rattle.ftd_machine.specs.Sound.{IsSound};
 ghost use Rattle.ftd_machine.specs.Laws.{is_change, IsBounded, Names, AgreeOn, IsRepeat};
-ghost use Rattle.ftd_machine.specs.Agenda.{due_date_of, first_day_of, left_of, IsCutOf};
+ghost use Rattle.ftd_machine.specs.Agenda.{due_date_of, first_day_of, left_of, IsAgendaRow};
+ghost use Rattle.ftd_machine.specs.Agenda.{IsCutOf};
+ghost use Rattle.ftd_machine.specs.PaidInTime.{IsMissed, GoesOn, IsPaidInTime};
+ghost use Rattle.ftd_rules.specs.declared.verdict.Verdict.TheVariants.{Short};
 ghost use Rattle.ftd_machine.specs.declared.entries.Account.{Account};
 ghost use Rattle.ftd_machine.specs.declared.lists.AgendaRow.{AgendaRow};
 ghost use Rattle.ftd_machine.specs.declared.replies.Reply.{Reply};
@@ -126,7 +129,7 @@ pub fn an_agenda_is_all_due_lists()
         → (entries_of s x.account).account ≡ Some account
         → Step s (Question (DueList x.account (quarter_of (first_day_of x)) as_of))
         (Ok (reply.Told (facts.Due due))) then
-        → Has rows x ↔ IsCutOf (holidays s) from to account due x }
+        → Has rows x ↔ IsCutOf (holidays s) from to as_of account due x }
 {}
 
 /// What is owed is what is left of the agenda: from any day on, the rows that are owed until a day
@@ -138,4 +141,17 @@ pub fn what_is_owed_is_left_of_the_agenda()
         → Step s (Question (Agenda from until as_of)) (Ok (reply.Told (facts.Agenda rows))) after
         → Step s (Question (Owed until as_of)) (Ok (reply.Told (facts.Agenda owed))) then
         → (Has owed x × (from ≤ due_date_of x)) ↔ (Has rows x × (0 < left_of x.row)) }
+{}
+
+/// What is paid in full by the day to pay by is never late: whatever pay runs are posted or voided
+/// on later paydays, outside its deposit period, the obligation stays as it is, and its verdict as
+/// of any day is neither short nor late. A deposit that is short already stays so until its
+/// shortfall is paid: of such a row this is said of the days from the day to pay by on.
+pub fn what_is_paid_by_its_day_is_never_late()
+    ensures { (s later : State) (as_of then : ℕ) (x y : AgendaRow) → IsSound s
+        → IsAgendaRow s as_of x → IsAgendaRow later then y
+        → y.account ≡ x.account → first_day_of y ≡ first_day_of x
+        → GoesOn s later as_of x → IsPaidInTime (entries_of later x.account) as_of x
+        → (x.row.verdict ≡ Short → x.pay_by ≤ then)
+        → (y.row.obligation ≡ x.row.obligation) × (IsMissed y.row.verdict → ⊥) }
 {}

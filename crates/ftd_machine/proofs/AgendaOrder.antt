@@ -107,14 +107,19 @@ first_one (x ∷ os) by o p (inr later) (inl is) same =
     let e : p.first ≡ x.first = ap (λ (q : Obligation). q.first) is in omega arith)
 first_one (x ∷ os) by o p (inr a) (inr b) same = first_one os by.1 o p a b same
 
-day_one : (form : Form) (hs : List ℕ) (row : DueRow) (verdict : Verdict) (a b : ℕ)
-    → IsDayFor form hs row verdict a → IsDayFor form hs row verdict b → a ≡ b
-day_one form hs row Met a b g h = g ∙ sym h
-day_one form hs row WithReturn a b g h = on_or_after_one hs _ a b g h
-day_one form hs row Open a b g h = g ∙ sym h
-day_one form hs row MadeUp a b g h = g ∙ sym h
-day_one form hs row Short a b g h = g ∙ sym h
-day_one form hs row Late a b g h = g ∙ sym h
+day_one : (form : Form) (hs : List ℕ) (as_of : ℕ) (row : DueRow) (verdict : Verdict) (a b : ℕ)
+    → IsDayFor form hs as_of row verdict a → IsDayFor form hs as_of row verdict b → a ≡ b
+day_one form hs as_of row Met a b g h = g ∙ sym h
+day_one form hs as_of row WithReturn a b (inl g) (inl h) = on_or_after_one hs _ a b g.1 h.1
+day_one form hs as_of row WithReturn a b (inl g) (inr h) =
+    absurd (let over = g.0 in let runs = h.0 in omega arith)
+day_one form hs as_of row WithReturn a b (inr g) (inl h) =
+    absurd (let runs = g.0 in let over = h.0 in omega arith)
+day_one form hs as_of row WithReturn a b (inr g) (inr h) = g.1 ∙ sym h.1
+day_one form hs as_of row Open a b g h = g ∙ sym h
+day_one form hs as_of row MadeUp a b g h = g ∙ sym h
+day_one form hs as_of row Short a b g h = g ∙ sym h
+day_one form hs as_of row Late a b g h = g ∙ sym h
 
 -- the rows of one account
 module _ (s : State) (as_of : ℕ) (once : (name : List ℕ) → IsOnce (entries_of s name)) where
@@ -147,10 +152,10 @@ module _ (s : State) (as_of : ℕ) (once : (name : List ℕ) → IsOnce (entries
       let same = same_row x y named first g h in
       let form = same.0 in
       let row = same.1 in
-      let there : IsDayFor x.form (holidays s) x.row x.row.verdict y.pay_by =
+      let there : IsDayFor x.form (holidays s) as_of x.row x.row.verdict y.pay_by =
       rw (form, row) h.pay_by in
       let pay_by : x.pay_by ≡ y.pay_by =
-      day_one x.form (holidays s) x.row x.row.verdict x.pay_by y.pay_by g.pay_by there in
+      day_one x.form (holidays s) as_of x.row x.row.verdict x.pay_by y.pay_by g.pay_by there in
       rw (named, form, row, pay_by) refl
 
   -- of two rows one comes before the other, or they are the same

@@ -84,7 +84,7 @@ lacks_one F943 own year refusal other h k = h.2 ∙ ap YearMissing (h.1.0 ∙ sy
 
 -- ---- lines and obligations
 
-given_one : (own : Entries) (carried : Bool) (xs ys : List YearLine) → IsOnce own
+pub given_one : (own : Entries) (carried : Bool) (xs ys : List YearLine) → IsOnce own
     → map year_of_line xs ≡ map year_of_line ys
     → ((line : YearLine) → Has xs line → HasLookback own line.year line.lookback)
     → ((line : YearLine) → Has ys line → HasLookback own line.year line.lookback)

@@ -1,5 +1,5 @@
 -- What the desk answers to the question why an obligation is so.
-use Rattle.std.specs.Prelude.{◌≡◌, ◌≤◌, ◌<◌, ◌↔◌, ℕ, ◌+◌, true, false, List, Option}
+use Rattle.std.specs.Prelude.{◌≡◌, ◌≤◌, ◌<◌, ◌↔◌, ℕ, true, false, List, Option}
 use Rattle.std.specs.Prelude.{None, Some, Ok}
 use Rattle.ftd_days.specs.Calendar.{quarter_of, weekday_of}
 use Rattle.ftd_days.specs.Business.{is_business, is_holiday}

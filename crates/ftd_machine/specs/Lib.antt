@@ -7,6 +7,7 @@ pub mod Requests
 pub mod Posting
 pub mod Asking
 pub mod Agenda
+pub mod PaidInTime
 pub mod Kept
 pub mod Explaining
 pub mod Questions

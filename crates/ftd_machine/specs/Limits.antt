@@ -1,5 +1,5 @@
 -- The limits of what a request may say.
-use Rattle.std.specs.Prelude.{ℕ, ◌==◌, ◌&&◌, ◌<◌, nat_le, nat_lt, Bool, List, length, drop, zip}
+use Rattle.std.specs.Prelude.{ℕ, ◌==◌, ◌&&◌, nat_le, nat_lt, Bool, List, length, drop, zip}
 use Rattle.std.specs.List.{list_all}
 use Rattle.ftd_days.specs.Calendar.{year_of}
 use Rattle.ftd_days.specs.declared.cents.Cents.{Cents}

@@ -2,9 +2,10 @@
 
 ghost use Rattle.std.specs.Prelude.{◌≡◌};
 ghost use Rattle.std.specs.String.{string_bytes};
+ghost use Rattle.ftd_machine.specs.Agenda.{depends_on_total};
 
 use ftd_days::Day;
-use ftd_rules::{DaySum, DueRow, Form};
+use ftd_rules::{DaySum, DueRow, Form, Verdict};
 use std::marker::Model;
 
 /// The name of an account, as it was given.
@@ -103,7 +104,19 @@ pub struct AgendaRow {
     pub form: Form,
     /// The row of the account's due list of the quarter in which the obligation begins.
     pub row: DueRow,
-    /// The day by which to pay what is left: the makeup date where the verdict is short, the due
-    /// date of the return where it is with-return, the obligation's due date otherwise.
+    /// The day by which to pay what is left: the makeup date if the verdict is short; if it is
+    /// with-return and the return period is over, the due date of the return; otherwise the
+    /// obligation's due date.
     pub pay_by: Day,
+}
+
+impl AgendaRow {
+    /// Whether the deposit may be paid with its return only if the total for the return stays below
+    /// 2,500.00: the return period is not over, so that the day to pay by is the due date (Pub. 15
+    /// section 11, "Payment with return").
+    pub fn depends_on_total(&self) -> bool
+        ensures { result ≡ depends_on_total self.now }
+    {
+        matches!(self.row.verdict, Verdict::WithReturn) && self.pay_by == self.row.obligation.due
+    }
 }

@@ -1,9 +1,9 @@
 -- The rows of an agenda, one by one.
 use Rattle.std.proofs.Common.{◌≡◌, ◌∙◌, sym, ap, subst, ℕ, ◌+◌, ◌<◌, List, [], ◌∷◌, ◌++◌}
-use Rattle.std.proofs.Common.{length, take, get_or, Option, None, Some, Ok}
+use Rattle.std.proofs.Common.{length, take, get_or, Option, None, Some, Ok, inl, inr}
 use Rattle.std.specs.Prelude.{string_bytes}
+use Rattle.std.proofs.lemmas.Bool.{cases_lt, lt-ltb, le-ltb}
 use Rattle.ftd_days.specs.Calendar.{quarter_of}
-use Rattle.ftd_rules.specs.declared.Form.{Form}
 use Rattle.ftd_rules.specs.declared.verdict.DueRow.{DueRow}
 use Rattle.ftd_rules.specs.declared.verdict.Verdict.{Verdict}
 use Rattle.ftd_rules.specs.declared.verdict.Verdict.TheVariants.{Met, WithReturn, Open, MadeUp}
@@ -17,7 +17,7 @@ use Rattle.ftd_store.proofs.Items.{taken, pairs_more}
 use Rattle.ftd_machine.specs.State.{State, entries_of, holidays}
 use Rattle.ftd_machine.specs.History.{AreOwed}
 use Rattle.ftd_machine.specs.Asking.{IsDueRow}
-use Rattle.ftd_machine.specs.Agenda.{first_day_of, IsDayFor, IsAgendaRow}
+use Rattle.ftd_machine.specs.Agenda.{first_day_of, return_last_of, IsDayFor, IsAgendaRow}
 use Rattle.ftd_machine.specs.Checks.{Answer}
 use Rattle.ftd_machine.specs.declared.lists.AgendaRow.{AgendaRow}
 use Rattle.ftd_machine.specs.declared.facts.Facts.TheVariants.{Due}
@@ -28,18 +28,31 @@ use Rattle.ftd_questions.specs.Listing.{KnowsDue}
 use Rattle.ftd_questions.specs.declared.agenda_rows.AccountList.{AccountList}
 use Rattle.ftd_questions.specs.declared.agenda_rows.QuarterList.{QuarterList}
 
--- the day by which to pay is the one that the return's due date makes it
-pays_by : (form : Form) (hs : List ℕ) (row : DueRow) (return_due : ℕ)
-    → IsReturnDue form hs (quarter_of row.obligation.first) return_due
-    → (verdict : Verdict) (day : ℕ) → day ≡ day_for verdict row return_due
-    → IsDayFor form hs row verdict day
-pays_by form hs row return_due is Met day e = e
-pays_by form hs row return_due is WithReturn day e =
-    subst (IsReturnDue form hs (quarter_of row.obligation.first)) (sym e) is
-pays_by form hs row return_due is Open day e = e
-pays_by form hs row return_due is MadeUp day e = e
-pays_by form hs row return_due is Short day e = e
-pays_by form hs row return_due is Late day e = e
+-- the day by which to pay is the one that the list makes it
+pays_by : (row : DueRow) (list : AccountList) (hs : List ℕ) (as_of : ℕ)
+    → IsReturnDue list.form hs (quarter_of row.obligation.first) list.return_due
+    → (verdict : Verdict) (day : ℕ) → day ≡ day_for verdict row list as_of
+    → IsDayFor list.form hs as_of row verdict day
+pays_by row list hs as_of is Met day e = e
+pays_by row list hs as_of is WithReturn day e =
+    elim (cases_lt (return_last_of list.form row) as_of) [
+      | inl over ↦
+          let its : day ≡ list.return_due =
+          rw (lt-ltb (return_last_of list.form row) as_of over) at e in
+          inl (
+            over,
+            subst (IsReturnDue list.form hs (quarter_of row.obligation.first)) (sym its)
+                is,
+          )
+      | inr runs ↦
+          let its : day ≡ row.obligation.due =
+          rw (le-ltb (return_last_of list.form row) as_of runs) at e in
+          inr (runs, its)
+    ]
+pays_by row list hs as_of is Open day e = e
+pays_by row list hs as_of is MadeUp day e = e
+pays_by row list hs as_of is Short day e = e
+pays_by row list hs as_of is Late day e = e
 
 abbrev due_list_of : List DueRow → Answer
 due_list_of rows = Ok (Told (Due rows))
@@ -50,7 +63,7 @@ list_is rows listed e = cc
 -- a row of the account's due list is one of an agenda
 row_is : (s : State) (as_of : ℕ) (owed : AccountObligation) (list : AccountList) (x : AgendaRow)
     → IsListOf s (string_bytes owed.account) (quarter_of owed.obligation.first) as_of list
-    → IsRowOf owed list x → IsAgendaRow s as_of x
+    → IsRowOf owed list as_of x → IsAgendaRow s as_of x
 row_is s as_of owed list x l r =
     let name = string_bytes owed.account in
     let rows : list.rows.items ≡ l.due_list.listed =
@@ -64,10 +77,9 @@ row_is s as_of owed list x l r =
     (quarter_of (first_day_of x)) as_of x.row =
     subst (λ q. IsDueRow (holidays s) (entries_of s name) l.due_list.rows q as_of x.row) first
     is_row in
-    let return_due : IsReturnDue x.form (holidays s) (quarter_of (first_day_of x)) list.return_due =
-    subst (λ f. IsReturnDue f (holidays s) (quarter_of (first_day_of x)) list.return_due)
-    (sym r.form_is)
-    (subst (λ q. IsReturnDue list.form (holidays s) q list.return_due) first l.return_due) in
+    let return_due : IsReturnDue list.form (holidays s) (quarter_of (first_day_of x))
+    list.return_due =
+    subst (λ q. IsReturnDue list.form (holidays s) q list.return_due) first l.return_due in
     record {
       account = l.account;
       enrolled = subst (λ n. (entries_of s n).account ≡ Some l.account) (sym r.account) l.enrolled;
@@ -77,14 +89,15 @@ row_is s as_of owed list x l r =
           l.due_list.owed;
       is_row = subst (λ n. IsDueRow (holidays s) (entries_of s n) l.due_list.rows
           (quarter_of (first_day_of x)) as_of x.row) (sym r.account) there;
-      pay_by = pays_by x.form (holidays s) x.row list.return_due return_due x.row.verdict x.pay_by
-          r.pay_by;
+      pay_by = subst (λ f. IsDayFor f (holidays s) as_of x.row x.row.verdict x.pay_by)
+          (sym r.form_is)
+          (pays_by x.row list (holidays s) as_of return_due x.row.verdict x.pay_by r.pay_by);
     }
 
 pub row_known : (as_of : ℕ) (t : Tables) (owed : AccountObligation) (name : List ℕ) (quarter : ℕ)
     (list : AccountList) (x : AgendaRow) → name ≡ string_bytes owed.account
     → quarter ≡ quarter_of owed.obligation.first → KnowsList name quarter as_of list t
-    → IsRowOf owed list x → KnowsRow as_of t owed x
+    → IsRowOf owed list as_of x → KnowsRow as_of t owed x
 row_known as_of t owed name quarter list x named its knows r = record {
   account = r.account;
   first = r.first;
@@ -108,7 +121,7 @@ module _ (unpaid : Option ℕ) (from to as_of : ℕ) (listed : List AccountOblig
   -- with the row of one obligation more
   pub so_far_more : (i : ℕ) (x : AccountObligation) (rows after : List AgendaRow)
       (last new : Option QuarterList) (t : Tables) → i < length listed → x ≡ get_or listed i x
-      → IsLast x new → AddsRow x new rows after
+      → IsLast x new → AddsRow x new as_of rows after
       → SoFar unpaid from to as_of listed (take i listed) rows last t
       → KnowsLast as_of new t × KnowsLastYears new t
       → SoFar unpaid from to as_of listed (take (i + 1) listed) after new t

@@ -1,6 +1,6 @@
 -- What is known of the rows of an agenda, by what the tables have.
 use Rattle.std.specs.Prelude.{◌≡◌, ◌++◌, ℕ, List, [], ◌∷◌, Option, None, Some, Ok, ⊤}
-use Rattle.std.specs.Prelude.{string_bytes}
+use Rattle.std.specs.Prelude.{string_bytes, nat_lt, if◌then◌else◌}
 use Rattle.ftd_days.specs.Calendar.{quarter_of}
 use Rattle.ftd_rules.specs.declared.verdict.DueRow.{DueRow}
 use Rattle.ftd_rules.specs.declared.verdict.Verdict.{Verdict}
@@ -14,7 +14,7 @@ use Rattle.ftd_rows.specs.declared.obligations.AccountObligation.{AccountObligat
 use Rattle.ftd_machine.specs.State.{State, entries_of, holidays}
 use Rattle.ftd_machine.specs.Sound.{IsSound}
 use Rattle.ftd_machine.specs.Asking.{IsDueList}
-use Rattle.ftd_machine.specs.Agenda.{IsAgendaRow}
+use Rattle.ftd_machine.specs.Agenda.{return_last_of, IsAgendaRow}
 use Rattle.ftd_machine.specs.declared.entries.Account.{Account}
 use Rattle.ftd_machine.specs.declared.lists.AgendaRow.{AgendaRow}
 use Rattle.ftd_machine.specs.declared.facts.Facts.TheVariants.{Due}
@@ -61,31 +61,31 @@ IsLast owed (Some last) =
 
 -- ---- a row
 
--- the day by which to pay what is left of a row with the verdict, where the return is due on this
--- day
-abbrev pub day_for : Verdict → DueRow → ℕ → ℕ
-day_for Met row return_due = row.obligation.due
-day_for WithReturn row return_due = return_due
-day_for Open row return_due = row.obligation.due
-day_for MadeUp row return_due = row.obligation.due
-day_for Short row return_due = row.makeup
-day_for Late row return_due = row.obligation.due
+-- the day by which to pay what is left of a row of the list with the verdict, as of a day
+abbrev pub day_for : Verdict → DueRow → AccountList → ℕ → ℕ
+day_for Met row list as_of = row.obligation.due
+day_for WithReturn row list as_of =
+    if nat_lt (return_last_of list.form row) as_of then list.return_due else row.obligation.due
+day_for Open row list as_of = row.obligation.due
+day_for MadeUp row list as_of = row.obligation.due
+day_for Short row list as_of = row.makeup
+day_for Late row list as_of = row.obligation.due
 
--- it is the row of the obligation of an account on the list
-pub record IsRowOf (owed : AccountObligation) (list : AccountList) (x : AgendaRow)
+-- it is the row of the obligation of an account on the list, as of a day
+pub record IsRowOf (owed : AccountObligation) (list : AccountList) (as_of : ℕ) (x : AgendaRow)
     : Type 0 where
   pub account : x.account ≡ string_bytes owed.account
   pub form_is : x.form ≡ list.form
   pub listed : Has list.rows.items x.row
   pub first : x.row.obligation.first ≡ owed.obligation.first
-  pub pay_by : x.pay_by ≡ day_for x.row.verdict x.row list.return_due
+  pub pay_by : x.pay_by ≡ day_for x.row.verdict x.row list as_of
 
 -- it was added to the rows
-abbrev pub AddsRow : AccountObligation → Option QuarterList → List AgendaRow → List AgendaRow
+abbrev pub AddsRow : AccountObligation → Option QuarterList → ℕ → List AgendaRow → List AgendaRow
     → Type 0
-AddsRow owed None before after = ⊥
-AddsRow owed (Some last) before after =
-    (x : AgendaRow) × IsRowOf owed last.list x × (after ≡ before ++ x ∷ [])
+AddsRow owed None as_of before after = ⊥
+AddsRow owed (Some last) as_of before after =
+    (x : AgendaRow) × IsRowOf owed last.list as_of x × (after ≡ before ++ x ∷ [])
 
 -- it is the row of the obligation's account and first day, in each sound state for which the tables
 -- stand

@@ -18,6 +18,7 @@ use ftd_days::{Day, Holidays, Quarter};
 use ftd_entries::known;
 use ftd_machine::{Account, AccountName, AgendaRow};
 use ftd_rows::AccountObligation;
+use ftd_rules::period::return_period;
 use ftd_rules::{DueRow, Form, Verdict};
 use ftd_store::{StoreFault, Tx};
 use sqlite::Alter;
@@ -59,13 +60,21 @@ fn row_from(rows: &[DueRow], first: Day) -> Option<DueRow>
     None
 }
 
-/// The day by which to pay what is left of a row, where its quarter's return is due on this day.
-fn day_to_pay(row: &DueRow, return_due: Day) -> Day
-    ensures { result ≡ day_for row.now.verdict row.now return_due }
+/// The day by which to pay what is left of a row on a list, as of a day. A deposit that may be paid
+/// with its return is paid by its own due date until the return period is over.
+fn day_to_pay(row: &DueRow, list: &AccountList, as_of: Day) -> Day
+    ensures { result ≡ day_for row.now.verdict row.now list.now as_of }
 {
     match row.verdict {
         Verdict::Met | Verdict::Open | Verdict::MadeUp | Verdict::Late => row.obligation.due,
-        Verdict::WithReturn => return_due,
+        Verdict::WithReturn => {
+            let (_, last) = return_period(list.form, row.obligation.first);
+            if last < as_of {
+                list.return_due
+            } else {
+                row.obligation.due
+            }
+        }
         Verdict::Short => row.makeup,
     }
 }
@@ -179,14 +188,15 @@ fn is_last(last: &Option<QuarterList>, owed: &AccountObligation) -> bool
     }
 }
 
-/// The row of the obligation of an account on the list. `Failed` where it has none, and `Memory`
-/// where there was no memory.
+/// The row of the obligation of an account on the list, as of a day. `Failed` where it has none,
+/// and `Memory` where there was no memory.
 fn agenda_row(
     alloc: Global,
     owed: &AccountObligation,
     list: &AccountList,
+    as_of: Day,
 ) -> Result<AgendaRow, StoreFault>
-    ensures { IfOk result (λ row. IsRowOf owed.now list.now row) }
+    ensures { IfOk result (λ row. IsRowOf owed.now list.now as_of row) }
 {
     let Some(row) = row_from(&list.rows, owed.obligation.first) else {
         return Err(StoreFault::Failed);
@@ -196,24 +206,25 @@ fn agenda_row(
         account: AccountName::from_string(account),
         form: list.form,
         row,
-        pay_by: day_to_pay(&row, list.return_due),
+        pay_by: day_to_pay(&row, list, as_of),
     })
 }
 
-/// Adds the row of the obligation of an account on the list. The faults are those of `agenda_row`;
-/// then the rows are as they were.
+/// Adds the row of the obligation of an account on the list, as of a day. The faults are those of
+/// `agenda_row`; then the rows are as they were.
 fn add_row(
     alloc: Global,
     owed: &AccountObligation,
     last: &Option<QuarterList>,
+    as_of: Day,
     rows: &mut Vec<AgendaRow>,
 ) -> Result<(), StoreFault>
-    ensures { OnOk result (AddsRow owed.now last.now rows.old.items rows.new.items) }
+    ensures { OnOk result (AddsRow owed.now last.now as_of rows.old.items rows.new.items) }
 {
     let Some(last) = last else {
         return Err(StoreFault::Failed);
     };
-    rows.push(agenda_row(alloc, owed, &last.list)?)?;
+    rows.push(agenda_row(alloc, owed, &last.list, as_of)?)?;
     Ok(())
 }
 
@@ -237,7 +248,7 @@ pub(crate) fn rows_due<S: Alter>(
         if !is_last(&last, owed) {
             last = its_list(tx, alloc, owed, as_of, last)?;
         }
-        if let Err(fault) = add_row(alloc, owed, &last, &mut rows) {
+        if let Err(fault) = add_row(alloc, owed, &last, as_of, &mut rows) {
             return tx.give_up(fault);
         }
     }

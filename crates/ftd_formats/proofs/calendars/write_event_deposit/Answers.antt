@@ -15,5 +15,6 @@ returns g c =
       c.day_bytes-2.ensures,
       c.day_bytes-3.ensures,
       c.verdict_name.ensures,
+      c.condition_of.ensures,
     ) at c.write_pieces.ensures in
     rw (event_deposit_parts c.args.row.now) told
