@@ -26,7 +26,7 @@ ROOTS = {"": ["", "docs", "examples", "bench", "crates"], **{it: [f"crates/{it}/
 # What the pages name rightly though it is not in the repository.
 ALLOWED = {
     *("crates/ftd/out/ftd", "payroll.csv"),  # made by the test command, and by the tutorial
-    *("isatty", "fdatasync", "touch", "strace", "--help", "cksumvfs"),  # the system's, its commands, clap's option, a part of SQLite
+    *("isatty", "fdatasync", "touch", "strace", "--help", "--version", "cksumvfs"),  # the system's, its commands, clap's options, a part of SQLite
     *("clap_mangen", "clap_complete"),  # crates that are not used
 }
 
