@@ -17,13 +17,13 @@ name_asked =
     ++ codes "then lower-case letters, digits or hyphens"
 
 abbrev pub number_asked : List ℕ
-number_asked = codes "a number of 1 to 999999999"
+number_asked = codes "a number from 1 to 999999999"
 
 abbrev pub day_asked : List ℕ
-day_asked = codes "a day of 1900 to 2199 as 2024-05-27"
+day_asked = codes "a date from 1900 to 2199; write it like 2024-05-27"
 
 abbrev pub amount_asked : List ℕ
-amount_asked = codes "an amount of at most 999999999.99 as 1234.56"
+amount_asked = codes "an amount up to 999999999.99; write it like 1234.56"
 
 -- what is asked for in a field behind the first, by its number
 abbrev pub asked_by : Sheet → ℕ → List ℕ
@@ -33,7 +33,7 @@ asked_by sheet.Accounts field =
     if field == 2 then day_asked else if field == 3 then codes "yes or no"
     else codes "941 or 943"
 asked_by sheet.Totals field =
-    if field == 2 then codes "a quarter as 2024Q2, or a year as 2024" else amount_asked
+    if field == 2 then codes "a quarter like 2024Q2, or a year like 2024" else amount_asked
 asked_by sheet.Payments field =
     if field == 2 then number_asked else
     if (field == 3) || (field == 4) then day_asked else amount_asked

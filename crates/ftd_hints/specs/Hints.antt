@@ -21,7 +21,7 @@ abbrev pub field_text : List ℕ → List ℕ
 field_text [] = codes "empty"
 field_text (byte ∷ text) = shown (byte ∷ text)
 
--- `hint: record 4: payday is 2024-02-30, and not a day of 1900 to 2199 as 2024-05-27`
+-- `hint: record 3: run is 0, and not a number from 1 to 999999999`
 unfoldable pub field_hint : Sheet → ℕ → ℕ → List ℕ → List ℕ
 field_hint kind number field text =
     concat (codes "hint: record " ∷ decimal number ∷ codes ": " ∷ field_name kind field

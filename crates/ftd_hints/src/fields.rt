@@ -17,19 +17,19 @@ fn name_asked() -> &'static [u8]
 fn number_asked() -> &'static [u8]
     ensures { result.now ≡ number_asked }
 {
-    b"a number of 1 to 999999999"
+    b"a number from 1 to 999999999"
 }
 
 fn day_asked() -> &'static [u8]
     ensures { result.now ≡ day_asked }
 {
-    b"a day of 1900 to 2199 as 2024-05-27"
+    b"a date from 1900 to 2199; write it like 2024-05-27"
 }
 
 fn amount_asked() -> &'static [u8]
     ensures { result.now ≡ amount_asked }
 {
-    b"an amount of at most 999999999.99 as 1234.56"
+    b"an amount up to 999999999.99; write it like 1234.56"
 }
 
 /// The name of a field of a sheet by its number, which counts from 1. Nothing where its records
@@ -59,7 +59,7 @@ fn asked_by(sheet: Sheet, field: u8) -> &'static [u8]
             _ => b"941 or 943",
         },
         Sheet::Totals => match field {
-            2 => b"a quarter as 2024Q2, or a year as 2024",
+            2 => b"a quarter like 2024Q2, or a year like 2024",
             _ => amount_asked(),
         },
         Sheet::Payments => match field {

@@ -121,7 +121,7 @@ days_text (request.CorrectAccount account number start carried) = first_days
 days_text (request.Question asked) = days_asked asked
 
 abbrev calendar_days : List ℕ
-calendar_days = codes "hint: the days rise, lie in the year and are at most 60\n"
+calendar_days = codes "hint: give at most 60 days, all in that year, in ascending order\n"
 
 abbrev pub calendar_text : Request → List ℕ
 calendar_text (request.Enrol account start carried form) = calendar_days
@@ -141,25 +141,25 @@ calendar_text (request.CorrectAccount account number start carried) = calendar_d
 calendar_text (request.Question question) = calendar_days
 
 abbrev no_schedule_b : List ℕ
-no_schedule_b = codes "hint: the account is on Form 943, which has no Schedule B\n"
+no_schedule_b = codes "hint: this account files Form 943, which has no Schedule B\n"
 
 abbrev pub form_text : Request → List ℕ
 form_text (request.Enrol account start carried form) = no_schedule_b
 form_text (request.Calendar year days) = no_schedule_b
 form_text (request.AddHoliday day) = no_schedule_b
 form_text (request.Report account quarter cents) =
-    codes "hint: the account is on Form 943: ftd report-year takes its totals\n"
+    codes "hint: this account files Form 943: use ftd report-year\n"
 form_text (request.ReportYear account year cents) =
-    codes "hint: the account is on Form 941: ftd report takes its totals\n"
+    codes "hint: this account files Form 941: use ftd report\n"
 form_text (request.OpenYear account year) = no_schedule_b
 form_text (request.Post account run payday fit ss medicare) = no_schedule_b
 form_text (request.Void account run) = no_schedule_b
 form_text (request.Pay account payment paid for_day cents) = no_schedule_b
 form_text (request.VoidPay account payment) = no_schedule_b
 form_text (request.CorrectReport account quarter number cents) =
-    codes "hint: the account is on Form 943: ftd correct-report-year corrects its totals\n"
+    codes "hint: this account files Form 943: use ftd correct-report-year\n"
 form_text (request.CorrectReportYear account year number cents) =
-    codes "hint: the account is on Form 941: ftd correct-report corrects its totals\n"
+    codes "hint: this account files Form 941: use ftd correct-report\n"
 form_text (request.ChangeHoliday day number is_holiday) = no_schedule_b
 form_text (request.CorrectAccount account number start carried) = no_schedule_b
 form_text (request.Question question) = no_schedule_b
@@ -178,7 +178,7 @@ said_text asked refusal.CalendarDiffers = codes "hint: ftd add-holiday adds a ho
 said_text asked refusal.UnknownRun = codes "hint: the account has no run of this number\n"
 said_text asked refusal.UnknownPayment =
     codes "hint: the account has no payment of this number\n"
-said_text asked refusal.BeforeStart = codes "hint: the employer's first day is later\n"
+said_text asked refusal.BeforeStart = codes "hint: that is before the employer's first day\n"
 said_text asked refusal.TooManyRuns =
     codes "hint: an account has at most 20000 runs, void ones too\n"
 said_text asked refusal.TooManyPayments =
@@ -273,7 +273,7 @@ abbrev pub next_text : ℕ → List ℕ
 next_text count =
     concat
     (codes "hint: the next number is " ∷ decimal (count + 1)
-    ∷ codes ", which is taken where none is given\n" ∷ [])
+    ∷ codes "; leave out --number to use it\n" ∷ [])
 
 -- which command mends a refusal, with the year or the quarter that it is for; where none does,
 -- something is said of it

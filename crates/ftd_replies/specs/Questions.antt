@@ -136,7 +136,7 @@ abbrev pub days_asked : Question → List ℕ
 days_asked (Status account day) = paydays_days
 days_asked (Explain account day) = paydays_days
 days_asked (DueList account quarter as_of) =
-    codes "hint: a due list is as of a day of 2001 to 2099\n"
+    codes "hint: ASOF must be in 2001 to 2099\n"
 days_asked (ScheduleB account quarter) = paydays_days
 days_asked (Agenda from to as_of) = agenda_days
 days_asked (Owed until as_of) = agenda_days

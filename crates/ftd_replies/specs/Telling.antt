@@ -14,13 +14,13 @@ use Rattle.ftd_replies.specs.Putting.{IsPut}
 
 -- what is asked for as the value of a word
 abbrev pub day_form : List ℕ
-day_form = codes "a day of 1900 to 2199 as 2024-05-27"
+day_form = codes "a date from 1900 to 2199; write it like 2024-05-27"
 
 abbrev pub amount_form : List ℕ
-amount_form = codes "an amount of at most 999999999.99 as 1234.56"
+amount_form = codes "an amount up to 999999999.99; write it like 1234.56"
 
 abbrev pub number_form : List ℕ
-number_form = codes "a number of 1 to 999999999"
+number_form = codes "a number from 1 to 999999999"
 
 abbrev pub asked_text : Word → List ℕ
 asked_text word.Start = day_form
@@ -34,7 +34,7 @@ asked_text word.From = day_form
 asked_text word.To = day_form
 asked_text word.Until = day_form
 asked_text word.Holidays = day_form
-asked_text word.Quarter = codes "a quarter of 1900Q1 to 2199Q4 as 2024Q2"
+asked_text word.Quarter = codes "a quarter from 1900Q1 to 2199Q4; write it like 2024Q2"
 asked_text word.Amount = amount_form
 asked_text word.Fit = amount_form
 asked_text word.Ss = amount_form
@@ -42,17 +42,17 @@ asked_text word.Medicare = amount_form
 asked_text word.Account =
     codes "an account name: 1 to 20 bytes, a lower-case letter, "
     ++ codes "then lower-case letters, digits or hyphens"
-asked_text word.Year = codes "a year of 2001 to 2098"
+asked_text word.Year = codes "a year from 2001 to 2098"
 asked_text word.Run = number_form
 asked_text word.Payment = number_form
 asked_text word.Number = number_form
 asked_text word.IsHoliday = codes "yes or no"
-asked_text word.Port = codes "a port of 0 to 65535"
-asked_text word.Wait = codes "a number of seconds of 0 to 3600"
+asked_text word.Port = codes "a port from 0 to 65535"
+asked_text word.Wait = codes "a number of seconds from 0 to 3600"
 asked_text word.Format = codes "a format: text, csv, json or ics"
 asked_text word.ListFormat = codes "a format: text, csv or json"
 asked_text word.ExplanationFormat = codes "a format: text or json"
-asked_text _ = codes "a value that is taken here"
+asked_text _ = codes "a value that is allowed here"
 
 -- the value that was given; it is told in words where it is empty, and where it is not known
 abbrev pub given_text : Option (List ℕ) → List ℕ
@@ -60,7 +60,7 @@ given_text None = codes "what was given"
 given_text (Some []) = codes "an empty word"
 given_text (Some (byte ∷ bytes)) = byte ∷ bytes
 
--- `bad argument DAY`, and below it `hint: 2024-13-01 is not a day of 1900 to 2199 as 2024-05-27`
+-- `bad argument YEAR`, and below it `hint: 2099 is not a year from 2001 to 2098`
 abbrev pub bad_text : (name given asked : List ℕ) → List ℕ
 bad_text name given asked =
     concat

@@ -238,7 +238,9 @@ fn calendar_said(request: &Request) -> &'static [u8]
         | Request::CorrectReportYear { .. }
         | Request::ChangeHoliday { .. }
         | Request::CorrectAccount { .. }
-        | Request::Question(_) => b"hint: the days rise, lie in the year and are at most 60\n",
+        | Request::Question(_) => {
+            b"hint: give at most 60 days, all in that year, in ascending order\n"
+        }
     }
 }
 
@@ -247,17 +249,13 @@ fn form_said(request: &Request) -> &'static [u8]
     ensures { result.now ≡ form_text request.now }
 {
     match request {
-        Request::Report { .. } => {
-            b"hint: the account is on Form 943: ftd report-year takes its totals\n"
-        }
-        Request::ReportYear { .. } => {
-            b"hint: the account is on Form 941: ftd report takes its totals\n"
-        }
+        Request::Report { .. } => { b"hint: this account files Form 943: use ftd report-year\n" }
+        Request::ReportYear { .. } => { b"hint: this account files Form 941: use ftd report\n" }
         Request::CorrectReport { .. } => {
-            b"hint: the account is on Form 943: ftd correct-report-year corrects its totals\n"
+            b"hint: this account files Form 943: use ftd correct-report-year\n"
         }
         Request::CorrectReportYear { .. } => {
-            b"hint: the account is on Form 941: ftd correct-report corrects its totals\n"
+            b"hint: this account files Form 941: use ftd correct-report\n"
         }
         Request::Enrol { .. }
         | Request::Calendar { .. }
@@ -269,7 +267,7 @@ fn form_said(request: &Request) -> &'static [u8]
         | Request::VoidPay { .. }
         | Request::ChangeHoliday { .. }
         | Request::CorrectAccount { .. }
-        | Request::Question(_) => b"hint: the account is on Form 943, which has no Schedule B\n",
+        | Request::Question(_) => b"hint: this account files Form 943, which has no Schedule B\n",
     }
 }
 
@@ -596,7 +594,7 @@ fn write_next<W: Target>(count: u32, target: &mut W) -> Result<(), WriteFault>
         &[
             b"hint: the next number is ",
             text,
-            b", which is taken where none is given\n",
+            b"; leave out --number to use it\n",
         ],
     )
 }
@@ -661,7 +659,7 @@ fn said(request: &Request, refusal: Refusal) -> &'static [u8]
         Refusal::CalendarDiffers => b"hint: ftd add-holiday adds a holiday\n",
         Refusal::UnknownRun => b"hint: the account has no run of this number\n",
         Refusal::UnknownPayment => b"hint: the account has no payment of this number\n",
-        Refusal::BeforeStart => b"hint: the employer's first day is later\n",
+        Refusal::BeforeStart => b"hint: that is before the employer's first day\n",
         Refusal::TooManyRuns => b"hint: an account has at most 20000 runs, void ones too\n",
         Refusal::TooManyPayments => {
             b"hint: an account has at most 20000 payments, void ones too\n"

@@ -1,4 +1,4 @@
-//! The lines that tell of replies and of refusals, and what can be done about the latter.
+//! The lines that tell of replies and of refusals, and what can be done about them.
 #![tactic(auto)]
 
 mod hints;

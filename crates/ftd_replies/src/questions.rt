@@ -239,7 +239,7 @@ pub fn days_asked(question: &Question) -> &'static [u8]
     ensures { result.now ≡ days_asked question.now }
 {
     match question {
-        Question::DueList { .. } => b"hint: a due list is as of a day of 2001 to 2099\n",
+        Question::DueList { .. } => b"hint: ASOF must be in 2001 to 2099\n",
         Question::Agenda { .. } | Question::Owed { .. } => {
             b"hint: an agenda is of days of 2001 to 2099\n"
         }

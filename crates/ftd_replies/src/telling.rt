@@ -41,7 +41,7 @@ pub fn put<E: Target>(text: &[u8], err: &mut E)
 }
 
 /// What is asked for as a day.
-const DAY_FORM: &[u8] = b"a day of 1900 to 2199 as 2024-05-27";
+const DAY_FORM: &[u8] = b"a date from 1900 to 2199; write it like 2024-05-27";
 
 /// What is asked for as the value of a word.
 fn asked_bytes(word: Word) -> &'static [u8]
@@ -51,23 +51,23 @@ fn asked_bytes(word: Word) -> &'static [u8]
         Word::Start | Word::Payday | Word::Paid | Word::For => DAY_FORM,
         Word::Day | Word::Days | Word::AsOf | Word::Holidays => DAY_FORM,
         Word::From | Word::To | Word::Until => DAY_FORM,
-        Word::Quarter => b"a quarter of 1900Q1 to 2199Q4 as 2024Q2",
+        Word::Quarter => b"a quarter from 1900Q1 to 2199Q4; write it like 2024Q2",
         Word::Amount | Word::Fit | Word::Ss | Word::Medicare => {
-            b"an amount of at most 999999999.99 as 1234.56"
+            b"an amount up to 999999999.99; write it like 1234.56"
         }
         Word::Account => {
             b"an account name: 1 to 20 bytes, a lower-case letter, \
               then lower-case letters, digits or hyphens"
         }
-        Word::Year => b"a year of 2001 to 2098",
-        Word::Run | Word::Payment | Word::Number => b"a number of 1 to 999999999",
+        Word::Year => b"a year from 2001 to 2098",
+        Word::Run | Word::Payment | Word::Number => b"a number from 1 to 999999999",
         Word::IsHoliday => b"yes or no",
-        Word::Port => b"a port of 0 to 65535",
-        Word::Wait => b"a number of seconds of 0 to 3600",
+        Word::Port => b"a port from 0 to 65535",
+        Word::Wait => b"a number of seconds from 0 to 3600",
         Word::Format => b"a format: text, csv, json or ics",
         Word::ListFormat => b"a format: text, csv or json",
         Word::ExplanationFormat => b"a format: text or json",
-        _ => b"a value that is taken here",
+        _ => b"a value that is allowed here",
     }
 }
 

@@ -50,7 +50,7 @@ TOTAL                                       806.00";
 
 /// Why no total of a year is taken of elm, or corrected.
 const NO_YEARS: &str = "refused 23 WrongForm\n\
-                        hint: the account is on Form 941: ftd report takes its totals";
+                        hint: this account files Form 941: use ftd report";
 
 /// Asks the desk what elm kept, whose due list stays.
 fn keeps_elm<S: Alter>(rt: &impl Abort, alloc: Global, desk: &mut Desk<S>) -> Result<(), Fail> {
