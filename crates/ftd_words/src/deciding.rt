@@ -28,6 +28,9 @@ error: no command is named
 For more information, try '--help'.
 ";
 
+/// What is said where a word has a hyphen before a digit: `clap` takes it for an option.
+const NO_SIGNS: &str = "hint: amounts and numbers have no sign\n";
+
 /// What is told of a form that there is none of.
 const NO_FORM: &str = "\
 error: invalid value for '--form <FORM>'
@@ -57,8 +60,49 @@ fn task_in(alloc: Global, matches: &ArgMatches<'_>) -> Result<Task, WordFault>
     task_for(alloc, name, inner)
 }
 
-/// What an error of `clap` tells.
-fn told_error(alloc: Global, error: &Error) -> CliFault
+/// Whether a word has a hyphen before a digit, as a negative amount has.
+fn is_signed(word: &str) -> bool {
+    match word.as_bytes() {
+        [mark, digit, ..] => *mark == b'-' && digit.is_ascii_digit(),
+        _ => false,
+    }
+}
+
+/// What is said of signs below the usage that words of a command line get.
+fn signs_said(given: &[String]) -> &'static str {
+    if given.iter().any(|word| is_signed(word)) {
+        NO_SIGNS
+    } else {
+        ""
+    }
+}
+
+/// How the subcommand that the words name is used. The empty text where they name none.
+fn example_for(given: &[String]) -> &'static str {
+    match given.get(1) {
+        Some(text) => match command_named(text) {
+            Some(name) => name.example(),
+            None => "",
+        },
+        None => "",
+    }
+}
+
+/// What words get that are no command line: the text of `clap`, and below it how the subcommand is
+/// used.
+fn usage_for(alloc: Global, text: &str, given: &[String]) -> CliFault
+    ensures { (said : Result Wanted Refused) → IsUsage said → Fails result said }
+{
+    let (signs, example) = (signs_said(given), example_for(given));
+    let end = if example.is_empty() { "" } else { "\n" };
+    match format!(in alloc; "{text}{signs}{example}{end}") {
+        Ok(whole) => usage(alloc, &whole),
+        Err(_) => CliFault::Memory,
+    }
+}
+
+/// What an error of `clap` tells of these words.
+fn told_error(alloc: Global, error: &Error, given: &[String]) -> CliFault
     ensures { (kinds : Kinds) → IsAmong (kind_of error.now) kinds
         → Fails result (Err (words kinds)) }
 {
@@ -67,7 +111,7 @@ fn told_error(alloc: Global, error: &Error) -> CliFault
     };
     match error.kind() {
         ErrorKind::DisplayHelp | ErrorKind::DisplayVersion => CliFault::Help(text),
-        _ => usage(alloc, &text),
+        _ => usage_for(alloc, &text, given),
     }
 }
 
@@ -129,6 +173,6 @@ pub fn decide(alloc: Global, words: &[String]) -> Result<Task, CliFault>
             Err(fault) => Err(told_fault(alloc, &matches, fault)),
         },
         Err(ParseFault::Memory) => Err(CliFault::Memory),
-        Err(ParseFault::Refused(error)) => Err(told_error(alloc, &error)),
+        Err(ParseFault::Refused(error)) => Err(told_error(alloc, &error, words)),
     }
 }
