@@ -236,7 +236,9 @@ enrolled_as (request.Question question) = codes " START\n"
 abbrev enrolled_otherwise : List ℕ
 enrolled_otherwise =
     codes "hint: the account has another first day or form, or is carried otherwise\n"
-    ++ codes "hint: if its first day or carried is wrong, ftd correct-account --db "
+    ++ codes "hint: for another form, or if a total is reported or a year is open, "
+    ++ codes "enrol a new account by another name\n"
+    ++ codes "hint: else, to correct its first day or carried, ftd correct-account --db "
 
 abbrev quarter_otherwise : List ℕ
 quarter_otherwise =

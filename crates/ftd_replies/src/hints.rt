@@ -534,7 +534,9 @@ fn hint_of(refusal: &Refusal) -> Hint
 /// What is said of an account that is enrolled otherwise, up to the file.
 const ENROLLED_OTHERWISE: &[u8] =
     b"hint: the account has another first day or form, or is carried otherwise\n\
-    hint: if its first day or carried is wrong, ftd correct-account --db ";
+    hint: for another form, or if a total is reported or a year is open, \
+    enrol a new account by another name\n\
+    hint: else, to correct its first day or carried, ftd correct-account --db ";
 
 /// What is said of a quarter that is reported otherwise, up to the file.
 const QUARTER_OTHERWISE: &[u8] = b"hint: the quarter is reported with another amount\n\
