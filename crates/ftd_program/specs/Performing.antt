@@ -36,6 +36,7 @@ use Rattle.ftd_words.specs.Values.{greatest_number}
 use Rattle.ftd_words.specs.declared.tasks.Job.{Job}
 use Rattle.ftd_words.specs.declared.tasks.Job.TheVariants as job
 use Rattle.ftd_hints.specs.Hints.{record_hints}
+use Rattle.ftd_replies.specs.Below.{below_of, below_text}
 use Rattle.ftd_replies.specs.Hints.{told_text}
 use Rattle.ftd_replies.specs.Putting.{IsPut}
 use Rattle.ftd_replies.specs.Refusals.{refusal_status}
@@ -45,12 +46,24 @@ use Rattle.ftd_formats.specs.declared.formats.Format.{Format}
 use Rattle.ftd_formats.specs.declared.formats.Format.TheVariants as formats
 use Rattle.ftd_formats.specs.declared.formats.ListFormat.{ListFormat}
 use Rattle.ftd_formats.specs.declared.formats.ListFormat.TheVariants.{Text, Csv, Json}
+use Rattle.ftd_replies.specs.declared.below.Below.{Below}
+use Rattle.ftd_replies.specs.declared.below.Below.TheVariants as below
 use Rattle.ftd_replies.specs.declared.hints.Known.{Known}
 use Rattle.ftd_replies.specs.declared.hints.Known.TheVariants.{Nothing}
 use Rattle.ftd_program.specs.Mending.{KnowsAfter, KnowsOf, or_nothing}
 use Rattle.ftd_program.specs.Numbering.{next_of, number_text}
 use Rattle.ftd_program.specs.Summaries.{stop_status, stop_text, summary_status, summary_text}
 use Rattle.ftd_program.specs.declared.performing.Performed.{Performed}
+
+-- what is said below a reply of the desk of this file is put on standard error; nothing goes there
+-- where nothing is said
+abbrev pub PutsBelow : {E : Type 0} → (E → Option (List ℕ)) → (E → Bool) → (err err' : E)
+    → List ℕ → Below → Type 0
+PutsBelow taken failed err err' db below.Nothing = err' ≡ err
+PutsBelow taken failed err err' db below.NoHolidays =
+    IsPut (taken err) (taken err') (failed err') (below_text db below.NoHolidays)
+PutsBelow taken failed err err' db (below.MayBeTakenBack day) =
+    IsPut (taken err) (taken err') (failed err') (below_text db (below.MayBeTakenBack day))
 
 module _ {O E : Type 0} (o_taken : O → Option (List ℕ)) (o_failed : O → Bool)
     (e_taken : E → Option (List ℕ)) (e_failed : E → Bool)
@@ -79,8 +92,14 @@ module _ {O E : Type 0} (o_taken : O → Option (List ℕ)) (o_failed : O → Bo
   abbrev pub PrintsOut : ℕ → List ℕ → Type 0
   PrintsOut status text = PrintsText status text ⊎ FailsOutput text
 
-  abbrev pub PrintsReply : List ℕ → Type 0
-  PrintsReply text = PrintsOut 0 text
+  -- the text of a reply on standard output, and what is said below it on standard error
+  pub record PrintsReplied (db text : List ℕ) (said : Below) : Type 0 where
+    pub status_is : p.status ≡ 0
+    pub whole : Appends (o_taken out) (o_taken p.out) text
+    pub puts : PutsBelow e_taken e_failed err p.err db said
+
+  abbrev pub PrintsReply : List ℕ → List ℕ → Below → Type 0
+  PrintsReply db text said = PrintsReplied db text said ⊎ FailsOutput text
 
   -- the summary of an import on standard output, and on standard error as many hints of its
   -- malformed records as there is memory for
@@ -126,9 +145,10 @@ module _ {O E : Type 0} (o_taken : O → Option (List ℕ)) (o_failed : O → Bo
     pub stands : StandsAsBefore old new
     pub prints : MatchResult trial (PrintsSummary kind text) (PrintsStop kind text)
 
-  -- the text of the reply in a format, or the lines of the refusal
+  -- the text of the reply in a format, and what is said below it, or the lines of the refusal
   abbrev pub Prints : List ℕ → Format → Request → Known → Answer → Type 0
-  Prints db format request known (Ok reply) = PrintsReply (reply_text format request reply)
+  Prints db format request known (Ok reply) =
+      PrintsReply db (reply_text format request reply) (below_of request reply)
   Prints db format request known (Err refusal) = PrintsRefusal db request known refusal
 
   -- the request was asked of the desk, which answered this, and its answer printed

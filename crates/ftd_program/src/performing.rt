@@ -6,12 +6,13 @@ ghost use Rattle.ftd_formats.specs.Formats.{list_format};
 ghost use Rattle.ftd_program.specs.Performing.{Asks, AsksDue, Does, Performs, PerformsDue};
 ghost use Rattle.ftd_program.specs.Performing.{PrintsAnswer};
 ghost use Rattle.ftd_program.specs.Performing.{PerformsImport, PerformsTrial, PrintsRefusal};
-ghost use Rattle.ftd_program.specs.Performing.{PrintsReply, PrintsStop, PrintsSummary};
+ghost use Rattle.ftd_program.specs.Performing.{PrintsReply, PrintsStop, PrintsSummary, PutsBelow};
 ghost use Rattle.ftd_machine.specs.Laws.{IsBounded};
 ghost use Rattle.ftd_machine.specs.declared.requests.Question.TheVariants.{DueList};
 ghost use Rattle.ftd_machine.specs.declared.requests.Request.TheVariants as requests;
 ghost use Rattle.ftd_ports.specs.Writing.{WritesPrefix};
 ghost use Rattle.ftd_hints.specs.Hints.{record_hints};
+ghost use Rattle.ftd_replies.specs.Below.{below_of};
 ghost use Rattle.ftd_replies.specs.Putting.{IsPut};
 ghost use Rattle.ftd_replies.specs.Replies.{reply_text};
 ghost use Rattle.ftd_program.specs.Summaries.{stop_status, stop_text, summary_status};
@@ -27,7 +28,7 @@ use ftd_hints::write_record_hints;
 use ftd_import::{Progress, StopCause, Stopped, Summary, import, import_trial};
 use ftd_machine::{Answer, Question, Refusal, Reply, Request};
 use ftd_ports::Target;
-use ftd_replies::{Known, put, status_of, write_reply, write_told};
+use ftd_replies::{Below, Known, below_of, put, status_of, write_below, write_reply, write_told};
 use ftd_reports::{LateDueText, Unwritten};
 use ftd_words::Job;
 use sqlite::Alter;
@@ -140,8 +141,8 @@ fn ask_due<S: Alter, O: Target, E: Target>(
     }
 }
 
-/// Asks the request of the desk. The text of its reply goes to `out`, and the line of a refusal to
-/// `err`, with its hints.
+/// Asks the request of the desk. The text of its reply goes to `out`, and what is said below it, or
+/// the line of a refusal with its hints, to `err`.
 pub(crate) fn answer<S: Alter, O: Target, E: Target>(
     desk: &mut Desk<S>,
     db: &str,
@@ -172,7 +173,7 @@ pub(crate) fn print_answer<S: Alter, O: Target, E: Target>(
         desk.old desk.new db.now format request.now answer.now }
 {
     match answer {
-        Ok(reply) => print_reply(format, request, reply, out, err),
+        Ok(reply) => print_reply(db, format, request, reply, out, err),
         Err(refusal) => {
             let known = or_nothing(known_for(desk, request, *refusal));
             print_refusal(db, request, refusal, &known, out, err)
@@ -386,8 +387,22 @@ fn print_line<O, E: Target>(status: u8, line: &[u8], out: O, err: E) -> Performe
     Performed { status, out, err }
 }
 
-/// Prints the text of a reply, in a format where it is a list.
+/// Puts what is said below a reply of the desk of this file.
+fn put_below<E: Target>(db: &str, below: Below, err: &mut E)
+    ensures { PutsBelow E.taken E.failed err.old err.new db.now below }
+{
+    match below {
+        Below::Nothing => {}
+        Below::NoHolidays | Below::MayBeTakenBack(_) => {
+            // Where standard error fails, the status still tells.
+            let _ = write_below(db, below, err);
+        }
+    }
+}
+
+/// Prints the text of a reply, in a format where it is a list, and what is said below it.
 fn print_reply<O: Target, E: Target>(
+    db: &str,
     format: Format,
     request: &Request,
     reply: &Reply,
@@ -395,16 +410,20 @@ fn print_reply<O: Target, E: Target>(
     err: E,
 ) -> Performed<O, E>
     requires bounded { IsBounded reply.now }
-    ensures { PrintsReply O.taken O.failed E.taken E.failed out err result
-        (reply_text format request.now reply.now) }
+    ensures { PrintsReply O.taken O.failed E.taken E.failed out err result db.now
+        (reply_text format request.now reply.now) (below_of request.now reply.now) }
 {
     let mut out = out;
     match write_reply(format, request, reply, &mut out) {
-        Ok(()) => Performed {
-            status: 0,
-            out,
-            err,
-        },
+        Ok(()) => {
+            let mut err = err;
+            put_below(db, below_of(request, reply), &mut err);
+            Performed {
+                status: 0,
+                out,
+                err,
+            }
+        }
         Err(_) => fail_output(out, err),
     }
 }

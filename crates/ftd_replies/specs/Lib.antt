@@ -1,3 +1,4 @@
+pub mod Below
 pub mod Hints
 pub mod Putting
 pub mod Questions

@@ -272,7 +272,7 @@ fn form_said(request: &Request) -> &'static [u8]
 }
 
 /// Writes a command on the file with a word behind it.
-fn write_on<W: Target>(
+pub(crate) fn write_on<W: Target>(
     before: &[u8],
     db: &str,
     word: &[u8],

@@ -1,12 +1,14 @@
 //! The lines that tell of replies and of refusals, and what can be done about them.
 #![tactic(auto)]
 
+mod below;
 mod hints;
 mod questions;
 mod refusals;
 mod replies;
 mod telling;
 
+pub use crate::below::{Below, below_of, write_below};
 pub use crate::hints::{Known, account_in, write_told};
 pub use crate::refusals::{status_of, write_refusal};
 pub use crate::replies::write_reply;
