@@ -1,7 +1,7 @@
 #!/bin/bash
 # What the program says of files that it can't use, each beside what it has to say: a directory, a folder that is not there, a text,
 # somebody else's database, one of a later version, one cut short, one with a byte that flipped, one that sqlite3 wrote to, one that
-# may not be read, one that another program holds, a disk that is full.
+# may not be read, one that another program holds, a disk that is full, a log that can't be copied; and that a trial leaves a file of an older version.
 # It needs sqlite3. Usage: examples/files.sh PATH-OF-FTD [PORT]
 set -u
 ftd=$(realpath "${1:?the path of ftd}")
@@ -64,7 +64,7 @@ says 'failed File 3' "$ftd" import folder --db office.db
 hints 'folder: it is a folder'
 seq 3000 > text.db
 says 'failed NotOurs 3' "$ftd" "${ask[@]}" text.db
-hints 'text.db: it is no file that ftd made'
+hints 'text.db: ftd did not make this file'
 sqlite3 foreign.db 'CREATE TABLE run (number INTEGER)'
 says 'failed NotOurs 3' "$ftd" "${ask[@]}" foreign.db
 # a file that sqlite3 made of the desk's, which has no sums, is opened too
@@ -99,6 +99,32 @@ hints 'locked.db: this user may not use it'
 cp office.db full.db
 says 'failed 22 Store 3' in_so_many_blocks "$(($(stat -c %s full.db) / 1024))" "$ftd" calendar 2026 --db full.db
 says 'done 0' "$ftd" calendar 2026 --db full.db
+# one that grows to more than half a megabyte, beside a log that may have less: what is committed can't be copied into it
+seq 8000 | sed 's/.*/ash,&,2024-05-08,1,1,1/; 1i employer,run,payday,fit,ss,medicare' > runs.csv
+cp office.db grown.db
+says 'posted 8000 already 0 refused 0 malformed 0 0' "$ftd" import runs.csv --db grown.db
+seq 8001 8400 | sed 's/.*/ash,&,2024-05-08,1,1,1/; 1i employer,run,payday,fit,ss,medicare' > more.csv
+says $'posted 400 already 0 refused 0 malformed 0\nfailed File 3' \
+    in_so_many_blocks 500 "$ftd" import more.csv --db grown.db
+hints 'grown.db: the last commands are in grown.db-wal: keep both files, and run a command when the disk has room'
+says 'posted 0 already 400 refused 0 malformed 0 0' "$ftd" import more.csv --db grown.db
+rm runs.csv more.csv
+# a trial over a file of version 2, and over one of version 1, answers as the import would, and leaves its bytes
+printf 'employer,first_day,carried,form\nelm,2024-01-01,no,941\n' > accounts.csv
+later='corrected corrected_year changed_holiday corrected_account'
+for version in 2 1; do
+    [ "$version" = 2 ] || later="$later account_form reported_year added_holiday"
+    sqlite3 office.db .dump | sqlite3 "older$version.db"
+    for name in $later; do sqlite3 "older$version.db" "DROP TABLE $name"; done
+    sqlite3 "older$version.db" "UPDATE ftd_meta SET version = $version; VACUUM"
+    cp "older$version.db" kept.db
+    says 'posted 1 already 0 refused 0 malformed 0 0' "$ftd" import-accounts --check accounts.csv --db "older$version.db"
+    says ' 0' cmp kept.db "older$version.db"
+    says ' 1' test -e "older$version.db-wal"
+    says 'posted 1 already 0 refused 0 malformed 0 0' "$ftd" import-accounts accounts.csv --db "older$version.db"
+    says '3 0' sqlite3 "older$version.db" 'SELECT version FROM ftd_meta'
+done
+rm accounts.csv
 says 'failed File 3' "$ftd" import runs.csv --db office.db
 says 'failed Output 3' bash -c "'$ftd' status ash 2024-01-05 --db office.db > /dev/full"
 

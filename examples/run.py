@@ -31,7 +31,7 @@ import tempfile
 import time
 
 TOP = os.path.dirname(os.path.dirname(os.path.abspath(__file__)))
-PAGES = ["README.md", "docs/TUTORIAL.md", "docs/MISTAKES.md", "docs/HTTP.md"]
+PAGES = ["README.md", "docs/TUTORIAL.md", "docs/MISTAKES.md", "docs/HTTP.md", "docs/FILES.md"]
 HOLIDAYS = "examples/holidays"
 QUOTED, BUILT = "crates/ftd_example/src/main.rt", "crates/ftd_example/out/ftd_example"
 SECONDS = 60

@@ -3,21 +3,25 @@
 use ftd_rows::StoreFault;
 use ftd_setup::OpenFault;
 use sqlite::{Error, ErrorCode};
+use sqlite_std_file::OpenError;
 use std::alloc::{AllocError, AllocFailed};
 use std::io::{self, ErrorKind};
 
 /// Why the program does not do what was asked. Its text is what is printed on standard error.
 #[derive(Clone, Copy, Debug, PartialEq, Eq, thiserror::Error)]
 pub enum ProgramFault {
-    /// A word of the command line is no UTF-8.
-    #[error("error: a word of the command line is no UTF-8")]
+    /// A word of the command line is not UTF-8.
+    #[error("error: a command-line argument is not valid UTF-8")]
     NotText,
     /// The database file can't be opened, made or read.
     #[error("failed File")]
     File,
     /// The database file is not there, and is not to be made.
-    #[error("failed File")]
+    #[error("failed Missing")]
     Missing,
+    /// The log can't be copied into the database file, which is closed without it.
+    #[error("failed File")]
+    NotClosed,
     /// The input can't be read, and why.
     #[error("failed File")]
     Input(ErrorKind),
@@ -62,6 +66,17 @@ impl From<Error> for ProgramFault {
             Error::SqliteFailure(ErrorCode::NotADatabase) => ProgramFault::NotOurs,
             Error::SqliteFailure(ErrorCode::OutOfMemory) => ProgramFault::Memory,
             _ => ProgramFault::File,
+        }
+    }
+}
+
+impl From<OpenError> for ProgramFault {
+    fn from(error: OpenError) -> ProgramFault {
+        match error {
+            OpenError::OutOfMemory => ProgramFault::Memory,
+            OpenError::Busy => ProgramFault::Busy,
+            OpenError::Io(error) if error.kind() == ErrorKind::OutOfMemory => ProgramFault::Memory,
+            OpenError::Io(_) | OpenError::HotJournal => ProgramFault::File,
         }
     }
 }

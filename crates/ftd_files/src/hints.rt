@@ -1,9 +1,13 @@
 //! What can be done about a fault of the program: a line that begins with `hint: `.
 
 use crate::faults::ProgramFault;
+use crate::folder::{has_folder, meant};
 use ftd_words::escaped_word;
 use std::fs::{self, File};
 use std::io::ErrorKind;
+
+/// Why a file can't be made.
+const NO_FOLDER: &str = "its folder is not there";
 
 /// Tells a fault, and below it what can be done about it: which of the files it is, and why. The
 /// hint is left out where there is no memory for it.
@@ -13,14 +17,15 @@ pub fn tell_fault(rt: &HostRuntime, fault: ProgramFault, db: &str, input: &str) 
     match fault {
         ProgramFault::Input(kind) => tell_file(rt, input, reason(kind)),
         ProgramFault::File => tell_file(rt, db, file_reason(rt, db)),
-        ProgramFault::Missing => tell_file(rt, db, reason(ErrorKind::NotFound)),
+        ProgramFault::Missing => tell_missing(rt, db),
+        ProgramFault::NotClosed => tell_log(rt, db),
         ProgramFault::Busy => tell_file(rt, db, "--wait SECONDS waits until it is closed"),
         ProgramFault::Corrupt => tell_file(
             rt,
             db,
             "move it and its -wal aside, then put a copy back",
         ),
-        ProgramFault::NotOurs => tell_file(rt, db, "it is no file that ftd made"),
+        ProgramFault::NotOurs => tell_file(rt, db, "ftd did not make this file"),
         ProgramFault::Newer(_) => tell_file(rt, db, "a later version of ftd made it"),
         ProgramFault::Net => {
             let _ = eprint!(rt;
@@ -28,6 +33,42 @@ pub fn tell_fault(rt: &HostRuntime, fault: ProgramFault, db: &str, input: &str) 
             );
         }
         ProgramFault::NotText | ProgramFault::Memory | ProgramFault::Store => {}
+    }
+}
+
+/// Tells that the file was made, and which one may be meant, unless there is no memory for that.
+pub fn tell_made(rt: &HostRuntime, db: &str) {
+    tell_other(rt, db, "it was not there, so ftd made it");
+}
+
+/// Tells that the file, or its folder, is not there.
+fn tell_missing(rt: &HostRuntime, db: &str) {
+    if has_folder(rt, db) {
+        tell_other(rt, db, reason(ErrorKind::NotFound));
+    } else {
+        tell_file(rt, db, NO_FOLDER);
+    }
+}
+
+/// Tells of a file that was not there, and which one of its folder may be meant.
+fn tell_other(rt: &HostRuntime, db: &str, why: &str) {
+    let Some(other) = meant(rt, db) else {
+        return tell_file(rt, db, why);
+    };
+    if let (Ok(name), Ok(other)) = (
+        escaped_word(rt.alloc(), db),
+        escaped_word(rt.alloc(), &other),
+    ) {
+        let _ = eprint!(rt; "hint: {name}: {why}; is {other} meant?\n");
+    }
+}
+
+/// Tells where the last commands on a file are that could not be closed.
+fn tell_log(rt: &HostRuntime, db: &str) {
+    if let Ok(name) = escaped_word(rt.alloc(), db) {
+        let _ = eprint!(rt;
+            "hint: {name}: the last commands are in {name}-wal: keep both files, and run a command when the disk has room\n"
+        );
     }
 }
 
@@ -61,7 +102,7 @@ fn file_reason(rt: &HostRuntime, db: &str) -> &'static str {
             Ok(_) => "it, its -wal or its folder can't be written",
             Err(error) => reason(error.kind()),
         },
-        Err(error) if error.kind() == ErrorKind::NotFound => "its folder is not there",
+        Err(error) if error.kind() == ErrorKind::NotFound => NO_FOLDER,
         Err(error) => reason(error.kind()),
     }
 }

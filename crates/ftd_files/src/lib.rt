@@ -4,12 +4,15 @@
 
 mod faults;
 mod files;
+mod folder;
 mod hints;
 mod input;
-mod logs;
+mod names;
+mod opening;
 
 pub use crate::faults::ProgramFault;
-pub use crate::files::{closed, desk_of, is_new, opened, tell_made};
-pub use crate::hints::tell_fault;
+pub use crate::files::{closed, desk_of, is_new};
+pub use crate::hints::{tell_fault, tell_made};
 pub use crate::input::{import_input, standard_input, words};
-pub use crate::logs::opened_with_short_log;
+pub use crate::names::nearest;
+pub use crate::opening::{opened, opened_copy, opened_with_short_log};

@@ -14,8 +14,8 @@ use std::net::TcpListener;
 /// For how many seconds at least a server tries to open its file again.
 const REOPENING: u32 = 10;
 
-/// Serves so many connections of this machine, one after the other. Where its store fails, the file
-/// is closed, and opened again for the next connection.
+/// Serves so many connections of this machine, one after the other. If its store fails, the file
+/// is closed, and opened again for the next connection. `NotClosed` if it can't be closed at the end.
 pub fn serve_file(rt: &HostRuntime, task: &ServeTask) -> Result<u8, ProgramFault> {
     let Ok(listener) = TcpListener::bind(rt, ("127.0.0.1", task.port)) else {
         return Err(ProgramFault::Net);
@@ -37,7 +37,7 @@ pub fn serve_file(rt: &HostRuntime, task: &ServeTask) -> Result<u8, ProgramFault
 }
 
 /// Tells at which port the server listens, and serves connections over the tables in files, which
-/// are closed; how many were taken. None where the port could not be told.
+/// are closed; how many were taken. None if the port could not be told.
 fn serve_first<D: Disk + Drop>(
     rt: &HostRuntime,
     task: &ServeTask,
@@ -53,7 +53,7 @@ fn serve_first<D: Disk + Drop>(
     if is_announced(rt, listener) {
         taken = Some(serve_until(rt, task, listener, 0, &mut desk));
     }
-    closed(desk);
+    closed_after(desk, taken.is_none_or(|it| it >= task.connections))?;
     Ok(taken)
 }
 
@@ -68,8 +68,20 @@ fn serve_again<D: Disk + Drop>(
 ) -> Result<u32, ProgramFault> {
     let mut desk = desk_of(rt, conn)?;
     let taken = serve_until(rt, task, listener, taken, &mut desk);
-    closed(desk);
+    closed_after(desk, taken >= task.connections)?;
     Ok(taken)
+}
+
+/// Closes the files of a desk. `NotClosed` if they can't be and are not opened again, by which what
+/// is in the log would be found.
+fn closed_after<D: Disk + Drop>(
+    desk: Desk<FileStore<D>>,
+    is_last: bool,
+) -> Result<(), ProgramFault> {
+    match closed(desk) {
+        Err(fault) if is_last => Err(fault),
+        Ok(()) | Err(_) => Ok(()),
+    }
 }
 
 /// Whether it was told at which port the server listens.

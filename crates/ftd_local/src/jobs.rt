@@ -1,9 +1,11 @@
 //! A job over the desk of a file.
 
+use crate::beginning::{Beginning, beginning};
 use crate::progress::ProgressLine;
-use crate::ready::{Ready, prepare};
 use ftd_desk::Desk;
-use ftd_files::{ProgramFault, closed, desk_of, tell_fault, tell_made};
+use ftd_files::{
+    ProgramFault, closed, desk_of, import_input, is_new, opened, opened_copy, tell_fault, tell_made,
+};
 use ftd_ports::Port;
 use ftd_program::perform;
 use ftd_words::{Job, LocalTask};
@@ -17,11 +19,19 @@ pub fn told(rt: &HostRuntime, fault: ProgramFault, db: &str, input: &str) -> u8 
     fault.status()
 }
 
-/// The file that a job reads. The empty text where it reads none.
+/// The file that a job reads. The empty text if it reads none.
 fn input_of(job: &Job) -> &str {
     match job {
         Job::Import { file, .. } => file,
         Job::Ask { .. } | Job::AskNext { .. } => "",
+    }
+}
+
+/// Whether a job only tries an import.
+fn is_trial(job: &Job) -> bool {
+    match job {
+        Job::Import { is_trial, .. } => *is_trial,
+        Job::Ask { .. } | Job::AskNext { .. } => false,
     }
 }
 
@@ -48,25 +58,63 @@ fn over_files<D: Disk + Drop>(
 ) -> Result<u8, ProgramFault> {
     let mut desk = desk_of(rt, conn)?;
     let status = with_desk(rt, &mut desk, db, job, input);
-    closed(desk);
+    closed(desk)?;
     Ok(status)
 }
 
-/// Does the job of the task, tells that its file was made, below what else is told, and gives the
-/// exit status.
+/// Does the job with the desk of the tables in a copy of files, which is let go.
+fn over_copy<D: Disk + Drop>(
+    rt: &HostRuntime,
+    conn: Connection<FileStore<D>>,
+    db: &str,
+    job: Job,
+    input: &[u8],
+) -> Result<u8, ProgramFault> {
+    let mut desk = desk_of(rt, conn)?;
+    Ok(with_desk(rt, &mut desk, db, job, input))
+}
+
+/// Does the job with the desk of this file, and tells that the file was made, below what else is
+/// told. A trial is done with a copy. `Missing` if the file is not there, and the job makes none.
+fn with_file(
+    rt: &HostRuntime,
+    db: &str,
+    wait: u32,
+    job: Job,
+    input: &[u8],
+) -> Result<u8, ProgramFault> {
+    let is_new = is_new(rt, db)?;
+    let beginning = beginning(&job);
+    if is_new && beginning == Beginning::Needs {
+        return Err(ProgramFault::Missing);
+    }
+    if is_trial(&job) {
+        return over_copy(rt, opened_copy(rt, db, wait)?, db, job, input);
+    }
+    let status = over_files(rt, opened(rt, db, wait)?, db, job, input)?;
+    if is_new && beginning == Beginning::Tells {
+        tell_made(rt, db);
+    }
+    Ok(status)
+}
+
+/// What the job reads. Empty if it reads nothing.
+fn read(rt: &HostRuntime, job: &Job) -> Result<Vec<u8>, ProgramFault> {
+    match job {
+        Job::Import { file, .. } => import_input(rt, file),
+        Job::Ask { .. } | Job::AskNext { .. } => Ok(Vec::new(rt.alloc())),
+    }
+}
+
+/// Does the job of the task, and gives the exit status.
 pub fn local(rt: &HostRuntime, task: LocalTask) -> u8 {
-    let Ready { input, tells, conn } = match prepare(rt, &task) {
-        Ok(ready) => ready,
-        Err(fault) => return told(rt, fault, &task.db, input_of(&task.job)),
+    let LocalTask { db, wait, job } = task;
+    let input = match read(rt, &job) {
+        Ok(input) => input,
+        Err(fault) => return told(rt, fault, &db, input_of(&job)),
     };
-    let LocalTask { db, job, .. } = task;
-    match over_files(rt, conn, &db, job, &input) {
-        Ok(status) => {
-            if tells {
-                tell_made(rt, &db);
-            }
-            status
-        }
+    match with_file(rt, &db, wait, job, &input) {
+        Ok(status) => status,
         Err(fault) => told(rt, fault, &db, ""),
     }
 }

@@ -2,8 +2,8 @@
 //! and closes the file.
 #![tactic(auto)]
 
+mod beginning;
 mod jobs;
 mod progress;
-mod ready;
 
 pub use crate::jobs::{local, told};
