@@ -1,6 +1,6 @@
 //! A job over the desk of a file.
 
-use crate::beginning::{Beginning, beginning};
+use crate::beginning::{Beginning, of_job};
 use crate::progress::ProgressLine;
 use ftd_desk::Desk;
 use ftd_files::{
@@ -74,6 +74,28 @@ fn over_copy<D: Disk + Drop>(
     Ok(with_desk(rt, &mut desk, db, job, input))
 }
 
+/// Does the job with the desk of this file.
+fn with_original(
+    rt: &HostRuntime,
+    db: &str,
+    wait: u32,
+    job: Job,
+    input: &[u8],
+) -> Result<u8, ProgramFault> {
+    over_files(rt, opened(rt, db, wait)?, db, job, input)
+}
+
+/// Does the job with the desk of a copy of this file.
+fn with_copy(
+    rt: &HostRuntime,
+    db: &str,
+    wait: u32,
+    job: Job,
+    input: &[u8],
+) -> Result<u8, ProgramFault> {
+    over_copy(rt, opened_copy(rt, db, wait)?, db, job, input)
+}
+
 /// Does the job with the desk of this file, and tells that the file was made, below what else is
 /// told. A trial is done with a copy. `Missing` if the file is not there, and the job makes none.
 fn with_file(
@@ -84,14 +106,14 @@ fn with_file(
     input: &[u8],
 ) -> Result<u8, ProgramFault> {
     let is_new = is_new(rt, db)?;
-    let beginning = beginning(&job);
+    let beginning = of_job(&job);
     if is_new && beginning == Beginning::Needs {
         return Err(ProgramFault::Missing);
     }
     if is_trial(&job) {
-        return over_copy(rt, opened_copy(rt, db, wait)?, db, job, input);
+        return with_copy(rt, db, wait, job, input);
     }
-    let status = over_files(rt, opened(rt, db, wait)?, db, job, input)?;
+    let status = with_original(rt, db, wait, job, input)?;
     if is_new && beginning == Beginning::Tells {
         tell_made(rt, db);
     }
