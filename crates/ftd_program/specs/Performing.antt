@@ -64,6 +64,8 @@ PutsBelow taken failed err err' db below.NoHolidays =
     IsPut (taken err) (taken err') (failed err') (below_text db below.NoHolidays)
 PutsBelow taken failed err err' db (below.MayBeTakenBack day) =
     IsPut (taken err) (taken err') (failed err') (below_text db (below.MayBeTakenBack day))
+PutsBelow taken failed err err' db below.DependsOnTotal =
+    IsPut (taken err) (taken err') (failed err') (below_text db below.DependsOnTotal)
 
 module _ {O E : Type 0} (o_taken : O → Option (List ℕ)) (o_failed : O → Bool)
     (e_taken : E → Option (List ℕ)) (e_failed : E → Bool)

@@ -393,7 +393,7 @@ fn put_below<E: Target>(db: &str, below: Below, err: &mut E)
 {
     match below {
         Below::Nothing => {}
-        Below::NoHolidays | Below::MayBeTakenBack(_) => {
+        Below::NoHolidays | Below::MayBeTakenBack(_) | Below::DependsOnTotal => {
             // Where standard error fails, the status still tells.
             let _ = write_below(db, below, err);
         }
