@@ -1,6 +1,6 @@
 //! The other files of a file's folder.
 
-use crate::names::nearest;
+use ftd_questions::nearest;
 use std::fs::{self, DirEntry};
 use std::io;
 
@@ -27,9 +27,13 @@ pub(crate) fn has_folder(rt: &HostRuntime, db: &str) -> bool {
 /// is none, the folder can't be read, or there is no memory.
 pub(crate) fn meant(rt: &HostRuntime, db: &str) -> Option<String> {
     let (folder, typed) = parts(db);
-    let names = other_files(rt, path_of(folder), typed).ok()?;
+    let files = other_files(rt, path_of(folder), typed).ok()?;
+    let mut names = Vec::new(rt.alloc());
+    for name in &files {
+        names.push(name.as_str()).ok()?;
+    }
     let place = nearest(rt.alloc(), typed, names.as_slice()).ok()??;
-    let name = names.get(place)?;
+    let name = files.get(place)?;
     format!(in rt.alloc(); "{folder}{name}").ok()
 }
 

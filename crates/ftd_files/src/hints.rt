@@ -92,7 +92,7 @@ fn reason(kind: ErrorKind) -> &'static str {
     }
 }
 
-/// Why a database file, which is made where it is not there, can't be opened. Only a file is opened
+/// Why a database file, which is made if it does not exist, can't be opened. Only a file is opened
 /// to see why: a pipe could wait.
 fn file_reason(rt: &HostRuntime, db: &str) -> &'static str {
     match fs::metadata(rt, db) {

@@ -7,12 +7,10 @@ mod files;
 mod folder;
 mod hints;
 mod input;
-mod names;
 mod opening;
 
 pub use crate::faults::ProgramFault;
 pub use crate::files::{closed, desk_of, is_new};
 pub use crate::hints::{tell_fault, tell_made};
 pub use crate::input::{import_input, standard_input, words};
-pub use crate::names::nearest;
 pub use crate::opening::{opened, opened_copy, opened_with_short_log};

@@ -27,7 +27,7 @@ pub fn opened(
     connected(rt.alloc(), locked(rt, db, wait)?, options)
 }
 
-/// The same, and its log is copied into the file once it is over a megabyte.
+/// The same, and its log is copied into the file when it passes one megabyte.
 pub fn opened_with_short_log(
     rt: &HostRuntime,
     db: &str,

@@ -10,10 +10,12 @@ use Rattle.ftd_machine.specs.declared.replies.Refusal.TheVariants as refusal
 use Rattle.ftd_machine.specs.declared.requests.Request.{Request}
 use Rattle.ftd_machine.specs.declared.requests.Request.TheVariants as request
 use Rattle.ftd_questions.specs.Missing.{first_year, missing_from}
+use Rattle.ftd_questions.specs.Nearest.{IsMeant}
 use Rattle.ftd_desk.specs.Desks.{Held, Keeps}
 use Rattle.ftd_replies.specs.Hints.{account_in}
 use Rattle.ftd_replies.specs.declared.hints.Known.{Known}
 use Rattle.ftd_replies.specs.declared.hints.Known.TheVariants.{Nothing, Missing, Given, Begins}
+use Rattle.ftd_replies.specs.declared.hints.Known.TheVariants.{Meant}
 
 -- these quarters are what is known
 abbrev pub ShowsQuarters : List ℕ → Known → Type 0
@@ -21,6 +23,7 @@ ShowsQuarters sought (Missing quarters) = quarters.items ≡ sought
 ShowsQuarters sought Nothing = ⊥
 ShowsQuarters sought (Given days) = ⊥
 ShowsQuarters sought (Begins year) = ⊥
+ShowsQuarters sought (Meant name) = ⊥
 
 -- these days are what is known, or nothing is where there are none
 abbrev pub ShowsDays : Option (List ℕ) → Known → Type 0
@@ -28,6 +31,7 @@ ShowsDays (Some sought) (Given days) = days.items ≡ sought
 ShowsDays (Some sought) Nothing = ⊥
 ShowsDays (Some sought) (Missing quarters) = ⊥
 ShowsDays (Some sought) (Begins year) = ⊥
+ShowsDays (Some sought) (Meant name) = ⊥
 ShowsDays None known = known ≡ Nothing
 
 -- where a year could not be opened, the quarters of its lookback period from this one on that are
@@ -74,6 +78,15 @@ abbrev pub begins_after : ℕ → Option ℕ → Known
 begins_after year None = Nothing
 begins_after year (Some first) = if nat_lt year first then Begins first else Nothing
 
+-- where an account is unknown, the one whose name is nearest to what was typed, if one is near
+abbrev pub meant_as : Option (List ℕ) → Known
+meant_as None = Nothing
+meant_as (Some name) = Meant name
+
+abbrev pub KnowsMeant : State → List ℕ → Known → Type 0
+KnowsMeant s typed known =
+    (found : Option (List ℕ)) × IsMeant s typed found × (known ≡ meant_as found)
+
 -- what is known for a refusal of the request in this state
 abbrev pub KnowsFor : State → Request → Refusal → Known → Type 0
 KnowsFor s asked (refusal.QuarterMissing first) known = KnowsQuarters s asked first known
@@ -86,7 +99,7 @@ KnowsFor s asked refusal.BadDay known = known ≡ Nothing
 KnowsFor s asked refusal.BadCents known = known ≡ Nothing
 KnowsFor s asked refusal.BadCalendar known = known ≡ Nothing
 KnowsFor s asked refusal.BadNumber known = known ≡ Nothing
-KnowsFor s asked refusal.UnknownAccount known = known ≡ Nothing
+KnowsFor s asked refusal.UnknownAccount known = KnowsMeant s (account_in asked) known
 KnowsFor s asked refusal.AccountDiffers known = known ≡ Nothing
 KnowsFor s asked refusal.QuarterDiffers known = known ≡ Nothing
 KnowsFor s asked refusal.RunDiffers known = known ≡ Nothing

@@ -7,8 +7,8 @@ ghost use Rattle.ftd_machine.specs.State.{State, entries_of};
 ghost use Rattle.ftd_desk.specs.Desks.{KeepsIfOpen, held};
 ghost use Rattle.ftd_desk.specs.Telling.{StandsAsBefore};
 ghost use Rattle.ftd_questions.specs.Missing.{first_year};
-ghost use Rattle.ftd_program.specs.Mending.{KnowsDays, KnowsFor, KnowsQuarters, begins_after};
-ghost use Rattle.ftd_program.specs.Mending.{or_nothing};
+ghost use Rattle.ftd_program.specs.Mending.{KnowsDays, KnowsFor, KnowsMeant, KnowsQuarters};
+ghost use Rattle.ftd_program.specs.Mending.{begins_after, or_nothing};
 
 use ftd_days::Quarter;
 use ftd_desk::Desk;
@@ -33,13 +33,13 @@ pub fn known_for<S: Alter>(
         Refusal::QuarterMissing(first) => quarters_for(desk, request, first),
         Refusal::CalendarDiffers => days_for(desk, request),
         Refusal::YearNotOpen(year) => beginning(desk, account_in(request), year),
+        Refusal::UnknownAccount => meant(desk, account_in(request)),
         Refusal::BadName
         | Refusal::BadYear
         | Refusal::BadDay
         | Refusal::BadCents
         | Refusal::BadCalendar
         | Refusal::BadNumber
-        | Refusal::UnknownAccount
         | Refusal::AccountDiffers
         | Refusal::QuarterDiffers
         | Refusal::RunDiffers
@@ -140,6 +140,20 @@ fn beginning<S: Alter>(desk: &mut Desk<S>, account: &str, year: u32) -> Result<K
     match desk.first_year(account)? {
         Some(first) if year < first => Ok(Known::Begins(first)),
         _ => Ok(Known::Nothing),
+    }
+}
+
+/// Of an account that is unknown, the one that may be meant by its name.
+fn meant<S: Alter>(desk: &mut Desk<S>, account: &str) -> Result<Known, Refusal>
+    ensures knows { HasCleanDisk (held S.Store desk.new).db
+        → (s : State) → KeepsIfOpen (held S.Store desk.old) s
+        → IfOk result (KnowsMeant s account.now) }
+    ensures fault { IfErr result (λ fault. IsFault (Err fault)) }
+    ensures stands { StandsAsBefore (held S.Store desk.old) (held S.Store desk.new) }
+{
+    match desk.meant_account(account)? {
+        Some(name) => Ok(Known::Meant(name)),
+        None => Ok(Known::Nothing),
     }
 }
 

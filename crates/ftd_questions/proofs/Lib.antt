@@ -9,6 +9,7 @@ mod DueTold
 mod Dropped
 pub mod RowsTold
 mod Unreported
+mod Passed
 mod Shown
 mod AgendaRows
 mod ByDueDate

@@ -2,6 +2,7 @@ pub mod DueRows
 pub mod Walks
 pub mod Faults
 pub mod Missing
+pub mod Nearest
 pub mod Telling
 pub mod Shown
 pub use Rattle.ftd_days.specs.Calendar

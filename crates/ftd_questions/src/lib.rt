@@ -10,12 +10,16 @@ mod due;
 mod due_rows;
 mod faults;
 mod listing;
+mod meant;
 mod missing;
+mod names;
 mod telling;
 mod walking;
 
 pub use crate::agendas::{agenda, owed};
 pub use crate::due::due_list;
 pub use crate::faults::{DueFault, refusal_of};
+pub use crate::meant::meant_account;
 pub use crate::missing::{first_year, given_days, missing_quarters};
+pub use crate::names::nearest;
 pub use crate::telling::due_into;

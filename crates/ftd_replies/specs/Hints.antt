@@ -18,6 +18,7 @@ use Rattle.ftd_replies.specs.declared.hints.Hint.{Hint}
 use Rattle.ftd_replies.specs.declared.hints.Hint.TheVariants as hint
 use Rattle.ftd_replies.specs.declared.hints.Known.{Known}
 use Rattle.ftd_replies.specs.declared.hints.Known.TheVariants.{Nothing, Missing, Given, Begins}
+use Rattle.ftd_replies.specs.declared.hints.Known.TheVariants.{Meant}
 
 -- ---- commands to be typed
 
@@ -388,6 +389,10 @@ first_text first =
     (codes "hint: the account's first year is " ∷ decimal first
     ∷ codes ": none before it can be opened\n" ∷ [])
 
+-- the account that may be meant by a name that is unknown
+abbrev pub meant_line : List ℕ → List ℕ
+meant_line name = concat (codes "hint: is " ∷ name ∷ codes " meant?\n" ∷ [])
+
 -- the hints of a refusal, with what is known for them
 unfoldable pub hints_text : List ℕ → Request → Refusal → Known → List ℕ
 hints_text db asked refusal Nothing = hint_text db asked refusal
@@ -395,6 +400,7 @@ hints_text db asked refusal (Missing quarters) =
     flat_map (quarter_hint db (account_in asked)) quarters.items
 hints_text db asked refusal (Given given) = differing_text db (days_in asked) given.items
 hints_text db asked refusal (Begins first) = first_text first
+hints_text db asked refusal (Meant name) = meant_line name ++ hint_text db asked refusal
 
 -- the line of a refusal, and its hints below it
 unfoldable pub told_text : List ℕ → Request → Refusal → Known → List ℕ

@@ -1,6 +1,6 @@
 //! What can be done about a refusal: lines below it, each of which begins with `hint: `.
 
-ghost use Rattle.std.specs.Prelude.{◌≡◌, codes};
+ghost use Rattle.std.specs.Prelude.{◌≡◌, ◌++◌, codes};
 ghost use Rattle.std.specs.Fmt.{decimal};
 ghost use Rattle.std.specs.List.{flat_map, list_all};
 ghost use Rattle.ftd_ports.specs.Writing.{Writes};
@@ -9,13 +9,14 @@ ghost use Rattle.ftd_replies.specs.Hints.{command_of, command_on, correct_text, 
 ghost use Rattle.ftd_replies.specs.Hints.{differing_text, enrolled_as};
 ghost use Rattle.ftd_replies.specs.Hints.{file_text, first_beside, first_text, form_text};
 ghost use Rattle.ftd_replies.specs.Hints.{hint_of, hint_text, hints_text};
-ghost use Rattle.ftd_replies.specs.Hints.{is_plain, left_out_text, new_text, next_text, number_in};
+ghost use Rattle.ftd_replies.specs.Hints.{is_plain, left_out_text, meant_line, new_text};
+ghost use Rattle.ftd_replies.specs.Hints.{next_text, number_in};
 ghost use Rattle.ftd_replies.specs.Hints.{quarter_hint, said_text, told_text, years_text};
 
 use crate::questions::{days_asked, years_asked};
 use crate::refusals::write_refusal;
 use ftd_days::{Day, Quarter};
-use ftd_machine::{Refusal, Request};
+use ftd_machine::{AccountName, Refusal, Request};
 use ftd_ports::{Target, WriteFault, write_all, write_pieces};
 use ftd_reports::{day_bytes, quarter_bytes};
 use itoa::Buffer;
@@ -31,6 +32,8 @@ pub enum Known {
     Given(Vec<Day>),
     /// The first of the account's years. The year that is not open lies before it.
     Begins(u32),
+    /// The account whose name is nearest to the one that is unknown.
+    Meant(AccountName),
 }
 
 /// Writes the line of the refusal of a request to the desk of this file, and its hints below it.
@@ -67,7 +70,34 @@ fn write_hints<W: Target>(
         Known::Missing(quarters) => write_missing(db, account_in(request), quarters, target),
         Known::Given(given) => write_differing(db, days_in(request), given, target),
         Known::Begins(first) => write_first(*first, target),
+        Known::Meant(name) => write_meant(db, request, refusal, name.as_str(), target),
     }
+}
+
+/// Writes which account may be meant.
+fn write_meant_line<W: Target>(name: &str, target: &mut W) -> Result<(), WriteFault>
+    ensures { Writes result (W.taken target.old) (W.taken target.new)
+        (W.failed target.new) (meant_line name.now) }
+{
+    let name = name.as_bytes();
+    write_pieces(target, &[b"hint: is ", name, b" meant?\n"])
+}
+
+/// Writes which account may be meant, and what can be done if it is not.
+#[tactic(auto, using(ftd_ports::proofs::WritingFacts::written_in_parts))]
+fn write_meant<W: Target>(
+    db: &str,
+    request: &Request,
+    refusal: Refusal,
+    name: &str,
+    target: &mut W,
+) -> Result<(), WriteFault>
+    ensures { Writes result (W.taken target.old) (W.taken target.new)
+        (W.failed target.new)
+        (meant_line name.now ++ hint_text db.now request.now refusal) }
+{
+    write_meant_line(name, target)?;
+    write_hint(db, request, refusal, target)
 }
 
 /// Whether the byte needs no quotes in a command.
@@ -85,7 +115,7 @@ fn are_plain(bytes: &[u8]) -> bool
 }
 
 /// The file, where its name needs no quotes, or else `FILE`.
-fn file_bytes(db: &str) -> &[u8]
+pub(crate) fn file_bytes(db: &str) -> &[u8]
     ensures { result.now ≡ file_text db.now }
 {
     if are_plain(db.as_bytes()) {

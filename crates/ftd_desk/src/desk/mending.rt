@@ -5,12 +5,13 @@ ghost use Rattle.sqlite.specs.State.{HasCleanDisk};
 ghost use Rattle.ftd_machine.specs.Runs.{IsFault};
 ghost use Rattle.ftd_machine.specs.State.{State, calendar_at, entries_of};
 ghost use Rattle.ftd_questions.specs.Missing.{first_year, missing_from};
+ghost use Rattle.ftd_questions.specs.Nearest.{IsMeant};
 ghost use Rattle.ftd_desk.specs.Desks.{IsStopped, held, KeepsIfOpen};
 ghost use Rattle.ftd_desk.specs.Telling.{StandsAsBefore};
 
 use crate::desk::Desk;
 use ftd_days::{Day, Quarter};
-use ftd_machine::Refusal;
+use ftd_machine::{AccountName, Refusal};
 use sqlite::Alter;
 
 impl<S: Alter> Desk<S> {
@@ -76,5 +77,24 @@ impl<S: Alter> Desk<S> {
             return Err(Refusal::Store);
         }
         ftd_questions::first_year(&mut self.store, self.alloc, account)
+    }
+
+    /// Of all accounts, the name that is nearest to what was typed, the first of several by name.
+    /// None if none is near: at most two edits away, and at most one for every three bytes that
+    /// were typed. `Memory` and `Store` may come in place of it. The tables stay as they are. A
+    /// desk that is stopped answers `Store`, and touches nothing.
+    pub fn meant_account(&mut self, typed: &str) -> Result<Option<AccountName>, Refusal>
+        ensures knows { HasCleanDisk (held S.Store self.new).db
+            → (s : State) → KeepsIfOpen (held S.Store self.old) s
+            → IfOk result (IsMeant s typed.now) }
+        ensures fault { IfErr result (λ refusal. IsFault (Err refusal)) }
+        ensures stands { StandsAsBefore (held S.Store self.old) (held S.Store self.new) }
+        ensures stopped { IsStopped self.old
+            → (result ≡ Err Refusal.Store) × (self.new ≡ self.old) }
+    {
+        if self.stopped {
+            return Err(Refusal::Store);
+        }
+        ftd_questions::meant_account(&mut self.store, self.alloc, typed)
     }
 }

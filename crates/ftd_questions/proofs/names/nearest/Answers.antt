@@ -1,19 +1,19 @@
-use Rattle.std.proofs.Common.{◌≡◌, map, [], get_or, sym, ap, ◌∙◌}
+use Rattle.std.proofs.Common.{◌≡◌, ℕ, List, [], get_or}
+use Rattle.std.specs.Borrow.{Bor}
 use Rattle.std.proofs.lemmas.List.{get_or-map}
-use Rattle.std.specs.String.{string_bytes}
-use Rattle.ftd_files.specs.Nearest.{edits_to}
-use Rattle.ftd_files.proofs.Passed.{passed_more, passed_nearer}
-use Rattle.ftd_files.proofs.names.nearest.Goals as goal
-use Rattle.ftd_files.proofs.names.nearest.Goals.{then-edits-fewest, else-edits-fewest}
+use Rattle.ftd_questions.specs.Nearest.{edits_to, texts_of}
+use Rattle.ftd_questions.proofs.Passed.{passed_more, passed_nearer}
+use Rattle.ftd_questions.proofs.names.nearest.Goals as goal
+use Rattle.ftd_questions.proofs.names.nearest.Goals.{then-edits-fewest, else-edits-fewest}
 
 pub loop-place-preserved : goal.loop-place-preserved
 loop-place-preserved c =
-    let texts = map string_bytes c.args.names.now in
+    let names : List (Bor (List ℕ)) = c.args.names.now in
+    let texts = texts_of names in
     let place = c.loop-place.place in
-    let item = c.index-names-place.result in
-    let text : get_or texts place [] ≡ c.as_str.result.now =
-    get_or-map string_bytes c.args.names.now place item [] c.loop-place-test.true
-    ∙ ap string_bytes (sym c.index-names-place.is) ∙ sym c.as_str.ensures.value in
+    let none : Bor (List ℕ) = record { ref_ptr = (0, 0); now = [] } in
+    let text : get_or texts place [] ≡ (get_or names place none).now =
+    get_or-map (λ (name : Bor (List ℕ)). name.now) names place none [] c.loop-place-test.true in
     let same : c.in_ok-edits.edits ≡ edits_to c.args.typed.now texts place =
     rw text c.in_ok-edits.ensures.value in
     let before = c.loop-place.invariant in

@@ -1,6 +1,6 @@
 -- What is known of the names that the search for the nearest one has passed.
 use Rattle.std.proofs.Common.{◌≡◌, ℕ, ◌+◌, ◌<◌, ◌≤◌, List, length, Option, Some, None, MatchOption, refl, sym, arith}
-use Rattle.ftd_files.specs.Nearest.{edits_to, most_edits, IsNearest, NoneIsNear}
+use Rattle.ftd_questions.specs.Nearest.{edits_to, most_edits, IsNearest, NoneIsNear}
 
 -- the first of the passed names to which so many edits lead: the fewest, and few enough
 pub record IsFewest (typed : List ℕ) (names : List (List ℕ)) (fewest passed place : ℕ) : Type 0 where
