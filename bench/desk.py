@@ -622,6 +622,45 @@ class Desk:
         rows = [row for row in self.agenda(lambda due: due <= until, as_of) if row[3]]
         return self.agenda_text(f"OWED UNTIL {until} AS OF {as_of}", rows)
 
+    # ---- money that counts for nothing
+
+    def unapplied(self, until):
+        """Payments for a day of no obligation, and obligations that are paid beyond their amount, by account, first day and number."""
+        rows = []
+        for name in self.accounts:
+            owed = self.obligations(name)
+            for first, last, _, cents, _ in owed:
+                if self.paid(name, first, last) > cents:
+                    rows.append((name, first, 0, last, cents, self.paid(name, first, last), "obligation"))
+            for (owner, place), it in self.payments.items():
+                if owner == name and not it["voided"] and not any(row[0] <= it["for"] <= row[1] for row in owed):
+                    rows.append((name, it["for"], place, it["for"], 0, it["cents"], f"payment {place}"))
+        return sorted(row for row in rows if row[1] <= until)
+
+    def ask_unapplied(self, until="2099-12-31"):
+        self.within(date(until))
+        return lines_of(f"UNAPPLIED UNTIL {until}", [
+            f"{name:20} {first} {last} {money(cents):>17} {money(paid):>17} {money(paid - cents):>17} {which}"
+            for name, first, _, last, cents, paid, which in self.unapplied(date(until))
+        ])
+
+    def note_of_payment(self, name, day):
+        """What is said below a payment for the day, once it is recorded."""
+        for first, last, _, cents, _ in self.obligations(name):
+            if first <= day <= last:
+                left = cents - self.paid(name, first, last)
+                rest = f"{money(left)} left to pay" if left > 0 else f"{money(-left)} more than its amount" if left else "paid in full"
+                return f"note: counts for {first} to {last}, {rest}"
+        return "note: counts for no obligation"
+
+    def said_below(self, line, answer):
+        """What is said below the answer to a command, but for what is due or kept."""
+        verb, *words = line.split(" ")
+        if verb == "pay" and answer == "done":
+            return [self.note_of_payment(words[0], date(words[3]))]
+        rows = len(self.unapplied(date("2099-12-31"))) if verb == "owed" and answer.startswith("OWED") else 0
+        return [f"hint: money that counts for nothing, listed by ftd unapplied --db FILE: {rows}"] if rows else []
+
     # ---- what is kept
 
     def ask_accounts(self):
@@ -726,6 +765,7 @@ class Desk:
 # So many questions of a seed are asked with a command, on the file that the server left, and so much is corrected then.
 QUESTIONS = 16
 CORRECTIONS = 8
+PAYMENTS = 8
 NAMES = ["ash", "birch", "cedar", "elm", "fir", "oak", "pine", "rye", "nobody", "Bad"]
 YEARS = range(2022, 2028)
 
@@ -777,6 +817,10 @@ def agenda(rng):
 def owed(rng):
     as_of = date(some_day(rng))
     return f"owed {as_of} {as_of + rng.choice([7, 7, rng.randrange(-400, 60)]) * DAY}"
+
+
+def unapplied(rng):
+    return f"unapplied {some_day(rng)}"
 
 
 def kept(rng):
@@ -848,6 +892,8 @@ def one(rng, desk, posted, paid):
         return agenda(rng)
     if kind < 0.77:
         return owed(rng)
+    if kind < 0.775:
+        return unapplied(rng)
     if kind < 0.82:
         return kept(rng)
     quarter = f"{rng.choice(YEARS)}Q{rng.randint(1, 4)}"
@@ -882,11 +928,13 @@ def compare_answer(where, line, found, right):
         raise SystemExit(f"{where}: {line}\n  the desk: {told}\n  the rules: {ruled}")
 
 
-def command_answer(program, file, line):
-    """What the command of a question prints: its text, or the line of the refusal."""
+def command_answer(program, file, line, below=()):
+    """What the command prints: its text, or the line of the refusal; below it what is said of payments and of money that counts for nothing."""
     verb, *words = line.removesuffix(" csv").split(" ")
     words += ["--format", "csv"] if line.endswith(" csv") else []
     ran = subprocess.run([program, verb, "--db", file, *words], capture_output=True, text=True, timeout=60)
+    said = [it.replace(file, "FILE") for it in ran.stderr.split("\n") if it.startswith(("note: counts", "hint: money"))]
+    compare_answer("below", line, "\n".join(said), "\n".join(below))
     return ran.stdout if ran.returncode == 0 else ran.stderr.split("\n")[0]
 
 
@@ -921,17 +969,26 @@ def compare(program, file, seed, count):
     for place, line in enumerate(lines):
         compare_answer(f"seed {seed}, request {place}", line, answers[place], right[place])
     compare_tables(file, desk, f"seed {seed}")
-    questions = [rng.choice([agenda, owed, kept])(rng) for _ in range(QUESTIONS)] + [f"owed {some_day(rng)}" for _ in range(2)]
+    questions = [rng.choice([agenda, owed, unapplied, kept])(rng) for _ in range(QUESTIONS)] + [f"owed {some_day(rng)}" for _ in range(2)]
     for line in questions:
-        compare_answer(f"seed {seed}, command", line, command_answer(program, file, line), desk.ask(line))
+        right = desk.ask(line)
+        compare_answer(f"seed {seed}, command", line, command_answer(program, file, line, desk.said_below(line, right)), right)
         compare_tables(file, desk, f"seed {seed}, after ftd {line}")
+    for _ in range(PAYMENTS):
+        name = rng.choice(NAMES[:8])
+        paid.setdefault(name, []).append(len(paid.get(name, [])) + 1)
+        line = f"pay {name} {len(paid[name])} {payment(rng, desk.obligations(name))}"
+        right = desk.ask(line)
+        below = desk.said_below(line, right)
+        compare_answer(f"seed {seed}, command", line, command_answer(program, file, line, below).strip(), right)
+    compare_tables(file, desk, f"seed {seed}, after its payments")
     for _ in range(CORRECTIONS):
         verb, words, before, content = correction(rng, desk)
         line = f"{verb} {words} {before + 1} {content}"
         right = printed(before + 1, desk.ask(line))
         compare_answer(f"seed {seed}, command", line, correction_answer(program, file, verb, words, content), right)
         compare_tables(file, desk, f"seed {seed}, after ftd {line}")
-    return len(lines) + len(questions) + CORRECTIONS
+    return len(lines) + len(questions) + PAYMENTS + CORRECTIONS
 
 
 def main():

@@ -15,7 +15,7 @@ FTD = os.path.join(TOP, "crates", "ftd", "out", "ftd")
 # A connection has so many messages at most.
 MESSAGES = 100
 # How the texts begin that are compared as they are.
-LISTS = ("OBLIGATION", "AGENDA", "OWED", "ACCOUNTS", "YEARS", "REPORTED", "HOLIDAYS", "RUNS", "PAYMENTS", "employer,")
+LISTS = ("OBLIGATION", "AGENDA", "OWED", "UNAPPLIED", "ACCOUNTS", "YEARS", "REPORTED", "HOLIDAYS", "RUNS", "PAYMENTS", "employer,")
 
 
 def program_of(words):
@@ -75,7 +75,7 @@ def message_of(line):
         form = "943" if "943" in words else "941"
         method, target = "POST", "/accounts"
         body = {"account": words[1], "start": words[2], "carried": "carried" in words, "form": form}
-    elif words[0] in ("agenda", "owed"):
+    elif words[0] in ("agenda", "owed", "unapplied"):
         method, target, body = "GET", "/" + "/".join(words), None
     elif words[0] in ("accounts", "holidays"):
         method, target, body = "GET", "/lists/" + "/".join(words), None

@@ -33,6 +33,7 @@ name_text name.Explain = codes "explain"
 name_text name.Due = codes "due"
 name_text name.Agenda = codes "agenda"
 name_text name.Owed = codes "owed"
+name_text name.Unapplied = codes "unapplied"
 name_text name.ScheduleB = codes "schedule-b"
 name_text name.AddHoliday = codes "add-holiday"
 name_text name.Accounts = codes "accounts"
@@ -81,6 +82,7 @@ words_of name.Due =
 words_of name.Agenda =
     word.Db ∷ word.Wait ∷ word.Format ∷ word.From ∷ word.To ∷ word.AsOf ∷ []
 words_of name.Owed = word.Db ∷ word.Wait ∷ word.Format ∷ word.AsOf ∷ word.Until ∷ []
+words_of name.Unapplied = word.Db ∷ word.Wait ∷ word.ListFormat ∷ word.LastDay ∷ []
 words_of name.ScheduleB = word.Db ∷ word.Wait ∷ word.ListFormat ∷ word.Account ∷ word.Quarter ∷ []
 words_of name.AddHoliday = word.Db ∷ word.Wait ∷ word.Day ∷ []
 words_of name.Accounts = word.Db ∷ word.Wait ∷ word.ListFormat ∷ []
@@ -123,6 +125,7 @@ word_text word.AsOf = codes "ASOF"
 word_text word.From = codes "FROM"
 word_text word.To = codes "TO"
 word_text word.Until = codes "UNTIL"
+word_text word.LastDay = codes "UNTIL"
 word_text word.Format = codes "format"
 word_text word.ListFormat = codes "format"
 word_text word.ExplanationFormat = codes "format"
@@ -162,6 +165,7 @@ is_option word.AsOf = false
 is_option word.From = false
 is_option word.To = false
 is_option word.Until = false
+is_option word.LastDay = false
 is_option word.Format = true
 is_option word.ListFormat = true
 is_option word.ExplanationFormat = true
@@ -201,6 +205,7 @@ takes_of word.AsOf = takes.Text
 takes_of word.From = takes.Text
 takes_of word.To = takes.Text
 takes_of word.Until = takes.Optional
+takes_of word.LastDay = takes.Optional
 takes_of word.Format = takes.Format
 takes_of word.ListFormat = takes.Format
 takes_of word.ExplanationFormat = takes.Format
@@ -217,7 +222,8 @@ abbrev pub all_names : List Name
 all_names =
     name.Calendar ∷ name.Enrol ∷ name.Report ∷ name.ReportYear ∷ name.OpenYear ∷ name.Post
     ∷ name.ImportAccounts ∷ name.ImportReported ∷ name.Import ∷ name.ImportPayments ∷ name.Due
-    ∷ name.Agenda ∷ name.Owed ∷ name.Pay ∷ name.Status ∷ name.Explain ∷ name.ScheduleB
+    ∷ name.Agenda ∷ name.Owed ∷ name.Pay ∷ name.Unapplied ∷ name.Status ∷ name.Explain
+    ∷ name.ScheduleB
     ∷ name.Accounts ∷ name.Years ∷ name.Reported ∷ name.Holidays ∷ name.Runs ∷ name.Payments
     ∷ name.Void
     ∷ name.VoidPay ∷ name.AddHoliday ∷ name.CorrectReport ∷ name.CorrectReportYear

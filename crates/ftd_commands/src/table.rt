@@ -6,9 +6,9 @@ ghost use Rattle.ftd_commands.specs.Table.{words_of};
 
 use Word::{
     Account, Amount, AsOf, Carried, Check, Connections, CsvFile, Day, Days, Db, Duration,
-    ExplanationFormat, Fit, For, Form, Format, From, Holidays, Idle, IsHoliday, ListFormat,
-    Medicare, Number, Paid, Payday, Payment, Port, Quarter, Run, Silence, Ss, Start, To, Until,
-    Wait, Year,
+    ExplanationFormat, Fit, For, Form, Format, From, Holidays, Idle, IsHoliday, LastDay,
+    ListFormat, Medicare, Number, Paid, Payday, Payment, Port, Quarter, Run, Silence, Ss, Start,
+    To, Until, Wait, Year,
 };
 
 // How an import is used, with the header that its file has to have.
@@ -94,6 +94,7 @@ pub enum Name {
     Due,
     Agenda,
     Owed,
+    Unapplied,
     ScheduleB,
     AddHoliday,
     Accounts,
@@ -138,6 +139,7 @@ pub enum Word {
     From,
     To,
     Until,
+    LastDay,
     Format,
     ListFormat,
     ExplanationFormat,
@@ -175,6 +177,7 @@ impl Name {
             Name::Due => "due",
             Name::Agenda => "agenda",
             Name::Owed => "owed",
+            Name::Unapplied => "unapplied",
             Name::ScheduleB => "schedule-b",
             Name::AddHoliday => "add-holiday",
             Name::Accounts => "accounts",
@@ -215,6 +218,7 @@ impl Name {
             Name::Due => &[Db, Wait, ListFormat, Account, Quarter, AsOf],
             Name::Agenda => &[Db, Wait, Format, From, To, AsOf],
             Name::Owed => &[Db, Wait, Format, AsOf, Until],
+            Name::Unapplied => &[Db, Wait, ListFormat, LastDay],
             Name::ScheduleB => &[Db, Wait, ListFormat, Account, Quarter],
             Name::AddHoliday => &[Db, Wait, Day],
             Name::Accounts => &[Db, Wait, ListFormat],
@@ -253,6 +257,7 @@ impl Name {
             Name::Due => "List the deposits of a quarter: how much, when, if paid",
             Name::Agenda => "List what is due between two days, over all accounts",
             Name::Owed => "List what is due and not paid, over all accounts",
+            Name::Unapplied => "List money that counts for nothing, over all accounts",
             Name::ScheduleB => "List the liability of a quarter by day, as for Schedule B",
             Name::AddHoliday => "Add a legal holiday to a year that was given",
             Name::Accounts => "List the accounts",
@@ -295,6 +300,7 @@ impl Name {
                 "Example: ftd agenda --db office.db 2024-06-10 2024-06-17 2024-06-10"
             }
             Name::Owed => "Example: ftd owed --db office.db 2024-06-10 2024-06-17",
+            Name::Unapplied => "Example: ftd unapplied --db office.db 2024-12-31",
             Name::ScheduleB => "Example: ftd schedule-b --db office.db elm 2024Q2",
             Name::AddHoliday => "Example: ftd add-holiday --db office.db 2024-06-17",
             Name::Accounts => "Example: ftd accounts --db office.db",
@@ -342,7 +348,7 @@ impl Word {
             Word::AsOf => "ASOF",
             Word::From => "FROM",
             Word::To => "TO",
-            Word::Until => "UNTIL",
+            Word::Until | Word::LastDay => "UNTIL",
             Word::Format | Word::ListFormat | Word::ExplanationFormat => "format",
             Word::Number => "number",
         }
@@ -406,7 +412,7 @@ impl Word {
             Word::AsOf => Takes::Text,
             Word::From => Takes::Text,
             Word::To => Takes::Text,
-            Word::Until => Takes::Optional,
+            Word::Until | Word::LastDay => Takes::Optional,
             Word::Format | Word::ListFormat | Word::ExplanationFormat => Takes::Format,
             Word::Number => Takes::OptionalNumber(0, 4_294_967_295),
             Word::IsHoliday => Takes::Text,
@@ -467,6 +473,7 @@ impl Word {
             Word::From => "The first due date, YYYY-MM-DD",
             Word::To => "The last due date, YYYY-MM-DD",
             Word::Until => "The last due date, YYYY-MM-DD; a week after ASOF if it is left out",
+            Word::LastDay => "The last day, YYYY-MM-DD; 2099-12-31 if it is left out",
             Word::Format => "The format of the list: text, csv, json or ics",
             Word::ListFormat => "The format of the list: text, csv or json",
             Word::ExplanationFormat => "The format of the answer: text or json",
@@ -477,7 +484,7 @@ impl Word {
 }
 
 /// The subcommands, as help lists them: in the order in which an employer needs them.
-pub const NAMES: [Name; 32] = [
+pub const NAMES: [Name; 33] = [
     Name::Calendar,
     Name::Enrol,
     Name::Report,
@@ -492,6 +499,7 @@ pub const NAMES: [Name; 32] = [
     Name::Agenda,
     Name::Owed,
     Name::Pay,
+    Name::Unapplied,
     Name::Status,
     Name::Explain,
     Name::ScheduleB,

@@ -10,16 +10,19 @@ use Rattle.ftd_machine.specs.declared.facts.Facts.{Facts}
 use Rattle.ftd_machine.specs.declared.facts.Facts.TheVariants as facts
 use Rattle.ftd_machine.specs.declared.kept.KeptRows.{KeptRows}
 use Rattle.ftd_machine.specs.declared.lists.AgendaRow.{AgendaRow}
+use Rattle.ftd_machine.specs.declared.lists.UnappliedRow.{UnappliedRow}
 use Rattle.ftd_machine.specs.declared.replies.Reason.{Reason}
 use Rattle.ftd_machine.specs.declared.replies.Reason.TheVariants.{Lookback, Turned, Carried}
 use Rattle.ftd_machine.specs.declared.requests.Question.{Question}
 use Rattle.ftd_machine.specs.declared.requests.Question.TheVariants.{Status, Explain, DueList}
 use Rattle.ftd_machine.specs.declared.requests.Question.TheVariants.{ScheduleB, Agenda, Owed, Kept}
+use Rattle.ftd_machine.specs.declared.requests.Question.TheVariants.{Unapplied}
 use Rattle.ftd_formats.specs.Formats.{agenda_as, b_as, due_as, list_format, owed_as}
 use Rattle.ftd_formats.specs.declared.formats.Format.{Format}
 use Rattle.ftd_listings.specs.ExplanationForms.{explanation_as}
 use Rattle.ftd_listings.specs.KeptForms.{kept_as}
 use Rattle.ftd_listings.specs.Listings.{kind_name}
+use Rattle.ftd_listings.specs.Unapplied.{unapplied_as}
 use Rattle.ftd_messages.specs.declared.status.Status.TheVariants as status
 use Rattle.ftd_connections.specs.Responses.{Said, bare, json, formatted, told}
 
@@ -43,6 +46,7 @@ scheduled (Some (DueList account quarter as_of)) kind reason = bare status.Inter
 scheduled (Some (ScheduleB account quarter)) kind reason = bare status.InternalServerError
 scheduled (Some (Agenda from to as_of)) kind reason = bare status.InternalServerError
 scheduled (Some (Owed until as_of)) kind reason = bare status.InternalServerError
+scheduled (Some (Unapplied until)) kind reason = bare status.InternalServerError
 scheduled (Some (Kept asked)) kind reason = bare status.InternalServerError
 scheduled None kind reason = bare status.InternalServerError
 
@@ -55,6 +59,7 @@ listed format (Some (DueList account quarter as_of)) rows =
 listed format (Some (ScheduleB account quarter)) rows = bare status.InternalServerError
 listed format (Some (Agenda from to as_of)) rows = bare status.InternalServerError
 listed format (Some (Owed until as_of)) rows = bare status.InternalServerError
+listed format (Some (Unapplied until)) rows = bare status.InternalServerError
 listed format (Some (Kept asked)) rows = bare status.InternalServerError
 listed format None rows = bare status.InternalServerError
 
@@ -67,6 +72,7 @@ summed format (Some (ScheduleB account quarter)) sums =
     told (list_format format) (b_as (list_format format) account quarter sums)
 summed format (Some (Agenda from to as_of)) sums = bare status.InternalServerError
 summed format (Some (Owed until as_of)) sums = bare status.InternalServerError
+summed format (Some (Unapplied until)) sums = bare status.InternalServerError
 summed format (Some (Kept asked)) sums = bare status.InternalServerError
 summed format None sums = bare status.InternalServerError
 
@@ -80,8 +86,22 @@ gathered format (Some (Agenda from to as_of)) rows =
     formatted format (agenda_as format from to as_of rows)
 gathered format (Some (Owed until as_of)) rows =
     formatted format (owed_as format until as_of rows)
+gathered format (Some (Unapplied until)) rows = bare status.InternalServerError
 gathered format (Some (Kept asked)) rows = bare status.InternalServerError
 gathered format None rows = bare status.InternalServerError
+
+-- the response to money that counts for nothing that a request asked for, in a format
+abbrev pub unapplied_said : Format → Option Question → List UnappliedRow → Said
+unapplied_said format (Some (Status account day)) rows = bare status.InternalServerError
+unapplied_said format (Some (Explain account day)) rows = bare status.InternalServerError
+unapplied_said format (Some (DueList account quarter as_of)) rows = bare status.InternalServerError
+unapplied_said format (Some (ScheduleB account quarter)) rows = bare status.InternalServerError
+unapplied_said format (Some (Agenda from to as_of)) rows = bare status.InternalServerError
+unapplied_said format (Some (Owed until as_of)) rows = bare status.InternalServerError
+unapplied_said format (Some (Unapplied until)) rows =
+    told (list_format format) (unapplied_as (list_format format) until rows)
+unapplied_said format (Some (Kept asked)) rows = bare status.InternalServerError
+unapplied_said format None rows = bare status.InternalServerError
 
 -- the response to what is kept, as far as a request asked for it, in a format
 abbrev pub kept_said : Format → Option Question → KeptRows → Said
@@ -91,6 +111,7 @@ kept_said format (Some (DueList account quarter as_of)) rows = bare status.Inter
 kept_said format (Some (ScheduleB account quarter)) rows = bare status.InternalServerError
 kept_said format (Some (Agenda from to as_of)) rows = bare status.InternalServerError
 kept_said format (Some (Owed until as_of)) rows = bare status.InternalServerError
+kept_said format (Some (Unapplied until)) rows = bare status.InternalServerError
 kept_said format (Some (Kept asked)) rows =
     told (list_format format) (kept_as (list_format format) asked rows)
 kept_said format None rows = bare status.InternalServerError
@@ -104,6 +125,7 @@ why_said format (Some (DueList account quarter as_of)) explained = bare status.I
 why_said format (Some (ScheduleB account quarter)) explained = bare status.InternalServerError
 why_said format (Some (Agenda from to as_of)) explained = bare status.InternalServerError
 why_said format (Some (Owed until as_of)) explained = bare status.InternalServerError
+why_said format (Some (Unapplied until)) explained = bare status.InternalServerError
 why_said format (Some (Kept asked)) explained = bare status.InternalServerError
 why_said format None explained = bare status.InternalServerError
 
@@ -115,4 +137,5 @@ facts_said format asked (facts.Explained explained) = why_said format asked expl
 facts_said format asked (facts.Due rows) = listed format asked rows
 facts_said format asked (facts.Days sums) = summed format asked sums
 facts_said format asked (facts.Agenda rows) = gathered format asked rows
+facts_said format asked (facts.Unapplied rows) = unapplied_said format asked rows
 facts_said format asked (facts.Kept rows) = kept_said format asked rows

@@ -4,12 +4,13 @@ ghost use Rattle.std.specs.Prelude.{◌≡◌, IfOk};
 ghost use Rattle.std.specs.List.{flat_map};
 ghost use Rattle.ftd_connections.specs.Facts.{facts_said, gathered, kept_said, listed};
 ghost use Rattle.ftd_connections.specs.Facts.{reason_text, schedule_text, scheduled, summed};
-ghost use Rattle.ftd_connections.specs.Facts.{why_said};
+ghost use Rattle.ftd_connections.specs.Facts.{unapplied_said, why_said};
 ghost use Rattle.ftd_connections.specs.Responses.{json, said_of};
 ghost use Rattle.ftd_formats.specs.Dues.{due_csv, due_json};
 ghost use Rattle.ftd_formats.specs.Formats.{agenda_as, b_as, due_as, owed_as};
 ghost use Rattle.ftd_listings.specs.ExplanationForms.{explanation_as};
 ghost use Rattle.ftd_listings.specs.KeptForms.{kept_as};
+ghost use Rattle.ftd_listings.specs.Unapplied.{unapplied_as};
 ghost use Rattle.ftd_machine.specs.Questions.{question_of};
 ghost use Rattle.ftd_reports.specs.DueLists.{due_text};
 
@@ -18,9 +19,10 @@ use ftd_days::{Day, Quarter};
 use ftd_formats::{
     Format, ListFormat, write_agenda_as, write_b_as, write_due_csv, write_due_json, write_owed_as,
 };
-use ftd_listings::{kind_bytes, write_explanation_as, write_kept_as};
+use ftd_listings::{kind_bytes, write_explanation_as, write_kept_as, write_unapplied_as};
 use ftd_machine::{
-    AgendaRow, Explanation, Facts, Kept, KeptRows, Question, Reason, Request, are_sums_bounded,
+    AgendaRow, Explanation, Facts, Kept, KeptRows, Question, Reason, Request, UnappliedRow,
+    are_sums_bounded,
 };
 use ftd_messages::Status;
 use ftd_ports::Port;
@@ -45,6 +47,7 @@ pub fn facts_said(
         Facts::Due(rows) => listed(alloc, format, request, rows.as_slice()),
         Facts::Days(sums) => summed(alloc, format, request, sums.as_slice()),
         Facts::Agenda(rows) => gathered(alloc, format, request, rows.as_slice()),
+        Facts::Unapplied(rows) => unapplied_said(alloc, format, request, rows.as_slice()),
         Facts::Kept(rows) => kept_said(alloc, format, request, rows),
     }
 }
@@ -80,6 +83,7 @@ fn scheduled(
             | Question::ScheduleB { .. }
             | Question::Agenda { .. }
             | Question::Owed { .. }
+            | Question::Unapplied { .. }
             | Question::Kept(_),
         )
         | None => Ok(bare(alloc, Status::InternalServerError)),
@@ -143,6 +147,7 @@ fn listed(
             | Question::ScheduleB { .. }
             | Question::Agenda { .. }
             | Question::Owed { .. }
+            | Question::Unapplied { .. }
             | Question::Kept(_),
         )
         | None => Ok(bare(alloc, Status::InternalServerError)),
@@ -240,6 +245,7 @@ fn summed(
             | Question::DueList { .. }
             | Question::Agenda { .. }
             | Question::Owed { .. }
+            | Question::Unapplied { .. }
             | Question::Kept(_),
         )
         | None => Ok(bare(alloc, Status::InternalServerError)),
@@ -291,6 +297,7 @@ fn gathered(
             | Question::Explain { .. }
             | Question::DueList { .. }
             | Question::ScheduleB { .. }
+            | Question::Unapplied { .. }
             | Question::Kept(_),
         )
         | None => Ok(bare(alloc, Status::InternalServerError)),
@@ -332,6 +339,51 @@ fn owed_text(
     }
 }
 
+/// The response with money that counts for nothing that a request asked for, in a format.
+fn unapplied_said(
+    alloc: Global,
+    format: Format,
+    request: &Request,
+    rows: &[UnappliedRow],
+) -> Result<Response, AllocError>
+    ensures { IfOk result
+        (λ response. said_of response ≡ unapplied_said format (question_of request.now) rows.now) }
+{
+    match request.question() {
+        Some(Question::Unapplied { until }) => {
+            let format = format.of_list();
+            let text = unapplied_text(alloc, format, *until, rows)?;
+            Ok(told(format, text))
+        }
+        Some(
+            Question::Status { .. }
+            | Question::Explain { .. }
+            | Question::DueList { .. }
+            | Question::ScheduleB { .. }
+            | Question::Agenda { .. }
+            | Question::Owed { .. }
+            | Question::Kept(_),
+        )
+        | None => Ok(bare(alloc, Status::InternalServerError)),
+    }
+}
+
+/// The text of money that counts for nothing, in a format.
+fn unapplied_text(
+    alloc: Global,
+    format: ListFormat,
+    until: Day,
+    rows: &[UnappliedRow],
+) -> Result<Vec<u8>, AllocError>
+    ensures { IfOk result (λ text. text.items ≡ unapplied_as format until rows.now) }
+{
+    let mut port = Port::new(Vec::new(alloc));
+    match write_unapplied_as(format, until, rows, &mut port) {
+        Ok(()) => Ok(port.into_inner()),
+        Err(_) => Err(AllocError),
+    }
+}
+
 /// The response with what is kept, as far as a request asked for it, in a format.
 fn kept_said(
     alloc: Global,
@@ -354,7 +406,8 @@ fn kept_said(
             | Question::DueList { .. }
             | Question::ScheduleB { .. }
             | Question::Agenda { .. }
-            | Question::Owed { .. },
+            | Question::Owed { .. }
+            | Question::Unapplied { .. },
         )
         | None => Ok(bare(alloc, Status::InternalServerError)),
     }
@@ -397,6 +450,7 @@ fn why_said(
             | Question::ScheduleB { .. }
             | Question::Agenda { .. }
             | Question::Owed { .. }
+            | Question::Unapplied { .. }
             | Question::Kept(_),
         )
         | None => Ok(bare(alloc, Status::InternalServerError)),

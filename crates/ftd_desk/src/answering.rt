@@ -9,7 +9,7 @@ ghost use Rattle.ftd_questions.specs.Shown.{Shows};
 use ftd_kept::{accounts, holidays, reported, runs, years};
 use ftd_machine::{Answer, Kept, Question};
 use ftd_questions::{agenda, due_list, owed};
-use ftd_reasons::{explain, payments, schedule_b, status};
+use ftd_reasons::{explain, payments, schedule_b, status, unapplied};
 use ftd_store::{StoreFault, Tx};
 use sqlite::Alter;
 use std::alloc::Global;
@@ -38,6 +38,7 @@ pub(crate) fn ask<S: Alter>(
         }
         Question::Agenda { from, to, as_of } => agenda(tx, alloc, *from, *to, *as_of),
         Question::Owed { until, as_of } => owed(tx, alloc, *until, *as_of),
+        Question::Unapplied { until } => unapplied(tx, alloc, *until),
         Question::Kept(asked) => kept(tx, alloc, asked),
     }
 }

@@ -8,6 +8,7 @@ mod ExplainOne
 mod ExplainSome
 pub mod Questions
 pub mod AgendaSome
+pub mod UnappliedSome
 pub mod Agendas
 pub mod AnswerSome
 pub mod Examples

@@ -28,6 +28,7 @@ use Rattle.ftd_machine.specs.declared.replies.Refusal.TheVariants.{UnknownAccoun
 use Rattle.ftd_machine.specs.declared.requests.Question.{Question}
 use Rattle.ftd_machine.specs.declared.requests.Question.TheVariants.{Status, Explain, DueList}
 use Rattle.ftd_machine.specs.declared.requests.Question.TheVariants.{ScheduleB, Agenda, Owed, Kept}
+use Rattle.ftd_machine.specs.declared.requests.Question.TheVariants.{Unapplied}
 use Rattle.ftd_machine.specs.declared.requests.Kept.{Kept as WhatIsKept}
 use Rattle.ftd_machine.specs.declared.requests.Kept.TheVariants.{Accounts, Years, Reported}
 use Rattle.ftd_machine.specs.declared.requests.Kept.TheVariants.{Holidays, Runs, Payments}
@@ -42,6 +43,7 @@ use Rattle.ftd_laws.proofs.KeptSome.{kept_told}
 use Rattle.ftd_laws.proofs.ExplainOne.{explanation_one}
 use Rattle.ftd_laws.proofs.ExplainSome.{explanation_some}
 use Rattle.ftd_laws.proofs.AgendaSome.{agenda_some, between_or, left_or}
+use Rattle.ftd_laws.proofs.UnappliedSome.{unapplied_one, unapplied_some}
 
 -- ---- states that agree on an account
 
@@ -112,6 +114,7 @@ same_checks s t (ScheduleB own quarter) name named agree =
     (is_open e (quarter_year quarter)))) agrees.own
 same_checks s t (Agenda from to as_of) name named agree = absurd cc
 same_checks s t (Owed until as_of) name named agree = absurd cc
+same_checks s t (Unapplied until) name named agree = absurd cc
 same_checks s t (Kept kept) name named agree = same_kept_checks s t kept name named agree
 
 -- and the same is told
@@ -134,6 +137,7 @@ same_told s t (ScheduleB own quarter) name named agree answer told =
     subst (λ e. IsScheduleB e quarter answer) (sym agrees.own) told
 same_told s t (Agenda from to as_of) name named agree answer told = absurd cc
 same_told s t (Owed until as_of) name named agree answer told = absurd cc
+same_told s t (Unapplied until) name named agree answer told = absurd cc
 same_told s t (Kept kept) name named agree answer told =
     same_kept s t kept name named agree answer told
 
@@ -161,6 +165,7 @@ tells_one s (ScheduleB name quarter) a b once g h =
 tells_one s (Agenda from to as_of) a b once g h =
     agenda_one s (IsDueBetween from to) as_of a b g h
 tells_one s (Owed until as_of) a b once g h = agenda_one s (IsLeftBy until) as_of a b g h
+tells_one s (Unapplied until) a b once g h = unapplied_one s until a b g h
 tells_one s (Kept kept) a b once g h = kept_one s kept a b once g h
 
 -- ---- something is told, where each account has lines and the checks pass
@@ -191,4 +196,5 @@ tells_some s (Agenda from to as_of) once lines e =
     agenda_some s as_of once lines (IsDueBetween from to) (between_or from to)
 tells_some s (Owed until as_of) once lines e =
     agenda_some s as_of once lines (IsLeftBy until) (left_or until)
+tells_some s (Unapplied until) once lines e = unapplied_some s once lines until
 tells_some s (Kept kept) once lines e = kept_told s kept lines e

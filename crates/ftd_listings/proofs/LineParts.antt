@@ -65,3 +65,17 @@ pub obligation_parts : (x : AmountColumn) {f l r u first end rule due amount : L
 obligation_parts x {f = f} {l = l} {r = r} {u = u} from to by cents when =
     rw (← from, ← to, ← by, ← cents, ← when) (sym (column f _ _ _ (column l _ _ _ (column r _ _ _
     (three x.spaces.now _ _ _ _ _ (last u (10 ∷ [])))))))
+
+pub money_parts : (x y z : AmountColumn) {f l first end amount paid over : List ℕ} → f ≡ first
+    → l ≡ end → x.spaces.now ++ x.dollars.now ++ x.cents ≡ amount
+    → y.spaces.now ++ y.dollars.now ++ y.cents ≡ paid
+    → z.spaces.now ++ z.dollars.now ++ z.cents ≡ over
+    → concat (f ∷ (32 ∷ []) ∷ l ∷ (32 ∷ []) ∷ x.spaces.now ∷ x.dollars.now ∷ x.cents ∷ (32 ∷ [])
+    ∷ y.spaces.now ∷ y.dollars.now ∷ y.cents ∷ (32 ∷ []) ∷ z.spaces.now ∷ z.dollars.now ∷ z.cents
+    ∷ (32 ∷ []) ∷ [])
+    ≡ join_with_byte 32 (first ∷ end ∷ amount ∷ paid ∷ over ∷ []) ++ (32 ∷ [])
+money_parts x y z {f = f} {l = l} from to first second third =
+    rw (← from, ← to, ← first, ← second, ← third) (sym (column f _ _ _ (column l _ _ _
+    (three x.spaces.now _ _ _ _ _ (three y.spaces.now _ _ _ _ _
+    (append_assoc (z.spaces.now ++ z.dollars.now) z.cents (32 ∷ [])
+    ∙ append_assoc z.spaces.now z.dollars.now (z.cents ++ (32 ∷ []))))))))

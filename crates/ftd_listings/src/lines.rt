@@ -76,7 +76,7 @@ fn held_text(obligation: Option<Day>) -> [u8; 10]
 }
 
 /// Writes the name of an account in its column.
-fn write_name<W: Target>(name: &str, target: &mut W) -> Result<(), WriteFault>
+pub(crate) fn write_name<W: Target>(name: &str, target: &mut W) -> Result<(), WriteFault>
     ensures { Writes result (W.taken target.old) (W.taken target.new)
         (W.failed target.new) (name_text name.now) }
 {

@@ -27,6 +27,7 @@ beginning_of_question (question.ScheduleB name quarter) = Tells
 beginning_of_question (question.Explain name day) = Needs
 beginning_of_question (question.Agenda from to as_of) = Needs
 beginning_of_question (question.Owed until as_of) = Needs
+beginning_of_question (question.Unapplied until) = Needs
 beginning_of_question (question.Kept things) = Needs
 
 -- a request: a desk begins by two, and six keep their answer over a new file

@@ -81,6 +81,7 @@ fn of_question(question: &Question) -> Beginning
         Question::Explain { .. }
         | Question::Agenda { .. }
         | Question::Owed { .. }
+        | Question::Unapplied { .. }
         | Question::Kept(_) => Beginning::Needs,
     }
 }

@@ -37,7 +37,7 @@ not_greater e = absurd cc
 pub names_once : (a b : List ℕ) → IsNameBefore a b → IsNameBefore b a → ⊥
 names_once a b g h = not_greater (sym g ∙ (nat_list_cmp_total.antisymm a b ∙ ap ordering_reverse h))
 
-name_once : (a b : List ℕ) → a ≡ b → IsNameBefore a b → ⊥
+pub name_once : (a b : List ℕ) → a ≡ b → IsNameBefore a b → ⊥
 name_once a b same g =
     let own : IsNameBefore b b = subst (λ x. IsNameBefore x b) same g in names_once b b own own
 

@@ -21,6 +21,7 @@ pub mod Lined
 pub mod ToldSome
 pub mod DueSome
 pub mod AgendaOrder
+pub mod UnappliedOrder
 pub mod Counting
 pub mod Dated
 pub mod KeptOne

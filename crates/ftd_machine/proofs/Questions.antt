@@ -8,6 +8,7 @@ use Rattle.ftd_machine.specs.Sound.{IsSound}
 use Rattle.ftd_machine.specs.declared.requests.Question.{Question}
 use Rattle.ftd_machine.specs.declared.requests.Question.TheVariants.{Status, Explain, DueList}
 use Rattle.ftd_machine.specs.declared.requests.Question.TheVariants.{ScheduleB, Agenda, Owed, Kept}
+use Rattle.ftd_machine.specs.declared.requests.Question.TheVariants.{Unapplied}
 use Rattle.ftd_machine.proofs.Heads.{Refuses, refuses_none, refuses_needs, refuses_finds}
 use Rattle.ftd_machine.proofs.Heads.{Quiet, Firm, quiet_refusal, firm_refusal}
 use Rattle.ftd_machine.proofs.Brief.{AnswersBounded, AreBrief, brief_refusal}
@@ -32,6 +33,7 @@ question_refuses s (ScheduleB name quarter) =
     (refuses_needs _ _ [] refuses_none))))
 question_refuses s (Agenda from to as_of) = refuses_needs _ _ _ (refuses_needs _ _ [] refuses_none)
 question_refuses s (Owed until as_of) = refuses_needs _ _ _ (refuses_needs _ _ [] refuses_none)
+question_refuses s (Unapplied until) = refuses_needs _ _ [] refuses_none
 question_refuses s (Kept kept) = kept_refuses s kept
 
 -- so they answer no change
@@ -55,6 +57,7 @@ told_is s (DueList name quarter as_of) answer told = ap is_change told.told
 told_is s (ScheduleB name quarter) answer told = ap is_change told.told
 told_is s (Agenda from to as_of) answer told = ap is_change told.told
 told_is s (Owed until as_of) answer told = ap is_change told.told
+told_is s (Unapplied until) answer told = ap is_change told.told
 told_is s (Kept kept) answer told = kept_no_change s kept answer told
 
 -- the amounts of a list that is told are together below the end
@@ -68,4 +71,5 @@ tells_bounded s (ScheduleB name quarter) answer sound told =
     subst AnswersBounded (sym told.told) (days_small s name sound quarter answer told)
 tells_bounded s (Agenda from to as_of) answer sound told = subst AnswersBounded (sym told.told) tt
 tells_bounded s (Owed until as_of) answer sound told = subst AnswersBounded (sym told.told) tt
+tells_bounded s (Unapplied until) answer sound told = subst AnswersBounded (sym told.told) tt
 tells_bounded s (Kept kept) answer sound told = kept_bounded s kept answer told

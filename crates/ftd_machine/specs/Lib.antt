@@ -8,6 +8,7 @@ pub mod Posting
 pub mod Asking
 pub mod Agenda
 pub mod PaidInTime
+pub mod Unapplied
 pub mod Kept
 pub mod Explaining
 pub mod Questions

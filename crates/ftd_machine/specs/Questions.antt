@@ -8,10 +8,11 @@ use Rattle.ftd_machine.specs.Limits.{amounts_end}
 use Rattle.ftd_machine.specs.State.{State, entries_of, holidays, is_open}
 use Rattle.ftd_machine.specs.Checks.{Answer}
 use Rattle.ftd_machine.specs.Requests.{status_checks, due_list_checks, schedule_b_checks}
-use Rattle.ftd_machine.specs.Requests.{agenda_checks, owed_checks}
+use Rattle.ftd_machine.specs.Requests.{agenda_checks, owed_checks, unapplied_checks}
 use Rattle.ftd_machine.specs.Asking.{IsStatus, IsDueList, IsScheduleB}
 use Rattle.ftd_machine.specs.Agenda.{IsDueBetween, IsLeftBy, IsAgenda}
 use Rattle.ftd_machine.specs.Explaining.{IsExplanation}
+use Rattle.ftd_machine.specs.Unapplied.{IsUnapplied}
 use Rattle.ftd_machine.specs.Kept.{kept_checks, TellsKept, account_kept}
 use Rattle.ftd_machine.specs.declared.facts.Facts.{Facts}
 use Rattle.ftd_machine.specs.declared.facts.Facts.TheVariants as facts
@@ -19,6 +20,7 @@ use Rattle.ftd_machine.specs.declared.requests.Kept.{Kept as KeptThings}
 use Rattle.ftd_machine.specs.declared.requests.Question.{Question}
 use Rattle.ftd_machine.specs.declared.requests.Question.TheVariants.{Status, Explain, DueList}
 use Rattle.ftd_machine.specs.declared.requests.Question.TheVariants.{ScheduleB, Agenda, Owed, Kept}
+use Rattle.ftd_machine.specs.declared.requests.Question.TheVariants.{Unapplied}
 use Rattle.ftd_machine.specs.declared.requests.Request.{Request}
 use Rattle.ftd_machine.specs.declared.requests.Request.TheVariants as request
 
@@ -38,11 +40,12 @@ question_checks s (ScheduleB name quarter) =
     schedule_b_checks name quarter own.account (is_open own (quarter_year quarter))
 question_checks s (Agenda from to as_of) = agenda_checks from to as_of
 question_checks s (Owed until as_of) = owed_checks until as_of
+question_checks s (Unapplied until) = unapplied_checks until
 question_checks s (Kept kept) = kept_checks s kept
 
 -- where they pass, this is the answer: the deposit schedule of a day, why the obligation that holds
 -- it is so, the due list of a quarter, its liability by day, what is due between two days over all
--- accounts, what of it is not paid, or what is kept
+-- accounts, what of it is not paid, which money counts for nothing, or what is kept
 abbrev pub Tells : State → Question → Answer → Type 0
 Tells s (Status name day) answer = IsStatus (entries_of s name) day answer
 Tells s (Explain name day) answer = IsExplanation (holidays s) (entries_of s name) day answer
@@ -51,6 +54,7 @@ Tells s (DueList name quarter as_of) answer =
 Tells s (ScheduleB name quarter) answer = IsScheduleB (entries_of s name) quarter answer
 Tells s (Agenda from to as_of) answer = IsAgenda s (IsDueBetween from to) as_of answer
 Tells s (Owed until as_of) answer = IsAgenda s (IsLeftBy until) as_of answer
+Tells s (Unapplied until) answer = IsUnapplied s until answer
 Tells s (Kept kept) answer = TellsKept s kept answer
 
 -- the amounts of a list of one account that is told are together below 6,000,000,000,000,000 cents;
@@ -61,6 +65,7 @@ AreBounded (facts.Days sums) = sum_by cents_of sums < amounts_end
 AreBounded (facts.Status kind reason) = ⊤
 AreBounded (facts.Explained explained) = ⊤
 AreBounded (facts.Agenda rows) = ⊤
+AreBounded (facts.Unapplied rows) = ⊤
 AreBounded (facts.Kept rows) = ⊤
 
 -- the account that a question names; what is due over all accounts names none
@@ -71,6 +76,7 @@ account_asked (DueList name quarter as_of) = Some name
 account_asked (ScheduleB name quarter) = Some name
 account_asked (Agenda from to as_of) = None
 account_asked (Owed until as_of) = None
+account_asked (Unapplied until) = None
 account_asked (Kept kept) = account_kept kept
 
 -- the question names the account
@@ -85,6 +91,7 @@ due_list_of (DueList name quarter as_of) = Some (name, quarter)
 due_list_of (ScheduleB name quarter) = None
 due_list_of (Agenda from to as_of) = None
 due_list_of (Owed until as_of) = None
+due_list_of (Unapplied until) = None
 due_list_of (Kept kept) = None
 
 -- the request that asks what is kept

@@ -346,6 +346,10 @@ owed_checks until as_of =
     ∷ needs (is_between 2001 2099 (year_of as_of)) BadDay
     ∷ []
 
+-- Unapplied: a day of 2001 to 2099
+abbrev pub unapplied_checks : ℕ → List (Option Answer)
+unapplied_checks until = needs (is_between 2001 2099 (year_of until)) BadDay ∷ []
+
 -- Kept, of an account: the name; and the account
 abbrev pub kept_of_checks : List ℕ → Option Account → List (Option Answer)
 kept_of_checks name account =

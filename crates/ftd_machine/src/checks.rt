@@ -9,7 +9,7 @@ ghost use Rattle.ftd_machine.specs.Requests.{report_checks, report_year_checks, 
 ghost use Rattle.ftd_machine.specs.Requests.{post_checks, void_checks, pay_checks};
 ghost use Rattle.ftd_machine.specs.Requests.{void_payment_checks, status_checks, due_list_checks};
 ghost use Rattle.ftd_machine.specs.Requests.{schedule_b_checks, agenda_checks, owed_checks};
-ghost use Rattle.ftd_machine.specs.Requests.{holidays_checks, kept_of_checks};
+ghost use Rattle.ftd_machine.specs.Requests.{holidays_checks, kept_of_checks, unapplied_checks};
 ghost use Rattle.ftd_machine.specs.Requests.{kept_in_quarter_checks};
 
 use crate::entries::Account;
@@ -474,6 +474,17 @@ pub fn owed_check(until: Day, as_of: Day) -> Option<Answer>
         return Some(Err(Refusal::BadDay));
     }
     None
+}
+
+/// The checks of a day until which money that counts for nothing is asked for.
+pub fn unapplied_check(until: Day) -> Option<Answer>
+    ensures { result ≡ first_of (unapplied_checks until) }
+{
+    if is_between(2001, 2099, until.year()) {
+        None
+    } else {
+        Some(Err(Refusal::BadDay))
+    }
 }
 
 /// The checks of an account of which what is kept is asked for, where this is known of it.

@@ -6,7 +6,7 @@ ghost use Rattle.ftd_machine.specs.Questions.{AreBounded};
 use crate::explained::Explanation;
 use crate::kept::KeptRows;
 use crate::limits::{are_rows_bounded, are_sums_bounded};
-use crate::lists::{AgendaRows, DaySums, DueRows};
+use crate::lists::{AgendaRows, DaySums, DueRows, UnappliedRows};
 use crate::replies::Reason;
 use ftd_rules::Kind;
 
@@ -23,6 +23,8 @@ pub enum Facts {
     Days(DaySums),
     /// What is due over all accounts, by due date, then by account, then by first day.
     Agenda(AgendaRows),
+    /// Money that counts for nothing, over all accounts, by account, first day and number.
+    Unapplied(UnappliedRows),
     /// What is kept.
     Kept(KeptRows),
 }
@@ -36,6 +38,10 @@ pub(crate) fn are_bounded(facts: &Facts) -> bool
     match facts {
         Facts::Due(rows) => are_rows_bounded(rows.as_slice()),
         Facts::Days(sums) => are_sums_bounded(sums.as_slice()),
-        Facts::Status { .. } | Facts::Explained(_) | Facts::Agenda(_) | Facts::Kept(_) => true,
+        Facts::Status { .. }
+        | Facts::Explained(_)
+        | Facts::Agenda(_)
+        | Facts::Unapplied(_)
+        | Facts::Kept(_) => true,
     }
 }

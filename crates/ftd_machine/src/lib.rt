@@ -19,8 +19,8 @@ mod requests;
 pub use crate::checks::{
     Answer, add_holiday_check, agenda_check, calendar_check, due_list_check, enrol_check,
     holidays_check, kept_in_quarter_check, kept_of_check, open_year_check, owed_check, pay_check,
-    post_check, report_check, report_year_check, schedule_b_check, status_check, void_check,
-    void_payment_check,
+    post_check, report_check, report_year_check, schedule_b_check, status_check, unapplied_check,
+    void_check, void_payment_check,
 };
 pub use crate::corrections::{
     change_holiday_check, correct_account_check, correct_report_check, correct_report_year_check,
@@ -35,6 +35,8 @@ pub use crate::kept::{
     KeptRun, KeptRuns, KeptTotal, KeptTotals, KeptYear, KeptYears,
 };
 pub use crate::limits::{MOST_ENTRIES, MOST_HOLIDAYS, are_rising, are_sums_bounded};
-pub use crate::lists::{AccountName, AgendaRow, AgendaRows, DaySums, Days, DueRows, ListOf};
+pub use crate::lists::{
+    AccountName, AgendaRow, AgendaRows, DaySums, Days, DueRows, ListOf, UnappliedRow, UnappliedRows,
+};
 pub use crate::replies::{Named, Reason, Refusal, Reply, is_bounded};
 pub use crate::requests::{Kept, Question, Request};

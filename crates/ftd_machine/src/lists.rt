@@ -4,7 +4,7 @@ ghost use Rattle.std.specs.Prelude.{◌≡◌};
 ghost use Rattle.std.specs.String.{string_bytes};
 ghost use Rattle.ftd_machine.specs.Agenda.{depends_on_total};
 
-use ftd_days::Day;
+use ftd_days::{Cents, Day};
 use ftd_rules::{DaySum, DueRow, Form, Verdict};
 use std::marker::Model;
 
@@ -94,6 +94,27 @@ pub type DueRows = ListOf<DueRow>;
 
 /// What is due over all accounts.
 pub type AgendaRows = ListOf<AgendaRow>;
+
+/// Money that counts for nothing, over all accounts.
+pub type UnappliedRows = ListOf<UnappliedRow>;
+
+/// Money of an account that counts for nothing: a payment for a day of no obligation, or what was
+/// paid for an obligation, which is more than its amount. Amounts are in cents.
+#[derive(Drop)]
+pub struct UnappliedRow {
+    /// The account.
+    pub account: AccountName,
+    /// The number of the payment. None where it is an obligation.
+    pub payment: Option<u32>,
+    /// The first day of the obligation, or the day that the payment is for.
+    pub first: Day,
+    /// The last day of the obligation, or the day that the payment is for.
+    pub last: Day,
+    /// The amount of the obligation; 0.00 where the payment counts for none.
+    pub amount: Cents,
+    /// What was paid for the obligation, by all its payments, or the amount of the payment.
+    pub paid: Cents,
+}
 
 /// A row of what is due over all accounts.
 #[derive(Drop)]

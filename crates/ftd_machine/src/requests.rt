@@ -195,6 +195,11 @@ pub enum Question {
         until: Day,
         as_of: Day,
     },
+    /// Which money counts for nothing, over all accounts, of the days up to one: payments for a day
+    /// of no obligation, and what was paid for an obligation beyond its amount?
+    Unapplied {
+        until: Day,
+    },
     /// What is kept?
     Kept(Kept),
 }
@@ -210,7 +215,7 @@ impl Question {
             | Question::Explain { account, .. }
             | Question::DueList { account, .. }
             | Question::ScheduleB { account, .. } => Some(account),
-            Question::Agenda { .. } | Question::Owed { .. } => None,
+            Question::Agenda { .. } | Question::Owed { .. } | Question::Unapplied { .. } => None,
             Question::Kept(kept) => kept.account(),
         }
     }

@@ -1,6 +1,6 @@
 -- What the program prints of an answer, and its exit status.
-use Rattle.std.specs.Prelude.{◌≡◌, ◌⊎◌, ℕ, Bool, true, false, List, Option, Result}
-use Rattle.std.specs.Prelude.{Some, None, MatchResult, Ok, Err, codes}
+use Rattle.std.specs.Prelude.{◌≡◌, ◌==◌, ◌⊎◌, ℕ, Bool, true, false, List, Option, Result}
+use Rattle.std.specs.Prelude.{Some, None, MatchBool, MatchResult, Ok, Err, codes}
 use Rattle.std.specs.Io.KnownBytes.{Appends}
 use Rattle.ftd_ports.specs.Writing.{WritesPrefix}
 use Rattle.sqlite.specs.State.{HasCleanDisk}
@@ -11,12 +11,14 @@ use Rattle.ftd_machine.specs.State.{State}
 use Rattle.ftd_machine.specs.Runs.{IsFault}
 use Rattle.ftd_machine.specs.Checks.{Answer}
 use Rattle.ftd_machine.specs.declared.replies.Refusal.{Refusal}
+use Rattle.ftd_machine.specs.declared.replies.Reply.TheVariants as reply
 use Rattle.ftd_machine.specs.declared.requests.Request.{Request}
 use Rattle.ftd_machine.specs.Step.{with_number}
 use Rattle.ftd_machine.specs.Questions.{question_of}
 use Rattle.ftd_machine.specs.declared.requests.Question.{Question as Questions}
 use Rattle.ftd_machine.specs.declared.requests.Question.TheVariants.{Status, Explain, DueList}
 use Rattle.ftd_machine.specs.declared.requests.Question.TheVariants.{ScheduleB, Agenda, Owed, Kept}
+use Rattle.ftd_machine.specs.declared.requests.Question.TheVariants.{Unapplied}
 use Rattle.ftd_machine.specs.declared.requests.Request.TheVariants.{Question}
 use Rattle.ftd_questions.specs.Shown.{ShowsRows}
 use Rattle.ftd_questions.specs.Telling.{Replies, Refuses}
@@ -38,6 +40,7 @@ use Rattle.ftd_words.specs.declared.tasks.Job.TheVariants as job
 use Rattle.ftd_hints.specs.Hints.{record_hints}
 use Rattle.ftd_replies.specs.Below.{below_of, below_text}
 use Rattle.ftd_replies.specs.Hints.{told_text}
+use Rattle.ftd_replies.specs.Notes.{asked_after, note_text}
 use Rattle.ftd_replies.specs.Putting.{IsPut}
 use Rattle.ftd_replies.specs.Refusals.{refusal_status}
 use Rattle.ftd_replies.specs.Replies.{reply_text}
@@ -218,29 +221,85 @@ module _ {O E : Type 0} (o_taken : O → Option (List ℕ)) (o_failed : O → Bo
     pub shows : HasCleanDisk new.db → p.status ≡ 0 → (t : Tables) → StandIfOpen old.db t
         → ShowsDue account quarter as_of t
 
+-- what is asked of the desk after its answer to a request
+abbrev pub asked_then : Request → Answer → Option Request
+asked_then request (Ok reply) = asked_after request reply
+asked_then request (Err refusal) = None
+
+-- what is said of an answer to it is put on standard error; nothing goes there where there is none
+abbrev pub PutsNote : {E : Type 0} → (E → Option (List ℕ)) → (E → Bool) → (err err' : E) → List ℕ
+    → Answer → Type 0
+PutsNote e_taken e_failed err err' db (Ok (reply.Told facts)) =
+    IsPut (e_taken err) (e_taken err') (e_failed err') (note_text db facts)
+PutsNote e_taken e_failed err err' db (Ok reply.Done) = err' ≡ err
+PutsNote e_taken e_failed err err' db (Ok reply.Already) = err' ≡ err
+PutsNote e_taken e_failed err err' db (Ok (reply.Posted from to removed added)) = err' ≡ err
+PutsNote e_taken e_failed err err' db (Err refusal) = err' ≡ err
+
+module _ {S O E : Type 0} (g : store.Ghosts S) (e_taken : E → Option (List ℕ)) (e_failed : E → Bool)
+    (first p : Performed O E) where
+  -- the question was asked of the desk, and what is said of its answer put below what was performed
+  pub record Notes (old new : Desk S) (db : List ℕ) (question : Request) : Type 0 where
+    pub answer : Answer
+    pub handles : Handles (held g old) (held g new) question answer
+    pub status_is : p.status ≡ first.status
+    pub out_is : p.out ≡ first.out
+    pub puts : PutsNote e_taken e_failed first.err p.err db answer
+
+  -- where the text of a reply was printed, the desk was asked this; else nothing more was done
+  abbrev pub NotesAfter : Desk S → Desk S → List ℕ → Option Request → Type 0
+  NotesAfter old new db None = (new ≡ old) × (p ≡ first)
+  NotesAfter old new db (Some question) =
+      MatchBool (first.status == 0) (Notes old new db question) ((new ≡ old) × (p ≡ first))
+
+module _ {S O E : Type 0} (g : store.Ghosts S) (o_taken : O → Option (List ℕ)) (o_failed : O → Bool)
+    (e_taken : E → Option (List ℕ)) (e_failed : E → Bool)
+    (out : O) (err : E) (p : Performed O E) where
+  -- the request was asked of the desk, and its answer printed; then the desk was asked what is said
+  -- below it
+  pub record AnswersThenNotes (old new : Desk S) (db : List ℕ) (format : Format) (request : Request)
+      : Type 0 where
+    pub answer : Answer
+    pub between : Desk S
+    pub first : Performed O E
+    pub performs : PerformsBy o_taken o_failed e_taken e_failed out err first (held g old)
+        (held g between) db format request answer
+    pub notes : NotesAfter g e_taken e_failed first p between new db (asked_then request answer)
+
   -- a due list is printed row by row as text, and in the other formats when it is there
-  abbrev pub AsksDue : Held → Held → List ℕ → ListFormat → Format → Request → List ℕ → ℕ → ℕ
+  abbrev pub AsksDue : Desk S → Desk S → List ℕ → ListFormat → Format → Request → List ℕ → ℕ → ℕ
       → Type 0
   AsksDue old new db Text format request account quarter as_of =
-      PerformsDue old new db account quarter as_of
-  AsksDue old new db Csv format request account quarter as_of = Performs old new db format request
-  AsksDue old new db Json format request account quarter as_of = Performs old new db format request
+      PerformsDue o_taken o_failed e_taken e_failed out err p (held g old) (held g new) db account
+      quarter as_of
+  AsksDue old new db Csv format request account quarter as_of =
+      Performs o_taken o_failed e_taken e_failed out err p (held g old) (held g new) db format
+      request
+  AsksDue old new db Json format request account quarter as_of =
+      Performs o_taken o_failed e_taken e_failed out err p (held g old) (held g new) db format
+      request
 
   -- every other reply is printed when it is there
-  abbrev pub AsksBy : Held → Held → List ℕ → Format → Request → Option Questions → Type 0
-  AsksBy old new db format request None = Performs old new db format request
-  AsksBy old new db format request (Some (Status account day)) = Performs old new db format request
-  AsksBy old new db format request (Some (Explain account day)) = Performs old new db format request
+  abbrev pub AsksBy : Desk S → Desk S → List ℕ → Format → Request → Option Questions → Type 0
+  AsksBy old new db format request None = AnswersThenNotes old new db format request
+  AsksBy old new db format request (Some (Status account day)) =
+      AnswersThenNotes old new db format request
+  AsksBy old new db format request (Some (Explain account day)) =
+      AnswersThenNotes old new db format request
   AsksBy old new db format request (Some (DueList account quarter as_of)) =
       AsksDue old new db (list_format format) format request account quarter as_of
   AsksBy old new db format request (Some (ScheduleB account quarter)) =
-      Performs old new db format request
+      AnswersThenNotes old new db format request
   AsksBy old new db format request (Some (Agenda from to as_of)) =
-      Performs old new db format request
-  AsksBy old new db format request (Some (Owed until as_of)) = Performs old new db format request
-  AsksBy old new db format request (Some (Kept asked)) = Performs old new db format request
+      AnswersThenNotes old new db format request
+  AsksBy old new db format request (Some (Owed until as_of)) =
+      AnswersThenNotes old new db format request
+  AsksBy old new db format request (Some (Unapplied until)) =
+      AnswersThenNotes old new db format request
+  AsksBy old new db format request (Some (Kept asked)) =
+      AnswersThenNotes old new db format request
 
-  abbrev pub Asks : Held → Held → List ℕ → Format → Request → Type 0
+  abbrev pub Asks : Desk S → Desk S → List ℕ → Format → Request → Type 0
   Asks old new db format request = AsksBy old new db format request (question_of request)
 
 -- a reply that has several formats is told as text
@@ -288,5 +347,5 @@ module _ {S O E : Type 0} (g : store.Ghosts S) (o_taken : O → Option (List ℕ
   Does old new input db (job.Import kind file true) =
       PerformsTrial o_taken o_failed e_taken e_failed out err p (held g old) (held g new) kind input
   Does old new input db (job.Ask format request) =
-      Asks o_taken o_failed e_taken e_failed out err p (held g old) (held g new) db format request
+      Asks g o_taken o_failed e_taken e_failed out err p old new db format request
   Does old new input db (job.AskNext request) = AsksNext old new db request

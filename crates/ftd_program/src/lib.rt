@@ -3,6 +3,7 @@
 
 mod deposits;
 mod mending;
+mod noting;
 mod numbering;
 mod performing;
 mod summaries;

@@ -18,6 +18,7 @@ ghost use Rattle.ftd_replies.specs.Replies.{reply_text};
 ghost use Rattle.ftd_program.specs.Summaries.{stop_status, stop_text, summary_status};
 
 use crate::mending::{known_for, or_nothing};
+use crate::noting::answer_then_note;
 use crate::numbering::ask_next;
 use crate::summaries::{write_bad_header, write_summary};
 use ftd_csv::Sheet;
@@ -69,23 +70,23 @@ pub fn perform<S: Alter, O: Target, E: Target, P: Progress>(
             is_trial,
             ..
         } => import_or_try(alloc, desk, sheet, is_trial, input, out, err, progress),
-        Job::Ask { format, request } => ask(desk, db, format, &request, out, err),
+        Job::Ask { format, request } => ask(desk, db, format, request, out, err),
         Job::AskNext { request } => ask_next(desk, db, request, out, err),
     }
 }
 
 /// Asks the request of the desk. A list is printed in a format; a due list as text is printed row
-/// by row, as it comes.
+/// by row, as it comes. Below a reply stands what is said of what the desk is asked after it.
 fn ask<S: Alter, O: Target, E: Target>(
     desk: &mut Desk<S>,
     db: &str,
     format: Format,
-    request: &Request,
+    request: Request,
     out: O,
     err: E,
 ) -> Performed<O, E>
-    ensures { Asks O.taken O.failed E.taken E.failed out err result
-        (held S.Store desk.old) (held S.Store desk.new) db.now format request.now }
+    ensures { Asks S.Store O.taken O.failed E.taken E.failed out err result
+        desk.old desk.new db.now format request }
 {
     match request.question() {
         Some(
@@ -98,7 +99,7 @@ fn ask<S: Alter, O: Target, E: Target>(
             desk,
             db,
             format,
-            request,
+            &request,
             account.as_str(),
             *quarter,
             *as_of,
@@ -111,9 +112,10 @@ fn ask<S: Alter, O: Target, E: Target>(
             | Question::ScheduleB { .. }
             | Question::Agenda { .. }
             | Question::Owed { .. }
+            | Question::Unapplied { .. }
             | Question::Kept(_),
         )
-        | None => answer(desk, db, format, request, out, err),
+        | None => answer_then_note(desk, db, format, request, out, err),
     }
 }
 
@@ -131,9 +133,8 @@ fn ask_due<S: Alter, O: Target, E: Target>(
     err: E,
 ) -> Performed<O, E>
     requires asked { request.now ≡ requests.Question (DueList account.now quarter as_of) }
-    ensures { AsksDue O.taken O.failed E.taken E.failed out err result
-        (held S.Store desk.old) (held S.Store desk.new) db.now (list_format format) format
-        request.now account.now quarter as_of }
+    ensures { AsksDue S.Store O.taken O.failed E.taken E.failed out err result
+        desk.old desk.new db.now (list_format format) format request.now account.now quarter as_of }
 {
     match format.of_list() {
         ListFormat::Text => list_due(desk, db, request, account, quarter, as_of, out, err),

@@ -6,3 +6,7 @@ mod ExplainedKnown
 mod Held
 mod PaymentOrder
 mod PaymentsTold
+mod Added
+mod UnappliedAdded
+mod UnappliedOrdered
+mod UnappliedKnown

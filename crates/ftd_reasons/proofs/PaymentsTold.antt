@@ -43,7 +43,7 @@ pub begun_by : (last : ℕ) (o : Obligation) → o.first ≤ last → begins_on 
 begun_by last o h =
     ap (λ b. b && nat_le o.first last) (le-leb 0 o.first (omega arith)) ∙ le-leb o.first last h
 
-held_all : (owed : List Obligation) (last day : ℕ) (held : Option ℕ) → day ≤ last
+pub held_all : (owed : List Obligation) (last day : ℕ) (held : Option ℕ) → day ≤ last
     → IsHeldBy (filter (begins_on 0 last) owed) day held → IsHeldBy owed day held
 held_all owed last day None soon none = λ o has holds.
     (let first = holds.0 in

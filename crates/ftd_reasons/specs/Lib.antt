@@ -1,6 +1,7 @@
 pub mod Schedules
 pub mod Explained
 pub mod Payments
+pub mod Unapplied
 pub use Rattle.ftd_days.specs.Calendar
 pub use Rattle.ftd_entries.specs.Opening
 pub use Rattle.ftd_entries.specs.Standing

@@ -25,7 +25,7 @@ fn holds(obligation: &Obligation, day: Day) -> bool
 
 /// The first day of the obligation whose deposit period holds the day, the earliest of several.
 #[tactic(auto, using(crate::proofs::Held::held_by_this, crate::proofs::Held::held_before))]
-fn held_by(owed: &[Obligation], day: Day) -> Option<Day>
+pub(crate) fn held_by(owed: &[Obligation], day: Day) -> Option<Day>
     ensures { IsHeldBy owed.now day result }
 {
     let mut held: Option<Day> = None;

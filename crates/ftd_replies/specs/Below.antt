@@ -68,6 +68,7 @@ after_told (facts.Status kind reason) = below.Nothing
 after_told (facts.Explained explained) = below.Nothing
 after_told (facts.Due rows) = below.Nothing
 after_told (facts.Days sums) = below.Nothing
+after_told (facts.Unapplied rows) = below.Nothing
 after_told (facts.Kept rows) = below.Nothing
 
 -- below the reply to a request

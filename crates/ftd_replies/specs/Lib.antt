@@ -1,5 +1,6 @@
 pub mod Below
 pub mod Hints
+pub mod Notes
 pub mod Putting
 pub mod Questions
 pub mod Refusals

@@ -9,17 +9,20 @@ use Rattle.ftd_formats.specs.declared.formats.Format.{Format}
 use Rattle.ftd_listings.specs.Explanations.{status_text}
 use Rattle.ftd_listings.specs.ExplanationForms.{explanation_as}
 use Rattle.ftd_listings.specs.KeptForms.{kept_as}
+use Rattle.ftd_listings.specs.Unapplied.{unapplied_as}
 use Rattle.ftd_machine.specs.declared.explained.Explanation.{Explanation}
 use Rattle.ftd_machine.specs.declared.facts.Facts.{Facts}
 use Rattle.ftd_machine.specs.declared.facts.Facts.TheVariants as facts
 use Rattle.ftd_machine.specs.declared.kept.KeptRows.{KeptRows}
 use Rattle.ftd_machine.specs.declared.lists.AgendaRow.{AgendaRow}
+use Rattle.ftd_machine.specs.declared.lists.UnappliedRow.{UnappliedRow}
 use Rattle.ftd_machine.specs.declared.replies.Reason.{Reason}
 use Rattle.ftd_machine.specs.declared.requests.Kept.{Kept as WhatIsKept}
 use Rattle.ftd_machine.specs.declared.requests.Kept.TheVariants as kept
 use Rattle.ftd_machine.specs.declared.requests.Question.{Question}
 use Rattle.ftd_machine.specs.declared.requests.Question.TheVariants.{Status, Explain, DueList}
 use Rattle.ftd_machine.specs.declared.requests.Question.TheVariants.{ScheduleB, Agenda, Owed, Kept}
+use Rattle.ftd_machine.specs.declared.requests.Question.TheVariants.{Unapplied}
 
 -- ---- replies
 
@@ -31,6 +34,7 @@ status_told (Some (DueList account quarter as_of)) kind reason = []
 status_told (Some (ScheduleB account quarter)) kind reason = []
 status_told (Some (Agenda from to as_of)) kind reason = []
 status_told (Some (Owed until as_of)) kind reason = []
+status_told (Some (Unapplied until)) kind reason = []
 status_told (Some (Kept asked)) kind reason = []
 status_told None kind reason = []
 
@@ -43,6 +47,7 @@ due_told format (Some (DueList account quarter as_of)) rows =
 due_told format (Some (ScheduleB account quarter)) rows = []
 due_told format (Some (Agenda from to as_of)) rows = []
 due_told format (Some (Owed until as_of)) rows = []
+due_told format (Some (Unapplied until)) rows = []
 due_told format (Some (Kept asked)) rows = []
 due_told format None rows = []
 
@@ -55,6 +60,7 @@ days_told format (Some (ScheduleB account quarter)) sums =
     b_as (list_format format) account quarter sums
 days_told format (Some (Agenda from to as_of)) sums = []
 days_told format (Some (Owed until as_of)) sums = []
+days_told format (Some (Unapplied until)) sums = []
 days_told format (Some (Kept asked)) sums = []
 days_told format None sums = []
 
@@ -66,8 +72,21 @@ agenda_told format (Some (DueList account quarter as_of)) rows = []
 agenda_told format (Some (ScheduleB account quarter)) rows = []
 agenda_told format (Some (Agenda from to as_of)) rows = agenda_as format from to as_of rows
 agenda_told format (Some (Owed until as_of)) rows = owed_as format until as_of rows
+agenda_told format (Some (Unapplied until)) rows = []
 agenda_told format (Some (Kept asked)) rows = []
 agenda_told format None rows = []
+
+-- money that counts for nothing, in a format
+abbrev pub unapplied_told : Format → Option Question → List UnappliedRow → List ℕ
+unapplied_told format (Some (Status account day)) rows = []
+unapplied_told format (Some (Explain account day)) rows = []
+unapplied_told format (Some (DueList account quarter as_of)) rows = []
+unapplied_told format (Some (ScheduleB account quarter)) rows = []
+unapplied_told format (Some (Agenda from to as_of)) rows = []
+unapplied_told format (Some (Owed until as_of)) rows = []
+unapplied_told format (Some (Unapplied until)) rows = unapplied_as (list_format format) until rows
+unapplied_told format (Some (Kept asked)) rows = []
+unapplied_told format None rows = []
 
 -- what is kept, in a format
 abbrev pub kept_told : Format → Option Question → KeptRows → List ℕ
@@ -77,6 +96,7 @@ kept_told format (Some (DueList account quarter as_of)) rows = []
 kept_told format (Some (ScheduleB account quarter)) rows = []
 kept_told format (Some (Agenda from to as_of)) rows = []
 kept_told format (Some (Owed until as_of)) rows = []
+kept_told format (Some (Unapplied until)) rows = []
 kept_told format (Some (Kept asked)) rows = kept_as (list_format format) asked rows
 kept_told format None rows = []
 
@@ -89,6 +109,7 @@ why_told format (Some (DueList account quarter as_of)) explained = []
 why_told format (Some (ScheduleB account quarter)) explained = []
 why_told format (Some (Agenda from to as_of)) explained = []
 why_told format (Some (Owed until as_of)) explained = []
+why_told format (Some (Unapplied until)) explained = []
 why_told format (Some (Kept asked)) explained = []
 why_told format None explained = []
 
@@ -99,6 +120,7 @@ facts_told format asked (facts.Explained explained) = why_told format asked expl
 facts_told format asked (facts.Due rows) = due_told format asked rows
 facts_told format asked (facts.Days sums) = days_told format asked sums
 facts_told format asked (facts.Agenda rows) = agenda_told format asked rows
+facts_told format asked (facts.Unapplied rows) = unapplied_told format asked rows
 facts_told format asked (facts.Kept rows) = kept_told format asked rows
 
 -- ---- years and days out of range
@@ -124,6 +146,7 @@ years_asked (DueList account quarter as_of) = paydays_years
 years_asked (ScheduleB account quarter) = paydays_years
 years_asked (Agenda from to as_of) = paydays_years
 years_asked (Owed until as_of) = paydays_years
+years_asked (Unapplied until) = paydays_years
 years_asked (Kept asked) = years_kept asked
 
 abbrev pub paydays_days : List ℕ
@@ -140,4 +163,6 @@ days_asked (DueList account quarter as_of) =
 days_asked (ScheduleB account quarter) = paydays_days
 days_asked (Agenda from to as_of) = agenda_days
 days_asked (Owed until as_of) = agenda_days
+days_asked (Unapplied until) =
+    codes "hint: UNTIL must be in 2001 to 2099\n"
 days_asked (Kept asked) = paydays_days

@@ -108,6 +108,7 @@ fn after_told(facts: &Facts) -> Below
         | Facts::Explained(_)
         | Facts::Due(_)
         | Facts::Days(_)
+        | Facts::Unapplied(_)
         | Facts::Kept(_) => Below::Nothing,
     }
 }

@@ -3,6 +3,7 @@
 
 mod below;
 mod hints;
+mod notes;
 mod questions;
 mod refusals;
 mod replies;
@@ -10,6 +11,7 @@ mod telling;
 
 pub use crate::below::{Below, below_of, write_below};
 pub use crate::hints::{Known, account_in, write_told};
+pub use crate::notes::{asked_after, write_note};
 pub use crate::refusals::{status_of, write_refusal};
 pub use crate::replies::write_reply;
 pub use crate::telling::{put, tell};

@@ -10,11 +10,13 @@ ghost use Rattle.ftd_machine.specs.Limits.{amounts_end};
 ghost use Rattle.ftd_machine.specs.Questions.{AreBounded, question_of};
 ghost use Rattle.ftd_replies.specs.Questions.{agenda_told, days_asked, days_told, due_told};
 ghost use Rattle.ftd_replies.specs.Questions.{facts_told, kept_told, status_told, why_told};
-ghost use Rattle.ftd_replies.specs.Questions.{years_asked};
+ghost use Rattle.ftd_replies.specs.Questions.{unapplied_told, years_asked};
 
 use ftd_formats::{Format, write_agenda_as, write_b_as, write_due_as, write_owed_as};
-use ftd_listings::{write_explanation_as, write_kept_as, write_schedule};
-use ftd_machine::{AgendaRow, Explanation, Facts, Kept, KeptRows, Question, Reason, Request};
+use ftd_listings::{write_explanation_as, write_kept_as, write_schedule, write_unapplied_as};
+use ftd_machine::{
+    AgendaRow, Explanation, Facts, Kept, KeptRows, Question, Reason, Request, UnappliedRow,
+};
 use ftd_ports::{Target, WriteFault, write_all};
 use ftd_rules::{DaySum, DueRow, Kind};
 
@@ -35,6 +37,7 @@ pub fn write_facts<W: Target>(
         Facts::Due(rows) => write_due(format, request, rows.as_slice(), target),
         Facts::Days(sums) => write_days(format, request, sums.as_slice(), target),
         Facts::Agenda(rows) => write_rows(format, request, rows.as_slice(), target),
+        Facts::Unapplied(rows) => write_unapplied(format, request, rows.as_slice(), target),
         Facts::Kept(rows) => write_kept_rows(format, request, rows, target),
     }
 }
@@ -57,6 +60,7 @@ fn write_status<W: Target>(
             | Question::ScheduleB { .. }
             | Question::Agenda { .. }
             | Question::Owed { .. }
+            | Question::Unapplied { .. }
             | Question::Kept(_),
         )
         | None => write_all(target, b""),
@@ -95,6 +99,7 @@ fn write_due<W: Target>(
             | Question::ScheduleB { .. }
             | Question::Agenda { .. }
             | Question::Owed { .. }
+            | Question::Unapplied { .. }
             | Question::Kept(_),
         )
         | None => write_all(target, b""),
@@ -126,6 +131,7 @@ fn write_days<W: Target>(
             | Question::DueList { .. }
             | Question::Agenda { .. }
             | Question::Owed { .. }
+            | Question::Unapplied { .. }
             | Question::Kept(_),
         )
         | None => write_all(target, b""),
@@ -154,6 +160,34 @@ fn write_rows<W: Target>(
             | Question::Explain { .. }
             | Question::DueList { .. }
             | Question::ScheduleB { .. }
+            | Question::Unapplied { .. }
+            | Question::Kept(_),
+        )
+        | None => write_all(target, b""),
+    }
+}
+
+/// Writes money that counts for nothing, as it was asked for, in a format.
+fn write_unapplied<W: Target>(
+    format: Format,
+    request: &Request,
+    rows: &[UnappliedRow],
+    target: &mut W,
+) -> Result<(), WriteFault>
+    ensures { Writes result (W.taken target.old) (W.taken target.new)
+        (W.failed target.new) (unapplied_told format (question_of request.now) rows.now) }
+{
+    match request.question() {
+        Some(Question::Unapplied { until }) => {
+            write_unapplied_as(format.of_list(), *until, rows, target)
+        }
+        Some(
+            Question::Status { .. }
+            | Question::Explain { .. }
+            | Question::DueList { .. }
+            | Question::ScheduleB { .. }
+            | Question::Agenda { .. }
+            | Question::Owed { .. }
             | Question::Kept(_),
         )
         | None => write_all(target, b""),
@@ -178,7 +212,8 @@ fn write_kept_rows<W: Target>(
             | Question::DueList { .. }
             | Question::ScheduleB { .. }
             | Question::Agenda { .. }
-            | Question::Owed { .. },
+            | Question::Owed { .. }
+            | Question::Unapplied { .. },
         )
         | None => write_all(target, b""),
     }
@@ -204,6 +239,7 @@ fn write_why<W: Target>(
             | Question::ScheduleB { .. }
             | Question::Agenda { .. }
             | Question::Owed { .. }
+            | Question::Unapplied { .. }
             | Question::Kept(_),
         )
         | None => write_all(target, b""),
@@ -230,7 +266,8 @@ pub fn years_asked(question: &Question) -> &'static [u8]
         | Question::DueList { .. }
         | Question::ScheduleB { .. }
         | Question::Agenda { .. }
-        | Question::Owed { .. } => b"hint: the years of paydays are 2001 to 2098\n",
+        | Question::Owed { .. }
+        | Question::Unapplied { .. } => b"hint: the years of paydays are 2001 to 2098\n",
     }
 }
 
@@ -243,6 +280,7 @@ pub fn days_asked(question: &Question) -> &'static [u8]
         Question::Agenda { .. } | Question::Owed { .. } => {
             b"hint: an agenda is of days of 2001 to 2099\n"
         }
+        Question::Unapplied { .. } => b"hint: UNTIL must be in 2001 to 2099\n",
         Question::Status { .. }
         | Question::Explain { .. }
         | Question::ScheduleB { .. }

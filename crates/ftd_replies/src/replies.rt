@@ -36,7 +36,7 @@ pub fn write_reply<W: Target>(
     }
 }
 
-/// Writes which obligations went and came.
+/// Writes how many obligations were removed and added, and the days that they cover.
 fn write_posted<W: Target>(
     from: Day,
     to: Day,

@@ -13,7 +13,8 @@ use Rattle.ftd_routes.specs.Paths.{◌>>=◌, part, account_in}
 use Rattle.ftd_routes.specs.Values.{path_number}
 use Rattle.ftd_routes.specs.declared.queries.Query.{Query}
 use Rattle.ftd_routes.specs.declared.queries.Query.TheVariants.{Status, Explain, DueList, ScheduleB}
-use Rattle.ftd_routes.specs.declared.queries.Query.TheVariants.{Agenda, Owed, ListAccounts}
+use Rattle.ftd_routes.specs.declared.queries.Query.TheVariants.{Agenda, Owed, Unapplied}
+use Rattle.ftd_routes.specs.declared.queries.Query.TheVariants.{ListAccounts}
 use Rattle.ftd_routes.specs.declared.queries.Query.TheVariants.{ListYears, ListReported}
 use Rattle.ftd_routes.specs.declared.queries.Query.TheVariants.{ListHolidays, ListRuns}
 use Rattle.ftd_routes.specs.declared.queries.Query.TheVariants.{ListPayments}
@@ -40,6 +41,9 @@ query_table =
     ∷ (codes "/owed/{asof}/{until}/csv", ask.Query (Owed (format.List list.Csv)))
     ∷ (codes "/owed/{asof}/{until}/json", ask.Query (Owed (format.List list.Json)))
     ∷ (codes "/owed/{asof}/{until}/ics", ask.Query (Owed format.Calendar))
+    ∷ (codes "/unapplied/{until}", ask.Query (Unapplied list.Text))
+    ∷ (codes "/unapplied/{until}/csv", ask.Query (Unapplied list.Csv))
+    ∷ (codes "/unapplied/{until}/json", ask.Query (Unapplied list.Json))
     ∷ (codes "/lists/accounts", ask.Query (ListAccounts list.Text))
     ∷ (codes "/lists/accounts/csv", ask.Query (ListAccounts list.Csv))
     ∷ (codes "/lists/accounts/json", ask.Query (ListAccounts list.Json))
@@ -71,6 +75,7 @@ query_format (DueList asked) = format.List asked
 query_format (ScheduleB asked) = format.List asked
 query_format (Agenda asked) = asked
 query_format (Owed asked) = asked
+query_format (Unapplied asked) = format.List asked
 query_format (ListAccounts asked) = format.List asked
 query_format (ListYears asked) = format.List asked
 query_format (ListReported asked) = format.List asked
@@ -112,6 +117,11 @@ owed_in target = do
   until ← day_of (part 3 target)
   Some (request.Question (question.Owed until as_of))
 
+unfoldable pub unapplied_in : List ℕ → Option Request
+unapplied_in target = do
+  until ← day_of (part 2 target)
+  Some (request.Question (question.Unapplied until))
+
 -- the account of a path that lists what is kept: its third part
 abbrev pub listed_account : List ℕ → List ℕ
 listed_account target = part 3 target
@@ -139,6 +149,7 @@ question_in (DueList format) target = due_list_in target
 question_in (ScheduleB format) target = schedule_b_in target
 question_in (Agenda format) target = agenda_in target
 question_in (Owed format) target = owed_in target
+question_in (Unapplied format) target = unapplied_in target
 question_in (ListAccounts format) target = Some (kept_asked kept.Accounts)
 question_in (ListYears format) target =
     Some (kept_asked (kept.Years (listed_account target)))

@@ -5,7 +5,7 @@ ghost use Rattle.ftd_machine.specs.declared.requests.Kept.TheVariants as kept;
 ghost use Rattle.ftd_routes.specs.Queries.{query_format, question_in, status_in, explain_in};
 ghost use Rattle.ftd_routes.specs.Queries.{due_list_in, schedule_b_in, agenda_in, owed_in};
 ghost use Rattle.ftd_routes.specs.Queries.{listed_account, holidays_in, runs_in};
-ghost use Rattle.ftd_routes.specs.Queries.{payments_in};
+ghost use Rattle.ftd_routes.specs.Queries.{payments_in, unapplied_in};
 ghost use Rattle.ftd_machine.specs.Questions.{kept_asked};
 
 use crate::path::part;
@@ -31,6 +31,8 @@ pub enum Query {
     Agenda(Format),
     /// What is due until a day and not paid, in this format.
     Owed(Format),
+    /// Money that counts for nothing, of the days up to one, in this format.
+    Unapplied(ListFormat),
     /// The accounts, in this format.
     ListAccounts(ListFormat),
     /// The open years of an account, in this format.
@@ -46,7 +48,7 @@ pub enum Query {
 }
 
 /// The routes that ask a question, and what they ask.
-pub const QUERIES: [(&str, Ask); 35] = [
+pub const QUERIES: [(&str, Ask); 38] = [
     (
         "/accounts/{account}/status/{day}",
         Ask::Query(Query::Status),
@@ -114,6 +116,18 @@ pub const QUERIES: [(&str, Ask); 35] = [
     (
         "/owed/{asof}/{until}/ics",
         Ask::Query(Query::Owed(Format::Calendar)),
+    ),
+    (
+        "/unapplied/{until}",
+        Ask::Query(Query::Unapplied(ListFormat::Text)),
+    ),
+    (
+        "/unapplied/{until}/csv",
+        Ask::Query(Query::Unapplied(ListFormat::Csv)),
+    ),
+    (
+        "/unapplied/{until}/json",
+        Ask::Query(Query::Unapplied(ListFormat::Json)),
     ),
     (
         "/lists/accounts",
@@ -199,6 +213,7 @@ pub fn query_format(query: Query) -> Format
         Query::Explain(format)
         | Query::DueList(format)
         | Query::ScheduleB(format)
+        | Query::Unapplied(format)
         | Query::ListAccounts(format)
         | Query::ListYears(format)
         | Query::ListReported(format)
@@ -223,6 +238,7 @@ pub fn make_question(
         Query::ScheduleB(_) => schedule_b(alloc, target),
         Query::Agenda(_) => Ok(agenda(target)),
         Query::Owed(_) => Ok(owed(target)),
+        Query::Unapplied(_) => Ok(unapplied(target)),
         Query::ListAccounts(_) => Ok(Some(Request::Question(Question::Kept(Kept::Accounts)))),
         Query::ListYears(_) => years(alloc, target),
         Query::ListReported(_) => reported(alloc, target),
@@ -306,6 +322,15 @@ fn owed(target: &str) -> Option<Request>
     let as_of = Day::read(part(target, 2).as_bytes())?;
     let until = Day::read(part(target, 3).as_bytes())?;
     Some(Request::Question(Question::Owed { until, as_of }))
+}
+
+/// Money that counts for nothing, of the days up to one.
+#[tactic(auto, unfolding(crate::specs::Queries::unapplied_in))]
+fn unapplied(target: &str) -> Option<Request>
+    ensures { result ≡ unapplied_in target.now }
+{
+    let until = Day::read(part(target, 2).as_bytes())?;
+    Some(Request::Question(Question::Unapplied { until }))
 }
 
 /// The open years of an account.

@@ -1,10 +1,10 @@
 -- What the values of a subcommand ask.
-use Rattle.std.specs.Prelude.{ℕ, ◌≡◌, ◌+◌, ◌||◌, min, nat_lt, Bool, List, Result, Ok, Err, ⊤}
+use Rattle.std.specs.Prelude.{ℕ, ◌≡◌, ◌+◌, ◌-◌, ◌||◌, min, nat_lt, Bool, List, Result, Ok, Err, ⊤}
 use Rattle.std.specs.Prelude.{if◌then◌else◌}
 use Rattle.clap.specs.Words.{Row, Text}
 use Rattle.ftd_csv.specs.declared.sheets.Sheet.{Sheet}
 use Rattle.ftd_csv.specs.declared.sheets.Sheet.TheVariants as sheets
-use Rattle.ftd_days.specs.Calendar.{last_day}
+use Rattle.ftd_days.specs.Calendar.{last_day, year_start}
 use Rattle.ftd_machine.specs.declared.requests.Kept.TheVariants as kept
 use Rattle.ftd_machine.specs.declared.requests.Question.TheVariants as question
 use Rattle.ftd_machine.specs.declared.requests.Request.{Request}
@@ -179,6 +179,16 @@ owed_of rows =
     then_with (day_or (week_after as_of) word.Until rows) (λ until.
     Ok (request.Question (question.Owed until as_of))))
 
+-- `unapplied` asks of all days where it is told none: those up to 2099-12-31, the last that it may be
+-- asked of
+abbrev pub last_asked : ℕ
+last_asked = year_start 2100 - 1
+
+unfoldable pub unapplied_of : List Row → Result Request WordFault
+unapplied_of rows =
+    then_with (day_or last_asked word.LastDay rows) (λ until.
+    Ok (request.Question (question.Unapplied until)))
+
 unfoldable pub schedule_b_of : List Row → Result Request WordFault
 schedule_b_of rows =
     then_with (text_in word.Account rows) (λ account.
@@ -324,6 +334,7 @@ wanted_of name.Explain rows = then_with (explain_of rows) (explained rows)
 wanted_of name.Due rows = then_with (due_of rows) (listed rows)
 wanted_of name.Agenda rows = then_with (agenda_of rows) (formatted rows)
 wanted_of name.Owed rows = then_with (owed_of rows) (formatted rows)
+wanted_of name.Unapplied rows = then_with (unapplied_of rows) (listed rows)
 wanted_of name.ScheduleB rows = then_with (schedule_b_of rows) (listed rows)
 wanted_of name.Accounts rows = listed rows (kept_asked kept.Accounts)
 wanted_of name.Years rows = then_with (years_of rows) (listed rows)

@@ -8,8 +8,8 @@ ghost use Rattle.ftd_words.specs.Asking.{asked, asked_as, asked_next, calendar_o
 ghost use Rattle.ftd_words.specs.Asking.{change_holiday_of, correct_account_of, correct_report_of};
 ghost use Rattle.ftd_words.specs.Asking.{correct_report_year_of, due_of, enrol_of};
 ghost use Rattle.ftd_words.specs.Asking.{explain_of, explained, formatted, holidays_of, import_of};
-ghost use Rattle.ftd_words.specs.Asking.{listed, numbered, open_year_of, owed_of, pay_of};
-ghost use Rattle.ftd_words.specs.Asking.{payments_of};
+ghost use Rattle.ftd_words.specs.Asking.{last_asked, listed, numbered, open_year_of, owed_of};
+ghost use Rattle.ftd_words.specs.Asking.{pay_of, payments_of, unapplied_of};
 ghost use Rattle.ftd_words.specs.Asking.{plain_of, post_of, report_of, report_year_of, reported_of};
 ghost use Rattle.ftd_words.specs.Asking.{runs_of, schedule_b_of, serve_of, status_of, void_of};
 ghost use Rattle.ftd_words.specs.Asking.{void_pay_of, wanted_of, week_after, year_in, years_of};
@@ -308,6 +308,22 @@ fn owed(inner: &ArgMatches<'_>) -> Result<Request, WordFault>
     Ok(Request::Question(Question::Owed { until, as_of }))
 }
 
+/// The last day that `unapplied` may ask of, 31 December 2099.
+pub fn last_asked() -> Day
+    ensures { result ≡ last_asked }
+{
+    Day::last_of_month(2399)
+}
+
+/// What `unapplied` asks.
+#[tactic(auto, unfolding(crate::specs::Asking::unapplied_of))]
+fn unapplied(inner: &ArgMatches<'_>) -> Result<Request, WordFault>
+    ensures { Tells result (unapplied_of (rows_of (found_of inner.now))) }
+{
+    let until = day_or(last_asked(), inner, Word::LastDay)?;
+    Ok(Request::Question(Question::Unapplied { until }))
+}
+
 /// What `schedule-b` asks.
 #[tactic(auto, unfolding(crate::specs::Asking::schedule_b_of))]
 fn schedule_b(alloc: Global, inner: &ArgMatches<'_>) -> Result<Request, WordFault>
@@ -555,6 +571,7 @@ pub fn task_for(alloc: Global, name: Name, inner: &ArgMatches<'_>) -> Result<Tas
         Name::Due => listed(alloc, inner, due(alloc, inner)?),
         Name::Agenda => formatted(alloc, inner, agenda(inner)?),
         Name::Owed => formatted(alloc, inner, owed(inner)?),
+        Name::Unapplied => listed(alloc, inner, unapplied(inner)?),
         Name::ScheduleB => listed(alloc, inner, schedule_b(alloc, inner)?),
         Name::Accounts => listed(alloc, inner, accounts()),
         Name::Years => listed(alloc, inner, years(alloc, inner)?),

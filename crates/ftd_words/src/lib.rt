@@ -10,6 +10,7 @@ mod parse;
 mod reading;
 mod tasks;
 
+pub use crate::asking::last_asked;
 pub use crate::deciding::decide;
 pub use crate::escape::{escaped, escaped_word};
 pub use crate::reading::GREATEST_NUMBER;
