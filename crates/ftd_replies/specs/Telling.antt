@@ -33,6 +33,7 @@ asked_text word.AsOf = day_form
 asked_text word.From = day_form
 asked_text word.To = day_form
 asked_text word.Until = day_form
+asked_text word.LastDay = day_form
 asked_text word.Holidays = day_form
 asked_text word.Quarter = codes "a quarter from 1900Q1 to 2199Q4; write it like 2024Q2"
 asked_text word.Amount = amount_form

@@ -50,7 +50,7 @@ fn asked_bytes(word: Word) -> &'static [u8]
     match word {
         Word::Start | Word::Payday | Word::Paid | Word::For => DAY_FORM,
         Word::Day | Word::Days | Word::AsOf | Word::Holidays => DAY_FORM,
-        Word::From | Word::To | Word::Until => DAY_FORM,
+        Word::From | Word::To | Word::Until | Word::LastDay => DAY_FORM,
         Word::Quarter => b"a quarter from 1900Q1 to 2199Q4; write it like 2024Q2",
         Word::Amount | Word::Fit | Word::Ss | Word::Medicare => {
             b"an amount up to 999999999.99; write it like 1234.56"

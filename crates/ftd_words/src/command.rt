@@ -12,9 +12,8 @@ use std::alloc::{AllocError, Global};
 
 /// What the desk is for, and how its commands are told. The whole help has 44 lines.
 const ABOUT: &str = "\
-The federal tax deposit desk: what withheld federal tax must be deposited, for
-which period and by which day (IRS Publication 15, section 11). Commands are in
-the order in which you need them; ftd COMMAND --help has an example.";
+What withheld federal tax must be deposited, for which period and by which day
+(IRS Publication 15, section 11). ftd COMMAND --help has an example.";
 
 /// An argument that takes a whole number of seconds, at least so many and at most 3,600; so many if
 /// it is not there.
