@@ -2,10 +2,11 @@
 """Random requests to the desk beside a plain reading of the rules, which computes everything anew.
 
 It makes seeded lists of requests (several accounts on both forms, late pay runs, voids, openings, added holidays, corrections of all
-kinds, nonsense), asks `ftd serve` over a new file, and compares each answer and, at the end, each row of each table, which Python's
-sqlite3 reads from the file. Then it asks with commands what is due over all accounts and what is kept, compares each text, and looks that
-each command left every row of every table; and it corrects with commands that give no number, and compares what they print and the rows
-that they leave. `bench/desk.py [PROGRAM [COUNT SEED..]]` takes the program, how many requests a list has, and the seeds.
+kinds, nonsense), asks `ftd serve` over a new file, then asks it a thousand times what is due, what is owed and what counts for nothing
+over all accounts, and compares each answer and, at the end, each row of each table, which Python's sqlite3 reads from the file. Then it
+asks with commands what is due over all accounts and what is kept, compares each text, and looks that each command left every row of
+every table; and it corrects with commands that give no number, and compares what they print and the rows that they leave.
+`bench/desk.py [PROGRAM [COUNT SEED..]]` takes the program, how many requests a list has, and the seeds.
 """
 import contextlib
 import datetime
@@ -762,7 +763,9 @@ class Desk:
 
 # ---- random requests
 
-# So many questions of a seed are asked with a command, on the file that the server left, and so much is corrected then.
+# So many questions over all accounts are asked of the server at the end; so many questions of a seed are asked with a command, on the file
+# that the server left, and so much is corrected then.
+ASKED = 1_000
 QUESTIONS = 16
 CORRECTIONS = 8
 PAYMENTS = 8
@@ -962,6 +965,9 @@ def compare(program, file, seed, count):
     right = [desk.ask(line) for line in lines]
     for _ in range(count):
         lines.append(one(rng, desk, posted, paid))
+        right.append(desk.ask(lines[-1]))
+    for _ in range(ASKED):
+        lines.append(rng.choice([agenda, owed, unapplied])(rng))
         right.append(desk.ask(lines[-1]))
     office = Office(program, file, len(lines))
     answers = office.ask(lines)
