@@ -22,6 +22,9 @@ from office import Office, program_of
 
 DAY = datetime.timedelta(1)
 
+# The answer to a change of an account's liability, as the reading gives it.
+CHANGED = re.compile(r"^(\S+)\.\.(\S+) -(\d+) \+(\d+)$")
+
 
 def date(text):
     return datetime.date.fromisoformat(text)
@@ -296,10 +299,18 @@ class Desk:
         if year not in self.open.get(name, ()):
             refuse(18, "YearNotOpen", year)
 
+    def owing(self, name):
+        """The obligations, and the opening and the turn of each open year."""
+        lines = self.lines(name, self.liability(name)) if name in self.accounts else {}
+        return self.obligations(name), {year: line[2:] for year, line in lines.items()}
+
     def posted(self, name, day, before):
         """How the obligations differ from those before, or the day where none does."""
-        after = self.obligations(name)
+        before, schedules = before
+        after, now = self.owing(name)
         gone, come = set(before) - set(after), set(after) - set(before)
+        self.added_last = sorted(come)
+        self.years_last = [(year, *now[year]) for year in sorted(now) if now[year] != schedules.get(year)]
         days = gone | come
         first = min((row[0] for row in days), default=day)
         last = max((row[1] for row in days), default=day)
@@ -380,7 +391,7 @@ class Desk:
             refuse(23, "WrongForm")
         if (name, key) not in (self.years_reported if yearly else self.reported):
             refuse(*((25, "YearMissing", key) if yearly else (17, "QuarterMissing", name_of(key))))
-        before, kept = self.obligations(name), self.corrected.get((name, key), [])
+        before, kept = self.owing(name), self.corrected.get((name, key), [])
         if self.is_corrected(kept, number, cents):
             return "already"
         self.corrected[name, key] = self.with_next(kept, number, cents)
@@ -476,7 +487,7 @@ class Desk:
         if payday < start:
             refuse(15, "BeforeStart")
         self.opened(name, payday.year)
-        before = self.obligations(name)
+        before = self.owing(name)
         self.runs[name, number] = {"payday": payday, "amounts": amounts, "voided": False}
         return self.posted(name, payday, before)
 
@@ -495,7 +506,7 @@ class Desk:
         run = self.standing(name, number, self.runs, 13, "UnknownRun")
         if not run:
             return "already"
-        before = self.obligations(name)
+        before = self.owing(name)
         run["voided"] = True
         return self.posted(name, run["payday"], before)
 
@@ -654,9 +665,22 @@ class Desk:
                 return f"note: counts for {first} to {last}, {rest}"
         return "note: counts for no obligation"
 
+    def notes_of_change(self):
+        """What is said below a change of an account's liability: the obligations that were added, at most 20, how many more, and the years that
+        open otherwise or turn on another day."""
+        rows, more = self.added_last[:20], self.added_last[20:]
+        notes = [f"note: added {first} to {last}, {rule}, {money(cents)}, due {due}" for first, last, rule, cents, due in rows]
+        notes += [f"note: and {len(more)} more"] * bool(more)
+        for year, semiweekly, turn in self.years_last:
+            monthly = f"semiweekly after {turn}, when 100000.00 was reached" if turn else "monthly"
+            notes.append(f"note: {year} is {'semiweekly from its first day' if semiweekly else monthly}")
+        return notes
+
     def said_below(self, line, answer):
         """What is said below the answer to a command, but for what is due or kept."""
         verb, *words = line.split(" ")
+        if CHANGED.match(answer):
+            return self.notes_of_change()
         if verb == "pay" and answer == "done":
             return [self.note_of_payment(words[0], date(words[3]))]
         rows = len(self.unapplied(date("2099-12-31"))) if verb == "owed" and answer.startswith("OWED") else 0
@@ -769,6 +793,7 @@ ASKED = 1_000
 QUESTIONS = 16
 CORRECTIONS = 8
 PAYMENTS = 8
+CHANGES = 8
 NAMES = ["ash", "birch", "cedar", "elm", "fir", "oak", "pine", "rye", "nobody", "Bad"]
 YEARS = range(2022, 2028)
 
@@ -870,6 +895,15 @@ def payment(rng, owed):
     return f"{due + rng.choice([-9, -1, 0, 0, 0, 1, 20]) * DAY} {rng.choice([first, last])} {money(needed)}"
 
 
+def change(rng, posted):
+    """A pay run that is posted or voided."""
+    name = rng.choice(NAMES[:8])
+    if posted.get(name) and rng.random() < 0.3:
+        return f"void {name} {rng.choice(posted[name])}"
+    posted.setdefault(name, []).append(len(posted.get(name, [])) + 1)
+    return f"post {name} {len(posted[name])} {some_day(rng)} {amount(rng)} {amount(rng)} {amount(rng)}"
+
+
 def one(rng, desk, posted, paid):
     name = rng.choice(NAMES[:8] * 6 + NAMES)
     kind = rng.random()
@@ -936,25 +970,34 @@ def command_answer(program, file, line, below=()):
     verb, *words = line.removesuffix(" csv").split(" ")
     words += ["--format", "csv"] if line.endswith(" csv") else []
     ran = subprocess.run([program, verb, "--db", file, *words], capture_output=True, text=True, timeout=60)
-    said = [it.replace(file, "FILE") for it in ran.stderr.split("\n") if it.startswith(("note: counts", "hint: money"))]
-    compare_answer("below", line, "\n".join(said), "\n".join(below))
+    compare_answer("below", line, said_on(ran, file), "\n".join(below))
     return ran.stdout if ran.returncode == 0 else ran.stderr.split("\n")[0]
 
 
-def correction_answer(program, file, verb, words, content):
+def said_on(ran, file):
+    """What a command says below its answer."""
+    return "\n".join(it.replace(file, "FILE") for it in ran.stderr.split("\n") if it.startswith(("note: ", "hint: money")))
+
+
+def correction_answer(program, file, verb, words, content, below):
     """What the command of a correction without a number prints, as `command_answer` does."""
     verb, words = ("correct-report-year", words.replace(" year ", " ")) if " year " in words else (verb, words)
     content = content.replace("carried", "--carried")
     ran = subprocess.run([program, verb, "--db", file, *words.split(" "), *content.split(" ")], capture_output=True, text=True, timeout=60)
+    compare_answer("below", f"{verb} {words} {content}", said_on(ran, file), "\n".join(below))
     return ran.stdout if ran.returncode == 0 else ran.stderr.split("\n")[0]
+
+
+def changed(answer):
+    """The answer, as a command prints it."""
+    return CHANGED.sub(r"posted \1 \2 removed \3 added \4", answer)
 
 
 def printed(number, answer):
     """What is printed of the answer to a correction under this number."""
     if answer.startswith("refused"):
         return answer
-    told = re.sub(r"^(\S+)\.\.(\S+) -(\d+) \+(\d+)$", r"posted \1 \2 removed \3 added \4", answer)
-    return f"number {number}\n{told}\n"
+    return f"number {number}\n{changed(answer)}\n"
 
 
 def compare(program, file, seed, count):
@@ -988,13 +1031,21 @@ def compare(program, file, seed, count):
         below = desk.said_below(line, right)
         compare_answer(f"seed {seed}, command", line, command_answer(program, file, line, below).strip(), right)
     compare_tables(file, desk, f"seed {seed}, after its payments")
+    for _ in range(CHANGES):
+        line = change(rng, posted)
+        right = desk.ask(line)
+        below = desk.said_below(line, right)
+        compare_answer(f"seed {seed}, command", line, command_answer(program, file, line, below).strip(), changed(right))
+    compare_tables(file, desk, f"seed {seed}, after its pay runs")
     for _ in range(CORRECTIONS):
         verb, words, before, content = correction(rng, desk)
         line = f"{verb} {words} {before + 1} {content}"
-        right = printed(before + 1, desk.ask(line))
-        compare_answer(f"seed {seed}, command", line, correction_answer(program, file, verb, words, content), right)
+        right = desk.ask(line)
+        below = desk.said_below(line, right)
+        right = printed(before + 1, right)
+        compare_answer(f"seed {seed}, command", line, correction_answer(program, file, verb, words, content, below), right)
         compare_tables(file, desk, f"seed {seed}, after ftd {line}")
-    return len(lines) + len(questions) + PAYMENTS + CORRECTIONS
+    return len(lines) + len(questions) + PAYMENTS + CHANGES + CORRECTIONS
 
 
 def main():

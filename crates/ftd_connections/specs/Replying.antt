@@ -1,10 +1,11 @@
 -- The response to what is asked.
-use Rattle.std.specs.Prelude.{◌≡◌, ℕ, ◌++◌, List, codes, Ok, Err}
+use Rattle.std.specs.Prelude.{◌≡◌, ℕ, ◌++◌, List, codes, length, Ok, Err}
 use Rattle.std.specs.Fmt.{decimal}
 use Rattle.ftd_days.specs.Text.{day_text}
 use Rattle.ftd_messages.specs.declared.status.Status.TheVariants as status
 use Rattle.ftd_machine.specs.Questions.{question_of}
 use Rattle.ftd_machine.specs.declared.requests.Request.{Request}
+use Rattle.ftd_machine.specs.declared.replies.Difference.{Difference}
 use Rattle.ftd_machine.specs.declared.replies.Reply.{Reply}
 use Rattle.ftd_machine.specs.declared.replies.Reply.TheVariants as reply
 use Rattle.ftd_machine.specs.Checks.{Answer}
@@ -16,19 +17,19 @@ use Rattle.ftd_connections.specs.Refusals.{refused}
 use Rattle.ftd_routes.specs.declared.ask.Asked.{Asked}
 use Rattle.ftd_routes.specs.declared.ask.Asked.TheVariants as asked
 
--- the obligations that went and came, as JSON
-abbrev pub posted_text : ℕ → ℕ → ℕ → ℕ → List ℕ
-posted_text from to removed added =
-    codes "{\"added\":" ++ decimal added
-    ++ codes ",\"from\":\"" ++ day_text from ++ codes "\",\"removed\":" ++ decimal removed
-    ++ codes ",\"reply\":\"posted\",\"to\":\"" ++ day_text to ++ codes "\"}"
+-- how many obligations were removed and added, and their days, as JSON
+abbrev pub posted_text : Difference → List ℕ
+posted_text d =
+    codes "{\"added\":" ++ decimal (length d.added)
+    ++ codes ",\"from\":\"" ++ day_text d.from
+    ++ codes "\",\"removed\":" ++ decimal (length d.removed)
+    ++ codes ",\"reply\":\"posted\",\"to\":\"" ++ day_text d.to ++ codes "\"}"
 
 -- the response to a reply, in a format where it has several
 abbrev pub replied : Format → Request → Reply → Said
 replied format request reply.Done = json status.Okay (codes "{\"reply\":\"done\"}")
 replied format request reply.Already = json status.Okay (codes "{\"reply\":\"already\"}")
-replied format request (reply.Posted from to removed added) =
-    json status.Okay (posted_text from to removed added)
+replied format request (reply.Posted difference) = json status.Okay (posted_text difference)
 replied format request (reply.Told facts) = facts_said format (question_of request) facts
 
 abbrev pub answered : Format → Request → Answer → Said

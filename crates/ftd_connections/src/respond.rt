@@ -9,9 +9,8 @@ use crate::facts::facts_said;
 use crate::machine::Machine;
 use crate::refusals::refused;
 use crate::response::{Response, add_number, bare, json, other_method};
-use ftd_days::Day;
 use ftd_formats::Format;
-use ftd_machine::{Answer, Reply, Request};
+use ftd_machine::{Answer, Difference, Reply, Request};
 use ftd_messages::Status;
 use ftd_reports::day_bytes;
 use ftd_routes::Asked;
@@ -66,12 +65,7 @@ fn replied(
     match reply {
         Reply::Done => done(alloc, b"{\"reply\":\"done\"}"),
         Reply::Already => done(alloc, b"{\"reply\":\"already\"}"),
-        Reply::Posted {
-            from,
-            to,
-            removed,
-            added,
-        } => posted(alloc, *from, *to, *removed, *added),
+        Reply::Posted(difference) => posted(alloc, difference),
         Reply::Told(facts) => facts_said(alloc, format, request, facts),
     }
 }
@@ -83,39 +77,26 @@ fn done(alloc: Global, body: &[u8]) -> Result<Response, AllocError>
     Ok(json(Status::Okay, Vec::from_slice(alloc, body)?))
 }
 
-/// The response with the obligations that went and came.
-fn posted(
-    alloc: Global,
-    from: Day,
-    to: Day,
-    removed: u32,
-    added: u32,
-) -> Result<Response, AllocError>
+/// The response with how many obligations were removed and added.
+fn posted(alloc: Global, difference: &Difference) -> Result<Response, AllocError>
     ensures { IfOk result
-        (λ response. said_of response ≡ json Status.Okay (posted_text from to removed added)) }
+        (λ response. said_of response ≡ json Status.Okay (posted_text difference.now)) }
 {
-    let text = posted_text(alloc, from, to, removed, added)?;
-    Ok(json(Status::Okay, text))
+    Ok(json(Status::Okay, posted_text(alloc, difference)?))
 }
 
-/// The obligations that went and came as JSON.
-fn posted_text(
-    alloc: Global,
-    from: Day,
-    to: Day,
-    removed: u32,
-    added: u32,
-) -> Result<Vec<u8>, AllocError>
-    ensures { IfOk result (λ text. text.items ≡ posted_text from to removed added) }
+/// How many obligations were removed and added, and their days, as JSON.
+fn posted_text(alloc: Global, difference: &Difference) -> Result<Vec<u8>, AllocError>
+    ensures { IfOk result (λ text. text.items ≡ posted_text difference.now) }
 {
     let mut text = Vec::from_slice(alloc, b"{\"added\":")?;
-    add_number(&mut text, u64::from(added))?;
+    add_number(&mut text, difference.added.as_slice().len() as u64)?;
     text.extend_from_slice(b",\"from\":\"")?;
-    text.extend_from_slice(&day_bytes(from))?;
+    text.extend_from_slice(&day_bytes(difference.from))?;
     text.extend_from_slice(b"\",\"removed\":")?;
-    add_number(&mut text, u64::from(removed))?;
+    add_number(&mut text, difference.removed.as_slice().len() as u64)?;
     text.extend_from_slice(b",\"reply\":\"posted\",\"to\":\"")?;
-    text.extend_from_slice(&day_bytes(to))?;
+    text.extend_from_slice(&day_bytes(difference.to))?;
     text.extend_from_slice(b"\"}")?;
     Ok(text)
 }

@@ -21,7 +21,7 @@ pub(crate) fn is_change(answer: &Answer) -> bool
     ensures { result ≡ is_change answer.now }
 {
     match answer {
-        Ok(Reply::Done | Reply::Posted { .. }) => true,
+        Ok(Reply::Done | Reply::Posted(_)) => true,
         Ok(Reply::Already | Reply::Told(_)) | Err(_) => false,
     }
 }

@@ -71,14 +71,14 @@ answer_in (skipped number field) = None
 abbrev pub is_posted : Answer → Bool
 is_posted (Ok reply.Done) = true
 is_posted (Ok reply.Already) = false
-is_posted (Ok (reply.Posted from to removed added)) = true
+is_posted (Ok (reply.Posted difference)) = true
 is_posted (Ok (reply.Told facts)) = false
 is_posted (Err refused) = false
 
 abbrev pub is_already : Answer → Bool
 is_already (Ok reply.Done) = false
 is_already (Ok reply.Already) = true
-is_already (Ok (reply.Posted from to removed added)) = false
+is_already (Ok (reply.Posted difference)) = false
 is_already (Ok (reply.Told facts)) = false
 is_already (Err refused) = false
 

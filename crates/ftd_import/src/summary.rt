@@ -156,7 +156,7 @@ impl Summary {
         ensures grows { tally self.new ≤ tally self.old + 1 }
     {
         match answer {
-            Ok(Reply::Posted { .. } | Reply::Done) => self.posted += 1,
+            Ok(Reply::Posted(_) | Reply::Done) => self.posted += 1,
             Ok(Reply::Already) => self.already += 1,
             Ok(Reply::Told(_)) => {}
             Err(refusal) => {

@@ -42,17 +42,19 @@ use Rattle.ftd_rules.proofs.Stated.{due_stated, obligation_of, run_period, stops
 use Rattle.ftd_rules.proofs.Walk.{share_before, share_after}
 use Rattle.ftd_rules.proofs.Examples.{share_most}
 use Rattle.ftd_machine.specs.State.{State, Entry, nothing, entries_of}
-use Rattle.ftd_machine.specs.History.{HasLookback, AreLinesOf, live_sums}
-use Rattle.ftd_machine.specs.Posting.{AreOnlyIn}
+use Rattle.ftd_machine.specs.History.{HasLookback, AreLinesOf, live_sums, year_of_line}
+use Rattle.ftd_machine.specs.Posting.{AreOnlyIn, IsOnOtherSchedule, AreOnOtherSchedules}
 use Rattle.ftd_machine.specs.Asking.{IsDueRow, IsLiableDay, IsReturnPaid, IsSmall}
 use Rattle.ftd_machine.specs.Runs.{IsRun}
 use Rattle.ftd_machine.specs.Step.{Step}
 use Rattle.ftd_machine.specs.declared.replies.Reason.TheVariants as reason
 use Rattle.ftd_machine.specs.declared.facts.Facts.TheVariants as facts
+use Rattle.ftd_machine.specs.declared.replies.Difference.{Difference}
 use Rattle.ftd_machine.specs.declared.replies.Reply.TheVariants as reply
 use Rattle.ftd_machine.specs.declared.requests.Question.TheVariants as question
 use Rattle.ftd_machine.specs.declared.requests.Request.TheVariants as request
 use Rattle.ftd_machine.proofs.DueSome.{row_one}
+use Rattle.ftd_machine.proofs.Those.{all_those, none_those}
 use Rattle.ftd_laws.proofs.PostedSome.{spans_one, tells_difference}
 
 -- ---- what is kept: `ash`, since 1 January 2024, not carried; the holidays 1 and 15 January and 19
@@ -285,32 +287,41 @@ january_owed = record {
 -- ---- what is answered
 
 only_it : AreOnlyIn (january ∷ []) [] (january ∷ [])
-only_it = record {
-  by_first_day = ((λ later has. absurd has), tt);
-  all = λ o. ((λ has. (has, (λ none. none))), (λ both. both.0));
-}
+only_it = all_those (λ (o : Obligation). o.first) (λ o. Has [] o → ⊥) (january ∷ [])
+    ((λ later has. absurd has), tt) (λ o has none. none)
 
 none_of_it : AreOnlyIn [] (january ∷ []) []
-none_of_it = record {
-  by_first_day = tt;
-  all = λ o. ((λ has. absurd has), (λ both. both.0));
-}
+none_of_it = none_those (λ (o : Obligation). o.first) (λ o. Has (january ∷ []) o → ⊥) []
+    (λ o has none. has)
+
+-- no year is on another schedule
+no_year : AreOnOtherSchedules years years []
+no_year = none_those year_of_line (IsOnOtherSchedule years) years
+    (λ line has other. other line has (refl, refl, refl))
 
 -- the year is opened
 year_opened : Step enrolled (request.OpenYear ash 2024) (Ok reply.Done) opened
 unfolding is_account_name month_of month_from month_start
 year_opened = inr (cents 0, lookback_of_nothing, (refl, refl))
 
--- the run is posted: one obligation came, of 1 to 31 January
+-- how the obligations differ where that of 1 to 31 January is added, and where it is removed
+abbrev january_added : Difference
+january_added = record { from = 45_290; to = 45_320; removed = []; added = january ∷ []; years = [] }
+
+abbrev january_removed : Difference
+january_removed = record { from = 45_290; to = 45_320; removed = january ∷ []; added = []; years = [] }
+
+-- the run is posted: one obligation is added, of 1 to 31 January
 run_posted : Step opened
     (request.Post ash 1 45_294 (cents 50_000) (cents 31_000) (cents 7_250))
-    (Ok (reply.Posted 45_290 45_320 0 1)) posted
+    (Ok (reply.Posted january_added)) posted
 unfolding january is_account_name month_of month_from month_start
 run_posted = (
   refl,
-  tells_difference closed_days (entries_of opened ash) (entries_of posted ash) 45_294 45_290 45_320
-      [] (january ∷ []) [] (january ∷ []) (years, lines_before, none_owed)
-      (years, lines_after, january_owed) none_of_it only_it (inl (spans_one january)),
+  tells_difference closed_days (entries_of opened ash) (entries_of posted ash) 45_294
+      january_added [] (january ∷ []) (years, lines_before, none_owed)
+      (years, lines_after, january_owed) none_of_it only_it (inl (spans_one january))
+      no_year,
 )
 
 -- on 5 January the account is monthly, by its lookback total
@@ -459,16 +470,18 @@ liability_told = (
   },
 )
 
--- the run is voided: the obligation went
-run_voided : Step posted (request.Void ash 1) (Ok (reply.Posted 45_290 45_320 1 0)) voided
+-- the run is voided: the obligation is removed
+run_voided : Step posted (request.Void ash 1)
+    (Ok (reply.Posted january_removed)) voided
 unfolding january is_account_name
 run_voided = (
   record { value = run; voided = false },
   refl,
   refl,
-  tells_difference closed_days (entries_of posted ash) (entries_of voided ash) 45_294 45_290 45_320
-      (january ∷ []) [] (january ∷ []) [] (years, lines_after, january_owed)
-      (years, lines_voided, none_owed) only_it none_of_it (inl (spans_one january)),
+  tells_difference closed_days (entries_of posted ash) (entries_of voided ash) 45_294
+      january_removed (january ∷ []) [] (years, lines_after, january_owed)
+      (years, lines_voided, none_owed) only_it none_of_it (inl (spans_one january))
+      no_year,
 )
 
 -- and all of it, one after the other
@@ -478,11 +491,11 @@ january_deposited : IsRun enrolled
     ∷ request.Question (question.Status ash 45_294)
     ∷ request.Question (question.DueList ash 496 45_340)
     ∷ request.Question (question.ScheduleB ash 496) ∷ request.Void ash 1 ∷ [])
-    (Ok reply.Done ∷ Ok (reply.Posted 45_290 45_320 0 1)
+    (Ok reply.Done ∷ Ok (reply.Posted january_added)
     ∷ Ok (reply.Told (facts.Status kind.Monthly reason.Lookback))
     ∷ Ok (reply.Told (facts.Due (january_row ∷ [])))
     ∷ Ok (reply.Told (facts.Days (on_5_january ∷ [])))
-    ∷ Ok (reply.Posted 45_290 45_320 1 0) ∷ []) voided
+    ∷ Ok (reply.Posted january_removed) ∷ []) voided
 january_deposited = (
   opened,
   inl year_opened,

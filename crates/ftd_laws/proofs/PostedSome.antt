@@ -1,20 +1,26 @@
 -- A pay run that is posted or voided, and a figure that is put right, has an answer, where the
 -- account has lines.
 use Rattle.std.proofs.Common.{◌≡◌, ◌⊎◌, inl, inr, refl, sym, ap, subst, ℕ, ◌≤◌}
-use Rattle.std.proofs.Common.{List, [], ◌∷◌, ◌++◌, length, arith, Ok, rules}
+use Rattle.std.proofs.Common.{List, [], ◌∷◌, ◌++◌, arith, Ok, Option, None, Some}
 use Rattle.std.proofs.lemmas.Bool.{cases_eq, cases_lt}
+use Rattle.ftd_rules.specs.declared.Kind.{Kind}
+use Rattle.ftd_rules.specs.declared.Kind.TheVariants as kind
 use Rattle.ftd_rules.specs.declared.Rule.{Rule}
 use Rattle.ftd_rules.specs.declared.Rule.TheVariants.{Monthly, Semiweekly, NextDay}
 use Rattle.ftd_rules.specs.declared.YearLine.{YearLine}
 use Rattle.ftd_rules.specs.declared.Obligation.{Obligation}
 use Rattle.ftd_rules.specs.Lists.{Has}
 use Rattle.ftd_rules.specs.Obligations.{ByFirstDay}
+use Rattle.ftd_rules.specs.Years.{AreOpenYears}
 use Rattle.ftd_machine.specs.State.{Entries}
-use Rattle.ftd_machine.specs.History.{AreLinesOf, AreOwed}
+use Rattle.ftd_machine.specs.History.{year_of_line, AreLinesOf, AreOwed}
 use Rattle.ftd_machine.specs.Checks.{Answer}
-use Rattle.ftd_machine.specs.Posting.{AreOnlyIn, Spans, IsPosted}
+use Rattle.ftd_machine.specs.Posting.{AreOnlyIn, Spans, IsScheduledAs, IsOnOtherSchedule}
+use Rattle.ftd_machine.specs.Posting.{AreOnOtherSchedules, IsPosted}
+use Rattle.ftd_machine.specs.declared.replies.Difference.{Difference}
 use Rattle.ftd_machine.specs.declared.replies.Reply.TheVariants.{Posted}
 use Rattle.ftd_machine.proofs.Lined.{owed_some}
+use Rattle.ftd_machine.proofs.Those.{lines_in_order, those_some}
 
 -- ---- rows that differ
 
@@ -57,46 +63,68 @@ has_or o (x ∷ xs) = elim (row_or o x) [
   ]
 ]
 
+apart_or : (others : List Obligation) (o : Obligation)
+    → (Has others o → ⊥) ⊎ ((Has others o → ⊥) → ⊥)
+apart_or others o = elim (has_or o others) [
+  | inl has ↦ inr (λ none. none has)
+  | inr none ↦ inl none
+]
+
 only_some : (rows others : List Obligation) → ByFirstDay rows
     → (only : List Obligation) × AreOnlyIn rows others only
-only_some [] others rise =
-    ([], record { by_first_day = tt; all = λ o. ((λ h. absurd h), (λ h. h.0)) })
-only_some (x ∷ rows) others rise =
-    let rest = only_some rows others rise.1 in
-    elim (has_or x others) [
-      | inl there ↦ (
-        rest.0,
-        record {
-          by_first_day = rest.1.by_first_day;
-          all = λ o. (
-            (λ h. (let k = (rest.1.all o).0 h in (inr k.0, k.1))),
-            (λ h. elim h.0 [
-              | inl is ↦ absurd (h.1 (subst (Has others) (sym is) there))
-              | inr has ↦ (rest.1.all o).1 (has, h.1)
-            ]),
-          );
-        },
-      )
-      | inr none ↦ (
-        x ∷ rest.0,
-        record {
-          by_first_day = (
-            (λ later has. rise.0 later ((rest.1.all later).0 has).0),
-            rest.1.by_first_day,
-          );
-          all = λ o. (
-            (λ h. elim h [
-              | inl is ↦ (inl is, (λ k. none (subst (Has others) is k)))
-              | inr has ↦ (let k = (rest.1.all o).0 has in (inr k.0, k.1))
-            ]),
-            (λ h. elim h.0 [
-              | inl is ↦ inl is
-              | inr has ↦ inr ((rest.1.all o).1 (has, h.1))
-            ]),
-          );
-        },
-      )
+only_some rows others =
+    those_some (λ (o : Obligation). o.first) (λ o. Has others o → ⊥) (apart_or others) rows
+
+-- ---- years that are on another schedule
+
+kind_or : (a b : Kind) → (a ≡ b) ⊎ (a ≡ b → ⊥)
+kind_or kind.Monthly kind.Monthly = inl refl
+kind_or kind.Monthly kind.Semiweekly = inr (λ e. absurd cc)
+kind_or kind.Semiweekly kind.Monthly = inr (λ e. absurd cc)
+kind_or kind.Semiweekly kind.Semiweekly = inl refl
+
+turn_or : (a b : Option ℕ) → (a ≡ b) ⊎ (a ≡ b → ⊥)
+turn_or None None = inl refl
+turn_or None (Some b) = inr (λ e. absurd cc)
+turn_or (Some a) None = inr (λ e. absurd cc)
+turn_or (Some a) (Some b) = elim (cases_eq a b) [
+  | inl same ↦ inl (ap Some same)
+  | inr apart ↦ inr (λ e. apart (let same : a ≡ b = cc in same))
+]
+
+scheduled_or : (a b : YearLine) → IsScheduledAs a b ⊎ (IsScheduledAs a b → ⊥)
+scheduled_or a b = elim (cases_eq a.year b.year) [
+  | inr apart ↦ inr (λ e. apart e.0)
+  | inl year ↦ elim (kind_or a.opening b.opening) [
+    | inr apart ↦ inr (λ e. apart e.1)
+    | inl opening ↦ elim (turn_or a.turn b.turn) [
+      | inr apart ↦ inr (λ e. apart e.2)
+      | inl turn ↦ inl (year, opening, turn)
     ]
+  ]
+]
+
+other_or : (before : List YearLine) (line : YearLine)
+    → IsOnOtherSchedule before line ⊎ (IsOnOtherSchedule before line → ⊥)
+other_or [] line = inl (λ old has same. has)
+other_or (x ∷ before) line = elim (scheduled_or x line) [
+  | inl same ↦ inr (λ other. other x (inl refl) same)
+  | inr apart ↦ elim (other_or before line) [
+    | inr fails ↦ inr (λ other. fails (λ old has. other old (inr has)))
+    | inl holds ↦ inl (λ old has same. elim has [
+      | inl is ↦ apart (subst (λ z. IsScheduledAs z line) is same)
+      | inr later ↦ holds old later same
+    ])
+  ]
+]
+
+years_some : (before after : List YearLine) → AreOpenYears after
+    → (years : List YearLine) × AreOnOtherSchedules before after years
+years_some before after years =
+    those_some year_of_line (IsOnOtherSchedule before) (other_or before) after
+    (lines_in_order years.0 after years.2)
+
+-- ---- the days of rows
 
 pub spans_one : (x : Obligation) → Spans (x ∷ []) x.first x.last
 spans_one x = record {
@@ -156,16 +184,26 @@ days_some : (rows : List Obligation) (payday : ℕ) → (from : ℕ) × (to : �
 days_some [] payday = (payday, payday, inr (refl, refl, refl))
 days_some (x ∷ rows) payday = let s = spans_some x rows in (s.0, s.1, inl s.2)
 
--- the answer that counts the obligations that went and came
-pub tells_difference : (holidays : List ℕ) (own after : Entries)
-    (payday from to : ℕ) (rows others gone come : List Obligation)
-    → AreOwed holidays own rows → AreOwed holidays after others
-    → AreOnlyIn rows others gone → AreOnlyIn others rows come
-    → Spans (gone ++ come) from to
-    ⊎ ((gone ++ come ≡ []) × (from ≡ payday) × (to ≡ payday))
-    → IsPosted holidays own after payday (Ok (Posted from to (length gone) (length come)))
-tells_difference holidays own after payday from to rows others gone come owed owed_after are_gone
-    are_come days = search rules
+-- the answer that tells the obligations that were removed and added, and the years
+pub tells_difference : (holidays : List ℕ) (own after : Entries) (payday : ℕ) (d : Difference)
+    (rows others : List Obligation)
+    (owed : AreOwed holidays own rows) (owed_after : AreOwed holidays after others)
+    → AreOnlyIn rows others d.removed → AreOnlyIn others rows d.added
+    → Spans (d.removed ++ d.added) d.from d.to
+    ⊎ ((d.removed ++ d.added ≡ []) × (d.from ≡ payday) × (d.to ≡ payday))
+    → AreOnOtherSchedules owed.0 owed_after.0 d.years
+    → IsPosted holidays own after payday (Ok (Posted d))
+tells_difference holidays own after payday d rows others owed owed_after are_removed are_added days
+    years = record {
+      rows = rows;
+      owed = owed;
+      rows_after = others;
+      owed_after = owed_after;
+      difference = d;
+      differ = record { are_removed = are_removed; are_added = are_added; days = days };
+      years = years;
+      told = refl;
+    }
 
 -- the answer that tells how the obligations differ exists, where there are lines before and after
 pub told_some : (holidays : List ℕ) (own after : Entries) (payday : ℕ)
@@ -175,9 +213,18 @@ pub told_some : (holidays : List ℕ) (own after : Entries) (payday : ℕ)
 told_some holidays own after payday lines others h h_after =
     let rows = owed_some holidays own lines h in
     let rows_after = owed_some holidays after others h_after in
-    let gone = only_some rows.0 rows_after.0 rows.1.2.by_first_day in
-    let come = only_some rows_after.0 rows.0 rows_after.1.2.by_first_day in
-    let days = days_some (gone.0 ++ come.0) payday in (
-      Ok (Posted days.0 days.1 (length gone.0) (length come.0)),
-      search rules,
+    let removed = only_some rows.0 rows_after.0 rows.1.2.by_first_day in
+    let added = only_some rows_after.0 rows.0 rows_after.1.2.by_first_day in
+    let days = days_some (removed.0 ++ added.0) payday in
+    let years = years_some rows.1.0 rows_after.1.0 rows_after.1.1.schedules.years in
+    let difference : Difference = record {
+      from = days.0;
+      to = days.1;
+      removed = removed.0;
+      added = added.0;
+      years = years.0;
+    } in (
+      Ok (Posted difference),
+      tells_difference holidays own after payday difference rows.0 rows_after.0 rows.1 rows_after.1
+          removed.1 added.1 days.2 years.1,
     )

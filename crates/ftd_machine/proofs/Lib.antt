@@ -33,3 +33,4 @@ pub mod Listed
 pub mod Entered
 pub mod InYear
 pub mod Refusing
+pub mod Those

@@ -1,6 +1,6 @@
 -- A state and a request have one answer.
 use Rattle.std.proofs.Common.{◌≡◌, ◌∙◌, ◌⊎◌, inl, inr, refl, sym, ap, subst, ℕ, Bool, true}
-use Rattle.std.proofs.Common.{false, List, [], ◌∷◌, ◌++◌, map, length, Some, Ok, arith}
+use Rattle.std.proofs.Common.{false, List, [], ◌∷◌, ◌++◌, map, Some, Ok, arith}
 use Rattle.std.proofs.lemmas.Bool.{true≢false}
 use Rattle.std.proofs.lemmas.Option.{same_Some}
 use Rattle.ftd_days.specs.declared.cents.Cents.{Cents}
@@ -19,18 +19,20 @@ use Rattle.ftd_rules.proofs.Figures.{together_one, together_all, year_one, year_
 use Rattle.ftd_rules.proofs.Stated.{lookback_together, rows_owed}
 use Rattle.ftd_rules.proofs.Lines.{lines_one}
 use Rattle.ftd_rules.proofs.Schedules.{line_one}
-use Rattle.ftd_rules.proofs.Only.{rows_one, obligations_one, members_one as same_members}
+use Rattle.ftd_rules.proofs.Only.{obligations_one, members_one as same_members}
 use Rattle.ftd_machine.specs.State.{Entry, Entries}
 use Rattle.ftd_machine.specs.History.{start_of, form_of, is_carried, live_sums, figures}
 use Rattle.ftd_machine.specs.History.{quarter_figures, year_figures, IsLookbackOn, HasLookback}
 use Rattle.ftd_machine.specs.History.{IsMissingOn, AreCarried, year_of_line, AreLinesOf, AreOwed}
 use Rattle.ftd_machine.specs.Checks.{Answer}
-use Rattle.ftd_machine.specs.Posting.{AreOnlyIn, Spans, Differ, IsPosted}
+use Rattle.ftd_machine.specs.Posting.{AreThose, Spans, Differ, IsOnOtherSchedule}
+use Rattle.ftd_machine.specs.Posting.{AreOnOtherSchedules, IsPosted}
 use Rattle.ftd_machine.specs.Asking.{IsTurnBefore, HasNoTurnBefore, IsReason, IsStatus, IsDueRow}
 use Rattle.ftd_machine.specs.Asking.{first_of_row, IsDueList, day_of_sum, IsScheduleB}
 use Rattle.ftd_machine.specs.declared.replies.Reason.{Reason}
 use Rattle.ftd_machine.specs.declared.replies.Reason.TheVariants as reason
 use Rattle.ftd_machine.specs.declared.facts.Facts.TheVariants.{Status, Due, Days}
+use Rattle.ftd_machine.specs.declared.replies.Difference.{Difference}
 use Rattle.ftd_machine.specs.declared.replies.Reply.TheVariants.{Told, Posted}
 use Rattle.ftd_machine.specs.declared.replies.Refusal.{Refusal}
 use Rattle.ftd_machine.specs.declared.replies.Refusal.TheVariants.{QuarterMissing, YearMissing}
@@ -125,11 +127,11 @@ owed_one holidays own rows others once g h =
 
 -- ---- what is posted
 
-only_one : (rows others xs ys : List Obligation) → AreOnlyIn rows others xs
-    → AreOnlyIn rows others ys → xs ≡ ys
-only_one rows others xs ys g h =
-    rows_one xs ys g.by_first_day h.by_first_day (λ o k. (h.all o).1 ((g.all o).0 k))
-    (λ o k. (g.all o).1 ((h.all o).0 k))
+those_one : {X : Type 0} (key : X → ℕ) (Holds : X → Type 0) (items xs ys : List X)
+    → AreThose key Holds items xs → AreThose key Holds items ys → xs ≡ ys
+those_one key Holds items xs ys g h =
+    members_one key xs ys g.in_order h.in_order (λ x k. (h.all x).1 ((g.all x).0 k))
+    (λ x k. (g.all x).1 ((h.all x).0 k))
 
 spans_one : (rows : List Obligation) (from to from' to' : ℕ) → Spans rows from to
     → Spans rows from' to' → (from ≡ from') × (to ≡ to')
@@ -156,26 +158,22 @@ days_one rows payday from to from' to' (inl g) (inr h) = absurd (spans_none rows
 days_one rows payday from to from' to' (inr g) (inl h) = absurd (spans_none rows from' to' g.0 h)
 days_one rows payday from to from' to' (inr g) (inr h) = (g.1 ∙ sym h.1, g.2 ∙ sym h.2)
 
-posted_as : (from to removed added from' to' removed' added' : ℕ) → from ≡ from' → to ≡ to'
-    → removed ≡ removed' → added ≡ added'
-    → Posted from to removed added ≡ Posted from' to' removed' added'
-posted_as from to removed added from' to' removed' added' a b c d = rw (a, b, c, d) refl
+difference_as : (d e : Difference) → d.from ≡ e.from → d.to ≡ e.to → d.removed ≡ e.removed
+    → d.added ≡ e.added → d.years ≡ e.years → d ≡ e
+difference_as d e from to removed added years = rw (from, to, removed, added, years) refl
 
-differ_one : (before after : List Obligation)
-    (payday from to removed added from' to' removed' added' : ℕ)
-    → Differ before after payday from to removed added
-    → Differ before after payday from' to' removed' added'
-    → Posted from to removed added ≡ Posted from' to' removed' added'
-differ_one before after payday from to removed added from' to' removed' added' g h =
-    let gone : g.gone ≡ h.gone = only_one before after g.gone h.gone g.are_gone h.are_gone in
-    let come : g.come ≡ h.come = only_one after before g.come h.come g.are_come h.are_come in
-    let both : h.gone ++ h.come ≡ g.gone ++ g.come = rw (gone, come) refl in
-    let days = days_one (g.gone ++ g.come) payday from to from' to' g.days
-    (subst (λ rows. Spans rows from' to' ⊎ ((rows ≡ []) × (from' ≡ payday) × (to' ≡ payday))) both
-    h.days) in
-    posted_as from to removed added from' to' removed' added' days.0 days.1
-    (g.removed_is ∙ ap length gone ∙ sym h.removed_is) (g.added_is ∙ ap length come
-    ∙ sym h.added_is)
+differ_one : (before after : List Obligation) (payday : ℕ) (d e : Difference)
+    → Differ before after payday d → Differ before after payday e → d.years ≡ e.years → d ≡ e
+differ_one before after payday d e g h years =
+    let gone = those_one (λ (o : Obligation). o.first) (λ o. Has after o → ⊥) before d.removed
+    e.removed g.are_removed h.are_removed in
+    let come = those_one (λ (o : Obligation). o.first) (λ o. Has before o → ⊥) after d.added e.added
+    g.are_added h.are_added in
+    let both : e.removed ++ e.added ≡ d.removed ++ d.added = rw (gone, come) refl in
+    let days = days_one (d.removed ++ d.added) payday d.from d.to e.from e.to g.days
+    (subst (λ rows. Spans rows e.from e.to
+    ⊎ ((rows ≡ []) × (e.from ≡ payday) × (e.to ≡ payday))) both h.days) in
+    difference_as d e days.0 days.1 gone come years
 
 pub posted_one : (holidays : List ℕ) (own after : Entries) (payday : ℕ) (a b : Answer) → IsOnce own
     → IsOnce after
@@ -184,12 +182,19 @@ posted_one holidays own after payday a b once once_after g h =
     let rows = owed_one holidays own g.rows h.rows once g.owed h.owed in
     let rows_after = owed_one holidays after g.rows_after h.rows_after once_after g.owed_after
     h.owed_after in
-    let there : Differ g.rows g.rows_after payday h.from h.to h.removed h.added =
-    subst (λ xs. Differ xs g.rows_after payday h.from h.to h.removed h.added) (sym rows)
-    (subst (λ xs. Differ h.rows xs payday h.from h.to h.removed h.added)
-    (sym rows_after) h.differ) in
-    g.told ∙ ap Ok (differ_one g.rows g.rows_after payday g.from g.to g.removed g.added h.from h.to
-    h.removed h.added g.differ there) ∙ sym h.told
+    let there : Differ g.rows g.rows_after payday h.difference =
+    subst (λ xs. Differ xs g.rows_after payday h.difference) (sym rows)
+    (subst (λ xs. Differ h.rows xs payday h.difference) (sym rows_after) h.differ) in
+    let lines = lines_of_one own h.owed.0 g.owed.0 once h.owed.1 g.owed.1 in
+    let lines_after = lines_of_one after h.owed_after.0 g.owed_after.0 once_after h.owed_after.1
+    g.owed_after.1 in
+    let others : AreOnOtherSchedules g.owed.0 g.owed_after.0 h.difference.years =
+    subst (λ ls. AreOnOtherSchedules ls g.owed_after.0 h.difference.years) lines
+    (subst (λ ls. AreOnOtherSchedules h.owed.0 ls h.difference.years) lines_after h.years) in
+    let years = those_one year_of_line (IsOnOtherSchedule g.owed.0) g.owed_after.0
+    g.difference.years h.difference.years g.years others in
+    g.told ∙ ap (λ d. Ok (Posted d)) (differ_one g.rows g.rows_after payday g.difference h.difference
+    g.differ there years) ∙ sym h.told
 
 -- ---- what is asked
 

@@ -18,7 +18,7 @@ use Rattle.ftd_machine.specs.declared.requests.Request.TheVariants.{Question}
 -- the request was done, or its run was posted or voided
 abbrev pub is_change : Answer → Bool
 is_change (Ok reply.Done) = true
-is_change (Ok (reply.Posted from to removed added)) = true
+is_change (Ok (reply.Posted difference)) = true
 is_change (Ok reply.Already) = false
 is_change (Ok (reply.Told facts)) = false
 is_change (Err refusal) = false
@@ -29,7 +29,7 @@ abbrev pub IsBounded : Reply → Type 0
 IsBounded (reply.Told facts) = AreBounded facts
 IsBounded reply.Done = ⊤
 IsBounded reply.Already = ⊤
-IsBounded (reply.Posted from to removed added) = ⊤
+IsBounded (reply.Posted difference) = ⊤
 
 -- the request names the account; a calendar and holidays name none
 abbrev pub Names : Request → List ℕ → Type 0

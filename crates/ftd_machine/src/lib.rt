@@ -38,5 +38,5 @@ pub use crate::limits::{MOST_ENTRIES, MOST_HOLIDAYS, are_rising, are_sums_bounde
 pub use crate::lists::{
     AccountName, AgendaRow, AgendaRows, DaySums, Days, DueRows, ListOf, UnappliedRow, UnappliedRows,
 };
-pub use crate::replies::{Named, Reason, Refusal, Reply, is_bounded};
+pub use crate::replies::{Difference, Named, Reason, Refusal, Reply, is_bounded};
 pub use crate::requests::{Kept, Question, Request};

@@ -5,6 +5,7 @@ ghost use Rattle.ftd_machine.specs.Laws.{IsBounded};
 
 use crate::facts::{Facts, are_bounded};
 use ftd_days::{Day, Quarter};
+use ftd_rules::{Obligations, YearLines};
 use thiserror::Error;
 
 /// Why an account has its deposit schedule on a day.
@@ -18,6 +19,23 @@ pub enum Reason {
     Carried,
 }
 
+/// How an account's obligations and its open years differ before and after a change.
+#[derive(Drop)]
+pub struct Difference {
+    /// The least first day of the obligations that were removed or added. If there are none, the
+    /// payday, or the first day of the quarter or the year whose total was corrected.
+    pub from: Day,
+    /// The greatest last day of these. If there are none, the same day.
+    pub to: Day,
+    /// The obligations that were removed, by first day.
+    pub removed: Obligations,
+    /// The obligations that were added, by first day.
+    pub added: Obligations,
+    /// The open years that open on another schedule than before, that turn on another day, or that
+    /// turn no more, by year, each as it is now.
+    pub years: YearLines,
+}
+
 /// What the desk answers where it does not refuse.
 #[derive(Drop)]
 pub enum Reply {
@@ -25,15 +43,9 @@ pub enum Reply {
     Done,
     /// What was asked for was done before.
     Already,
-    /// The obligations that went and those that came: the least first day and the greatest last day
-    /// among them, and how many there are of each. Where there are none, both days are the payday,
-    /// or the first day of the quarter or the year whose total was corrected.
-    Posted {
-        from: Day,
-        to: Day,
-        removed: u32,
-        added: u32,
-    },
+    /// How the account differs before and after a pay run that was posted or voided, or a total that
+    /// was corrected.
+    Posted(Difference),
     /// What was asked for.
     Told(Facts),
 }
@@ -45,7 +57,7 @@ pub fn is_bounded(reply: &Reply) -> bool
 {
     match reply {
         Reply::Told(facts) => are_bounded(facts),
-        Reply::Done | Reply::Already | Reply::Posted { .. } => true,
+        Reply::Done | Reply::Already | Reply::Posted(_) => true,
     }
 }
 

@@ -53,15 +53,13 @@ use Rattle.ftd_machine.proofs.Adding.{entry_own}
 use Rattle.ftd_machine.proofs.Deciding.{decided, passed}
 use Rattle.ftd_machine.proofs.Single.{lines_of_one, owed_one}
 use Rattle.ftd_machine.proofs.Soundness.{sound_once, step_sound}
-use Rattle.ftd_machine.specs.declared.replies.Reply.{Reply}
-use Rattle.ftd_machine.specs.declared.replies.Reply.TheVariants.{Posted}
 use Rattle.ftd_entries.specs.Standing.{StandsFor, IsSettled}
 use Rattle.ftd_entries.specs.Known.{KnowsAccount}
 use Rattle.ftd_entries.proofs.Lines.{lines_known}
 use Rattle.ftd_entries.proofs.Kept.{kept_run, counted_runs}
 use Rattle.ftd_entries.proofs.KnownYears.{open_lines}
 use Rattle.ftd_entries.proofs.YearHolidays.{holiday_read}
-use Rattle.ftd_repairs.specs.declared.Difference.{Difference}
+use Rattle.ftd_machine.specs.declared.replies.Difference.{Difference}
 use Rattle.ftd_repairs.specs.declared.ledgers.Ledger.{Ledger}
 use Rattle.ftd_repairs.specs.Repaired.{SumsAre, RepairsBy}
 use Rattle.ftd_repairs.specs.Replaced.{AreBetween, patched}
@@ -413,10 +411,9 @@ module _ {S : Type 0} (g : store.Ghosts S) (name : List ℕ) (number : ℕ) (run
   }
 
   -- the run is added, and the account's rows are repaired
-  module _ (later : Book) (difference : Difference) (reply : Reply)
+  module _ (later : Book) (difference : Difference)
       (is : checks_by name number run count book kept ≡ None)
       (since : book.from ≤ year_of run.payday)
-      (tells : reply ≡ Posted difference.from difference.to difference.removed difference.added)
       (sums : AddsRun run book.ledger.sums.items later.ledger.sums.items)
       (holidays_stay : holidays_of later.ledger.years.holidays
       ≡ holidays_of book.ledger.years.holidays)
@@ -434,22 +431,19 @@ module _ {S : Type 0} (g : store.Ghosts S) (name : List ℕ) (number : ℕ) (run
         → Stands last.now u
         → ((s : State) → StandsFor t s → IsBook s name book → CountsRuns name count t
         → kept_at number (entries_of s name).runs ≡ kept)
-        → PostsWhere name number run count book later (Ok reply) first last t
+        → PostsWhere name number run count book later (told difference) first last t
     added first last t u reposts made found counted s stands_for sound right =
         let step = done_by name number run count book later difference t u s stands_for sound right
         since reposts sums holidays_stay account_stays year_stays since_stays reached counted kept
-        is (found s stands_for right counted) in
-        let answered =
-        subst (λ (a : Answer). Step s (Post name number run.payday run.fit run.ss run.medicare)
-        a step.0) (ap Ok (sym tells)) step.1 in (
+        is (found s stands_for right counted) in (
           step.0,
-          answered,
+          step.1,
           record {
             tables = u;
             stands = made;
             stands_for = step.2;
             sound = step_sound s (Post name number run.payday run.fit run.ss run.medicare)
-                (Ok reply) step.0 answered sound;
+                (told difference) step.0 step.1 sound;
           },
           step.3,
         )
@@ -457,9 +451,9 @@ module _ {S : Type 0} (g : store.Ghosts S) (name : List ℕ) (number : ℕ) (run
     -- after its number was looked up
     pub added_by : (old mid new : Tx S) → Reads g old mid (Ok kept) (FindsRun name number)
         → Rewrites g mid new (Ok difference) Reposts
-        → Calls g old new (Ok (Ok reply)) (PostsWhere name number run count book later)
+        → Calls g old new (Ok (told difference)) (PostsWhere name number run count book later)
     added_by old mid new r w = record {
-      frame = then_goes (Ok reply) r.frame w.frame;
+      frame = then_goes (told difference) r.frame w.frame;
       does = λ clean t stands.
           let read = r.does (omega (arith, w.frame.crash.clean)) t stands in
           let made = w.does clean t (subst (λ db. Stands db t) (sym read.1.0.now_is) stands) in
@@ -470,9 +464,9 @@ module _ {S : Type 0} (g : store.Ghosts S) (name : List ℕ) (number : ℕ) (run
     -- or where it is greater than those of all the account's runs
     pub added_new : (old new : Tx S) → kept ≡ None → IsAbove (greatest_known book count) number
         → Rewrites g old new (Ok difference) Reposts
-        → Calls g old new (Ok (Ok reply)) (PostsWhere name number run count book later)
+        → Calls g old new (Ok (told difference)) (PostsWhere name number run count book later)
     added_new old new free above w = record {
-      frame = goes_on g old new difference (Ok reply) w.frame;
+      frame = goes_on g old new difference (told difference) w.frame;
       does = λ clean t stands.
           let made = w.does clean t stands in
           added (shown g old) (shown g new) t made.0 made.1 made.2.0

@@ -55,7 +55,7 @@ use Rattle.ftd_entries.proofs.Kept.{kept_reported, kept_reported_year}
 use Rattle.ftd_entries.proofs.KnownYears.{open_lines}
 use Rattle.ftd_entries.proofs.Entered.{entered, corrected_more}
 use Rattle.ftd_entries.proofs.Totals.{SameAt, lookback_same}
-use Rattle.ftd_repairs.specs.declared.Difference.{Difference}
+use Rattle.ftd_machine.specs.declared.replies.Difference.{Difference}
 use Rattle.ftd_repairs.specs.Reopened.{IsRetotaled}
 use Rattle.ftd_posting.specs.Correcting.{EntersFigure, IsFollowed, IsOnlyYearOf}
 use Rattle.ftd_posting.specs.Correcting.{KnowsCorrected, KnowsForReport, KnowsForYear, unchanged}

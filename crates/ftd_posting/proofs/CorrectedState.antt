@@ -33,7 +33,8 @@ use Rattle.ftd_buckets.specs.Patches.{IsOwed}
 use Rattle.ftd_machine.specs.State.{State, Entry, Entries, entries_of, holidays}
 use Rattle.ftd_machine.specs.History.{form_of, live_sums, is_carried, year_of_line, AreCarried}
 use Rattle.ftd_machine.specs.History.{AreLinesOf, HasLookback}
-use Rattle.ftd_machine.specs.Posting.{IsPosted}
+use Rattle.ftd_machine.specs.Posting.{AreOnlyIn, IsOnOtherSchedule, IsPosted}
+use Rattle.ftd_machine.proofs.Those.{HaveSameSchedules, none_those}
 use Rattle.ftd_machine.specs.Sound.{IsSound}
 use Rattle.ftd_machine.specs.declared.replies.Reply.TheVariants.{Posted}
 use Rattle.ftd_machine.proofs.Lined.{years_same}
@@ -44,13 +45,15 @@ use Rattle.ftd_entries.specs.Standing.{StandsFor, KeepsEntries, KeepsDays, IsSet
 use Rattle.ftd_entries.specs.Standing.{is_obligation_of, run_entry}
 use Rattle.ftd_entries.proofs.Lines.{lines_known}
 use Rattle.ftd_entries.proofs.YearHolidays.{holiday_kept}
-use Rattle.ftd_repairs.specs.declared.Difference.{Difference}
+use Rattle.ftd_machine.specs.declared.replies.Difference.{Difference}
 use Rattle.ftd_repairs.specs.Reopened.{IsRetotaled, lines_with}
 use Rattle.ftd_repairs.specs.Reopening.{IsReopened, Reopens, YearRunsAre, with_total}
 use Rattle.ftd_repairs.specs.Rescheduled.{PutsLines}
 use Rattle.ftd_repairs.proofs.Putting.{puts_one, years_put}
 use Rattle.ftd_repairs.proofs.SameSchedules.{owed_with, owed_without, reopening_of}
+use Rattle.ftd_repairs.proofs.SameSchedules.{schedules_with}
 use Rattle.ftd_posting.specs.Books.{AreHolidaysIn}
+use Rattle.ftd_posting.specs.Correcting.{unchanged}
 use Rattle.ftd_posting.proofs.Booking.{first_of_year}
 use Rattle.ftd_posting.proofs.LinesAfter.{carried_same}
 use Rattle.ftd_posting.proofs.LiveRuns.{sums_listed}
@@ -165,32 +168,21 @@ module _ (t v : Tables) (s : State) (corrected corrected_years : List (Entry Cen
       pub entered_stands : StandsFor v Next
       entered_stands = record { entries = entered.kept; settled = settled_each }
 
+      none_apart : AreOnlyIn was.owed was.owed []
+      none_apart = none_those (λ (o : Obligation). o.first) (λ o. Has was.owed o → ⊥) was.owed
+          (λ o has none. none has)
+
       pub entered_told : (first : ℕ) → IsPosted (holidays s) own own_after first
-          (Ok (Posted first first 0 0))
+          (Ok (Posted (unchanged first)))
       entered_told first = record {
         rows = was.owed;
         owed = (was.lines, was.are_lines, was.are_owed);
         rows_after = was.owed;
         owed_after = (was.lines, lines_stay, was.are_owed);
-        from = first;
-        to = first;
-        removed = 0;
-        added = 0;
-        differ = record {
-          gone = [];
-          come = [];
-          are_gone = record {
-            by_first_day = tt;
-            all = λ o. ((λ has. absurd has), (λ k. absurd (k.1 k.0)));
-          };
-          are_come = record {
-            by_first_day = tt;
-            all = λ o. ((λ has. absurd has), (λ k. absurd (k.1 k.0)));
-          };
-          removed_is = refl;
-          added_is = refl;
-          days = inr (refl, refl, refl);
-        };
+        difference = unchanged first;
+        differ = record { are_removed = none_apart; are_added = none_apart; days = inr (refl, refl, refl) };
+        years = none_those year_of_line (IsOnOtherSchedule was.lines) was.lines
+            (λ line has other. other line has (refl, refl, refl));
         told = refl;
       }
 
@@ -384,6 +376,8 @@ module _ (t v : Tables) (s : State) (corrected corrected_years : List (Entry Cen
           now retotals.holidays IsRight difference stands sound retotals.retotals.repatches
       placed = record {
         lines_are = refl;
+        same_schedules = subst (HaveSameSchedules now) lines_listed
+            (schedules_with year listed retotals.retotals.among total);
         years = years_now;
         same_years = sym found.1;
         owed = owed_before;
@@ -412,7 +406,7 @@ module _ (t v : Tables) (s : State) (corrected corrected_years : List (Entry Cen
           retotals.retotals.repatches placed
 
       pub retotaled_told : IsPosted (holidays s) own own_after first
-          (Ok (Posted difference.from difference.to difference.removed difference.added))
+          (Ok (Posted difference))
       retotaled_told = placed_told t changed u s s.runs corrected corrected_years name first
           year Before After now retotals.holidays IsRight difference stands sound
           retotals.retotals.repatches placed

@@ -7,6 +7,7 @@ use Rattle.ftd_rules.specs.Lists.{Has}
 use Rattle.ftd_rules.proofs.Owed.{has_append, has_left, has_right}
 use Rattle.ftd_rules.proofs.Members.{has_kept}
 use Rattle.ftd_machine.specs.Posting.{Differ}
+use Rattle.ftd_machine.specs.declared.replies.Difference.{Difference}
 use Rattle.ftd_machine.proofs.Members.{has_filtered}
 use Rattle.ftd_repairs.specs.Replaced.{begins_before, begins_after, patched}
 
@@ -61,18 +62,16 @@ module _ (from to : ℕ) (rows patch : List Obligation) where
   apart o within (inr after) = let l = within.1 in omega arith
 
   -- the rows of the days differ as the whole lists do
-  pub differ_whole : (within : List Obligation) (payday a b removed added : ℕ)
+  pub differ_whole : (within : List Obligation) (payday : ℕ) (d : Difference)
       → ((o : Obligation) → Has within o ↔ (Has rows o × BeginsWithin from to o))
       → ((o : Obligation) → Has patch o → BeginsWithin from to o)
-      → Differ within patch payday a b removed added → Differ rows After payday a b removed added
-  differ_whole within payday a b removed added is_within inside d = record {
-    gone = d.gone;
-    come = d.come;
-    are_gone = record {
-      by_first_day = d.are_gone.by_first_day;
+      → Differ within patch payday d → Differ rows After payday d
+  differ_whole within payday d is_within inside differ = record {
+    are_removed = record {
+      in_order = differ.are_removed.in_order;
       all = λ o. (
         (λ has.
-            (let k = (d.are_gone.all o).0 has in
+            (let k = (differ.are_removed.all o).0 has in
             let own = (is_within o).0 k.0 in (
               own.0,
               λ after. elim (has_after o after) [
@@ -81,7 +80,7 @@ module _ (from to : ℕ) (rows patch : List Obligation) where
               ],
             ))),
         (λ k. elim (where_begins o) [
-          | inl its ↦ (d.are_gone.all o).1 (
+          | inl its ↦ (differ.are_removed.all o).1 (
             (is_within o).1 (k.0, its),
             λ new. k.1 (patch_has o new),
           )
@@ -89,18 +88,16 @@ module _ (from to : ℕ) (rows patch : List Obligation) where
         ]),
       );
     };
-    are_come = record {
-      by_first_day = d.are_come.by_first_day;
+    are_added = record {
+      in_order = differ.are_added.in_order;
       all = λ o. (
-        (λ has. (let k = (d.are_come.all o).0 has in
+        (λ has. (let k = (differ.are_added.all o).0 has in
             (patch_has o k.0, λ old. k.1 ((is_within o).1 (old, inside o k.0))))),
         (λ k. elim (has_after o k.0) [
-          | inl new ↦ (d.are_come.all o).1 (new, λ own. k.1 ((is_within o).0 own).0)
+          | inl new ↦ (differ.are_added.all o).1 (new, λ own. k.1 ((is_within o).0 own).0)
           | inr old ↦ absurd (k.1 old.0)
         ]),
       );
     };
-    removed_is = d.removed_is;
-    added_is = d.added_is;
-    days = d.days;
+    days = differ.days;
   }

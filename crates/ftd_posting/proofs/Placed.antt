@@ -31,13 +31,14 @@ use Rattle.ftd_buckets.specs.Histories.{History, IsHistory}
 use Rattle.ftd_buckets.specs.Patches.{IsOwed, Replaces}
 use Rattle.ftd_machine.specs.State.{State, Entry, Entries, entries_of, holidays}
 use Rattle.ftd_machine.specs.History.{form_of, live_sums, AreLinesOf}
-use Rattle.ftd_machine.specs.Posting.{IsPosted}
+use Rattle.ftd_machine.specs.Posting.{AreOnOtherSchedules, IsPosted}
+use Rattle.ftd_machine.proofs.Those.{HaveSameSchedules, other_schedules}
 use Rattle.ftd_machine.specs.Sound.{IsSound}
 use Rattle.ftd_machine.specs.declared.replies.Reply.TheVariants.{Posted}
 use Rattle.ftd_store.proofs.Sifted.{sifted}
 use Rattle.ftd_entries.specs.Standing.{StandsFor, KeepsEntries, IsSettled, is_obligation_of}
 use Rattle.ftd_entries.specs.Standing.{enrolled_form}
-use Rattle.ftd_repairs.specs.declared.Difference.{Difference}
+use Rattle.ftd_machine.specs.declared.replies.Difference.{Difference}
 use Rattle.ftd_repairs.specs.Replaced.{patched}
 use Rattle.ftd_repairs.specs.Rescheduled.{AreAfter}
 use Rattle.ftd_repairs.specs.Reposted.{Repatches}
@@ -79,6 +80,7 @@ module _ (old changed new : Tables) (s : State) (runs : List (Entry (Voidable Pa
   -- account's lines and for what was entered
   pub record IsPlaced : Type 0 where
     pub lines_are : lines ≡ before.lines
+    pub same_schedules : HaveSameSchedules lines was.lines
     pub years : AreOpenYears before.lines
     pub same_years : map basis_of before.lines ≡ map basis_of after.lines
     pub owed : (o : Obligation) → Has was.owed o ↔ IsOwed form before (holidays s) o
@@ -226,9 +228,10 @@ module _ (old changed new : Tables) (s : State) (runs : List (Entry (Voidable Pa
           settled = settled_each;
         }
 
-    -- and what is answered is how the obligations differ before and after
+    -- and what is answered is how the obligations differ before and after, and which years are on
+    -- another schedule
     pub placed_told : IsPosted (holidays s) own own_after day
-        (Ok (Posted difference.from difference.to difference.removed difference.added))
+        (Ok (Posted difference))
     placed_told =
         let compared = repatches.compared in
         let r = replaces_all in
@@ -237,13 +240,10 @@ module _ (old changed new : Tables) (s : State) (runs : List (Entry (Voidable Pa
           owed = (was.lines, was.are_lines, was.are_owed);
           rows_after = owed_then;
           owed_after = (after.lines, p.are_lines, are_owed);
-          from = difference.from;
-          to = difference.to;
-          removed = difference.removed;
-          added = difference.added;
+          difference = difference;
           differ =
               differ_whole patch.from patch.to was.owed patch.rows
-              compared.gone day difference.from difference.to difference.removed difference.added
+              compared.gone day difference
               (gone_are name patch.from patch.to (old Obligations) was.owed compared.gone
               was.owed_rows (subst (λ (rows : List ObligationRow). IsPermutation
               (filter (is_obligation_between name (day_number patch.from) (day_number patch.to))
@@ -251,5 +251,8 @@ module _ (old changed new : Tables) (s : State) (runs : List (Entry (Voidable Pa
               compared.are_gone.are))
               (λ o has. (let k = (r.rows.all o).0 has in let high = k.2 in (k.1, omega arith)))
               (compared.differ r.rows.by_first_day);
+          years = other_schedules lines was.lines after.lines difference.years
+              p.same_schedules (subst (λ ls. AreOnOtherSchedules lines ls difference.years)
+              lines_put repatches.years);
           told = refl;
         }

@@ -40,7 +40,7 @@ use Rattle.ftd_entries.specs.Standing.{StandsFor, run_entry}
 use Rattle.ftd_entries.specs.Known.{KnowsAccount}
 use Rattle.ftd_entries.proofs.Kept.{kept_run, counted_runs}
 use Rattle.ftd_entries.proofs.CalendarRows.{year_cell}
-use Rattle.ftd_repairs.specs.declared.Difference.{Difference}
+use Rattle.ftd_machine.specs.declared.replies.Difference.{Difference}
 use Rattle.ftd_repairs.specs.Reposted.{IsReposted}
 use Rattle.ftd_posting.specs.declared.known_runs.KnownForPost.{KnownForPost}
 use Rattle.ftd_posting.specs.declared.known_runs.KnownForVoid.{KnownForVoid}
@@ -51,7 +51,7 @@ use Rattle.ftd_entries.proofs.Voiding as voiding
 
 -- what is answered where the obligations differ so
 abbrev pub told : Difference → Answer
-told d = Ok (Posted d.from d.to d.removed d.added)
+told d = Ok (Posted d)
 
 -- the form of an account that is known
 pub form_is : (known : Option Account) (account : Account) (name : List ℕ) (t : Tables) (s : State)

@@ -34,12 +34,13 @@ use Rattle.ftd_buckets.specs.Patches.{IsPatch}
 use Rattle.ftd_machine.specs.State.{State, Entry, Entries, entries_of, is_of, holidays}
 use Rattle.ftd_machine.specs.History.{form_of, live_sums, live, AreLinesOf}
 use Rattle.ftd_machine.specs.Posting.{IsPosted}
+use Rattle.ftd_machine.proofs.Those.{same_lines}
 use Rattle.ftd_machine.specs.Sound.{IsSound}
 use Rattle.ftd_machine.specs.declared.replies.Reply.TheVariants.{Posted}
 use Rattle.ftd_entries.specs.Standing.{StandsFor, IsSettled, run_entry}
 use Rattle.ftd_entries.proofs.Lines.{lines_known}
 use Rattle.ftd_entries.proofs.YearHolidays.{holiday_read}
-use Rattle.ftd_repairs.specs.declared.Difference.{Difference}
+use Rattle.ftd_machine.specs.declared.replies.Difference.{Difference}
 use Rattle.ftd_repairs.specs.Repaired.{RunsAre, Repairs}
 use Rattle.ftd_repairs.specs.Replaced.{patched}
 use Rattle.ftd_repairs.specs.Reposted.{Repatches, IsReposted}
@@ -163,6 +164,7 @@ module _ (old new : Tables) (s : State) (name : List ℕ) (day : ℕ) (rows : Li
     placed : Placed
     placed = record {
       lines_are = lines_are;
+      same_schedules = same_lines lines was.lines lines_are;
       years = was.are_lines.schedules.years;
       same_years = change.same_years;
       owed = was.are_owed.all;
@@ -214,7 +216,7 @@ module _ (old new : Tables) (s : State) (name : List ℕ) (day : ℕ) (rows : Li
 
     -- and what is answered is how the obligations differ before and after
     pub placed_told : IsPosted (holidays s) own own_after day
-        (Ok (Posted difference.from difference.to difference.removed difference.added))
+        (Ok (Posted difference))
     placed_told = all_told old (with_rows Runs rows old) new s runs s.corrected
         s.corrected_years name day (year_of day) before after lines known IsRight difference stands
         sound repatches placed
@@ -274,6 +276,6 @@ module _ (old new : Tables) (s : State) (name : List ℕ) (day : ℕ) (rows : Li
       right_now known_now
 
   pub reposted_told : IsPosted (holidays s) (entries_of s name) (entries_of (with_runs s runs) name)
-      day (Ok (Posted difference.from difference.to difference.removed difference.added))
+      day (Ok (Posted difference))
   reposted_told = placed_told old new s name day rows runs stands sound changes reposted.lines.items
       reposted.holidays Right difference reposted.repatches lines_listed right_now known_now

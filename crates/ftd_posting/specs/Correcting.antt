@@ -1,5 +1,5 @@
 -- The correction of a figure, and what follows from it.
-use Rattle.std.specs.Prelude.{◌≡◌, ◌⊎◌, ◌≤◌, ℕ, Bool, true, List, length, Ok}
+use Rattle.std.specs.Prelude.{◌≡◌, ◌⊎◌, ◌≤◌, ℕ, Bool, true, List, [], length, Ok}
 use Rattle.ftd_days.specs.declared.cents.Cents.{Cents}
 use Rattle.ftd_rules.specs.Lists.{Has}
 use Rattle.ftd_rules.specs.Lookback.{lookback_quarters}
@@ -12,7 +12,7 @@ use Rattle.ftd_machine.specs.declared.entries.Account.{Account}
 use Rattle.ftd_entries.specs.Known.{KnowsAccount, HasForm, KnowsYear}
 use Rattle.ftd_entries.specs.Standing.{StandsFor}
 use Rattle.ftd_entries.specs.Totals.{KnowsTotal}
-use Rattle.ftd_repairs.specs.declared.Difference.{Difference}
+use Rattle.ftd_machine.specs.declared.replies.Difference.{Difference}
 use Rattle.ftd_repairs.specs.Reopened.{IsRetotaled}
 use Rattle.ftd_posting.specs.declared.correcting.KnownForFigure.{KnownForFigure}
 use Rattle.ftd_posting.specs.declared.figures.FigureEntry.{FigureEntry}
@@ -63,9 +63,9 @@ abbrev pub with_corrected : List ℕ → FigureEntry → Tables → Tables
 with_corrected name (OfQuarter quarter correction) = with_correction name quarter correction
 with_corrected name (OfYear year correction) = with_year_correction name year correction
 
--- no obligation went, and none came
+-- no obligation was removed, none was added, and no year is on another schedule
 abbrev pub unchanged : ℕ → Difference
-unchanged first = record { from = first; to = first; removed = 0; added = 0 }
+unchanged first = record { from = first; to = first; removed = []; added = []; years = [] }
 
 -- the year may be open, and is
 abbrev pub IsFollowed : Bool → ℕ → Type 0

@@ -21,7 +21,7 @@ use Rattle.ftd_machine.specs.declared.requests.Request.TheVariants.{Enrol, Calen
 use Rattle.ftd_machine.specs.declared.requests.Request.TheVariants.{Report, ReportYear, OpenYear}
 use Rattle.ftd_machine.specs.declared.requests.Request.TheVariants.{Post, Void, Pay, VoidPay}
 use Rattle.ftd_machine.specs.declared.requests.Request.TheVariants.{Question}
-use Rattle.ftd_repairs.specs.declared.Difference.{Difference}
+use Rattle.ftd_machine.specs.declared.replies.Difference.{Difference}
 use Rattle.ftd_repairs.specs.Reposted.{IsReposted}
 use Rattle.ftd_posting.specs.Correcting.{EntersFigure, IsOnlyYearOf}
 use Rattle.ftd_posting.specs.declared.figures.FigureEntry.{FigureEntry}
@@ -34,7 +34,7 @@ pub record IsRepaired (name : List ℕ) (day : ℕ) (old changed new : Tables) (
   pub form : Form
   pub has_form : FindsForm name (Some form) old
   pub difference : Difference
-  pub told : answer ≡ Ok (Posted difference.from difference.to difference.removed difference.added)
+  pub told : answer ≡ Ok (Posted difference)
   pub reposted : IsReposted name form day old changed new difference
 
 -- a run was posted
@@ -56,7 +56,7 @@ pub record IsCorrected (name : List ℕ) (first year : ℕ) (entry : FigureEntry
   pub has_form : FindsForm name (Some account.form) old
   pub is_open : Bool
   pub difference : Difference
-  pub told : answer ≡ Ok (Posted difference.from difference.to difference.removed difference.added)
+  pub told : answer ≡ Ok (Posted difference)
   pub entered : EntersFigure name account is_open first year entry difference old new
 
 -- that of a quarter, or of a year

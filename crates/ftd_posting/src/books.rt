@@ -11,11 +11,10 @@ ghost use Rattle.ftd_entries.specs.Standing.{StandsFor};
 ghost use Rattle.ftd_posting.specs.Books.{HasNoYear, IsBook, PostsBy, IsAbove, IsReached};
 ghost use Rattle.ftd_posting.specs.Books.{checks_by, first_year, greatest_known};
 
-use crate::posting::told;
 use ftd_buckets::Window;
 use ftd_days::Day;
 use ftd_entries::{has_year, is_open, known};
-use ftd_machine::{Account, Answer, post_check};
+use ftd_machine::{Account, Answer, Reply, post_check};
 use ftd_repairs::Ledger;
 use ftd_rules::{PayRun, Voidable};
 use ftd_store::{StoreFault, Tx};
@@ -126,7 +125,7 @@ impl Book {
         let form = self.account.form;
         let difference = self.ledger.add(tx, alloc, name, form, number, run)?;
         self.greatest = reached(greatest, number);
-        Ok(Ok(told(difference)))
+        Ok(Ok(Reply::Posted(difference)))
     }
 
     // what refuses the run or answers it as known, by the book and what is known of its number

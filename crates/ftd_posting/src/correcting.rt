@@ -12,10 +12,9 @@ ghost use Rattle.ftd_posting.specs.Repaired.{Becoming, CorrectsQuarter, Corrects
 
 use crate::books::days_from;
 use crate::figures::{FigureEntry, enter_and_follow, year_counting};
-use crate::posting::told;
 use ftd_days::{Cents, Quarter};
 use ftd_entries::{is_open, known};
-use ftd_machine::{Account, Answer, correct_report_check, correct_report_year_check};
+use ftd_machine::{Account, Answer, Reply, correct_report_check, correct_report_year_check};
 use ftd_rows::Correction;
 use ftd_store::{StoreFault, Tx};
 use sqlite::Alter;
@@ -138,7 +137,7 @@ pub fn correct_report<S: Alter>(
     let first = quarter.first();
     let is_open = before.is_open;
     let difference = enter_and_follow(tx, alloc, name, account, is_open, first, year, &entry)?;
-    Ok(Ok(told(difference)))
+    Ok(Ok(Reply::Posted(difference)))
 }
 
 /// Corrects the figure that an account on Form 943 reported for the year, under a number. It is
@@ -181,5 +180,5 @@ pub fn correct_report_year<S: Alter>(
     let difference = enter_and_follow(
         tx, alloc, name, account, is_open, days.from, counting, &entry,
     )?;
-    Ok(Ok(told(difference)))
+    Ok(Ok(Reply::Posted(difference)))
 }

@@ -9,9 +9,10 @@ ghost use Rattle.ftd_posting.specs.Correcting.{unchanged, with_corrected};
 
 use ftd_days::{Day, Quarter};
 use ftd_entries::lookback_total;
-use ftd_machine::Account;
-use ftd_repairs::{Difference, correct_lookback};
+use ftd_machine::{Account, Difference};
+use ftd_repairs::correct_lookback;
 use ftd_rows::Correction;
+use ftd_rules::{Obligations, YearLines};
 use ftd_store::{StoreFault, Tx};
 use sqlite::Alter;
 use std::alloc::Global;
@@ -52,15 +53,16 @@ fn enter<S: Alter>(tx: &mut Tx<'_, S>, name: &str, entry: &FigureEntry) -> Resul
     }
 }
 
-/// No obligation went, and none came.
-fn unchanged(first: Day) -> Difference
+/// No obligation was removed, none was added, and no year is on another schedule.
+fn unchanged(alloc: Global, first: Day) -> Difference
     ensures { result ≡ unchanged first }
 {
     Difference {
         from: first,
         to: first,
-        removed: 0,
-        added: 0,
+        removed: Obligations::from_vec(Vec::new(alloc)),
+        added: Obligations::from_vec(Vec::new(alloc)),
+        years: YearLines::from_vec(Vec::new(alloc)),
     }
 }
 
@@ -83,7 +85,7 @@ pub(crate) fn enter_and_follow<S: Alter>(
 {
     enter(tx, name, entry)?;
     if !is_open || year < 2001 || year > 2098 {
-        return Ok(unchanged(first));
+        return Ok(unchanged(alloc, first));
     }
     let form = account.form;
     let Ok(total) = lookback_total(tx, alloc, name, account, year)? else {

@@ -3,14 +3,13 @@
 ghost use Rattle.std.specs.Prelude.{◌≡◌};
 ghost use Rattle.ftd_store.specs.Finds.{CountsRuns};
 ghost use Rattle.ftd_store.specs.Frame.{Calls};
-ghost use Rattle.ftd_machine.specs.declared.replies.Reply.TheVariants.{Posted};
 ghost use Rattle.ftd_machine.specs.declared.requests.Request.TheVariants.{Post, Void};
 ghost use Rattle.ftd_entries.specs.Words.{Serves};
 ghost use Rattle.ftd_posting.specs.Repaired.{Becoming, PostsRun, VoidsRun};
 
 use crate::known_runs::{known_for_post, known_for_void};
 use ftd_machine::{Answer, Reply, post_check, void_check};
-use ftd_repairs::{Difference, add_repaired, void_repaired};
+use ftd_repairs::{add_repaired, void_repaired};
 use ftd_rules::PayRun;
 use ftd_store::{StoreFault, Tx};
 use sqlite::Alter;
@@ -49,7 +48,7 @@ pub fn post<S: Alter>(
     }
     let form = before.account.unwrap().form;
     let difference = add_repaired(tx, alloc, name, form, number, run)?;
-    Ok(Ok(told(difference)))
+    Ok(Ok(Reply::Posted(difference)))
 }
 
 /// Voids the account's run of the number. It is answered how the obligations that come differ from
@@ -71,17 +70,5 @@ pub fn void<S: Alter>(
     let form = before.account.unwrap().form;
     let payday = before.kept.unwrap().value.payday;
     let difference = void_repaired(tx, alloc, name, form, number, payday)?;
-    Ok(Ok(told(difference)))
-}
-
-/// The reply that tells the difference.
-pub(crate) fn told(difference: Difference) -> Reply
-    ensures { result ≡ Posted difference.from difference.to difference.removed difference.added }
-{
-    Reply::Posted {
-        from: difference.from,
-        to: difference.to,
-        removed: difference.removed,
-        added: difference.added,
-    }
+    Ok(Ok(Reply::Posted(difference)))
 }

@@ -38,7 +38,7 @@ use Rattle.ftd_words.specs.Values.{greatest_number}
 use Rattle.ftd_words.specs.declared.tasks.Job.{Job}
 use Rattle.ftd_words.specs.declared.tasks.Job.TheVariants as job
 use Rattle.ftd_hints.specs.Hints.{record_hints}
-use Rattle.ftd_replies.specs.Below.{below_of, below_text}
+use Rattle.ftd_replies.specs.Below.{below_text}
 use Rattle.ftd_replies.specs.Hints.{told_text}
 use Rattle.ftd_replies.specs.Notes.{asked_after, note_text}
 use Rattle.ftd_replies.specs.Putting.{IsPut}
@@ -49,26 +49,12 @@ use Rattle.ftd_formats.specs.declared.formats.Format.{Format}
 use Rattle.ftd_formats.specs.declared.formats.Format.TheVariants as formats
 use Rattle.ftd_formats.specs.declared.formats.ListFormat.{ListFormat}
 use Rattle.ftd_formats.specs.declared.formats.ListFormat.TheVariants.{Text, Csv, Json}
-use Rattle.ftd_replies.specs.declared.below.Below.{Below}
-use Rattle.ftd_replies.specs.declared.below.Below.TheVariants as below
 use Rattle.ftd_replies.specs.declared.hints.Known.{Known}
 use Rattle.ftd_replies.specs.declared.hints.Known.TheVariants.{Nothing}
 use Rattle.ftd_program.specs.Mending.{KnowsAfter, KnowsOf, or_nothing}
 use Rattle.ftd_program.specs.Numbering.{next_of, number_text}
 use Rattle.ftd_program.specs.Summaries.{stop_status, stop_text, summary_status, summary_text}
 use Rattle.ftd_program.specs.declared.performing.Performed.{Performed}
-
--- what is said below a reply of the desk of this file is put on standard error; nothing goes there
--- where nothing is said
-abbrev pub PutsBelow : {E : Type 0} → (E → Option (List ℕ)) → (E → Bool) → (err err' : E)
-    → List ℕ → Below → Type 0
-PutsBelow taken failed err err' db below.Nothing = err' ≡ err
-PutsBelow taken failed err err' db below.NoHolidays =
-    IsPut (taken err) (taken err') (failed err') (below_text db below.NoHolidays)
-PutsBelow taken failed err err' db (below.MayBeTakenBack day) =
-    IsPut (taken err) (taken err') (failed err') (below_text db (below.MayBeTakenBack day))
-PutsBelow taken failed err err' db below.DependsOnTotal =
-    IsPut (taken err) (taken err') (failed err') (below_text db below.DependsOnTotal)
 
 module _ {O E : Type 0} (o_taken : O → Option (List ℕ)) (o_failed : O → Bool)
     (e_taken : E → Option (List ℕ)) (e_failed : E → Bool)
@@ -98,13 +84,13 @@ module _ {O E : Type 0} (o_taken : O → Option (List ℕ)) (o_failed : O → Bo
   PrintsOut status text = PrintsText status text ⊎ FailsOutput text
 
   -- the text of a reply on standard output, and what is said below it on standard error
-  pub record PrintsReplied (db text : List ℕ) (said : Below) : Type 0 where
+  pub record PrintsReplied (text said : List ℕ) : Type 0 where
     pub status_is : p.status ≡ 0
     pub whole : Appends (o_taken out) (o_taken p.out) text
-    pub puts : PutsBelow e_taken e_failed err p.err db said
+    pub said_is : IsPut (e_taken err) (e_taken p.err) (e_failed p.err) said
 
-  abbrev pub PrintsReply : List ℕ → List ℕ → Below → Type 0
-  PrintsReply db text said = PrintsReplied db text said ⊎ FailsOutput text
+  abbrev pub PrintsReply : List ℕ → List ℕ → Type 0
+  PrintsReply text said = PrintsReplied text said ⊎ FailsOutput text
 
   -- the summary of an import on standard output, and on standard error as many hints of its
   -- malformed records as there is memory for
@@ -153,7 +139,7 @@ module _ {O E : Type 0} (o_taken : O → Option (List ℕ)) (o_failed : O → Bo
   -- the text of the reply in a format, and what is said below it, or the lines of the refusal
   abbrev pub Prints : List ℕ → Format → Request → Known → Answer → Type 0
   Prints db format request known (Ok reply) =
-      PrintsReply db (reply_text format request reply) (below_of request reply)
+      PrintsReply (reply_text format request reply) (below_text db request reply)
   Prints db format request known (Err refusal) = PrintsRefusal db request known refusal
 
   -- the request was asked of the desk, which answered this, and its answer printed
@@ -233,7 +219,7 @@ PutsNote e_taken e_failed err err' db (Ok (reply.Told facts)) =
     IsPut (e_taken err) (e_taken err') (e_failed err') (note_text db facts)
 PutsNote e_taken e_failed err err' db (Ok reply.Done) = err' ≡ err
 PutsNote e_taken e_failed err err' db (Ok reply.Already) = err' ≡ err
-PutsNote e_taken e_failed err err' db (Ok (reply.Posted from to removed added)) = err' ≡ err
+PutsNote e_taken e_failed err err' db (Ok (reply.Posted difference)) = err' ≡ err
 PutsNote e_taken e_failed err err' db (Err refusal) = err' ≡ err
 
 module _ {S O E : Type 0} (g : store.Ghosts S) (e_taken : E → Option (List ℕ)) (e_failed : E → Bool)

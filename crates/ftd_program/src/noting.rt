@@ -31,7 +31,7 @@ fn put_note<E: Target>(db: &str, answer: &Answer, err: &mut E)
             // Where standard error fails, the status still tells.
             let _ = write_note(db, facts, err);
         }
-        Ok(Reply::Done | Reply::Already | Reply::Posted { .. }) | Err(_) => {}
+        Ok(Reply::Done | Reply::Already | Reply::Posted(_)) | Err(_) => {}
     }
 }
 

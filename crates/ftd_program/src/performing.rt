@@ -6,13 +6,13 @@ ghost use Rattle.ftd_formats.specs.Formats.{list_format};
 ghost use Rattle.ftd_program.specs.Performing.{Asks, AsksDue, Does, Performs, PerformsDue};
 ghost use Rattle.ftd_program.specs.Performing.{PrintsAnswer};
 ghost use Rattle.ftd_program.specs.Performing.{PerformsImport, PerformsTrial, PrintsRefusal};
-ghost use Rattle.ftd_program.specs.Performing.{PrintsReply, PrintsStop, PrintsSummary, PutsBelow};
+ghost use Rattle.ftd_program.specs.Performing.{PrintsReply, PrintsStop, PrintsSummary};
 ghost use Rattle.ftd_machine.specs.Laws.{IsBounded};
 ghost use Rattle.ftd_machine.specs.declared.requests.Question.TheVariants.{DueList};
 ghost use Rattle.ftd_machine.specs.declared.requests.Request.TheVariants as requests;
 ghost use Rattle.ftd_ports.specs.Writing.{WritesPrefix};
 ghost use Rattle.ftd_hints.specs.Hints.{record_hints};
-ghost use Rattle.ftd_replies.specs.Below.{below_of};
+ghost use Rattle.ftd_replies.specs.Below.{below_text};
 ghost use Rattle.ftd_replies.specs.Putting.{IsPut};
 ghost use Rattle.ftd_replies.specs.Replies.{reply_text};
 ghost use Rattle.ftd_program.specs.Summaries.{stop_status, stop_text, summary_status};
@@ -29,7 +29,7 @@ use ftd_hints::write_record_hints;
 use ftd_import::{Progress, StopCause, Stopped, Summary, import, import_trial};
 use ftd_machine::{Answer, Question, Refusal, Reply, Request};
 use ftd_ports::Target;
-use ftd_replies::{Below, Known, below_of, put, status_of, write_below, write_reply, write_told};
+use ftd_replies::{Known, put, status_of, write_below, write_reply, write_told};
 use ftd_reports::{LateDueText, Unwritten};
 use ftd_words::Job;
 use sqlite::Alter;
@@ -388,17 +388,13 @@ fn print_line<O, E: Target>(status: u8, line: &[u8], out: O, err: E) -> Performe
     Performed { status, out, err }
 }
 
-/// Puts what is said below a reply of the desk of this file.
-fn put_below<E: Target>(db: &str, below: Below, err: &mut E)
-    ensures { PutsBelow E.taken E.failed err.old err.new db.now below }
+/// Puts what is said below the reply to a request of the desk of this file.
+fn put_below<E: Target>(db: &str, request: &Request, reply: &Reply, err: &mut E)
+    ensures { IsPut (E.taken err.old) (E.taken err.new) (E.failed err.new)
+        (below_text db.now request.now reply.now) }
 {
-    match below {
-        Below::Nothing => {}
-        Below::NoHolidays | Below::MayBeTakenBack(_) | Below::DependsOnTotal => {
-            // Where standard error fails, the status still tells.
-            let _ = write_below(db, below, err);
-        }
-    }
+    // Where standard error fails, the status still tells.
+    let _ = write_below(db, request, reply, err);
 }
 
 /// Prints the text of a reply, in a format where it is a list, and what is said below it.
@@ -411,14 +407,14 @@ fn print_reply<O: Target, E: Target>(
     err: E,
 ) -> Performed<O, E>
     requires bounded { IsBounded reply.now }
-    ensures { PrintsReply O.taken O.failed E.taken E.failed out err result db.now
-        (reply_text format request.now reply.now) (below_of request.now reply.now) }
+    ensures { PrintsReply O.taken O.failed E.taken E.failed out err result
+        (reply_text format request.now reply.now) (below_text db.now request.now reply.now) }
 {
     let mut out = out;
     match write_reply(format, request, reply, &mut out) {
         Ok(()) => {
             let mut err = err;
-            put_below(db, below_of(request, reply), &mut err);
+            put_below(db, request, reply, &mut err);
             Performed {
                 status: 0,
                 out,

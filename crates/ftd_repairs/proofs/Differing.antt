@@ -3,12 +3,12 @@ use Rattle.std.proofs.Common.{◌≡◌, ℕ, zero, suc, ◌+◌, ◌<◌, inl, 
 use Rattle.std.proofs.Common.{length, get_or, refl, sym, ap, subst, ◌∙◌, arith}
 use Rattle.std.specs.List.Sorted.{IsPermutation}
 use Rattle.ftd_rules.specs.declared.Obligation.{Obligation}
-use Rattle.ftd_rules.specs.Lists.{Has}
+use Rattle.ftd_rules.specs.Lists.{Has, KeysRise}
 use Rattle.ftd_rules.specs.Obligations.{ByFirstDay}
 use Rattle.ftd_rules.proofs.Owed.{has_append, has_left, has_right}
 use Rattle.ftd_rules.proofs.Rising.{rises_push}
 use Rattle.ftd_rows.specs.Lists.{Pairs, Lists}
-use Rattle.ftd_machine.specs.Posting.{AreOnlyIn}
+use Rattle.ftd_machine.specs.Posting.{AreThose}
 use Rattle.ftd_store.proofs.Items.{has_at, has_more, has_still, has_now}
 
 -- ---- by first day
@@ -19,55 +19,58 @@ rise_single [] few = tt
 rise_single (o ∷ []) few = ((λ later has. absurd has), tt)
 rise_single (o ∷ p ∷ rows) few = absurd (omega arith)
 
-earlier : (rows : List Obligation) (i : ℕ) (x o : Obligation) → ByFirstDay rows → i < length rows
-    → x ≡ get_or rows i x → Has (take i rows) o → o.first < x.first
-earlier [] i x o h some is has = absurd (omega arith)
-earlier (y ∷ rows) zero x o h some is has = absurd has
-earlier (y ∷ rows) (suc i) x o h some is (inl here) =
-    let later = h.0 x (has_at rows i x (omega arith) is) in
-    let first : o.first ≡ y.first = ap (λ (z : Obligation). z.first) here in
-    omega arith
-earlier (y ∷ rows) (suc i) x o h some is (inr more) = earlier rows i x o h.1 (omega arith) is more
+-- ---- those of some items of which something holds
 
--- ---- those that are not among the others
+module _ {X : Type 0} (key : X → ℕ) (Holds : X → Type 0) where
+  earlier : (items : List X) (i : ℕ) (x y : X) → KeysRise key items → i < length items
+      → x ≡ get_or items i x → Has (take i items) y → key y < key x
+  earlier [] i x y h some is has = absurd (omega arith)
+  earlier (z ∷ items) zero x y h some is has = absurd has
+  earlier (z ∷ items) (suc i) x y h some is (inl here) =
+      let later = h.0 x (has_at items i x (omega arith) is) in
+      let first : key y ≡ key z = ap key here in
+      omega arith
+  earlier (z ∷ items) (suc i) x y h some is (inr more) =
+      earlier items i x y h.1 (omega arith) is more
 
-pub only_more : (rows others only : List Obligation) (i : ℕ) (x : Obligation) → ByFirstDay rows
-    → i < length rows → x ≡ get_or rows i x → (Has others x → ⊥)
-    → AreOnlyIn (take i rows) others only → AreOnlyIn (take (i + 1) rows) others (only ++ x ∷ [])
-only_more rows others only i x rise some is other h = record {
-  by_first_day = rises_push (λ o. o.first) only x h.by_first_day
-      (λ o has. earlier rows i x o rise some is
-      ((h.all o).0 has).0);
-  all = λ o. (
-    (λ has. elim (has_append only (x ∷ []) o has) [
-      | inl before ↦ (let k = (h.all o).0 before in (has_still rows i x o some is k.0, k.1))
-      | inr (inl here) ↦ (
-        subst (λ (z : Obligation). Has (take (i + 1) rows) z) (sym here)
-            (has_now rows i x some is),
-        λ among. other (subst (λ (z : Obligation). Has others z) here among),
-      )
-      | inr (inr never) ↦ absurd never
-    ]),
-    (λ k. elim (has_more rows i x o some is k.0) [
-      | inl before ↦ has_left only (x ∷ []) o ((h.all o).1 (before, k.1))
-      | inr here ↦ has_right only (x ∷ []) o (inl here)
-    ]),
-  );
-}
+  -- of one item more, of which it holds
+  pub those_more : (items those : List X) (i : ℕ) (x : X) → KeysRise key items
+      → i < length items → x ≡ get_or items i x → Holds x
+      → AreThose key Holds (take i items) those
+      → AreThose key Holds (take (i + 1) items) (those ++ x ∷ [])
+  those_more items those i x rise some is holds h = record {
+    in_order = rises_push key those x h.in_order
+        (λ y has. earlier items i x y rise some is ((h.all y).0 has).0);
+    all = λ y. (
+      (λ has. elim (has_append those (x ∷ []) y has) [
+        | inl before ↦ (let k = (h.all y).0 before in (has_still items i x y some is k.0, k.1))
+        | inr (inl here) ↦ (
+          subst (λ (z : X). Has (take (i + 1) items) z) (sym here) (has_now items i x some is),
+          subst Holds (sym here) holds,
+        )
+        | inr (inr never) ↦ absurd never
+      ]),
+      (λ k. elim (has_more items i x y some is k.0) [
+        | inl before ↦ has_left those (x ∷ []) y ((h.all y).1 (before, k.1))
+        | inr here ↦ has_right those (x ∷ []) y (inl here)
+      ]),
+    );
+  }
 
-pub only_same : (rows others only : List Obligation) (i : ℕ) (x : Obligation) → i < length rows
-    → x ≡ get_or rows i x → Has others x
-    → AreOnlyIn (take i rows) others only → AreOnlyIn (take (i + 1) rows) others only
-only_same rows others only i x some is among h = record {
-  by_first_day = h.by_first_day;
-  all = λ o. (
-    (λ has. let k = (h.all o).0 has in (has_still rows i x o some is k.0, k.1)),
-    (λ k. elim (has_more rows i x o some is k.0) [
-      | inl before ↦ (h.all o).1 (before, k.1)
-      | inr here ↦ absurd (k.1 (subst (λ (z : Obligation). Has others z) (sym here) among))
-    ]),
-  );
-}
+  -- or of which it does not hold
+  pub those_same : (items those : List X) (i : ℕ) (x : X) → i < length items
+      → x ≡ get_or items i x → (Holds x → ⊥) → AreThose key Holds (take i items) those
+      → AreThose key Holds (take (i + 1) items) those
+  those_same items those i x some is fails h = record {
+    in_order = h.in_order;
+    all = λ y. (
+      (λ has. let k = (h.all y).0 has in (has_still items i x y some is k.0, k.1)),
+      (λ k. elim (has_more items i x y some is k.0) [
+        | inl before ↦ (h.all y).1 (before, k.1)
+        | inr here ↦ absurd (fails (subst Holds here k.1))
+      ]),
+    );
+  }
 
 -- ---- rows that were listed
 

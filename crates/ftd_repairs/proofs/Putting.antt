@@ -57,6 +57,22 @@ years_put first [] b line ys same years = (sym same ∙ years.0, years.1)
 years_put first (x ∷ xs) b line ys same years =
     (years.0, years_put (first + 1) xs b line ys same years.1)
 
+-- what is put has the year of the line that was there
+same_year : (changed : List YearLine) (line after : YearLine) → IsAfter changed line after
+    → after.year ≡ line.year
+same_year changed line after (inl (other, has, same, is)) = ap (λ (z : YearLine). z.year) is
+same_year changed line after (inr (is, none)) = ap (λ (z : YearLine). z.year) is
+
+pub years_after : (year : ℕ) (changed lines after : List YearLine) → AreAfter lines changed after
+    → YearsFrom year lines → YearsFrom year after
+years_after year changed [] [] are years = years
+years_after year changed [] (z ∷ after) are years = absurd are
+years_after year changed (line ∷ lines) [] are years = absurd are
+years_after year changed (line ∷ lines) (z ∷ after) are years = (
+  same_year changed line z are.0 ∙ years.0,
+  years_after (year + 1) changed lines after are.1 years.1,
+)
+
 -- the patch is put as far as the first lines: they are so now, those after them as they were
 pub record PutSoFar (account : List ℕ) (lines : List YearLine) (patch : Patch) (i : ℕ)
     (now : List YearLine) (old new : Tables) : Type 0 where

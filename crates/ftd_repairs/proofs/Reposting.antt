@@ -15,7 +15,8 @@ use Rattle.ftd_schema.specs.Tests.{is_year_of}
 use Rattle.ftd_rows.specs.Rows.{year_row}
 use Rattle.ftd_store.specs.declared.tx.Tx.{Tx}
 use Rattle.ftd_store.specs.Frame.{Reads, Rewrites}
-use Rattle.ftd_repairs.specs.declared.Difference.{Difference}
+use Rattle.ftd_machine.specs.declared.replies.Difference.{Difference}
+use Rattle.ftd_machine.specs.Posting.{AreOnOtherSchedules}
 use Rattle.ftd_repairs.specs.declared.reading.KnownYears.{KnownYears}
 use Rattle.ftd_repairs.specs.Calendars.{KnowsYears}
 use Rattle.ftd_repairs.specs.Rescheduled.{HasLines}
@@ -41,7 +42,14 @@ pub repatched : (account : List ℕ) (day : ℕ) (lines after : List YearLine) (
     → IsRight patch → Places account day lines patch after d t u
     → (done : Repatches account day lines IsRight d t u) × (after ≡ done.put.after)
 repatched account day lines after IsRight patch d t u right places = (
-  record { patch = patch; right = right; compared = places.compared; put = places.put.0 },
+  record {
+    patch = patch;
+    right = right;
+    compared = places.compared;
+    put = places.put.0;
+    years = subst (λ (ls : List YearLine). AreOnOtherSchedules lines ls d.years) places.put.1
+        places.years;
+  },
   places.put.1,
 )
 

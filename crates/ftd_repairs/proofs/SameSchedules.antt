@@ -18,6 +18,7 @@ use Rattle.ftd_rules.proofs.Schedules.{schedule_iff}
 use Rattle.ftd_rules.proofs.Stated.{owed_stated, piece_owed}
 use Rattle.ftd_buckets.specs.Histories.{TurnOf}
 use Rattle.ftd_buckets.proofs.Chain.{turn_of_line}
+use Rattle.ftd_machine.proofs.Those.{AreScheduledAs, HaveSameSchedules}
 use Rattle.ftd_store.proofs.Items.{has_middle}
 use Rattle.ftd_repairs.specs.Reopened.{IsAmong, lines_with}
 use Rattle.ftd_repairs.specs.Reopening.{IsReopening, with_total}
@@ -147,3 +148,21 @@ module _ (year : ℕ) (lines : List YearLine) (among : IsAmong year lines) (tota
         same_years = same;
         same_sums = refl;
       }
+
+  totaled_scheduled : (xs ys : List YearLine) → AreTotaled xs ys → AreScheduledAs xs ys
+  totaled_scheduled xs ys are x has =
+      let k = are x has in
+      let is : k.0 ≡ with_total k.2.0 x = k.2.1 in (
+        k.0,
+        k.1,
+        (
+          sym (ap (λ (z : YearLine). z.year) is),
+          sym (ap (λ (z : YearLine). z.opening) is),
+          sym (ap (λ (z : YearLine). z.turn) is),
+        ),
+      )
+
+  -- they have the schedules that they had
+  pub schedules_with : HaveSameSchedules With lines
+  schedules_with =
+      (totaled_scheduled With lines without_are, totaled_scheduled lines With with_are)

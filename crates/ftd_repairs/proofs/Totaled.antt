@@ -14,7 +14,7 @@ use Rattle.ftd_schema.specs.Standing.{Tables}
 use Rattle.ftd_schema.specs.Tests.{is_year_of}
 use Rattle.ftd_rows.specs.Rows.{year_row}
 use Rattle.ftd_store.specs.Changes.{with_year}
-use Rattle.ftd_repairs.specs.declared.Difference.{Difference}
+use Rattle.ftd_machine.specs.declared.replies.Difference.{Difference}
 use Rattle.ftd_repairs.specs.Reopened.{IsAt, Retotals, lines_with}
 use Rattle.ftd_repairs.specs.Reopening.{Reopens, with_total}
 use Rattle.ftd_repairs.specs.Reposted.{Repatches}

@@ -8,7 +8,7 @@ use Rattle.ftd_rules.specs.declared.YearLine.{YearLine}
 use Rattle.ftd_schema.specs.Standing.{Tables}
 use Rattle.ftd_store.specs.Changes.{with_year}
 use Rattle.ftd_store.specs.Finds.{ListsYears}
-use Rattle.ftd_repairs.specs.declared.Difference.{Difference}
+use Rattle.ftd_machine.specs.declared.replies.Difference.{Difference}
 use Rattle.ftd_repairs.specs.Calendars.{HasHolidaysFrom}
 use Rattle.ftd_repairs.specs.Reopening.{Reopens, with_total}
 use Rattle.ftd_repairs.specs.Reposted.{Repatches}

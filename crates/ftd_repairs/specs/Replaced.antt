@@ -2,6 +2,7 @@
 use Rattle.std.specs.Prelude.{ℕ, ◌≤◌, List, ◌++◌, Bool, nat_lt, map, filter}
 use Rattle.std.specs.List.Sorted.{IsPermutation}
 use Rattle.ftd_rules.specs.declared.Obligation.{Obligation}
+use Rattle.ftd_rules.specs.declared.YearLine.{YearLine}
 use Rattle.ftd_rules.specs.Obligations.{ByFirstDay, begins_on}
 use Rattle.ftd_schema.specs.declared.TableName.TheVariants.{Obligations}
 use Rattle.ftd_schema.specs.Standing.{Tables}
@@ -9,7 +10,7 @@ use Rattle.ftd_schema.specs.Tests.{is_obligation_between}
 use Rattle.ftd_rows.specs.Cells.{day_number}
 use Rattle.ftd_rows.specs.Rows.{obligation_row}
 use Rattle.ftd_machine.specs.Posting.{Differ}
-use Rattle.ftd_repairs.specs.declared.Difference.{Difference}
+use Rattle.ftd_machine.specs.declared.replies.Difference.{Difference}
 
 -- these are the account's obligations that begin on the days from one to another, by first day
 pub record AreBetween (account : List ℕ) (from to : ℕ) (rows : List Obligation) (t : Tables)
@@ -26,7 +27,11 @@ pub record ComparesRows (account : List ℕ) (day from to : ℕ) (rows : List Ob
   pub gone : List Obligation
   pub are_gone : AreBetween account from to gone old
   pub differ : ByFirstDay rows
-      → Differ gone rows day difference.from difference.to difference.removed difference.added
+      → Differ gone rows day difference
+
+-- the difference with these years
+abbrev pub with_years : Difference → List YearLine → Difference
+with_years d years = record d { years = years }
 
 -- the row begins before the days, or after them
 abbrev pub begins_before : ℕ → Obligation → Bool

@@ -12,7 +12,8 @@ use Rattle.ftd_buckets.specs.declared.Window.{Window}
 use Rattle.ftd_schema.specs.Standing.{Tables}
 use Rattle.ftd_store.specs.Finds.{ListsYears, ListsLiability}
 use Rattle.ftd_machine.specs.History.{liability_of}
-use Rattle.ftd_repairs.specs.declared.Difference.{Difference}
+use Rattle.ftd_machine.specs.Posting.{AreOnOtherSchedules}
+use Rattle.ftd_machine.specs.declared.replies.Difference.{Difference}
 use Rattle.ftd_repairs.specs.declared.ledgers.Ledger.{Ledger}
 use Rattle.ftd_repairs.specs.declared.reading.KnownYears.{KnownYears}
 use Rattle.ftd_repairs.specs.Repaired.{Repairs, RepairsBy}
@@ -21,19 +22,22 @@ use Rattle.ftd_repairs.specs.Replaced.{AreBetween, ComparesRows, HasObligations,
 use Rattle.ftd_repairs.specs.Rescheduled.{HasLines, PutsPatch, PutsInto}
 
 -- the patch was put in place, by which these are the account's lines now, and it is told how the
--- obligations differ
+-- obligations differ, and which lines are on another schedule
 pub record Places (account : List ℕ) (day : ℕ) (lines : List YearLine) (patch : Patch)
     (lines_after : List YearLine) (difference : Difference) (old new : Tables) : Type 0 where
   pub compared : ComparesRows account day patch.from patch.to patch.rows difference old
   pub put : PutsInto account lines patch lines_after old new
+  pub years : AreOnOtherSchedules lines lines_after difference.years
 
--- a patch was put in place that is right, and it is told how the obligations differ
+-- a patch was put in place that is right, and it is told how the obligations differ, and which lines
+-- are on another schedule
 pub record Repatches (account : List ℕ) (day : ℕ) (lines : List YearLine)
     (IsRight : Patch → Type 0) (difference : Difference) (old new : Tables) : Type 0 where
   pub patch : Patch
   pub right : IsRight patch
   pub compared : ComparesRows account day patch.from patch.to patch.rows difference old
   pub put : PutsPatch account lines patch old new
+  pub years : AreOnOtherSchedules lines put.after difference.years
 
 -- so by what was read before the change, where the lines are the account's still
 abbrev pub RepairsRows : List ℕ → Form → ℕ → KnownYears → Difference → Tables → Tables → Type 0

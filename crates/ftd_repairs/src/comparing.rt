@@ -1,14 +1,17 @@
-//! How an account's obligations differ before and after a change.
+//! How an account's obligations and open years differ before and after a change.
 
-ghost use Rattle.std.specs.Prelude.{◌≡◌, ◌⊎◌, ◌↔◌, [], length, IsTrue, IfOk};
-ghost use Rattle.ftd_rules.specs.Lists.{Has};
+ghost use Rattle.std.specs.Prelude.{◌≡◌, ◌⊎◌, ◌↔◌, [], IsTrue, IfOk};
+ghost use Rattle.ftd_rules.specs.declared.YearLine.{YearLine};
+ghost use Rattle.ftd_rules.specs.Lists.{Has, KeysRise};
 ghost use Rattle.ftd_rules.specs.Obligations.{ByFirstDay};
-ghost use Rattle.ftd_machine.specs.Posting.{AreOnlyIn, Spans, Differ};
+ghost use Rattle.ftd_machine.specs.History.{year_of_line};
+ghost use Rattle.ftd_machine.specs.Posting.{AreOnlyIn, Spans, Differ, IsScheduledAs};
+ghost use Rattle.ftd_machine.specs.Posting.{AreOnOtherSchedules};
+ghost use Rattle.ftd_repairs.specs.Replaced.{with_years};
 
-use crate::Difference;
 use ftd_days::Day;
-use ftd_rules::Obligation;
-use ftd_store::StoreFault;
+use ftd_machine::Difference;
+use ftd_rules::{Obligation, Obligations, YearLine, YearLines};
 use std::alloc::{AllocError, Global};
 
 /// Whether the row is one of these.
@@ -53,36 +56,81 @@ fn reach(day: Day, rows: &[Obligation]) -> (Day, Day)
     (from, to)
 }
 
-/// How many rows there are. `Failed` where they are 2^32 or more.
-fn count(rows: &[Obligation]) -> Result<u32, StoreFault>
-    ensures { IfOk result (λ count. count ≡ length rows.now) }
+/// Whether the lines are of one year, with one opening and one turn.
+fn is_scheduled_as(line: &YearLine, other: &YearLine) -> bool
+    ensures { IsTrue result ↔ IsScheduledAs line.now other.now }
 {
-    match u32::try_from(rows.len()) {
-        Ok(count) => Ok(count),
-        Err(_) => Err(StoreFault::Failed),
+    line.year == other.year && line.opening == other.opening && line.turn == other.turn
+}
+
+/// Whether one of the lines is scheduled as this one.
+fn has_schedule(lines: &[YearLine], line: &YearLine) -> bool
+    ensures { IsTrue result
+        ↔ ((old : YearLine) × Has lines.now old × IsScheduledAs old line.now) }
+{
+    match lines {
+        [] => false,
+        [old, later @ ..] => is_scheduled_as(old, line) || has_schedule(later, line),
     }
 }
 
-/// How the rows differ before and after a change. The day is told twice where they do not.
+/// The lines that are on another schedule than before.
+fn on_other_schedules(
+    alloc: Global,
+    before: &[YearLine],
+    after: &[YearLine],
+) -> Result<Vec<YearLine>, AllocError>
+    ensures { IfOk result (λ years. KeysRise year_of_line after.now
+        → AreOnOtherSchedules before.now after.now years.items) }
+{
+    let mut years = Vec::new(alloc);
+    for line in after {
+        if !has_schedule(before, line) {
+            years.push(*line)?;
+        }
+    }
+    Ok(years)
+}
+
+/// How the rows differ before and after a change. The day is told twice where they do not. No year
+/// is told.
 pub(crate) fn difference(
     alloc: Global,
     day: Day,
     before: &[Obligation],
     after: &[Obligation],
-) -> Result<Difference, StoreFault>
+) -> Result<Difference, AllocError>
     ensures { IfOk result (λ d. ByFirstDay before.now → ByFirstDay after.now
-        → Differ before.now after.now day d.from d.to d.removed d.added) }
+        → Differ before.now after.now day d) }
 {
-    let mut rows = only_in(alloc, before, after)?;
-    let removed = count(&rows)?;
-    let come = only_in(alloc, after, before)?;
-    let added = count(&come)?;
-    rows.extend_from_slice(&come)?;
+    let removed = only_in(alloc, before, after)?;
+    let added = only_in(alloc, after, before)?;
+    let mut rows = Vec::from_slice(alloc, &removed)?;
+    rows.extend_from_slice(&added)?;
     let (from, to) = reach(day, &rows);
     Ok(Difference {
         from,
         to,
-        removed,
-        added,
+        removed: Obligations::from_vec(removed),
+        added: Obligations::from_vec(added),
+        years: YearLines::from_vec(Vec::new(alloc)),
+    })
+}
+
+/// The difference, with the years that are on another schedule than before.
+pub(crate) fn with_years(
+    alloc: Global,
+    difference: Difference,
+    before: &[YearLine],
+    after: &[YearLine],
+) -> Result<Difference, AllocError>
+    ensures years { IfOk result (λ d. KeysRise year_of_line after.now
+        → AreOnOtherSchedules before.now after.now d.years) }
+    ensures rows { IfOk result (λ d. d ≡ with_years difference d.years) }
+{
+    let years = on_other_schedules(alloc, before, after)?;
+    Ok(Difference {
+        years: YearLines::from_vec(years),
+        ..difference
     })
 }

@@ -8,7 +8,6 @@ ghost use Rattle.ftd_store.specs.Frame.{Reads, Rewrites};
 ghost use Rattle.ftd_repairs.specs.Repaired.{RepairsBy};
 ghost use Rattle.ftd_repairs.specs.Reposted.{AddsRun, IsLedger, IsRepostedBy, KnowsLedger};
 
-use crate::Difference;
 use crate::patching::{lines_from, place_patch};
 use crate::placing::{PlacedRows, place_rows};
 use crate::posting::holds_run;
@@ -17,6 +16,7 @@ use crate::repairing::repaired_by;
 use crate::summing::add_run_to;
 use ftd_buckets::{Patch, Window};
 use ftd_days::Day;
+use ftd_machine::Difference;
 use ftd_rules::{DaySum, Form, Obligation, PayRun};
 use ftd_store::{StoreFault, Tx};
 use sqlite::Alter;

@@ -13,12 +13,12 @@ ghost use Rattle.ftd_repairs.specs.Reposted.{Places, RepairsRows};
 ghost use Rattle.ftd_store.specs.Changes.{with_year};
 ghost use Rattle.ftd_store.specs.Frame.{Rewrites, Writes};
 
-use crate::Difference;
-use crate::comparing::difference;
+use crate::comparing::{difference, with_years};
 use crate::reading::{KnownYears, known_obligations};
 use crate::repairing::repaired;
 use ftd_buckets::{Patch, may_begin};
 use ftd_days::{Cents, Day};
+use ftd_machine::Difference;
 use ftd_rules::{Form, Obligation, YearLine};
 use ftd_store::{StoreFault, Tx};
 use sqlite::Alter;
@@ -163,8 +163,9 @@ fn put_patch<S: Alter>(
 }
 
 /// Puts the patch in the place of the account's obligations that begin on its days, which are
-/// given, and answers how the obligations that come differ from these. The lines become what they
-/// are then. `Failed` also where an amount is 2^63 cents or more.
+/// given, and answers how the obligations that come differ from these, and which years are on
+/// another schedule. The lines become what they are then. `Failed` also where an amount is 2^63
+/// cents or more.
 pub(crate) fn place_patch<S: Alter>(
     tx: &mut Tx<'_, S>,
     alloc: Global,
@@ -182,12 +183,17 @@ pub(crate) fn place_patch<S: Alter>(
     if !hold_lookbacks(lines) || !hold_amounts(patch.rows.as_slice()) {
         return tx.give_up(StoreFault::Failed);
     }
-    let difference = match difference(alloc, day, gone, patch.rows.as_slice()) {
-        Ok(difference) => difference,
-        Err(fault) => return tx.give_up(fault),
+    let Ok(before) = Vec::from_slice(alloc, lines) else {
+        return tx.give_up(StoreFault::Memory);
+    };
+    let Ok(difference) = difference(alloc, day, gone, patch.rows.as_slice()) else {
+        return tx.give_up(StoreFault::Memory);
     };
     put_patch(tx, account, lines, gone, patch)?;
-    Ok(difference)
+    let Ok(told) = with_years(alloc, difference, &before, lines) else {
+        return tx.give_up(StoreFault::Memory);
+    };
+    Ok(told)
 }
 
 /// Repairs the account's rows after a change of its runs of the day, by what was read of it before.

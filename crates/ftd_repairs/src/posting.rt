@@ -6,10 +6,10 @@ ghost use Rattle.ftd_store.specs.Changes.{with_run, with_void_run};
 ghost use Rattle.ftd_repairs.specs.Reposted.{IsReposted};
 ghost use Rattle.ftd_store.specs.Frame.{Rewrites};
 
-use crate::Difference;
 use crate::patching::{is_storable, repair_rows};
 use crate::reading::known_years;
 use ftd_days::Day;
+use ftd_machine::Difference;
 use ftd_rules::{Form, PayRun};
 use ftd_store::{StoreFault, Tx};
 use sqlite::Alter;

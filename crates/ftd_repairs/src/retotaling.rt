@@ -8,11 +8,11 @@ ghost use Rattle.ftd_repairs.specs.Reopened.{IsAt, IsRetotaled, Retotals};
 ghost use Rattle.ftd_repairs.specs.Reopening.{with_total};
 ghost use Rattle.ftd_repairs.specs.Rescheduled.{HasLines};
 
-use crate::Difference;
 use crate::patching::{is_storable, lines_from, place_patch, put_line};
 use crate::reading::{KnownYears, known_years};
 use crate::reopening::{Replacement, reopened};
 use ftd_days::{Cents, Day, Holidays};
+use ftd_machine::Difference;
 use ftd_rules::year::first_day;
 use ftd_rules::{Form, YearLine};
 use ftd_store::{StoreFault, Tx};

@@ -1,1 +1,2 @@
+mod FewAdded
 mod Rests

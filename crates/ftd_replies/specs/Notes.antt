@@ -56,7 +56,7 @@ asked_when_told None = None
 abbrev pub asked_after : Request → Reply → Option Request
 asked_after asked reply.Done = asked_when_done asked
 asked_after asked reply.Already = None
-asked_after asked (reply.Posted from to removed added) = None
+asked_after asked (reply.Posted difference) = None
 asked_after asked (reply.Told told) = asked_when_told (question_of asked)
 
 -- ---- what is said

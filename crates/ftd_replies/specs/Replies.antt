@@ -1,9 +1,10 @@
 -- The texts of replies.
-use Rattle.std.specs.Prelude.{ℕ, List, [], ◌∷◌, codes}
+use Rattle.std.specs.Prelude.{ℕ, List, [], ◌∷◌, codes, length}
 use Rattle.std.specs.Fmt.{decimal}
 use Rattle.std.specs.List.{concat}
 use Rattle.ftd_days.specs.Text.{day_text}
 use Rattle.ftd_formats.specs.declared.formats.Format.{Format}
+use Rattle.ftd_machine.specs.declared.replies.Difference.{Difference}
 use Rattle.ftd_machine.specs.declared.replies.Reply.{Reply}
 use Rattle.ftd_machine.specs.declared.replies.Reply.TheVariants as reply
 use Rattle.ftd_machine.specs.declared.requests.Request.{Request}
@@ -11,14 +12,14 @@ use Rattle.ftd_machine.specs.Questions.{question_of}
 use Rattle.ftd_replies.specs.Questions.{facts_told}
 
 -- `posted 2024-05-01 2024-05-31 removed 0 added 1`
-unfoldable pub posted_text : ℕ → ℕ → ℕ → ℕ → List ℕ
-posted_text from to removed added =
-    concat (codes "posted " ∷ day_text from ∷ codes " " ∷ day_text to ∷ codes " removed "
-    ∷ decimal removed ∷ codes " added " ∷ decimal added ∷ (10 ∷ []) ∷ [])
+unfoldable pub posted_text : Difference → List ℕ
+posted_text d =
+    concat (codes "posted " ∷ day_text d.from ∷ codes " " ∷ day_text d.to ∷ codes " removed "
+    ∷ decimal (length d.removed) ∷ codes " added " ∷ decimal (length d.added) ∷ (10 ∷ []) ∷ [])
 
 -- the text of the reply to a request, in a format where it has several
 abbrev pub reply_text : Format → Request → Reply → List ℕ
 reply_text format request reply.Done = concat (codes "done" ∷ (10 ∷ []) ∷ [])
 reply_text format request reply.Already = concat (codes "already" ∷ (10 ∷ []) ∷ [])
-reply_text format request (reply.Posted from to removed added) = posted_text from to removed added
+reply_text format request (reply.Posted difference) = posted_text difference
 reply_text format request (reply.Told facts) = facts_told format (question_of request) facts

@@ -1,47 +1,40 @@
-//! What is said below a reply: a line that begins with `hint: `.
+//! What is said below a reply: lines that begin with `note: ` or `hint: `.
 
 ghost use Rattle.std.specs.Prelude.{◌≡◌};
 ghost use Rattle.std.specs.List.{list_any};
 ghost use Rattle.ftd_ports.specs.Writing.{Writes};
-ghost use Rattle.ftd_replies.specs.Below.{after_already, after_done, below_of, below_text};
-ghost use Rattle.ftd_replies.specs.Below.{after_told, by_days, depends};
+ghost use Rattle.ftd_replies.specs.Below.{already_hint, below_text, depends, done_hint};
+ghost use Rattle.ftd_replies.specs.Below.{holidays_hint, told_hint};
 
+use crate::added::write_changes;
 use crate::hints::write_on;
 use ftd_days::Day;
 use ftd_machine::{AgendaRow, Facts, Reply, Request};
 use ftd_ports::{Target, WriteFault, write_all};
 use ftd_reports::{day_bytes, left_of};
 
-/// What is said below a reply.
-#[derive(Clone, Copy)]
-pub enum Below {
-    /// Nothing.
-    Nothing,
-    /// A calendar was given without days, which may be a mistake.
-    NoHolidays,
-    /// A day was given or added before. If it was taken back, it is no holiday still.
-    MayBeTakenBack(Day),
-    /// Something is left of a deposit that may be paid with its return only if a total stays small,
-    /// which may still grow.
-    DependsOnTotal,
-}
-
-/// What is said of the days that a calendar was given with.
-fn by_days(days: &[Day]) -> Below
-    ensures { result ≡ by_days days.now }
+/// Writes what is said of the days that a calendar was given with: if there are none, that this may
+/// be a mistake.
+fn write_holidays_hint<W: Target>(db: &str, days: &[Day], target: &mut W) -> Result<(), WriteFault>
+    ensures { Writes result (W.taken target.old) (W.taken target.new)
+        (W.failed target.new) (holidays_hint db.now days.now) }
 {
     match days {
-        [] => Below::NoHolidays,
-        [_, ..] => Below::Nothing,
+        [] => {
+            let before = b"hint: no holidays: is that meant? ftd add-holiday --db ";
+            write_on(before, db, b"DAY", b" adds one\n", target)
+        }
+        [_, ..] => write_all(target, b""),
     }
 }
 
-/// What is said of a request that was done.
-fn after_done(request: &Request) -> Below
-    ensures { result ≡ after_done request.now }
+/// Writes what is said of a request that was done.
+fn write_done_hint<W: Target>(db: &str, request: &Request, target: &mut W) -> Result<(), WriteFault>
+    ensures { Writes result (W.taken target.old) (W.taken target.new)
+        (W.failed target.new) (done_hint db.now request.now) }
 {
     match request {
-        Request::Calendar { days, .. } => by_days(days.as_slice()),
+        Request::Calendar { days, .. } => write_holidays_hint(db, days.as_slice(), target),
         Request::Enrol { .. }
         | Request::AddHoliday { .. }
         | Request::Report { .. }
@@ -55,16 +48,26 @@ fn after_done(request: &Request) -> Below
         | Request::CorrectReportYear { .. }
         | Request::ChangeHoliday { .. }
         | Request::CorrectAccount { .. }
-        | Request::Question(_) => Below::Nothing,
+        | Request::Question(_) => write_all(target, b""),
     }
 }
 
-/// What is said of a request that was done before.
-fn after_already(request: &Request) -> Below
-    ensures { result ≡ after_already request.now }
+/// Writes what is said of a request that was done before: a day that was given or added before may
+/// be taken back since, and is no holiday then.
+fn write_already_hint<W: Target>(
+    db: &str,
+    request: &Request,
+    target: &mut W,
+) -> Result<(), WriteFault>
+    ensures { Writes result (W.taken target.old) (W.taken target.new)
+        (W.failed target.new) (already_hint db.now request.now) }
 {
     match request {
-        Request::AddHoliday { day } => Below::MayBeTakenBack(*day),
+        Request::AddHoliday { day } => {
+            let before = b"hint: if the day was taken back, ftd change-holiday --db ";
+            let text = day_bytes(*day);
+            write_on(before, db, &text, b" yes\n", target)
+        }
         Request::Enrol { .. }
         | Request::Calendar { .. }
         | Request::Report { .. }
@@ -78,7 +81,7 @@ fn after_already(request: &Request) -> Below
         | Request::CorrectReportYear { .. }
         | Request::ChangeHoliday { .. }
         | Request::CorrectAccount { .. }
-        | Request::Question(_) => Below::Nothing,
+        | Request::Question(_) => write_all(target, b""),
     }
 }
 
@@ -97,54 +100,43 @@ fn some_depend(rows: &[AgendaRow]) -> bool
     rows.iter().any(|row| depends(row))
 }
 
-/// What is said of what a question is told.
-fn after_told(facts: &Facts) -> Below
-    ensures { result ≡ after_told facts.now }
+/// Writes what is said of what a question is told.
+fn write_told_hint<W: Target>(facts: &Facts, target: &mut W) -> Result<(), WriteFault>
+    ensures { Writes result (W.taken target.old) (W.taken target.new)
+        (W.failed target.new) (told_hint facts.now) }
 {
     match facts {
-        Facts::Agenda(rows) if some_depend(rows.as_slice()) => Below::DependsOnTotal,
+        Facts::Agenda(rows) if some_depend(rows.as_slice()) => write_all(
+            target,
+            b"hint: with-return: pay it with the return if the total for the return stays below \
+              2500.00; if you are not sure of that, pay by the day shown\n",
+        ),
         Facts::Agenda(_)
         | Facts::Status { .. }
         | Facts::Explained(_)
         | Facts::Due(_)
         | Facts::Days(_)
         | Facts::Unapplied(_)
-        | Facts::Kept(_) => Below::Nothing,
+        | Facts::Kept(_) => write_all(target, b""),
     }
 }
 
-/// What is said below the reply to a request.
-pub fn below_of(request: &Request, reply: &Reply) -> Below
-    ensures { result ≡ below_of request.now reply.now }
+/// Writes what is said below the reply to a request, for the desk of this file: below a change of
+/// an account's liability, the obligations that were added, and the years that are on another
+/// schedule.
+pub fn write_below<W: Target>(
+    db: &str,
+    request: &Request,
+    reply: &Reply,
+    target: &mut W,
+) -> Result<(), WriteFault>
+    ensures { Writes result (W.taken target.old) (W.taken target.new)
+        (W.failed target.new) (below_text db.now request.now reply.now) }
 {
     match reply {
-        Reply::Done => after_done(request),
-        Reply::Already => after_already(request),
-        Reply::Posted { .. } => Below::Nothing,
-        Reply::Told(facts) => after_told(facts),
-    }
-}
-
-/// Writes what is said below a reply of the desk of this file.
-pub fn write_below<W: Target>(db: &str, below: Below, target: &mut W) -> Result<(), WriteFault>
-    ensures { Writes result (W.taken target.old) (W.taken target.new)
-        (W.failed target.new) (below_text db.now below) }
-{
-    match below {
-        Below::Nothing => write_all(target, b""),
-        Below::NoHolidays => {
-            let before = b"hint: no holidays: is that meant? ftd add-holiday --db ";
-            write_on(before, db, b"DAY", b" adds one\n", target)
-        }
-        Below::MayBeTakenBack(day) => {
-            let before = b"hint: if the day was taken back, ftd change-holiday --db ";
-            let text = day_bytes(day);
-            write_on(before, db, &text, b" yes\n", target)
-        }
-        Below::DependsOnTotal => write_all(
-            target,
-            b"hint: with-return: pay it with the return if the total for the return stays below \
-              2500.00; if you are not sure of that, pay by the day shown\n",
-        ),
+        Reply::Done => write_done_hint(db, request, target),
+        Reply::Already => write_already_hint(db, request, target),
+        Reply::Posted(difference) => write_changes(difference, target),
+        Reply::Told(facts) => write_told_hint(facts, target),
     }
 }

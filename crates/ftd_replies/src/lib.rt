@@ -1,6 +1,7 @@
 //! The lines that tell of replies and of refusals, and what can be done about them.
 #![tactic(auto)]
 
+mod added;
 mod below;
 mod hints;
 mod notes;
@@ -9,7 +10,7 @@ mod refusals;
 mod replies;
 mod telling;
 
-pub use crate::below::{Below, below_of, write_below};
+pub use crate::below::write_below;
 pub use crate::hints::{Known, account_in, write_told};
 pub use crate::notes::{asked_after, write_note};
 pub use crate::refusals::{status_of, write_refusal};

@@ -74,7 +74,7 @@ pub fn asked_after(request: Request, reply: &Reply) -> Option<Request>
 {
     match reply {
         Reply::Done => asked_when_done(request),
-        Reply::Already | Reply::Posted { .. } => None,
+        Reply::Already | Reply::Posted(_) => None,
         Reply::Told(_) => asked_when_told(&request),
     }
 }
@@ -94,7 +94,11 @@ impl Counted<KeptPayment> for Paid {
 }
 
 /// Writes an amount, and what is so of it.
-fn write_amount_so<W: Target>(amount: u128, behind: &[u8], target: &mut W) -> Result<(), WriteFault>
+pub(crate) fn write_amount_so<W: Target>(
+    amount: u128,
+    behind: &[u8],
+    target: &mut W,
+) -> Result<(), WriteFault>
     ensures { Writes result (W.taken target.old) (W.taken target.new)
         (W.failed target.new) (amount_so amount behind.now) }
 {

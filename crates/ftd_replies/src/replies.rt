@@ -5,9 +5,8 @@ ghost use Rattle.ftd_machine.specs.Laws.{IsBounded};
 ghost use Rattle.ftd_replies.specs.Replies.{posted_text, reply_text};
 
 use crate::questions::write_facts;
-use ftd_days::Day;
 use ftd_formats::Format;
-use ftd_machine::{Reply, Request};
+use ftd_machine::{Difference, Reply, Request};
 use ftd_ports::{Target, WriteFault, write_pieces};
 use ftd_reports::day_bytes;
 use itoa::Buffer;
@@ -26,42 +25,30 @@ pub fn write_reply<W: Target>(
     match reply {
         Reply::Done => write_pieces(target, &[b"done", b"\n"]),
         Reply::Already => write_pieces(target, &[b"already", b"\n"]),
-        Reply::Posted {
-            from,
-            to,
-            removed,
-            added,
-        } => write_posted(*from, *to, *removed, *added, target),
+        Reply::Posted(difference) => write_posted(difference, target),
         Reply::Told(facts) => write_facts(format, request, facts, target),
     }
 }
 
 /// Writes how many obligations were removed and added, and the days that they cover.
-fn write_posted<W: Target>(
-    from: Day,
-    to: Day,
-    removed: u32,
-    added: u32,
-    target: &mut W,
-) -> Result<(), WriteFault>
+fn write_posted<W: Target>(difference: &Difference, target: &mut W) -> Result<(), WriteFault>
     ensures { Writes result (W.taken target.old) (W.taken target.new)
-        (W.failed target.new) (posted_text from to removed added) }
+        (W.failed target.new) (posted_text difference.now) }
 {
-    let (mut removed_digits, mut added_digits) = (Buffer::new(), Buffer::new());
-    let removed = removed_digits.format(removed).as_bytes();
-    let added = added_digits.format(added).as_bytes();
-    let (from, to) = (day_bytes(from), day_bytes(to));
+    let (mut removed, mut added) = (Buffer::new(), Buffer::new());
     write_pieces(
         target,
         &[
             b"posted ",
-            &from,
+            &day_bytes(difference.from),
             b" ",
-            &to,
+            &day_bytes(difference.to),
             b" removed ",
-            removed,
+            removed
+                .format(difference.removed.as_slice().len())
+                .as_bytes(),
             b" added ",
-            added,
+            added.format(difference.added.as_slice().len()).as_bytes(),
             b"\n",
         ],
     )

@@ -32,7 +32,8 @@ fn a_row_outside_the_windows_stays(rt: HostRuntime) -> Result<(), Fail> {
         &[
             (
                 "post ash 2 2024-07-05 1.00 0 0",
-                "posted 2024-07-01 2024-07-31 removed 0 added 1",
+                "posted 2024-07-01 2024-07-31 removed 0 added 1\n\
+note: added 2024-07-01 to 2024-07-31, monthly, 1.00, due 2024-08-15",
             ),
             (
                 "due ash 2024Q2 2024-06-01",
@@ -56,7 +57,8 @@ fn a_repair_goes_by_the_lines_of_the_years(rt: HostRuntime) -> Result<(), Fail> 
         &[
             (
                 "post ash 1 2024-05-08 1.00 0 0",
-                "posted 2024-05-08 2024-05-10 removed 0 added 1",
+                "posted 2024-05-08 2024-05-10 removed 0 added 1\n\
+note: added 2024-05-08 to 2024-05-10, semiweekly, 1.00, due 2024-05-15",
             ),
             (
                 "due ash 2024Q2 2024-06-01",

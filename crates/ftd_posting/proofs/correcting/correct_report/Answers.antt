@@ -1,4 +1,4 @@
-use Rattle.std.proofs.Common.{Ok, ap, rules}
+use Rattle.std.proofs.Common.{refl, rules}
 use Rattle.ftd_machine.specs.declared.requests.Request.TheVariants.{CorrectReport}
 use Rattle.ftd_entries.proofs.Serving.{served_looked, served_turned}
 use Rattle.ftd_posting.specs.Repaired.{CorrectsQuarter}
@@ -18,10 +18,10 @@ returns-clause-call g c =
     served_turned (CorrectReport c.args.name.now c.args.quarter c.args.number c.args.cents) _
     c.in_ok-before.ensures.call
     (rw c.first-first.ensures at c.in_ok-difference.ensures.call)
-    (λ t u s stands sound knows enters. rw c.told.ensures (quarter_done c.args.name.now
+    (λ t u s stands sound knows enters. quarter_done c.args.name.now
     c.args.quarter c.args.number c.args.cents _ c.year_counting-year.ensures
     c.in_ok-before.before c.unwrap-account.result _ (search rules) c.unwrap-account.ensures t u s
-    stands sound knows enters))
+    stands sound knows enters)
 
 pub returns-clause-repairs : goal.returns-clause-repairs
 returns-clause-repairs g c =
@@ -36,7 +36,7 @@ returns-clause-repairs g c =
         has_form = knows.form account c.unwrap-account.ensures;
         is_open = c.in_ok-before.before.is_open;
         difference = c.in_ok-difference.difference;
-        told = ap Ok c.told.ensures;
+        told = refl;
         entered = enters;
       },
     ))

@@ -1,4 +1,4 @@
-use Rattle.std.proofs.Common.{◌≡◌, ◌+◌, Ok, ap, rules}
+use Rattle.std.proofs.Common.{◌≡◌, ◌+◌, refl, rules}
 use Rattle.ftd_machine.specs.declared.requests.Request.TheVariants.{CorrectReportYear}
 use Rattle.ftd_entries.proofs.Serving.{served_looked, served_turned}
 use Rattle.ftd_posting.specs.Repaired.{CorrectsYear}
@@ -18,9 +18,9 @@ returns-clause-call g c =
     let first = c.in-Some-days_from.ensures.first in
     served_turned (CorrectReportYear c.args.name.now c.args.year c.args.number c.args.cents) _
     c.in_ok-before.ensures.call (rw first at c.in_ok-difference.ensures.call)
-    (λ t u s stands sound knows enters. rw c.told.ensures (year_done c.args.name.now c.args.year
+    (λ t u s stands sound knows enters. year_done c.args.name.now c.args.year
     c.args.number c.args.cents _ is c.in_ok-before.before c.unwrap-account.result _ (search rules)
-    c.unwrap-account.ensures t u s stands sound knows enters))
+    c.unwrap-account.ensures t u s stands sound knows enters)
 
 pub returns-clause-repairs : goal.returns-clause-repairs
 returns-clause-repairs g c =
@@ -34,6 +34,6 @@ returns-clause-repairs g c =
       has_form = knows.form account c.unwrap-account.ensures;
       is_open = c.in_ok-before.before.is_open;
       difference = c.in_ok-difference.difference;
-      told = ap Ok c.told.ensures;
+      told = refl;
       entered = enters;
     })

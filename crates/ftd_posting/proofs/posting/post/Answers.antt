@@ -1,4 +1,4 @@
-use Rattle.std.proofs.Common.{Ok, ap, rules}
+use Rattle.std.proofs.Common.{refl, rules}
 use Rattle.ftd_store.specs.Finds.{CountsRuns}
 use Rattle.ftd_machine.specs.declared.requests.Request.TheVariants.{Post}
 use Rattle.ftd_entries.proofs.Serving.{served_looked_where, served_turned_where}
@@ -27,16 +27,16 @@ returns g c =
           c.args.run.payday c.args.run.fit c.args.run.ss c.args.run.medicare) _
           c.in_ok-before.ensures.call
           c.in_ok-difference.ensures.call (λ t u s stands sound counted knows turned.
-          rw c.told.ensures (post_done name c.args.number c.args.run c.args.count
+          post_done name c.args.number c.args.run c.args.count
           c.in_ok-before.before account _ (search rules) c.unwrap-form.ensures t u s stands sound
-          counted knows turned));
+          counted knows turned);
       repairs = becomes_turned (PostsRun name c.args.number c.args.run) _
           c.in_ok-before.ensures.call c.in_ok-difference.ensures.call
           (λ t u knows reposted. record {
             form = account.form;
             has_form = knows.form account c.unwrap-form.ensures;
             difference = c.in_ok-difference.difference;
-            told = ap Ok c.told.ensures;
+            told = refl;
             reposted = reposted;
           });
     }

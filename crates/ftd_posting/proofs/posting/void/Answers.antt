@@ -1,4 +1,4 @@
-use Rattle.std.proofs.Common.{Ok, ap, rules, subst}
+use Rattle.std.proofs.Common.{refl, rules, subst}
 use Rattle.ftd_store.specs.Finds.{FindsRun}
 use Rattle.ftd_machine.specs.declared.requests.Request.TheVariants.{Void}
 use Rattle.ftd_entries.proofs.Serving.{served_looked, served_turned}
@@ -26,9 +26,9 @@ returns g c =
     record {
       call = served_turned (Void name number) _ c.in_ok-before.ensures.call
           c.in_ok-difference.ensures.call
-          (λ t u s stands sound knows turned. rw c.told.ensures (void_done name number
+          (λ t u s stands sound knows turned. void_done name number
           c.in_ok-before.before account kept _ (search rules) c.unwrap-form.ensures
-          c.unwrap-payday.ensures t u s stands sound knows turned));
+          c.unwrap-payday.ensures t u s stands sound knows turned);
       repairs = becomes_turned (VoidsRun name number) _ c.in_ok-before.ensures.call
           c.in_ok-difference.ensures.call (λ t u knows reposted. (
             kept,
@@ -37,7 +37,7 @@ returns g c =
               form = account.form;
               has_form = knows.form account c.unwrap-form.ensures;
               difference = c.in_ok-difference.difference;
-              told = ap Ok c.told.ensures;
+              told = refl;
               reposted = reposted;
             },
           ));

@@ -5,7 +5,7 @@ use Rattle.ftd_schema.specs.Standing.{Tables}
 use Rattle.ftd_store.specs.Changes.{with_year}
 use Rattle.ftd_store.specs.Frame.{Writes}
 use Rattle.ftd_store.proofs.Turning.{read_then_turn, turns_then, writes_turn}
-use Rattle.ftd_repairs.specs.declared.Difference.{Difference}
+use Rattle.ftd_machine.specs.declared.replies.Difference.{Difference}
 use Rattle.ftd_repairs.specs.Reopened.{IsAt, Retotals}
 use Rattle.ftd_repairs.specs.Reopening.{Reopens, with_total}
 use Rattle.ftd_repairs.specs.Reposted.{Repatches}

@@ -5,10 +5,12 @@ pub returns : goal.returns
 unfolding posted_text
 returns g c =
     rw (
-      c.day_bytes-from.ensures,
-      c.day_bytes-to.ensures,
-      c.as_bytes-removed.ensures.value,
+      c.day_bytes.ensures,
+      c.day_bytes-2.ensures,
+      c.as_bytes.ensures.value,
       c.format.ensures.text,
-      c.as_bytes-added.ensures.value,
+      c.as_bytes-2.ensures.value,
       c.format-2.ensures.text,
+      c.as_slice.ensures,
+      c.as_slice-2.ensures,
     ) at c.write_pieces.ensures

@@ -18,15 +18,15 @@ returns-clause-call g c =
     c.greatest_of-greatest.ensures c.reached-self.ensures in elim c.if-not-is_new.branch [
       | then-not-is_new+in_ok-kept+in_default w ↦
           added_by g.S.Store c.args.name.now c.args.number c.args.run c.args.count c.args.self.now
-          w.in_ok-kept.kept _ c.in_ok-difference.difference c.told.result (search rules)
-          c.requires.since c.told.ensures c.in_ok-difference.ensures.sums
+          w.in_ok-kept.kept _ c.in_ok-difference.difference (search rules)
+          c.requires.since c.in_ok-difference.ensures.sums
           c.in_ok-difference.ensures.holidays refl refl c.in_ok-difference.ensures.since reached
           c.args.tx.now w.run.new.self c.add.new.tx w.in_ok-kept.ensures.call
           (rw w.tx-is at c.in_ok-difference.ensures.call)
       | else-not-is_new w ↦
           added_new g.S.Store c.args.name.now c.args.number c.args.run c.args.count c.args.self.now
-          _ _ c.in_ok-difference.difference c.told.result (search rules)
-          c.requires.since c.told.ensures c.in_ok-difference.ensures.sums
+          _ _ c.in_ok-difference.difference (search rules)
+          c.requires.since c.in_ok-difference.ensures.sums
           c.in_ok-difference.ensures.holidays refl refl c.in_ok-difference.ensures.since reached
           c.args.tx.now c.add.new.tx refl (search rules)
           (rw w.tx-is at c.in_ok-difference.ensures.call)

@@ -9,6 +9,7 @@ use Rattle.ftd_schema.specs.Standing.{Tables}
 use Rattle.ftd_store.specs.Changes.{with_run}
 use Rattle.ftd_store.specs.Frame.{Rewrites}
 use Rattle.ftd_store.proofs.Turning.{writes_turn, turns_then}
+use Rattle.ftd_machine.specs.Posting.{AreOnOtherSchedules}
 use Rattle.ftd_repairs.specs.Repaired.{RepairsBy}
 use Rattle.ftd_repairs.specs.Replaced.{AreBetween}
 use Rattle.ftd_repairs.specs.Rescheduled.{HasLines}
@@ -58,7 +59,14 @@ returns-clause-call g c =
     → HasLines name lines z → Places name day lines patch after difference z v) is places between
     had.lines in
     record {
-      repatches = record { patch = patch; right = right; compared = put.compared; put = put.put.0 };
+      repatches = record {
+        patch = patch;
+        right = right;
+        compared = put.compared;
+        put = put.put.0;
+        years = subst (λ (ls : List YearLine). AreOnOtherSchedules lines ls difference.years)
+            put.put.1 put.years;
+      };
       lines_are = all_of was.years.lines.len after _ count ∙ put.put.1;
       rows_are = rows_are;
     })
