@@ -676,6 +676,23 @@ class Desk:
             notes.append(f"note: {year} is {'semiweekly from its first day' if semiweekly else monthly}")
         return notes
 
+    def imported(self, lines):
+        """What an import of pay runs prints, and what is said below it: of each account, in the order of their last changes, how many obligations
+        it added and the earliest due date among them."""
+        before = {name: set(self.obligations(name)) for name in NAMES}
+        answers, changed_now = [self.ask(line) for line in lines], []
+        for line, answer in zip(lines, answers):
+            if CHANGED.match(answer):
+                name = line.split(" ")[1]
+                changed_now = [other for other in changed_now if other != name] + [name]
+        refused = [answer for answer in answers if answer.startswith("refused")]
+        posted, already = sum(map(bool, map(CHANGED.match, answers))), answers.count("already")
+        notes = [f"record {number} {answer}" for number, answer in enumerate(answers, 2) if answer in refused]
+        added = {name: set(self.obligations(name)) - before[name] for name in changed_now}
+        return [f"posted {posted} already {already} refused {len(refused)} malformed 0", *notes], [
+            f"note: {name}: obligations added: {len(rows)}, earliest due date {min(row[4] for row in rows)}" for name, rows in added.items() if rows
+        ]
+
     def said_below(self, line, answer):
         """What is said below the answer to a command, but for what is due or kept."""
         verb, *words = line.split(" ")
@@ -794,6 +811,7 @@ QUESTIONS = 16
 CORRECTIONS = 8
 PAYMENTS = 8
 CHANGES = 8
+IMPORTED = 12
 NAMES = ["ash", "birch", "cedar", "elm", "fir", "oak", "pine", "rye", "nobody", "Bad"]
 YEARS = range(2022, 2028)
 
@@ -895,13 +913,19 @@ def payment(rng, owed):
     return f"{due + rng.choice([-9, -1, 0, 0, 0, 1, 20]) * DAY} {rng.choice([first, last])} {money(needed)}"
 
 
+def new_run(rng, posted):
+    """A pay run of a number that is most often new."""
+    name = rng.choice(NAMES[:8])
+    posted.setdefault(name, []).append(len(posted.get(name, [])) + 1)
+    return f"post {name} {len(posted[name])} {some_day(rng)} {amount(rng)} {amount(rng)} {amount(rng)}"
+
+
 def change(rng, posted):
     """A pay run that is posted or voided."""
     name = rng.choice(NAMES[:8])
     if posted.get(name) and rng.random() < 0.3:
         return f"void {name} {rng.choice(posted[name])}"
-    posted.setdefault(name, []).append(len(posted.get(name, [])) + 1)
-    return f"post {name} {len(posted[name])} {some_day(rng)} {amount(rng)} {amount(rng)} {amount(rng)}"
+    return new_run(rng, posted)
 
 
 def one(rng, desk, posted, paid):
@@ -988,6 +1012,18 @@ def correction_answer(program, file, verb, words, content, below):
     return ran.stdout if ran.returncode == 0 else ran.stderr.split("\n")[0]
 
 
+def compare_import(program, file, desk, lines):
+    """Imports pay runs, and compares what is printed and what is said below it; the trial of the import first, which says the same."""
+    records = [",".join(line.split(" ")[1:]) for line in lines]
+    with open(file + ".csv", "w", encoding="utf-8") as out:
+        out.write("\n".join(["employer,run,payday,fit,ss,medicare", *records, ""]))
+    right, below = desk.imported(lines)
+    for words in ["import", "--check"], ["import"]:
+        ran = subprocess.run([program, *words, "--db", file, file + ".csv"], capture_output=True, text=True, timeout=60)
+        compare_answer(" ".join(words), lines, ran.stdout.strip(), "\n".join(right))
+        compare_answer("below " + " ".join(words), lines, said_on(ran, file), "\n".join(below))
+
+
 def changed(answer):
     """The answer, as a command prints it."""
     return CHANGED.sub(r"posted \1 \2 removed \3 added \4", answer)
@@ -1037,6 +1073,8 @@ def compare(program, file, seed, count):
         below = desk.said_below(line, right)
         compare_answer(f"seed {seed}, command", line, command_answer(program, file, line, below).strip(), changed(right))
     compare_tables(file, desk, f"seed {seed}, after its pay runs")
+    compare_import(program, file, desk, [new_run(rng, posted) for _ in range(IMPORTED)])
+    compare_tables(file, desk, f"seed {seed}, after an import")
     for _ in range(CORRECTIONS):
         verb, words, before, content = correction(rng, desk)
         line = f"{verb} {words} {before + 1} {content}"
@@ -1045,7 +1083,7 @@ def compare(program, file, seed, count):
         right = printed(before + 1, right)
         compare_answer(f"seed {seed}, command", line, correction_answer(program, file, verb, words, content, below), right)
         compare_tables(file, desk, f"seed {seed}, after ftd {line}")
-    return len(lines) + len(questions) + PAYMENTS + CHANGES + CORRECTIONS
+    return len(lines) + len(questions) + PAYMENTS + CHANGES + IMPORTED + CORRECTIONS
 
 
 def main():

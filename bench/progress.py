@@ -1,7 +1,7 @@
 #!/usr/bin/env python3
 """Imports 200,000 pay runs of ten accounts by the program `ftd`, with a terminal, a file and a pipe as its standard error. On the terminal a line
 tells how many records are done, once the import takes longer than a second and at most five times a second, and is cleared before
-anything else is printed; the file and the pipe get nothing, and standard output is the same. An import that is over sooner, and one
+anything else is printed; the file and the pipe get nothing of it, and standard output is the same. An import that is over sooner, and one
 that stops at its header, show nothing on the terminal but what the file gets."""
 
 import os
@@ -73,8 +73,16 @@ def on_file(words, path):
         return done.stdout, err.read()
 
 
-def shown(text):
-    """The counts that a terminal's text shows, one after the other; at the end the line has to be cleared."""
+def notes(count, due):
+    """What is said below an import that adds so many obligations to each account, with this earliest due date."""
+    return "".join(f"note: {account}: obligations added: {count}, earliest due date {due}\n" for account in ACCOUNTS).encode()
+
+
+def shown(text, below):
+    """The counts that a terminal's text shows before what is said below, one after the other; at the end the line has to be cleared."""
+    below = below.replace(b"\n", b"\r\n")
+    assert text.endswith(below), text
+    text = text.removesuffix(below)
     lines = re.fullmatch(rb"((?:\r[0-9]+ of [0-9]+ records)+)\r( +)\r", text)
     assert lines, text
     last = lines[1].rsplit(b"\r", 1)[1]
@@ -89,20 +97,24 @@ def main():
         write_runs(text, count // len(ACCOUNTS))
         printed, pieces = on_terminal([FTD, "import", "--db", new_desk(folder, "terminal.db"), text])
         assert printed == b"posted 200000 already 0 refused 0 malformed 0\n", printed
-        counts = shown(b"".join(piece for _, piece in pieces))
+        below = notes(12, "2024-02-15")
+        counts = shown(b"".join(piece for _, piece in pieces), below)
         assert all(whole == count for _, whole in counts)
         assert counts == sorted(set(counts))
         first, last = pieces[0][0], pieces[-1][0]
         assert first >= 1
         assert len(counts) <= (last - first) * 5 + 1
-        assert on_pipe([FTD, "import", "--db", new_desk(folder, "pipe.db"), text]) == (printed, b"")
+        assert on_pipe([FTD, "import", "--db", new_desk(folder, "pipe.db"), text]) == (printed, below)
         err = os.path.join(folder, "err")
-        assert on_file([FTD, "import", "--db", new_desk(folder, "file.db"), text], err) == (printed, b"")
+        assert on_file([FTD, "import", "--db", new_desk(folder, "file.db"), text], err) == (printed, below)
         print(f"{count} runs on a terminal: first told after {first:.2f} s, {len(counts)} times in {last - first:.2f} s, "
               "and the line cleared; a file and a pipe got nothing")
         write_runs(text, 1)
         db = new_desk(folder, "short.db")
-        assert on_terminal([FTD, "import", "--db", db, text]) == (b"posted 10 already 0 refused 0 malformed 0\n", [])
+        printed, pieces = on_terminal([FTD, "import", "--db", db, text])
+        assert printed == b"posted 10 already 0 refused 0 malformed 0\n", printed
+        below = notes(1, "2024-03-15").replace(b"\n", b"\r\n")
+        assert b"".join(piece for _, piece in pieces) == below, pieces
         with open(text, "w") as out:
             out.write("employer,run\n")
         printed, pieces = on_terminal([FTD, "import", "--db", db, text])

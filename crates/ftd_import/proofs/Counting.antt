@@ -69,14 +69,15 @@ module _ (records : List (ℕ × SaidEntry)) (i : ℕ) (place : Place)
   pub posted_more : place.malformed ≡ None
       → (p q r : Summary) (answers left later : List Answer) (answer : Answer)
       → CountsSome p (take i records) answers left q → left ≡ answer ∷ later
-      → ((it : Entry) → Counts q (posted place.number it answer ∷ []) r)
+      → ((it : Entry) → next.at ≡ (place.number, enters it)
+      → Counts q (posted place.number it answer ∷ []) r)
       → CountsSome p (take (i + 1) records) answers later r
   posted_more none p q r answers left later answer some first counts =
       let (it, at) = is_entry next.at place next.kept none in
       subst (λ (rs : List (ℕ × SaidEntry)). CountsSome p rs answers later r)
       (sym (next.more ∙ ap (λ (x : ℕ × SaidEntry). take i records ++ x ∷ []) at))
       (some_posted p q r (take i records) answers left later place.number it answer some first
-      (counts it))
+      (counts it at))
 
 -- ---- the answers that are left are as many as the posts that are left
 module _ (places : List Place) (i : ℕ) (default : Place) (here : i < length places) where

@@ -5,3 +5,4 @@ pub mod Texts
 pub mod Together
 pub mod Outcomes
 pub mod Tried
+mod StillAdded

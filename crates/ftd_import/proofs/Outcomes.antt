@@ -1,7 +1,7 @@
 -- Outcomes of records, one after the other.
 use Rattle.std.proofs.Common.{◌≡◌, ◌⊎◌, refl, sym, ap, subst, ◌∙◌, ◌+◌, inl, inr, arith}
 use Rattle.std.proofs.Common.{Bool, ℕ, List, [], ◌∷◌, ◌++◌, length, map, rules}
-use Rattle.std.proofs.Common.{Some, None, Ok, Err, Result, OnErr, length-append}
+use Rattle.std.proofs.Common.{Some, None, Ok, Err, Result, OnErr, IsTrue, length-append}
 use Rattle.std.specs.List.{filter, filter_map}
 use Rattle.std.proofs.lemmas.List.{append_assoc, append-nil, map-append}
 use Rattle.std.proofs.lemmas.List.Elements.{filter-append, filter_map-append}
@@ -13,13 +13,17 @@ use Rattle.ftd_desk.specs.Desks.{Held}
 use Rattle.ftd_desk.specs.Words.{Handles, HandlesAll}
 use Rattle.ftd_desk.proofs.Running.{all_none, all_one, all_then}
 use Rattle.ftd_import.specs.Outcomes.{Counts, IsNothing, IsSame, IsSummary, Outcome, answer_in}
-use Rattle.ftd_import.specs.Outcomes.{fault_in, fault_of, note_in, post_of, posted, record_in}
+use Rattle.ftd_import.specs.Outcomes.{change_in, fault_in, fault_of, note_in, post_of, posted}
+use Rattle.ftd_import.specs.Outcomes.{record_in}
 use Rattle.ftd_import.specs.Outcomes.{request_in, skipped, was_already, was_malformed, was_posted}
 use Rattle.ftd_import.specs.Outcomes.{was_refused}
 use Rattle.ftd_import.specs.Imports.{AreOutcomes, Asks, Posts, StopsAt, StopsIn}
 use Rattle.ftd_import.specs.declared.summary.StopCause.{StopCause}
 use Rattle.ftd_import.specs.declared.summary.StopCause.TheVariants as cause
 use Rattle.ftd_import.specs.declared.summary.Summary.{Summary}
+use Rattle.ftd_import.specs.Changed.{Follow}
+use Rattle.ftd_import.specs.declared.changes.AccountChange.{AccountChange}
+use Rattle.ftd_import.specs.declared.changes.Changes.{Changes}
 
 number_then : (test : Outcome → Bool) (xs ys : List Outcome) (p q r : ℕ)
     → q ≡ p + length (filter test xs) → r ≡ q + length (filter test ys)
@@ -28,6 +32,21 @@ number_then test xs ys p q r first second =
     let whole = ap length (filter-append test xs ys) ∙ length-append (filter test xs)
     (filter test ys) in
     omega arith
+
+follow_then : (p q r : Changes) (xs ys : List AccountChange) → Follow p xs q → Follow q ys r
+    → Follow p (xs ++ ys) r
+follow_then p q r xs ys first second all =
+    let later = second all in
+    let earlier = first later.0 in (
+      earlier.0,
+      later.1 ∙ ap (λ z. z ++ ys) earlier.1 ∙ append_assoc p.entries.items xs ys,
+    )
+
+follow_none : (p q : Changes) → q ≡ p → Follow p [] q
+follow_none p q is all = (
+  subst (λ (c : Changes). IsTrue c.are_all) is all,
+  ap (λ (c : Changes). c.entries.items) is ∙ sym (append-nil p.entries.items),
+)
 
 pub counts_then : (p q r : Summary) (xs ys : List Outcome) → Counts p xs q → Counts q ys r
     → Counts p (xs ++ ys) r
@@ -44,6 +63,10 @@ counts_then p q r xs ys first second = record {
       second.notes_are ∙ ap (λ z. z ++ filter_map note_in ys) first.notes_are
       ∙ append_assoc p.notes.items (filter_map note_in xs) (filter_map note_in ys)
       ∙ ap (λ z. p.notes.items ++ z) (sym (filter_map-append note_in xs ys));
+  changes_are = subst (λ more. Follow p.changes more r.changes)
+      (sym (filter_map-append change_in xs ys))
+      (follow_then p.changes q.changes r.changes (filter_map change_in xs) (filter_map change_in ys)
+      first.changes_are second.changes_are);
 }
 
 pub same : (p : Summary) → IsSame p p
@@ -53,6 +76,7 @@ same p = record {
   refused_are = omega arith;
   malformed_are = omega arith;
   notes_are = sym (append-nil p.notes.items);
+  changes_are = follow_none p.changes p.changes refl;
 }
 
 from_nothing : (p q n : ℕ) → p ≡ 0 → q ≡ p + n → q ≡ n
@@ -60,13 +84,15 @@ from_nothing p q n none is = omega arith
 
 -- with more room for notes it says the same
 pub with_room : (p q : Summary) → q.posted ≡ p.posted → q.already ≡ p.already
-    → q.refused ≡ p.refused → q.malformed ≡ p.malformed → q.notes.items ≡ p.notes.items → IsSame p q
-with_room p q posted_is already_is refused_is malformed_is notes_is = record {
+    → q.refused ≡ p.refused → q.malformed ≡ p.malformed → q.changes ≡ p.changes
+    → q.notes.items ≡ p.notes.items → IsSame p q
+with_room p q posted_is already_is refused_is malformed_is changes_is notes_is = record {
   posted_are = omega arith;
   already_are = omega arith;
   refused_are = omega arith;
   malformed_are = omega arith;
   notes_are = notes_is ∙ sym (append-nil p.notes.items);
+  changes_are = follow_none p.changes q.changes changes_is;
 }
 
 -- counted from nothing it is a summary
@@ -81,6 +107,8 @@ summary_of p q xs none counts = record {
   malformed_are = from_nothing p.malformed q.malformed (length (filter was_malformed xs))
       none.malformed_are counts.malformed_are;
   notes_are = counts.notes_are ∙ ap (λ z. z ++ filter_map note_in xs) none.notes_are;
+  changes_are = λ all. (let its = counts.changes_are all in
+      its.1 ∙ ap (λ z. z ++ filter_map change_in xs) (none.changes_are its.0));
 }
 
 pub are_then : (rs ss : List (ℕ × SaidEntry)) (xs ys : List Outcome) → AreOutcomes rs xs

@@ -102,6 +102,14 @@ pub next_posts : (records : List (ℕ × SaidEntry)) (i : ℕ) (place : Place) (
     → left ≡ posts_of (next.at ∷ drop (i + 1) records)
 next_posts records i place left next is = is ∙ ap posts_of next.rest
 
+-- a record without an entry has none
+pub posts_passed : (records : List (ℕ × SaidEntry)) (i : ℕ) (place : Place) (field : ℕ)
+    (left : List Request) → IsNext records i place → left ≡ posts_of (drop i records)
+    → place.malformed ≡ Some field → left ≡ posts_of (drop (i + 1) records)
+posts_passed records i place field left next is bad =
+    is ∙ ap posts_of (next.rest ∙ ap (λ (r : ℕ × SaidEntry). r ∷ drop (i + 1) records)
+    (is_malformed next.at place field next.kept bad))
+
 -- ---- lists
 pub places_count : (records : List (ℕ × SaidEntry)) (list : RecordList) → IsListOf records list
     → length list.places.items ≡ length records
@@ -120,5 +128,13 @@ pub first_post : (number : ℕ) (it : Entry) (at : ℕ × SaidEntry) (later : Li
     (posts others : List Request) (first : Request) → at ≡ (number, enters it)
     → posts ≡ posts_of (at ∷ later) → posts ≡ first ∷ others → first ≡ post_of it
 first_post number it at later posts others first is of split =
+    let both : first ∷ others ≡ post_of it ∷ posts_of later = sym split ∙ of
+    ∙ ap (λ (said : ℕ × SaidEntry). posts_of (said ∷ later)) is in cc
+
+-- and the others are those of the records after it
+pub later_posts : (number : ℕ) (it : Entry) (at : ℕ × SaidEntry) (later : List (ℕ × SaidEntry))
+    (posts others : List Request) (first : Request) → at ≡ (number, enters it)
+    → posts ≡ posts_of (at ∷ later) → posts ≡ first ∷ others → others ≡ posts_of later
+later_posts number it at later posts others first is of split =
     let both : first ∷ others ≡ post_of it ∷ posts_of later = sym split ∙ of
     ∙ ap (λ (said : ℕ × SaidEntry). posts_of (said ∷ later)) is in cc

@@ -1,3 +1,5 @@
+pub mod Added
+pub mod Changed
 pub mod Outcomes
 pub mod Imports
 pub mod Lists

@@ -1,6 +1,6 @@
 -- What becomes of the records of an import, and the summary of it.
 use Rattle.std.specs.Prelude.{◌≡◌, ◌+◌, ◌++◌, ℕ, Bool, true, false, List, [], length, map, Option}
-use Rattle.std.specs.Prelude.{None, Some, Ok, Err}
+use Rattle.std.specs.Prelude.{None, Some, Ok, Err, IsTrue}
 use Rattle.std.specs.List.{filter, filter_map}
 use Rattle.ftd_csv.specs.Records.{Entry, SaidEntry, a_payment, a_run, a_total, an_account, enters}
 use Rattle.ftd_csv.specs.Records.{malformed}
@@ -14,11 +14,13 @@ use Rattle.ftd_machine.specs.declared.replies.Reply.TheVariants as reply
 use Rattle.ftd_machine.specs.declared.replies.Refusal.TheVariants as refusal
 use Rattle.ftd_machine.specs.declared.requests.Request.{Request}
 use Rattle.ftd_machine.specs.declared.requests.Request.TheVariants as request
+use Rattle.ftd_import.specs.declared.changes.AccountChange.{AccountChange}
 use Rattle.ftd_import.specs.declared.summary.Finding.TheVariants.{Malformed, Refused}
 use Rattle.ftd_import.specs.declared.summary.Note.{Note}
 use Rattle.ftd_import.specs.declared.summary.StopCause.{StopCause}
 use Rattle.ftd_import.specs.declared.summary.StopCause.TheVariants as cause
 use Rattle.ftd_import.specs.declared.summary.Summary.{Summary}
+use Rattle.ftd_import.specs.Changed.{Follow, change_of}
 
 -- the request by which an entry is posted
 abbrev pub in_cents : ℕ → Cents
@@ -111,6 +113,11 @@ abbrev pub note_in : Outcome → Option Note
 note_in (posted number it answer) = note_of number answer
 note_in (skipped number field) = Some (record { number = number; finding = Malformed field })
 
+-- how the post of a record changed the obligations of its account
+abbrev pub change_in : Outcome → Option AccountChange
+change_in (posted number it answer) = change_of it answer
+change_in (skipped number field) = None
+
 -- the cause by which an answer stops an import: there was no memory, or the store failed
 abbrev pub fault_of : Answer → Option StopCause
 fault_of (Ok told) = None
@@ -161,6 +168,7 @@ pub record Counts (before : Summary) (outcomes : List Outcome) (after : Summary)
   pub refused_are : after.refused ≡ before.refused + length (filter was_refused outcomes)
   pub malformed_are : after.malformed ≡ before.malformed + length (filter was_malformed outcomes)
   pub notes_are : after.notes.items ≡ before.notes.items ++ filter_map note_in outcomes
+  pub changes_are : Follow before.changes (filter_map change_in outcomes) after.changes
 
 -- a summary after some more records, whose posts were answered so
 pub record CountsAnswers (before : Summary) (records : List (ℕ × SaidEntry)) (answers : List Answer)
@@ -177,6 +185,9 @@ pub record IsSummary (outcomes : List Outcome) (summary : Summary) : Type 0 wher
   pub refused_are : summary.refused ≡ length (filter was_refused outcomes)
   pub malformed_are : summary.malformed ≡ length (filter was_malformed outcomes)
   pub notes_are : summary.notes.items ≡ filter_map note_in outcomes
+  -- where there was memory for all of them
+  pub changes_are : IsTrue summary.changes.are_all
+      → summary.changes.entries.items ≡ filter_map change_in outcomes
 
 -- of no records
 abbrev pub IsNothing : Summary → Type 0

@@ -1,6 +1,8 @@
 //! Pay runs, accounts, reported totals and payments out of CSV, posted to the desk.
 #![tactic(auto)]
 
+mod added;
+mod changes;
 mod importing;
 mod lists;
 mod posting;
@@ -10,6 +12,8 @@ mod reading;
 mod summary;
 mod trial;
 
+pub use crate::added::AccountAdded;
+pub use crate::changes::{AccountChange, Changes};
 pub use crate::importing::import;
 pub use crate::progress::{Progress, Quiet};
 pub use crate::summary::{Finding, Note, StopCause, Stopped, Summary};

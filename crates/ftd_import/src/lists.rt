@@ -13,7 +13,7 @@ ghost use Rattle.ftd_import.specs.Imports.{Posts, PostsNone, StopsWithin, most_t
 
 use crate::posting::post_all;
 use crate::progress::Progress;
-use crate::reading::{Place, RecordList, read_list};
+use crate::reading::{RecordList, read_list};
 use crate::summary::{StopCause, Summary};
 use ftd_csv::Records;
 use ftd_desk::Desk;
@@ -24,22 +24,28 @@ use std::alloc::Global;
 /// So many records at most go to the desk together.
 const TOGETHER: usize = 16_384;
 
-/// Counts records whose posts were answered so. There is room for their notes.
-pub(crate) fn count_all(places: &[Place], answers: &[Answer], done: &mut Summary)
-    requires room { vec_len done.old.notes + length places.now ≤ vec_capacity done.old.notes }
-    requires fits { tally done.old + length places.now ≤ most_counted }
-    requires answers { length answers.now ≡ length (filter has_post places.now) }
-    ensures counts { (records : List (ℕ × SaidEntry)) → places.now ≡ map kept_of records
+/// Counts the records of a list, whose posts were answered so. There is room for their notes.
+pub(crate) fn count_all(list: &RecordList, answers: &[Answer], done: &mut Summary)
+    requires list { IsList list.now }
+    requires room { vec_len done.old.notes + length list.now.places.items
+        ≤ vec_capacity done.old.notes }
+    requires fits { tally done.old + length list.now.places.items ≤ most_counted }
+    requires answers { length answers.now ≡ length (filter has_post list.now.places.items) }
+    ensures counts { (records : List (ℕ × SaidEntry)) → IsListOf records list.now
         → CountsAnswers done.old records answers.now done.new }
-    ensures grows { tally done.new ≤ tally done.old + length places.now }
+    ensures grows { tally done.new ≤ tally done.old + length list.now.places.items }
 {
+    let places = list.places.as_slice();
+    let mut posts = list.posts.as_slice();
     let mut left = answers;
     for place in places {
         match place.malformed {
             Some(field) => done.skip(place.number, field),
             None => {
+                let (post, later_posts) = posts.split_first().unwrap();
                 let (answer, later) = left.split_first().unwrap();
-                done.count(place.number, answer);
+                done.count(place.number, post, answer);
+                posts = later_posts;
                 left = later;
             }
         }
@@ -67,7 +73,7 @@ fn post_together<S: Alter>(
         return Err(Refusal::Memory);
     };
     let answers = desk.together(&list.posts)?;
-    count_all(&list.places, &answers, done);
+    count_all(list, &answers, done);
     Ok(())
 }
 

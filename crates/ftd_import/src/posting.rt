@@ -37,7 +37,7 @@ fn post_entry<S: Alter>(
     match fault_of(&answer) {
         Some(cause) => Err(cause),
         None => {
-            done.count(number, &answer);
+            done.count(number, post, &answer);
             Ok(())
         }
     }

@@ -2,11 +2,12 @@
 
 ghost use Rattle.std.specs.Prelude.{◌≡◌, ◌<◌, ◌≤◌, ◌+◌, ◌∷◌, [], vec_len, vec_capacity};
 ghost use Rattle.ftd_import.specs.Outcomes.{Counts, IsNothing, fault_of, most_counted, posted};
-ghost use Rattle.ftd_import.specs.Outcomes.{skipped, tally, text_cause};
+ghost use Rattle.ftd_import.specs.Outcomes.{post_of, skipped, tally, text_cause};
 ghost use Rattle.ftd_csv.specs.Records.{Entry};
 
+use crate::changes::Changes;
 use ftd_csv::RecordFault;
-use ftd_machine::{Answer, Refusal, Reply};
+use ftd_machine::{Answer, Refusal, Reply, Request};
 use std::alloc::Global;
 use thiserror::Error;
 
@@ -28,7 +29,8 @@ pub struct Note {
 }
 
 /// How many records were posted (of which the desk took the entry), were there already, were
-/// refused and were malformed, with a note for each of the last two, in the order of the records.
+/// refused and were malformed, with a note for each of the last two, in the order of the records;
+/// and how those that were posted changed the obligations of accounts.
 #[derive(Drop)]
 pub struct Summary {
     pub posted: usize,
@@ -36,6 +38,7 @@ pub struct Summary {
     pub refused: usize,
     pub malformed: usize,
     pub notes: Vec<Note>,
+    pub changes: Changes,
 }
 
 /// Why an import stopped.
@@ -125,6 +128,7 @@ impl Summary {
             refused: 0,
             malformed: 0,
             notes: Vec::new(alloc),
+            changes: Changes::none(alloc),
         }
     }
 
@@ -144,12 +148,12 @@ impl Summary {
         });
     }
 
-    /// Counts a record that was posted and answered so, and notes it where it was refused. There is
-    /// room for the note.
-    pub(crate) fn count(&mut self, number: u32, answer: &Answer)
+    /// Counts a record that was posted and answered so, notes it where it was refused, and notes how
+    /// its post changed the obligations of its account. There is room for the first note.
+    pub(crate) fn count(&mut self, number: u32, post: &Request, answer: &Answer)
         requires room { vec_len self.old.notes < vec_capacity self.old.notes }
         requires fits { tally self.old < most_counted }
-        ensures counts { (it : Entry)
+        ensures counts { (it : Entry) → post.now ≡ post_of it
             → Counts self.old (posted number it answer.now ∷ []) self.new }
         ensures adds { vec_len self.new.notes ≤ vec_len self.old.notes + 1 }
         ensures room { vec_capacity self.new.notes ≡ vec_capacity self.old.notes }
@@ -166,6 +170,9 @@ impl Summary {
                     finding: Finding::Refused(*refusal),
                 });
             }
+        }
+        if let (Request::Post { account, .. }, Ok(Reply::Posted(difference))) = (post, answer) {
+            self.changes.note(account.as_str(), difference);
         }
     }
 }

@@ -74,7 +74,7 @@ fn try_list<S: Alter>(
     };
     match desk.trial(&list.posts) {
         Ok(answers) => {
-            count_all(&list.places, &answers, done);
+            count_all(list, &answers, done);
             Ok(())
         }
         Err(refusal) => Err(cause_by(refusal)),

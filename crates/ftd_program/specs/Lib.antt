@@ -1,3 +1,4 @@
+pub mod Added
 pub mod Mending
 pub mod Numbering
 pub mod Performing

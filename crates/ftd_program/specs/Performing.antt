@@ -1,6 +1,6 @@
 -- What the program prints of an answer, and its exit status.
 use Rattle.std.specs.Prelude.{◌≡◌, ◌==◌, ◌⊎◌, ℕ, Bool, true, false, List, Option, Result}
-use Rattle.std.specs.Prelude.{Some, None, MatchBool, MatchResult, Ok, Err, codes}
+use Rattle.std.specs.Prelude.{Some, None, MatchBool, MatchResult, Ok, Err, [], codes}
 use Rattle.std.specs.Io.KnownBytes.{Appends}
 use Rattle.ftd_ports.specs.Writing.{WritesPrefix}
 use Rattle.sqlite.specs.State.{HasCleanDisk}
@@ -29,6 +29,7 @@ use Rattle.ftd_desk.specs.declared.desk.Desk.{Desk}
 use Rattle.ftd_desk.specs.Telling.{StandsAsBefore}
 use Rattle.ftd_desk.specs.Words.{Handles}
 use Rattle.ftd_csv.specs.declared.sheets.Sheet.{Sheet}
+use Rattle.ftd_import.specs.Added.{added_by}
 use Rattle.ftd_import.specs.Imports.{Imports, Stops}
 use Rattle.ftd_import.specs.Trials.{FailsTrial, WouldImport}
 use Rattle.ftd_import.specs.declared.summary.StopCause.{StopCause}
@@ -51,6 +52,7 @@ use Rattle.ftd_formats.specs.declared.formats.ListFormat.{ListFormat}
 use Rattle.ftd_formats.specs.declared.formats.ListFormat.TheVariants.{Text, Csv, Json}
 use Rattle.ftd_replies.specs.declared.hints.Known.{Known}
 use Rattle.ftd_replies.specs.declared.hints.Known.TheVariants.{Nothing}
+use Rattle.ftd_program.specs.Added.{added_notes}
 use Rattle.ftd_program.specs.Mending.{KnowsAfter, KnowsOf, or_nothing}
 use Rattle.ftd_program.specs.Numbering.{next_of, number_text}
 use Rattle.ftd_program.specs.Summaries.{stop_status, stop_text, summary_status, summary_text}
@@ -92,14 +94,19 @@ module _ {O E : Type 0} (o_taken : O → Option (List ℕ)) (o_failed : O → Bo
   abbrev pub PrintsReply : List ℕ → List ℕ → Type 0
   PrintsReply text said = PrintsReplied text said ⊎ FailsOutput text
 
-  -- the summary of an import on standard output, and on standard error as many hints of its
-  -- malformed records as there is memory for
+  -- the summary of an import on standard output, and on standard error, as far as there is memory
+  -- for them, a note for each account to which it added obligations, and the hints of its malformed
+  -- records
   pub record PrintsCounts (kind : Sheet) (input : List ℕ) (summary : Summary) : Type 0 where
     pub status_is : p.status ≡ summary_status summary
     pub whole : Appends (o_taken out) (o_taken p.out) (summary_text summary)
-    pub hints : WritesPrefix (e_taken err) (e_taken p.err)
+    pub noted : E
+    pub notes : WritesPrefix (e_taken err) (e_taken noted)
+        (added_notes (added_by summary.changes.entries.items))
+    pub no_note : summary.changes.entries.items ≡ [] → noted ≡ err
+    pub hints : WritesPrefix (e_taken noted) (e_taken p.err)
         (record_hints kind summary.malformed input)
-    pub none : summary.malformed ≡ 0 → p.err ≡ err
+    pub no_hint : summary.malformed ≡ 0 → p.err ≡ noted
 
   abbrev pub PrintsSummary : Sheet → List ℕ → Summary → Type 0
   PrintsSummary kind input summary =

@@ -1,6 +1,7 @@
 //! What the program does with what words ask, and what it prints.
 #![tactic(auto)]
 
+mod added;
 mod deposits;
 mod mending;
 mod noting;

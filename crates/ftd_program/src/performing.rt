@@ -17,6 +17,7 @@ ghost use Rattle.ftd_replies.specs.Putting.{IsPut};
 ghost use Rattle.ftd_replies.specs.Replies.{reply_text};
 ghost use Rattle.ftd_program.specs.Summaries.{stop_status, stop_text, summary_status};
 
+use crate::added::put_added;
 use crate::mending::{known_for, or_nothing};
 use crate::noting::answer_then_note;
 use crate::numbering::ask_next;
@@ -291,7 +292,8 @@ fn status_in(summary: &Summary) -> u8
     }
 }
 
-/// Prints the summary of an import, and the hints of its malformed records.
+/// Prints the summary of an import, a note for each account to which it added obligations, and the
+/// hints of its malformed records.
 fn print_summary<O: Target, E: Target>(
     alloc: Global,
     sheet: Sheet,
@@ -307,6 +309,7 @@ fn print_summary<O: Target, E: Target>(
     match write_summary(summary, &mut out) {
         Ok(()) => {
             let mut err = err;
+            put_added(&summary.changes, &mut err);
             if summary.malformed > 0 {
                 put_hints(alloc, sheet, input, summary.malformed, &mut err);
             }

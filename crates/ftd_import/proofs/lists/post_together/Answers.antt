@@ -19,20 +19,19 @@ returns-in_err-answers-clause-none g c =
 pub count_all-requires-clause-answers : goal.count_all-requires-clause-answers
 count_all-requires-clause-answers g c =
     let (records, is) = c.requires.list in
-    ap length c.deref-3.ensures.value ∙ c.in_ok-answers.ensures.answers.count
+    ap length c.deref-2.ensures.value ∙ c.in_ok-answers.ensures.answers.count
     ∙ ap length (c.deref.ensures.value ∙ is.posts) ∙ posts_count records
     ∙ ap (λ (places : List Place). length (filter has_post places))
-    (sym (c.deref-2.ensures.value ∙ is.places))
+    (sym is.places)
 
 pub returns-clause-posts : goal.returns-clause-posts
 returns-clause-posts g c =
     let q : Summary = record c.args.done.now { notes = c.reserve.new.self } in
-    let room = with_room c.args.done.now q refl refl refl refl c.in-Ok.ensures.items in
+    let room = with_room c.args.done.now q refl refl refl refl refl c.in-Ok.ensures.items in
     λ records is.
     posts_together (held g.S.Store c.args.desk.now) (held g.S.Store c.together.new.self) records
     c.deref.result.now c.in_ok-answers.answers.items c.args.done.now q c.count_all.new.done
     (c.deref.ensures.value ∙ is.posts)
     c.in_ok-answers.ensures.answers room
-    (rw c.deref-3.ensures.value at (c.count_all.ensures.counts records
-    (c.deref-2.ensures.value ∙ is.places)))
+    (rw c.deref-2.ensures.value at (c.count_all.ensures.counts records is))
     c.in_ok-answers.ensures.together

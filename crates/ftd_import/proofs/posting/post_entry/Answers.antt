@@ -23,4 +23,4 @@ returns-clause-posts g c =
     posts_one before after c.args.number it c.handle-answer.result c.args.done.now c.count.new.self
     (subst (λ (r : Request). Handles before after r c.handle-answer.result) is
     c.handle-answer.ensures.handles) (sym c.in-None.ensures)
-    (c.count.ensures.counts it)
+    (c.count.ensures.counts it is)
