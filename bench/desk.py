@@ -676,10 +676,33 @@ class Desk:
             notes.append(f"note: {year} is {'semiweekly from its first day' if semiweekly else monthly}")
         return notes
 
+    def difference(self, line):
+        """The first field in which a pay run or a payment is another than the one that has its number."""
+        verb, name, number, *words = line.split(" ")
+        kept = (self.runs if verb == "post" else self.payments)[name, int(number)]
+        fields, was = ["payday", "fit", "ss", "medicare"], [str(kept["payday"]), *map(money, kept["amounts"])] if verb == "post" else None
+        if verb == "pay":
+            fields, was = ["paid", "for", "amount"], [str(kept["paid"]), str(kept["for"]), money(kept["cents"])]
+        now = [word if "-" in word else money(round(float(word) * 100)) for word in words] + ["0.00"] * (len(fields) - len(words))
+        return next(f"{field} is {new}, posted with {old}" for field, new, old in zip(fields, now, was) if new != old)
+
+    def notes_of_refused(self, lines, answers, known):
+        """What is said of the refused records of an import of pay runs: of each kind the first 20, in their order, and how many more there are;
+        and in what a run differs from the one that has its number, if it is among those that are known."""
+        notes, count = [], {}
+        for number, (line, answer) in enumerate(zip(lines, answers), 2):
+            if answer.startswith("refused"):
+                kind, name, run = tuple(answer.split(" ")[1:3]), *line.split(" ")[1:3]
+                count[kind] = count.get(kind, 0) + 1
+                differs = f": {self.difference(line)}" if kind[0] == "11" and (name, int(run)) in known else ""
+                notes += [f"note: record {number}, {name} run {run}{differs}"] * (count[kind] <= 20)
+        return notes + [f"note: and {count[kind] - 20} more records: refused {' '.join(kind)}"
+                        for kind in sorted(count, key=lambda kind: int(kind[0])) if count[kind] > 20]
+
     def imported(self, lines):
-        """What an import of pay runs prints, and what is said below it: of each account, in the order of their last changes, how many obligations
-        it added and the earliest due date among them."""
-        before = {name: set(self.obligations(name)) for name in NAMES}
+        """What an import of pay runs prints, and what is said below its trial and below it: of each account, in the order of their last changes,
+        how many obligations it added and the earliest due date among them; then of its refused records."""
+        before, known = {name: set(self.obligations(name)) for name in NAMES}, set(self.runs)
         answers, changed_now = [self.ask(line) for line in lines], []
         for line, answer in zip(lines, answers):
             if CHANGED.match(answer):
@@ -689,9 +712,10 @@ class Desk:
         posted, already = sum(map(bool, map(CHANGED.match, answers))), answers.count("already")
         notes = [f"record {number} {answer}" for number, answer in enumerate(answers, 2) if answer in refused]
         added = {name: set(self.obligations(name)) - before[name] for name in changed_now}
-        return [f"posted {posted} already {already} refused {len(refused)} malformed 0", *notes], [
-            f"note: {name}: obligations added: {len(rows)}, earliest due date {min(row[4] for row in rows)}" for name, rows in added.items() if rows
-        ]
+        brought = [f"note: {name}: obligations added: {len(rows)}, earliest due date {min(row[4] for row in rows)}"
+                   for name, rows in added.items() if rows]
+        below = [brought + self.notes_of_refused(lines, answers, those) for those in (known, self.runs)]
+        return [f"posted {posted} already {already} refused {len(refused)} malformed 0", *notes], *below
 
     def said_below(self, line, answer):
         """What is said below the answer to a command, but for what is due or kept."""
@@ -700,6 +724,8 @@ class Desk:
             return self.notes_of_change()
         if verb == "pay" and answer == "done":
             return [self.note_of_payment(words[0], date(words[3]))]
+        if answer.startswith(("refused 11", "refused 12")):
+            return [f"hint: {self.difference(line)}"]
         rows = len(self.unapplied(date("2099-12-31"))) if verb == "owed" and answer.startswith("OWED") else 0
         return [f"hint: money that counts for nothing, listed by ftd unapplied --db FILE: {rows}"] if rows else []
 
@@ -811,7 +837,7 @@ QUESTIONS = 16
 CORRECTIONS = 8
 PAYMENTS = 8
 CHANGES = 8
-IMPORTED = 12
+IMPORTED = 150
 NAMES = ["ash", "birch", "cedar", "elm", "fir", "oak", "pine", "rye", "nobody", "Bad"]
 YEARS = range(2022, 2028)
 
@@ -920,12 +946,28 @@ def new_run(rng, posted):
     return f"post {name} {len(posted[name])} {some_day(rng)} {amount(rng)} {amount(rng)} {amount(rng)}"
 
 
-def change(rng, posted):
-    """A pay run that is posted or voided."""
+def other_run(rng, desk):
+    """A pay run that was posted, often with another payday or another amount."""
+    (name, number), kept = rng.choice(list(desk.runs.items()))
+    fields = [str(kept["payday"]), *map(money, kept["amounts"])]
+    place = rng.randrange(5)
+    fields[place:place + 1] = [some_day(rng) if place == 0 else amount(rng)] * (place < 4)
+    return f"post {name} {number} {' '.join(map(str, fields))}"
+
+
+def change(rng, desk, posted):
+    """A pay run that is posted or voided; now and then the number is one that was used."""
     name = rng.choice(NAMES[:8])
     if posted.get(name) and rng.random() < 0.3:
         return f"void {name} {rng.choice(posted[name])}"
-    return new_run(rng, posted)
+    return other_run(rng, desk) if desk.runs and rng.random() < 0.2 else new_run(rng, posted)
+
+
+def imported_run(rng, desk, posted):
+    """A pay run for an import: most often a new one, else one whose number was used, or one of an employer who is not enrolled."""
+    if rng.random() < 0.15:
+        return f"post nobody {rng.randint(1, 99)} {some_day(rng)} {amount(rng)} {amount(rng)} {amount(rng)}"
+    return other_run(rng, desk) if desk.runs and rng.random() < 0.4 else new_run(rng, posted)
 
 
 def one(rng, desk, posted, paid):
@@ -998,9 +1040,12 @@ def command_answer(program, file, line, below=()):
     return ran.stdout if ran.returncode == 0 else ran.stderr.split("\n")[0]
 
 
+SAID = re.compile(r"note: |hint: (money|.* is .*, posted with )")
+
+
 def said_on(ran, file):
     """What a command says below its answer."""
-    return "\n".join(it.replace(file, "FILE") for it in ran.stderr.split("\n") if it.startswith(("note: ", "hint: money")))
+    return "\n".join(it.replace(file, "FILE") for it in ran.stderr.split("\n") if SAID.match(it))
 
 
 def correction_answer(program, file, verb, words, content, below):
@@ -1013,12 +1058,12 @@ def correction_answer(program, file, verb, words, content, below):
 
 
 def compare_import(program, file, desk, lines):
-    """Imports pay runs, and compares what is printed and what is said below it; the trial of the import first, which says the same."""
+    """Imports pay runs, and compares what is printed and what is said below it; the trial of the import first, which prints the same."""
     records = [",".join(line.split(" ")[1:]) for line in lines]
     with open(file + ".csv", "w", encoding="utf-8") as out:
         out.write("\n".join(["employer,run,payday,fit,ss,medicare", *records, ""]))
-    right, below = desk.imported(lines)
-    for words in ["import", "--check"], ["import"]:
+    right, *says = desk.imported(lines)
+    for words, below in zip((["import", "--check"], ["import"]), says):
         ran = subprocess.run([program, *words, "--db", file, file + ".csv"], capture_output=True, text=True, timeout=60)
         compare_answer(" ".join(words), lines, ran.stdout.strip(), "\n".join(right))
         compare_answer("below " + " ".join(words), lines, said_on(ran, file), "\n".join(below))
@@ -1068,12 +1113,12 @@ def compare(program, file, seed, count):
         compare_answer(f"seed {seed}, command", line, command_answer(program, file, line, below).strip(), right)
     compare_tables(file, desk, f"seed {seed}, after its payments")
     for _ in range(CHANGES):
-        line = change(rng, posted)
+        line = change(rng, desk, posted)
         right = desk.ask(line)
         below = desk.said_below(line, right)
         compare_answer(f"seed {seed}, command", line, command_answer(program, file, line, below).strip(), changed(right))
     compare_tables(file, desk, f"seed {seed}, after its pay runs")
-    compare_import(program, file, desk, [new_run(rng, posted) for _ in range(IMPORTED)])
+    compare_import(program, file, desk, [imported_run(rng, desk, posted) for _ in range(IMPORTED)])
     compare_tables(file, desk, f"seed {seed}, after an import")
     for _ in range(CORRECTIONS):
         verb, words, before, content = correction(rng, desk)

@@ -37,8 +37,12 @@ fn are_none(quarters: &[QuarterTotal], years: &[YearTotal], lines: &[YearLine]) 
     quarters.is_empty() && years.is_empty() && lines.is_empty()
 }
 
-/// Whether nothing rests on the account.
-fn is_unused<S: Alter>(tx: &mut Tx<'_, S>, alloc: Global, name: &str) -> Result<bool, StoreFault>
+/// Whether nothing rests on the account: no total was reported, and no year is open.
+pub fn is_unused<S: Alter>(
+    tx: &mut Tx<'_, S>,
+    alloc: Global,
+    name: &str,
+) -> Result<bool, StoreFault>
     ensures call { Reads S.Store tx.old tx.new result (KnowsUnused name.now) }
 {
     let quarters = tx.reported_totals(alloc, name)?;

@@ -14,8 +14,8 @@ mod payments;
 mod reported;
 mod years;
 
-pub use crate::accounts::{enrol, known};
-pub use crate::beginnings::correct_account;
+pub use crate::accounts::{enrol, enrolled, known};
+pub use crate::beginnings::{correct_account, is_unused};
 pub use crate::calendars::take_calendar;
 pub use crate::in_force::{figure, year_figure};
 pub use crate::lookbacks::lookback_total;

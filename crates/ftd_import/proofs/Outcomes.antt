@@ -14,16 +14,15 @@ use Rattle.ftd_desk.specs.Words.{Handles, HandlesAll}
 use Rattle.ftd_desk.proofs.Running.{all_none, all_one, all_then}
 use Rattle.ftd_import.specs.Outcomes.{Counts, IsNothing, IsSame, IsSummary, Outcome, answer_in}
 use Rattle.ftd_import.specs.Outcomes.{change_in, fault_in, fault_of, note_in, post_of, posted}
-use Rattle.ftd_import.specs.Outcomes.{record_in}
+use Rattle.ftd_import.specs.Outcomes.{record_in, refusal_in}
 use Rattle.ftd_import.specs.Outcomes.{request_in, skipped, was_already, was_malformed, was_posted}
 use Rattle.ftd_import.specs.Outcomes.{was_refused}
 use Rattle.ftd_import.specs.Imports.{AreOutcomes, Asks, Posts, StopsAt, StopsIn}
 use Rattle.ftd_import.specs.declared.summary.StopCause.{StopCause}
 use Rattle.ftd_import.specs.declared.summary.StopCause.TheVariants as cause
 use Rattle.ftd_import.specs.declared.summary.Summary.{Summary}
-use Rattle.ftd_import.specs.Changed.{Follow}
-use Rattle.ftd_import.specs.declared.changes.AccountChange.{AccountChange}
-use Rattle.ftd_import.specs.declared.changes.Changes.{Changes}
+use Rattle.ftd_import.specs.Collections.{Follow}
+use Rattle.ftd_import.specs.declared.collection.Collection.{Collection}
 
 number_then : (test : Outcome → Bool) (xs ys : List Outcome) (p q r : ℕ)
     → q ≡ p + length (filter test xs) → r ≡ q + length (filter test ys)
@@ -33,19 +32,19 @@ number_then test xs ys p q r first second =
     (filter test ys) in
     omega arith
 
-follow_then : (p q r : Changes) (xs ys : List AccountChange) → Follow p xs q → Follow q ys r
+follow_then : {T : Type 0} (p q r : Collection T) (xs ys : List T) → Follow p xs q → Follow q ys r
     → Follow p (xs ++ ys) r
-follow_then p q r xs ys first second all =
+follow_then {T = T} p q r xs ys first second all =
     let later = second all in
     let earlier = first later.0 in (
       earlier.0,
       later.1 ∙ ap (λ z. z ++ ys) earlier.1 ∙ append_assoc p.entries.items xs ys,
     )
 
-follow_none : (p q : Changes) → q ≡ p → Follow p [] q
-follow_none p q is all = (
-  subst (λ (c : Changes). IsTrue c.are_all) is all,
-  ap (λ (c : Changes). c.entries.items) is ∙ sym (append-nil p.entries.items),
+follow_none : {T : Type 0} (p q : Collection T) → q ≡ p → Follow p [] q
+follow_none {T = T} p q is all = (
+  subst (λ (c : Collection T). IsTrue c.are_all) is all,
+  ap (λ (c : Collection T). c.entries.items) is ∙ sym (append-nil p.entries.items),
 )
 
 pub counts_then : (p q r : Summary) (xs ys : List Outcome) → Counts p xs q → Counts q ys r
@@ -63,6 +62,10 @@ counts_then p q r xs ys first second = record {
       second.notes_are ∙ ap (λ z. z ++ filter_map note_in ys) first.notes_are
       ∙ append_assoc p.notes.items (filter_map note_in xs) (filter_map note_in ys)
       ∙ ap (λ z. p.notes.items ++ z) (sym (filter_map-append note_in xs ys));
+  refusals_are = subst (λ more. Follow p.refusals more r.refusals)
+      (sym (filter_map-append refusal_in xs ys))
+      (follow_then p.refusals q.refusals r.refusals (filter_map refusal_in xs)
+      (filter_map refusal_in ys) first.refusals_are second.refusals_are);
   changes_are = subst (λ more. Follow p.changes more r.changes)
       (sym (filter_map-append change_in xs ys))
       (follow_then p.changes q.changes r.changes (filter_map change_in xs) (filter_map change_in ys)
@@ -76,6 +79,7 @@ same p = record {
   refused_are = omega arith;
   malformed_are = omega arith;
   notes_are = sym (append-nil p.notes.items);
+  refusals_are = follow_none p.refusals p.refusals refl;
   changes_are = follow_none p.changes p.changes refl;
 }
 
@@ -84,14 +88,15 @@ from_nothing p q n none is = omega arith
 
 -- with more room for notes it says the same
 pub with_room : (p q : Summary) → q.posted ≡ p.posted → q.already ≡ p.already
-    → q.refused ≡ p.refused → q.malformed ≡ p.malformed → q.changes ≡ p.changes
-    → q.notes.items ≡ p.notes.items → IsSame p q
-with_room p q posted_is already_is refused_is malformed_is changes_is notes_is = record {
+    → q.refused ≡ p.refused → q.malformed ≡ p.malformed → q.refusals ≡ p.refusals
+    → q.changes ≡ p.changes → q.notes.items ≡ p.notes.items → IsSame p q
+with_room p q posted_is already_is refused_is malformed_is refusals_is changes_is notes_is = record {
   posted_are = omega arith;
   already_are = omega arith;
   refused_are = omega arith;
   malformed_are = omega arith;
   notes_are = notes_is ∙ sym (append-nil p.notes.items);
+  refusals_are = follow_none p.refusals q.refusals refusals_is;
   changes_are = follow_none p.changes q.changes changes_is;
 }
 
@@ -107,6 +112,8 @@ summary_of p q xs none counts = record {
   malformed_are = from_nothing p.malformed q.malformed (length (filter was_malformed xs))
       none.malformed_are counts.malformed_are;
   notes_are = counts.notes_are ∙ ap (λ z. z ++ filter_map note_in xs) none.notes_are;
+  refusals_are = λ all. (let its = counts.refusals_are all in
+      its.1 ∙ ap (λ z. z ++ filter_map refusal_in xs) (none.refusals_are its.0));
   changes_are = λ all. (let its = counts.changes_are all in
       its.1 ∙ ap (λ z. z ++ filter_map change_in xs) (none.changes_are its.0));
 }

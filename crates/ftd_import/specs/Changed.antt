@@ -1,11 +1,10 @@
 -- How the records of an import change the obligations of accounts.
-use Rattle.std.specs.Prelude.{◌≡◌, ◌++◌, ℕ, List, Option, None, Some, Ok, Err, IsTrue}
+use Rattle.std.specs.Prelude.{ℕ, List, Option, None, Some, Ok, Err}
 use Rattle.ftd_csv.specs.Records.{Entry, a_payment, a_run, a_total, an_account}
 use Rattle.ftd_machine.specs.Checks.{Answer}
 use Rattle.ftd_machine.specs.declared.replies.Difference.{Difference}
 use Rattle.ftd_machine.specs.declared.replies.Reply.TheVariants as reply
 use Rattle.ftd_import.specs.declared.changes.AccountChange.{AccountChange}
-use Rattle.ftd_import.specs.declared.changes.Changes.{Changes}
 
 -- the account, the obligations that were removed and those that were added
 abbrev pub account_change : List ℕ → Difference → AccountChange
@@ -25,9 +24,3 @@ change_of (a_run run) answer = change_by run.employer answer
 change_of (an_account account) answer = None
 change_of (a_total total) answer = None
 change_of (a_payment payment) answer = None
-
--- after some more records: those before, and these
-abbrev pub Follow : Changes → List AccountChange → Changes → Type 0
-Follow before more after =
-    IsTrue after.are_all → IsTrue before.are_all
-    × (after.entries.items ≡ before.entries.items ++ more)

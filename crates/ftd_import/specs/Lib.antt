@@ -1,8 +1,10 @@
 pub mod Added
 pub mod Changed
+pub mod Collections
 pub mod Outcomes
 pub mod Imports
 pub mod Lists
+pub mod Refused
 pub mod Trials
 pub use Rattle.ftd_csv.specs.Answers
 pub use Rattle.ftd_csv.specs.Places

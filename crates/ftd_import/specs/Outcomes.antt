@@ -1,6 +1,6 @@
 -- What becomes of the records of an import, and the summary of it.
 use Rattle.std.specs.Prelude.{◌≡◌, ◌+◌, ◌++◌, ℕ, Bool, true, false, List, [], length, map, Option}
-use Rattle.std.specs.Prelude.{None, Some, Ok, Err, IsTrue}
+use Rattle.std.specs.Prelude.{None, Some, Ok, Err}
 use Rattle.std.specs.List.{filter, filter_map}
 use Rattle.ftd_csv.specs.Records.{Entry, SaidEntry, a_payment, a_run, a_total, an_account, enters}
 use Rattle.ftd_csv.specs.Records.{malformed}
@@ -20,12 +20,12 @@ use Rattle.ftd_import.specs.declared.summary.Note.{Note}
 use Rattle.ftd_import.specs.declared.summary.StopCause.{StopCause}
 use Rattle.ftd_import.specs.declared.summary.StopCause.TheVariants as cause
 use Rattle.ftd_import.specs.declared.summary.Summary.{Summary}
-use Rattle.ftd_import.specs.Changed.{Follow, change_of}
+use Rattle.ftd_import.specs.Changed.{change_of}
+use Rattle.ftd_import.specs.Collections.{Collects, Follow}
+use Rattle.ftd_import.specs.Refused.{in_cents, refused_by}
+use Rattle.ftd_import.specs.declared.refusals.RefusedRecord.{RefusedRecord}
 
 -- the request by which an entry is posted
-abbrev pub in_cents : ℕ → Cents
-in_cents amount = record { 0 = amount }
-
 abbrev pub total_request : List ℕ → Period → Cents → Request
 total_request employer (period.Quarter quarter) amount = request.Report employer quarter amount
 total_request employer (period.Year year) amount = request.ReportYear employer year amount
@@ -118,6 +118,11 @@ abbrev pub change_in : Outcome → Option AccountChange
 change_in (posted number it answer) = change_of it answer
 change_in (skipped number field) = None
 
+-- the record, where its post was refused
+abbrev pub refusal_in : Outcome → Option RefusedRecord
+refusal_in (posted number it answer) = refused_by number it answer
+refusal_in (skipped number field) = None
+
 -- the cause by which an answer stops an import: there was no memory, or the store failed
 abbrev pub fault_of : Answer → Option StopCause
 fault_of (Ok told) = None
@@ -168,6 +173,7 @@ pub record Counts (before : Summary) (outcomes : List Outcome) (after : Summary)
   pub refused_are : after.refused ≡ before.refused + length (filter was_refused outcomes)
   pub malformed_are : after.malformed ≡ before.malformed + length (filter was_malformed outcomes)
   pub notes_are : after.notes.items ≡ before.notes.items ++ filter_map note_in outcomes
+  pub refusals_are : Follow before.refusals (filter_map refusal_in outcomes) after.refusals
   pub changes_are : Follow before.changes (filter_map change_in outcomes) after.changes
 
 -- a summary after some more records, whose posts were answered so
@@ -185,9 +191,8 @@ pub record IsSummary (outcomes : List Outcome) (summary : Summary) : Type 0 wher
   pub refused_are : summary.refused ≡ length (filter was_refused outcomes)
   pub malformed_are : summary.malformed ≡ length (filter was_malformed outcomes)
   pub notes_are : summary.notes.items ≡ filter_map note_in outcomes
-  -- where there was memory for all of them
-  pub changes_are : IsTrue summary.changes.are_all
-      → summary.changes.entries.items ≡ filter_map change_in outcomes
+  pub refusals_are : Collects summary.refusals (filter_map refusal_in outcomes)
+  pub changes_are : Collects summary.changes (filter_map change_in outcomes)
 
 -- of no records
 abbrev pub IsNothing : Summary → Type 0

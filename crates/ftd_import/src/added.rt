@@ -4,7 +4,8 @@ ghost use Rattle.std.specs.Prelude.{◌≡◌, IfOk};
 ghost use Rattle.std.specs.List.{list_any};
 ghost use Rattle.ftd_import.specs.Added.{added_by, added_then, begins_in, is_of, still_added};
 
-use crate::changes::{AccountChange, Changes};
+use crate::changes::AccountChange;
+use crate::collection::Collection;
 use ftd_days::Day;
 use ftd_machine::AccountName;
 use ftd_rules::{Obligation, Obligations};
@@ -91,20 +92,19 @@ fn account_added(
     })
 }
 
-impl Changes {
-    /// The obligations that were added to each account and not removed again, in the order of the
-    /// last changes of the accounts.
-    pub fn added(&self) -> Result<Vec<AccountAdded>, AllocError>
-        ensures { IfOk result (λ list. list.items ≡ added_by self.now.entries.items) }
-    {
-        let changes = self.entries.as_slice();
-        let mut list = Vec::new(self.alloc);
-        for (i, change) in changes.iter().enumerate() {
-            let account = change.account.as_str();
-            if !is_named(account, &changes[i + 1..]) {
-                list.push(account_added(self.alloc, account, changes)?)?;
-            }
+/// The obligations that were added to each account and not removed again, in the order of the last
+/// changes of the accounts. An error if there is no memory; the changes stay as they are.
+pub fn added_by(changes: &Collection<AccountChange>) -> Result<Vec<AccountAdded>, AllocError>
+    ensures { IfOk result (λ list. list.items ≡ added_by changes.now.entries.items) }
+{
+    let alloc = changes.alloc;
+    let changes = changes.entries.as_slice();
+    let mut list = Vec::new(alloc);
+    for (i, change) in changes.iter().enumerate() {
+        let account = change.account.as_str();
+        if !is_named(account, &changes[i + 1..]) {
+            list.push(account_added(alloc, account, changes)?)?;
         }
-        Ok(list)
     }
+    Ok(list)
 }

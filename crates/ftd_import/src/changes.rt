@@ -1,6 +1,6 @@
 //! How the records of an import change the obligations of accounts.
 
-ghost use Rattle.std.specs.Prelude.{◌≡◌, ◌++◌, ◌∷◌, [], true, IfOk, IsTrue};
+ghost use Rattle.std.specs.Prelude.{◌≡◌, IfOk};
 ghost use Rattle.ftd_import.specs.Changed.{account_change};
 
 use ftd_machine::{AccountName, Difference};
@@ -18,17 +18,8 @@ pub struct AccountChange {
     pub added: Obligations,
 }
 
-/// How the records of an import changed the obligations of accounts, in the order of the records.
-#[derive(Drop)]
-pub struct Changes {
-    pub entries: Vec<AccountChange>,
-    /// Whether there was memory for all of them.
-    pub are_all: bool,
-    pub(crate) alloc: Global,
-}
-
 /// How the account's obligations changed.
-fn account_change(
+pub(crate) fn account_change(
     alloc: Global,
     account: &str,
     difference: &Difference,
@@ -42,35 +33,4 @@ fn account_change(
         removed: Obligations::from_vec(removed),
         added: Obligations::from_vec(added),
     })
-}
-
-impl Changes {
-    /// Of no records.
-    pub(crate) fn none(alloc: Global) -> Changes
-        ensures entries { result.entries.items ≡ [] }
-        ensures are_all { result.are_all ≡ true }
-    {
-        Changes {
-            entries: Vec::new(alloc),
-            are_all: true,
-            alloc,
-        }
-    }
-
-    /// Notes how the account's obligations changed, if there is memory for it.
-    pub(crate) fn note(&mut self, account: &str, difference: &Difference)
-        ensures before { IsTrue self.new.are_all → IsTrue self.old.are_all }
-        ensures entries { IsTrue self.new.are_all → self.new.entries.items
-            ≡ self.old.entries.items ++ account_change account.now difference.now ∷ [] }
-    {
-        match account_change(self.alloc, account, difference) {
-            Ok(change) => {
-                let Ok(()) = self.entries.push(change) else {
-                    self.are_all = false;
-                    return;
-                };
-            }
-            Err(_) => self.are_all = false,
-        }
-    }
 }

@@ -3,18 +3,22 @@
 
 mod added;
 mod changes;
+mod collection;
 mod importing;
 mod lists;
 mod posting;
 mod posts;
 mod progress;
 mod reading;
+mod refusals;
 mod summary;
 mod trial;
 
-pub use crate::added::AccountAdded;
-pub use crate::changes::{AccountChange, Changes};
+pub use crate::added::{AccountAdded, added_by};
+pub use crate::changes::AccountChange;
+pub use crate::collection::Collection;
 pub use crate::importing::import;
 pub use crate::progress::{Progress, Quiet};
+pub use crate::refusals::{RecordEntry, RefusedRecord};
 pub use crate::summary::{Finding, Note, StopCause, Stopped, Summary};
 pub use crate::trial::import_trial;

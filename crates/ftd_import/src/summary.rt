@@ -5,7 +5,9 @@ ghost use Rattle.ftd_import.specs.Outcomes.{Counts, IsNothing, fault_of, most_co
 ghost use Rattle.ftd_import.specs.Outcomes.{post_of, skipped, tally, text_cause};
 ghost use Rattle.ftd_csv.specs.Records.{Entry};
 
-use crate::changes::Changes;
+use crate::changes::{AccountChange, account_change};
+use crate::collection::Collection;
+use crate::refusals::{RefusedRecord, refused_record};
 use ftd_csv::RecordFault;
 use ftd_machine::{Answer, Refusal, Reply, Request};
 use std::alloc::Global;
@@ -30,7 +32,8 @@ pub struct Note {
 
 /// How many records were posted (of which the desk took the entry), were there already, were
 /// refused and were malformed, with a note for each of the last two, in the order of the records;
-/// and how those that were posted changed the obligations of accounts.
+/// what those that were refused were to enter, and how those that were posted changed the
+/// obligations of accounts.
 #[derive(Drop)]
 pub struct Summary {
     pub posted: usize,
@@ -38,7 +41,8 @@ pub struct Summary {
     pub refused: usize,
     pub malformed: usize,
     pub notes: Vec<Note>,
-    pub changes: Changes,
+    pub refusals: Collection<RefusedRecord>,
+    pub changes: Collection<AccountChange>,
 }
 
 /// Why an import stopped.
@@ -128,7 +132,8 @@ impl Summary {
             refused: 0,
             malformed: 0,
             notes: Vec::new(alloc),
-            changes: Changes::none(alloc),
+            refusals: Collection::none(alloc),
+            changes: Collection::none(alloc),
         }
     }
 
@@ -148,8 +153,9 @@ impl Summary {
         });
     }
 
-    /// Counts a record that was posted and answered so, notes it where it was refused, and notes how
-    /// its post changed the obligations of its account. There is room for the first note.
+    /// Counts a record that was posted and answered so, notes it and what it was to enter where it
+    /// was refused, and how its post changed the obligations of its account. There is room for the
+    /// first note.
     pub(crate) fn count(&mut self, number: u32, post: &Request, answer: &Answer)
         requires room { vec_len self.old.notes < vec_capacity self.old.notes }
         requires fits { tally self.old < most_counted }
@@ -169,10 +175,13 @@ impl Summary {
                     number,
                     finding: Finding::Refused(*refusal),
                 });
+                let record = refused_record(self.refusals.alloc, number, post, *refusal);
+                self.refusals.add(record);
             }
         }
         if let (Request::Post { account, .. }, Ok(Reply::Posted(difference))) = (post, answer) {
-            self.changes.note(account.as_str(), difference);
+            let change = account_change(self.changes.alloc, account.as_str(), difference);
+            self.changes.add(change);
         }
     }
 }

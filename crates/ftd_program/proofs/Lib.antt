@@ -3,3 +3,5 @@ mod DueFacts
 mod Mended
 mod FaultLines
 mod Numbered
+mod RecordFacts
+mod Puts

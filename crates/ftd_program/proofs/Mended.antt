@@ -45,6 +45,12 @@ stands_on a b c first second = record {
       (λ clean left none. none) first.crash second.crash;
 }
 
+-- what was kept before it is kept after it
+pub keeps_on : (a b : Held) (s : State) → StandsAsBefore a b → HasCleanDisk b.db → KeepsIfOpen a s
+    → KeepsIfOpen b s
+keeps_on a b s stands clean keeps =
+    λ is_open. stands.stands clean is_open s (keeps (stands.opens clean is_open))
+
 module _ (a b c : Held) (request : Request) (refusal : Refusal)
     (handles : Handles a b request (Err refusal)) (stands : StandsAsBefore b c) where
   -- what a crash may leave of the request

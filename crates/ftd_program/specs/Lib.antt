@@ -1,8 +1,10 @@
 pub mod Added
+pub mod Differences
 pub mod Mending
 pub mod Numbering
 pub mod Performing
 pub mod Plain
+pub mod RecordNotes
 pub mod Summaries
 pub use Rattle.ftd_days.specs.Text
 pub use Rattle.ftd_desk.specs.Desks

@@ -1,8 +1,12 @@
 -- What is asked of the desk for the hints of a refusal.
-use Rattle.std.specs.Prelude.{◌≡◌, ◌≤◌, ℕ, nat_lt, List, Option, None, Some, Result}
+use Rattle.std.specs.Prelude.{◌≡◌, ◌≤◌, ℕ, nat_lt, Bool, List, Option, None, Some, Result}
 use Rattle.std.specs.Prelude.{Ok, Err, ⊤, if◌then◌else◌}
 use Rattle.sqlite.specs.State.{HasCleanDisk}
-use Rattle.ftd_machine.specs.State.{State, calendar_at, entries_of}
+use Rattle.ftd_rules.specs.declared.payment.Payment.{Payment}
+use Rattle.ftd_rules.specs.declared.run.PayRun.{PayRun}
+use Rattle.ftd_machine.specs.Requests.{is_unused}
+use Rattle.ftd_machine.specs.State.{State, calendar_at, enrolled_in, entries_of}
+use Rattle.ftd_machine.specs.declared.entries.Account.{Account}
 use Rattle.ftd_machine.specs.Checks.{Answer}
 use Rattle.ftd_machine.specs.Runs.{Goes, IsFault}
 use Rattle.ftd_machine.specs.declared.replies.Refusal.{Refusal}
@@ -15,7 +19,9 @@ use Rattle.ftd_desk.specs.Desks.{Held, Keeps}
 use Rattle.ftd_replies.specs.Hints.{account_in}
 use Rattle.ftd_replies.specs.declared.hints.Known.{Known}
 use Rattle.ftd_replies.specs.declared.hints.Known.TheVariants.{Nothing, Missing, Given, Begins}
-use Rattle.ftd_replies.specs.declared.hints.Known.TheVariants.{Meant}
+use Rattle.ftd_replies.specs.declared.hints.Known.TheVariants.{Meant, Differs, Enrolled}
+use Rattle.ftd_replies.specs.declared.differing.Differing.{Differing}
+use Rattle.ftd_program.specs.Differences.{payment_difference, run_difference}
 
 -- these quarters are what is known
 abbrev pub ShowsQuarters : List ℕ → Known → Type 0
@@ -24,6 +30,8 @@ ShowsQuarters sought Nothing = ⊥
 ShowsQuarters sought (Given days) = ⊥
 ShowsQuarters sought (Begins year) = ⊥
 ShowsQuarters sought (Meant name) = ⊥
+ShowsQuarters sought (Differs differing) = ⊥
+ShowsQuarters sought (Enrolled enrolment) = ⊥
 
 -- these days are what is known, or nothing is where there are none
 abbrev pub ShowsDays : Option (List ℕ) → Known → Type 0
@@ -32,6 +40,8 @@ ShowsDays (Some sought) Nothing = ⊥
 ShowsDays (Some sought) (Missing quarters) = ⊥
 ShowsDays (Some sought) (Begins year) = ⊥
 ShowsDays (Some sought) (Meant name) = ⊥
+ShowsDays (Some sought) (Differs differing) = ⊥
+ShowsDays (Some sought) (Enrolled enrolment) = ⊥
 ShowsDays None known = known ≡ Nothing
 
 -- where a year could not be opened, the quarters of its lookback period from this one on that are
@@ -87,6 +97,75 @@ abbrev pub KnowsMeant : State → List ℕ → Known → Type 0
 KnowsMeant s typed known =
     (found : Option (List ℕ)) × IsMeant s typed found × (known ≡ meant_as found)
 
+-- what differs, if something does
+abbrev pub differs_as : Option Differing → Known
+differs_as None = Nothing
+differs_as (Some differing) = Differs differing
+
+-- where a run or a payment differs, what has its number
+abbrev pub KnowsRun : State → Request → Known → Type 0
+KnowsRun s (request.Post account run payday fit ss medicare) known =
+    let asked : PayRun = record { payday = payday; fit = fit; ss = ss; medicare = medicare } in
+    known ≡ differs_as (run_difference s account run asked)
+KnowsRun s (request.Enrol account start carried form) known = known ≡ Nothing
+KnowsRun s (request.Calendar year days) known = known ≡ Nothing
+KnowsRun s (request.AddHoliday day) known = known ≡ Nothing
+KnowsRun s (request.Report account quarter cents) known = known ≡ Nothing
+KnowsRun s (request.ReportYear account year cents) known = known ≡ Nothing
+KnowsRun s (request.OpenYear account year) known = known ≡ Nothing
+KnowsRun s (request.Void account run) known = known ≡ Nothing
+KnowsRun s (request.Pay account payment paid for_day cents) known = known ≡ Nothing
+KnowsRun s (request.VoidPay account payment) known = known ≡ Nothing
+KnowsRun s (request.CorrectReport account quarter number cents) known = known ≡ Nothing
+KnowsRun s (request.CorrectReportYear account year number cents) known = known ≡ Nothing
+KnowsRun s (request.ChangeHoliday day number is_holiday) known = known ≡ Nothing
+KnowsRun s (request.CorrectAccount account number start carried) known = known ≡ Nothing
+KnowsRun s (request.Question question) known = known ≡ Nothing
+
+abbrev pub KnowsPayment : State → Request → Known → Type 0
+KnowsPayment s (request.Pay account payment paid for_day cents) known =
+    let asked : Payment = record { paid = paid; for_day = for_day; cents = cents } in
+    known ≡ differs_as (payment_difference s account payment asked)
+KnowsPayment s (request.Enrol account start carried form) known = known ≡ Nothing
+KnowsPayment s (request.Calendar year days) known = known ≡ Nothing
+KnowsPayment s (request.AddHoliday day) known = known ≡ Nothing
+KnowsPayment s (request.Report account quarter cents) known = known ≡ Nothing
+KnowsPayment s (request.ReportYear account year cents) known = known ≡ Nothing
+KnowsPayment s (request.OpenYear account year) known = known ≡ Nothing
+KnowsPayment s (request.Post account run payday fit ss medicare) known = known ≡ Nothing
+KnowsPayment s (request.Void account run) known = known ≡ Nothing
+KnowsPayment s (request.VoidPay account payment) known = known ≡ Nothing
+KnowsPayment s (request.CorrectReport account quarter number cents) known = known ≡ Nothing
+KnowsPayment s (request.CorrectReportYear account year number cents) known = known ≡ Nothing
+KnowsPayment s (request.ChangeHoliday day number is_holiday) known = known ≡ Nothing
+KnowsPayment s (request.CorrectAccount account number start carried) known = known ≡ Nothing
+KnowsPayment s (request.Question question) known = known ≡ Nothing
+
+-- where an account differs, as what it is enrolled, and whether nothing rests on it
+abbrev pub enrolled_as : Account → Option Account → Bool → Known
+enrolled_as asked None unused = Nothing
+enrolled_as asked (Some kept) unused =
+    Enrolled (record { asked = asked; kept = kept; is_unused = unused })
+
+abbrev pub KnowsAccount : State → Request → Known → Type 0
+KnowsAccount s (request.Enrol account start carried form) known =
+    let asked : Account = record { start = start; carried = carried; form = form } in
+    known ≡ enrolled_as asked (enrolled_in s account) (is_unused (entries_of s account))
+KnowsAccount s (request.Calendar year days) known = known ≡ Nothing
+KnowsAccount s (request.AddHoliday day) known = known ≡ Nothing
+KnowsAccount s (request.Report account quarter cents) known = known ≡ Nothing
+KnowsAccount s (request.ReportYear account year cents) known = known ≡ Nothing
+KnowsAccount s (request.OpenYear account year) known = known ≡ Nothing
+KnowsAccount s (request.Post account run payday fit ss medicare) known = known ≡ Nothing
+KnowsAccount s (request.Void account run) known = known ≡ Nothing
+KnowsAccount s (request.Pay account payment paid for_day cents) known = known ≡ Nothing
+KnowsAccount s (request.VoidPay account payment) known = known ≡ Nothing
+KnowsAccount s (request.CorrectReport account quarter number cents) known = known ≡ Nothing
+KnowsAccount s (request.CorrectReportYear account year number cents) known = known ≡ Nothing
+KnowsAccount s (request.ChangeHoliday day number is_holiday) known = known ≡ Nothing
+KnowsAccount s (request.CorrectAccount account number start carried) known = known ≡ Nothing
+KnowsAccount s (request.Question question) known = known ≡ Nothing
+
 -- what is known for a refusal of the request in this state
 abbrev pub KnowsFor : State → Request → Refusal → Known → Type 0
 KnowsFor s asked (refusal.QuarterMissing first) known = KnowsQuarters s asked first known
@@ -100,10 +179,10 @@ KnowsFor s asked refusal.BadCents known = known ≡ Nothing
 KnowsFor s asked refusal.BadCalendar known = known ≡ Nothing
 KnowsFor s asked refusal.BadNumber known = known ≡ Nothing
 KnowsFor s asked refusal.UnknownAccount known = KnowsMeant s (account_in asked) known
-KnowsFor s asked refusal.AccountDiffers known = known ≡ Nothing
+KnowsFor s asked refusal.AccountDiffers known = KnowsAccount s asked known
 KnowsFor s asked refusal.QuarterDiffers known = known ≡ Nothing
-KnowsFor s asked refusal.RunDiffers known = known ≡ Nothing
-KnowsFor s asked refusal.PaymentDiffers known = known ≡ Nothing
+KnowsFor s asked refusal.RunDiffers known = KnowsRun s asked known
+KnowsFor s asked refusal.PaymentDiffers known = KnowsPayment s asked known
 KnowsFor s asked refusal.UnknownRun known = known ≡ Nothing
 KnowsFor s asked refusal.UnknownPayment known = known ≡ Nothing
 KnowsFor s asked refusal.BeforeStart known = known ≡ Nothing

@@ -55,6 +55,7 @@ use Rattle.ftd_replies.specs.declared.hints.Known.TheVariants.{Nothing}
 use Rattle.ftd_program.specs.Added.{added_notes}
 use Rattle.ftd_program.specs.Mending.{KnowsAfter, KnowsOf, or_nothing}
 use Rattle.ftd_program.specs.Numbering.{next_of, number_text}
+use Rattle.ftd_program.specs.RecordNotes.{PutsRefusals}
 use Rattle.ftd_program.specs.Summaries.{stop_status, stop_text, summary_status, summary_text}
 use Rattle.ftd_program.specs.declared.performing.Performed.{Performed}
 
@@ -95,22 +96,26 @@ module _ {O E : Type 0} (o_taken : O → Option (List ℕ)) (o_failed : O → Bo
   PrintsReply text said = PrintsReplied text said ⊎ FailsOutput text
 
   -- the summary of an import on standard output, and on standard error, as far as there is memory
-  -- for them, a note for each account to which it added obligations, and the hints of its malformed
-  -- records
-  pub record PrintsCounts (kind : Sheet) (input : List ℕ) (summary : Summary) : Type 0 where
+  -- for them, a note for each account to which it added obligations, notes of its refused records,
+  -- and the hints of its malformed ones
+  pub record PrintsCounts (old new : Held) (kind : Sheet) (input : List ℕ) (summary : Summary)
+      : Type 0 where
     pub status_is : p.status ≡ summary_status summary
     pub whole : Appends (o_taken out) (o_taken p.out) (summary_text summary)
     pub noted : E
     pub notes : WritesPrefix (e_taken err) (e_taken noted)
         (added_notes (added_by summary.changes.entries.items))
     pub no_note : summary.changes.entries.items ≡ [] → noted ≡ err
-    pub hints : WritesPrefix (e_taken noted) (e_taken p.err)
+    pub told : E
+    pub refusals : PutsRefusals e_taken noted told old new summary.refusals.entries.items
+    pub hints : WritesPrefix (e_taken told) (e_taken p.err)
         (record_hints kind summary.malformed input)
-    pub no_hint : summary.malformed ≡ 0 → p.err ≡ noted
+    pub no_hint : summary.malformed ≡ 0 → p.err ≡ told
 
-  abbrev pub PrintsSummary : Sheet → List ℕ → Summary → Type 0
-  PrintsSummary kind input summary =
-      PrintsCounts kind input summary ⊎ FailsOutput (summary_text summary)
+  abbrev pub PrintsSummary : Held → Held → Sheet → List ℕ → Summary → Type 0
+  PrintsSummary old new kind input summary =
+      PrintsCounts old new kind input summary
+      ⊎ (StandsAsBefore old new × FailsOutput (summary_text summary))
 
   -- the summary of an import that stopped on standard output, and why it stopped on standard error,
   -- with its hint
@@ -124,24 +129,6 @@ module _ {O E : Type 0} (o_taken : O → Option (List ℕ)) (o_failed : O → Bo
   PrintsStop kind input stopped =
       PrintsBoth kind input stopped.cause (summary_text stopped.done)
       ⊎ FailsOutput (summary_text stopped.done)
-
-  -- the entries of the text were imported, and what became of them printed; only where the first
-  -- premise holds may a commit have failed
-  pub record PerformsImport (stopped : Type 0) (old new : Held) (kind : Sheet) (text : List ℕ)
-      : Type 0 where
-    pub import : Result Summary Stopped
-    pub imports : MatchResult import (λ summary. Imports old new kind text summary)
-        (λ end. Stops stopped old new kind text end)
-    pub prints : MatchResult import (PrintsSummary kind text) (PrintsStop kind text)
-
-  -- what an import of the text would say was printed, as the import prints it; the desk stands for
-  -- the state as it was
-  pub record PerformsTrial (old new : Held) (kind : Sheet) (text : List ℕ) : Type 0 where
-    pub trial : Result Summary Stopped
-    pub tells : MatchResult trial (λ summary. WouldImport old new kind text summary)
-        (λ end. FailsTrial kind text end)
-    pub stands : StandsAsBefore old new
-    pub prints : MatchResult trial (PrintsSummary kind text) (PrintsStop kind text)
 
   -- the text of the reply in a format, and what is said below it, or the lines of the refusal
   abbrev pub Prints : List ℕ → Format → Request → Known → Answer → Type 0
@@ -332,13 +319,40 @@ module _ {S O E : Type 0} (g : store.Ghosts S) (o_taken : O → Option (List ℕ
         → PerformsBy o_taken o_failed e_taken e_failed out err p (held g old) (held g new) db
         as_text (with_number request greatest_number) answer → AsksNext old new db request
 
+  -- the summary of an import, or why it stopped, was printed; of a summary the desk was asked what
+  -- is known of its refused records
+  abbrev pub PrintsImport : Desk S → Desk S → Sheet → List ℕ → Result Summary Stopped → Type 0
+  PrintsImport old new kind text (Ok summary) =
+      PrintsSummary o_taken o_failed e_taken e_failed out err p (held g old) (held g new) kind text
+      summary
+  PrintsImport old new kind text (Err stopped) =
+      (new ≡ old) × PrintsStop o_taken o_failed e_taken e_failed out err p kind text stopped
+
+  -- the entries of the text were imported, and what became of them printed; only where the desk is
+  -- stopped may a commit have failed
+  pub record PerformsImport (old new : Desk S) (kind : Sheet) (text : List ℕ) : Type 0 where
+    pub import : Result Summary Stopped
+    pub between : Desk S
+    pub imports : MatchResult import
+        (λ summary. Imports (held g old) (held g between) kind text summary)
+        (λ end. Stops (IsStopped between) (held g old) (held g between) kind text end)
+    pub prints : PrintsImport between new kind text import
+
+  -- what an import of the text would say was printed, as the import prints it; the desk stands for
+  -- the state as it was
+  pub record PerformsTrial (old new : Desk S) (kind : Sheet) (text : List ℕ) : Type 0 where
+    pub trial : Result Summary Stopped
+    pub between : Desk S
+    pub tells : MatchResult trial
+        (λ summary. WouldImport (held g old) (held g between) kind text summary)
+        (λ end. FailsTrial kind text end)
+    pub stands : StandsAsBefore (held g old) (held g between)
+    pub prints : PrintsImport between new kind text trial
+
   -- the job of a task was done, with the desk of this file
   abbrev pub Does : Desk S → Desk S → List ℕ → List ℕ → Job → Type 0
-  Does old new input db (job.Import kind file false) =
-      PerformsImport o_taken o_failed e_taken e_failed out err p (IsStopped new) (held g old)
-      (held g new) kind input
-  Does old new input db (job.Import kind file true) =
-      PerformsTrial o_taken o_failed e_taken e_failed out err p (held g old) (held g new) kind input
+  Does old new input db (job.Import kind file false) = PerformsImport old new kind input
+  Does old new input db (job.Import kind file true) = PerformsTrial old new kind input
   Does old new input db (job.Ask format request) =
       Asks g o_taken o_failed e_taken e_failed out err p old new db format request
   Does old new input db (job.AskNext request) = AsksNext old new db request

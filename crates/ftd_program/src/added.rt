@@ -7,7 +7,7 @@ ghost use Rattle.ftd_program.specs.Added.{account_note, added_notes, counted_not
 
 use ftd_days::Day;
 use ftd_formats::{RowFormat, write_rows};
-use ftd_import::{AccountAdded, Changes};
+use ftd_import::{AccountAdded, AccountChange, Collection};
 use ftd_ports::{Target, WriteFault, write_all, write_pieces};
 use ftd_reports::day_bytes;
 use ftd_rules::Obligation;
@@ -72,7 +72,7 @@ impl RowFormat<AccountAdded> for AccountNotes {
 }
 
 /// Puts the lines on standard error. They may be left out where there is no memory.
-pub(crate) fn put_added<E: Target>(changes: &Changes, err: &mut E)
+pub(crate) fn put_added<E: Target>(changes: &Collection<AccountChange>, err: &mut E)
     ensures notes { WritesPrefix (E.taken err.old) (E.taken err.new)
         (added_notes (added_by changes.now.entries.items)) }
     ensures none { changes.now.entries.items ≡ [] → err.new ≡ err.old }
@@ -80,7 +80,7 @@ pub(crate) fn put_added<E: Target>(changes: &Changes, err: &mut E)
     if !changes.are_all || changes.entries.is_empty() {
         return;
     }
-    let Ok(accounts) = changes.added() else {
+    let Ok(accounts) = ftd_import::added_by(changes) else {
         return;
     };
     // Where standard error fails, the status still tells.

@@ -3,10 +3,12 @@
 
 mod added;
 mod deposits;
+mod differences;
 mod mending;
 mod noting;
 mod numbering;
 mod performing;
+mod record_notes;
 mod summaries;
 
 pub use crate::deposits::print_plain;

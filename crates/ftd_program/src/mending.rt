@@ -3,17 +3,21 @@
 ghost use Rattle.std.specs.Prelude.{◌≡◌, Err, IfErr, IfOk};
 ghost use Rattle.sqlite.specs.State.{HasCleanDisk};
 ghost use Rattle.ftd_machine.specs.Runs.{IsFault};
-ghost use Rattle.ftd_machine.specs.State.{State, entries_of};
+ghost use Rattle.ftd_machine.specs.Requests.{is_unused};
+ghost use Rattle.ftd_machine.specs.State.{State, enrolled_in, entries_of};
 ghost use Rattle.ftd_desk.specs.Desks.{KeepsIfOpen, held};
 ghost use Rattle.ftd_desk.specs.Telling.{StandsAsBefore};
 ghost use Rattle.ftd_questions.specs.Missing.{first_year};
-ghost use Rattle.ftd_program.specs.Mending.{KnowsDays, KnowsFor, KnowsMeant, KnowsQuarters};
-ghost use Rattle.ftd_program.specs.Mending.{begins_after, or_nothing};
+ghost use Rattle.ftd_program.specs.Mending.{KnowsAccount, KnowsDays, KnowsFor, KnowsMeant};
+ghost use Rattle.ftd_program.specs.Mending.{KnowsPayment, KnowsQuarters, KnowsRun};
+ghost use Rattle.ftd_program.specs.Mending.{begins_after, differs_as, enrolled_as, or_nothing};
 
+use crate::differences::{payment_difference, run_difference};
 use ftd_days::Quarter;
 use ftd_desk::Desk;
-use ftd_machine::{Refusal, Request};
-use ftd_replies::{Known, account_in};
+use ftd_machine::{Account, Refusal, Request};
+use ftd_replies::{Differing, Enrolment, Known, account_in};
+use ftd_rules::{PayRun, Payment};
 use sqlite::Alter;
 
 /// What the desk keeps that the refusal of a request can be mended by. `Memory` and `Store` may
@@ -34,16 +38,16 @@ pub fn known_for<S: Alter>(
         Refusal::CalendarDiffers => days_for(desk, request),
         Refusal::YearNotOpen(year) => beginning(desk, account_in(request), year),
         Refusal::UnknownAccount => meant(desk, account_in(request)),
+        Refusal::AccountDiffers => account_for(desk, request),
+        Refusal::RunDiffers => run_for(desk, request),
+        Refusal::PaymentDiffers => payment_for(desk, request),
         Refusal::BadName
         | Refusal::BadYear
         | Refusal::BadDay
         | Refusal::BadCents
         | Refusal::BadCalendar
         | Refusal::BadNumber
-        | Refusal::AccountDiffers
         | Refusal::QuarterDiffers
-        | Refusal::RunDiffers
-        | Refusal::PaymentDiffers
         | Refusal::UnknownRun
         | Refusal::UnknownPayment
         | Refusal::BeforeStart
@@ -112,6 +116,159 @@ fn days_for<S: Alter>(desk: &mut Desk<S>, request: &Request) -> Result<Known, Re
             None => Ok(Known::Nothing),
         },
         Request::Enrol { .. }
+        | Request::AddHoliday { .. }
+        | Request::Report { .. }
+        | Request::ReportYear { .. }
+        | Request::OpenYear { .. }
+        | Request::Post { .. }
+        | Request::Void { .. }
+        | Request::Pay { .. }
+        | Request::VoidPay { .. }
+        | Request::CorrectReport { .. }
+        | Request::CorrectReportYear { .. }
+        | Request::ChangeHoliday { .. }
+        | Request::CorrectAccount { .. }
+        | Request::Question(_) => Ok(Known::Nothing),
+    }
+}
+
+/// What differs, if something does.
+fn differs_as(found: Option<Differing>) -> Known
+    ensures { result ≡ differs_as found }
+{
+    match found {
+        Some(differing) => Known::Differs(differing),
+        None => Known::Nothing,
+    }
+}
+
+/// Of a run that differs, the one that has its number.
+fn run_for<S: Alter>(desk: &mut Desk<S>, request: &Request) -> Result<Known, Refusal>
+    ensures knows { HasCleanDisk (held S.Store desk.new).db
+        → (s : State) → KeepsIfOpen (held S.Store desk.old) s
+        → IfOk result (KnowsRun s request.now) }
+    ensures fault { IfErr result (λ fault. IsFault (Err fault)) }
+    ensures stands { StandsAsBefore (held S.Store desk.old) (held S.Store desk.new) }
+{
+    match request {
+        Request::Post {
+            account,
+            run,
+            payday,
+            fit,
+            ss,
+            medicare,
+        } => {
+            let asked = PayRun {
+                payday: *payday,
+                fit: *fit,
+                ss: *ss,
+                medicare: *medicare,
+            };
+            let found = run_difference(desk, account.as_str(), *run, asked)?;
+            Ok(differs_as(found))
+        }
+        Request::Enrol { .. }
+        | Request::Calendar { .. }
+        | Request::AddHoliday { .. }
+        | Request::Report { .. }
+        | Request::ReportYear { .. }
+        | Request::OpenYear { .. }
+        | Request::Void { .. }
+        | Request::Pay { .. }
+        | Request::VoidPay { .. }
+        | Request::CorrectReport { .. }
+        | Request::CorrectReportYear { .. }
+        | Request::ChangeHoliday { .. }
+        | Request::CorrectAccount { .. }
+        | Request::Question(_) => Ok(Known::Nothing),
+    }
+}
+
+/// Of a payment that differs, the one that has its number.
+fn payment_for<S: Alter>(desk: &mut Desk<S>, request: &Request) -> Result<Known, Refusal>
+    ensures knows { HasCleanDisk (held S.Store desk.new).db
+        → (s : State) → KeepsIfOpen (held S.Store desk.old) s
+        → IfOk result (KnowsPayment s request.now) }
+    ensures fault { IfErr result (λ fault. IsFault (Err fault)) }
+    ensures stands { StandsAsBefore (held S.Store desk.old) (held S.Store desk.new) }
+{
+    match request {
+        Request::Pay {
+            account,
+            payment,
+            paid,
+            for_day,
+            cents,
+        } => {
+            let asked = Payment {
+                paid: *paid,
+                for_day: *for_day,
+                cents: *cents,
+            };
+            let found = payment_difference(desk, account.as_str(), *payment, asked)?;
+            Ok(differs_as(found))
+        }
+        Request::Enrol { .. }
+        | Request::Calendar { .. }
+        | Request::AddHoliday { .. }
+        | Request::Report { .. }
+        | Request::ReportYear { .. }
+        | Request::OpenYear { .. }
+        | Request::Post { .. }
+        | Request::Void { .. }
+        | Request::VoidPay { .. }
+        | Request::CorrectReport { .. }
+        | Request::CorrectReportYear { .. }
+        | Request::ChangeHoliday { .. }
+        | Request::CorrectAccount { .. }
+        | Request::Question(_) => Ok(Known::Nothing),
+    }
+}
+
+/// Of an account that differs, as what it is enrolled, and whether something rests on it.
+fn enrolment_of<S: Alter>(desk: &mut Desk<S>, name: &str, asked: Account) -> Result<Known, Refusal>
+    ensures knows { HasCleanDisk (held S.Store desk.new).db
+        → (s : State) → KeepsIfOpen (held S.Store desk.old) s
+        → IfOk result (λ known.
+        known ≡ enrolled_as asked (enrolled_in s name.now) (is_unused (entries_of s name.now))) }
+    ensures fault { IfErr result (λ fault. IsFault (Err fault)) }
+    ensures stands { StandsAsBefore (held S.Store desk.old) (held S.Store desk.new) }
+{
+    let Some(kept) = desk.enrolled_account(name)? else {
+        return Ok(Known::Nothing);
+    };
+    let is_unused = desk.is_unused(name)?;
+    Ok(Known::Enrolled(Enrolment {
+        asked,
+        kept,
+        is_unused,
+    }))
+}
+
+/// Of an account that differs, what is known of the one that has its name.
+fn account_for<S: Alter>(desk: &mut Desk<S>, request: &Request) -> Result<Known, Refusal>
+    ensures knows { HasCleanDisk (held S.Store desk.new).db
+        → (s : State) → KeepsIfOpen (held S.Store desk.old) s
+        → IfOk result (KnowsAccount s request.now) }
+    ensures fault { IfErr result (λ fault. IsFault (Err fault)) }
+    ensures stands { StandsAsBefore (held S.Store desk.old) (held S.Store desk.new) }
+{
+    match request {
+        Request::Enrol {
+            account,
+            start,
+            carried,
+            form,
+        } => {
+            let asked = Account {
+                start: *start,
+                carried: *carried,
+                form: *form,
+            };
+            enrolment_of(desk, account.as_str(), asked)
+        }
+        Request::Calendar { .. }
         | Request::AddHoliday { .. }
         | Request::Report { .. }
         | Request::ReportYear { .. }

@@ -1,7 +1,7 @@
 //! A request is asked of the desk, and what it answers is printed.
 
 ghost use Rattle.std.specs.Prelude.{◌≡◌, IfOk, MatchBool, codes};
-ghost use Rattle.ftd_desk.specs.Desks.{IsStopped, held};
+ghost use Rattle.ftd_desk.specs.Desks.{held};
 ghost use Rattle.ftd_formats.specs.Formats.{list_format};
 ghost use Rattle.ftd_program.specs.Performing.{Asks, AsksDue, Does, Performs, PerformsDue};
 ghost use Rattle.ftd_program.specs.Performing.{PrintsAnswer};
@@ -21,6 +21,7 @@ use crate::added::put_added;
 use crate::mending::{known_for, or_nothing};
 use crate::noting::answer_then_note;
 use crate::numbering::ask_next;
+use crate::record_notes::put_refusals;
 use crate::summaries::{write_bad_header, write_summary};
 use ftd_csv::Sheet;
 use ftd_days::{Day, Quarter};
@@ -230,10 +231,10 @@ fn import_or_try<S: Alter, O: Target, E: Target, P: Progress>(
     progress: &mut P,
 ) -> Performed<O, E>
     ensures { MatchBool is_trial
-        (PerformsTrial O.taken O.failed E.taken E.failed out err result
-        (held S.Store desk.old) (held S.Store desk.new) sheet input.now)
-        (PerformsImport O.taken O.failed E.taken E.failed out err result
-        (IsStopped desk.new) (held S.Store desk.old) (held S.Store desk.new) sheet input.now) }
+        (PerformsTrial S.Store O.taken O.failed E.taken E.failed out err result
+        desk.old desk.new sheet input.now)
+        (PerformsImport S.Store O.taken O.failed E.taken E.failed out err result
+        desk.old desk.new sheet input.now) }
 {
     if is_trial {
         try_entries(alloc, desk, sheet, input, out, err)
@@ -254,11 +255,11 @@ fn post_entries<S: Alter, O: Target, E: Target, P: Progress>(
     err: E,
     progress: &mut P,
 ) -> Performed<O, E>
-    ensures { PerformsImport O.taken O.failed E.taken E.failed out err result
-        (IsStopped desk.new) (held S.Store desk.old) (held S.Store desk.new) sheet input.now }
+    ensures { PerformsImport S.Store O.taken O.failed E.taken E.failed out err result
+        desk.old desk.new sheet input.now }
 {
     match import(alloc, desk, sheet, input, progress) {
-        Ok(summary) => print_summary(alloc, sheet, input, &summary, out, err),
+        Ok(summary) => print_summary(alloc, desk, sheet, input, &summary, out, err),
         Err(stopped) => print_stop(sheet, input, &stopped, out, err),
     }
 }
@@ -272,11 +273,11 @@ fn try_entries<S: Alter, O: Target, E: Target>(
     out: O,
     err: E,
 ) -> Performed<O, E>
-    ensures { PerformsTrial O.taken O.failed E.taken E.failed out err result
-        (held S.Store desk.old) (held S.Store desk.new) sheet input.now }
+    ensures { PerformsTrial S.Store O.taken O.failed E.taken E.failed out err result
+        desk.old desk.new sheet input.now }
 {
     match import_trial(alloc, desk, sheet, input) {
-        Ok(summary) => print_summary(alloc, sheet, input, &summary, out, err),
+        Ok(summary) => print_summary(alloc, desk, sheet, input, &summary, out, err),
         Err(stopped) => print_stop(sheet, input, &stopped, out, err),
     }
 }
@@ -292,10 +293,11 @@ fn status_in(summary: &Summary) -> u8
     }
 }
 
-/// Prints the summary of an import, a note for each account to which it added obligations, and the
-/// hints of its malformed records.
-fn print_summary<O: Target, E: Target>(
+/// Prints the summary of an import, a note for each account to which it added obligations, what is
+/// known of its refused records, and the hints of its malformed ones.
+fn print_summary<S: Alter, O: Target, E: Target>(
     alloc: Global,
+    desk: &mut Desk<S>,
     sheet: Sheet,
     input: &[u8],
     summary: &Summary,
@@ -303,13 +305,14 @@ fn print_summary<O: Target, E: Target>(
     err: E,
 ) -> Performed<O, E>
     ensures { PrintsSummary O.taken O.failed E.taken E.failed out err result
-        sheet input.now summary.now }
+        (held S.Store desk.old) (held S.Store desk.new) sheet input.now summary.now }
 {
     let mut out = out;
     match write_summary(summary, &mut out) {
         Ok(()) => {
             let mut err = err;
             put_added(&summary.changes, &mut err);
+            put_refusals(alloc, desk, &summary.refusals, &mut err);
             if summary.malformed > 0 {
                 put_hints(alloc, sheet, input, summary.malformed, &mut err);
             }

@@ -20,6 +20,8 @@ pub use crate::agendas::{agenda, owed};
 pub use crate::due::due_list;
 pub use crate::faults::{DueFault, refusal_of};
 pub use crate::meant::meant_account;
-pub use crate::missing::{first_year, given_days, missing_quarters};
+pub use crate::missing::{
+    enrolled_account, first_year, given_days, is_unused, kept_payment, kept_run, missing_quarters,
+};
 pub use crate::names::nearest;
 pub use crate::telling::due_into;

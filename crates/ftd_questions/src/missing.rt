@@ -1,5 +1,6 @@
 //! What is kept that a refusal can be mended by: the quarters of a lookback period whose totals are
-//! still to be reported, the days that a calendar was given with, and the first year of an account.
+//! still to be reported, the days that a calendar was given with, the first year of an account, as
+//! what it was enrolled, whether nothing rests on it, and the run or the payment that has a number.
 
 ghost use Rattle.std.specs.Prelude.{◌≡◌, ◌≤◌, Err, IfErr, IfOk, map, option_map};
 ghost use Rattle.sqlite.specs.State.{HasCleanDisk};
@@ -7,16 +8,17 @@ ghost use Rattle.ftd_store.specs.Frame.{Reads};
 ghost use Rattle.ftd_store.specs.Seen.{seen};
 ghost use Rattle.ftd_machine.specs.History.{year_of_line};
 ghost use Rattle.ftd_machine.specs.Runs.{IsFault};
-ghost use Rattle.ftd_machine.specs.State.{State, calendar_at, entries_of};
+ghost use Rattle.ftd_machine.specs.Requests.{is_unused};
+ghost use Rattle.ftd_machine.specs.State.{State, calendar_at, enrolled_in, entries_of, kept_at};
 ghost use Rattle.ftd_questions.specs.Missing.{KnowsFirstYear, KnowsMissing, are_missing};
 ghost use Rattle.ftd_questions.specs.Missing.{first_among, first_year, missing_from};
 ghost use Rattle.ftd_questions.specs.Walks.{Stays, KeptIfOpen};
 
 use crate::faults::refusal_of;
 use ftd_days::{Cents, Day, Quarter};
-use ftd_entries::known;
+use ftd_entries::{enrolled, known};
 use ftd_machine::{Account, Refusal};
-use ftd_rules::YearLine;
+use ftd_rules::{PayRun, Payment, Voidable, YearLine};
 use ftd_store::{Store, StoreFault, Tx};
 use sqlite::Alter;
 use std::alloc::{AllocError, Global};
@@ -165,6 +167,97 @@ pub fn first_year<S: Alter>(
     };
     match first_year_in(&mut tx, alloc, name) {
         Ok(year) => Ok(year),
+        Err(fault) => Err(refusal_of(fault)),
+    }
+}
+
+/// As what the account was enrolled, or None where there is none, read in a transaction that is
+/// dropped. `Memory` and `Store` where there was no memory or the store failed. The tables stay as
+/// they are, whatever comes of it.
+pub fn enrolled_account<S: Alter>(
+    store: &mut Store<S>,
+    name: &str,
+) -> Result<Option<Account>, Refusal>
+    ensures knows { HasCleanDisk (seen S.Store store.new) → (s : State)
+        → KeptIfOpen (seen S.Store store.old) s
+        → IfOk result (λ kept. enrolled_in s name.now ≡ kept) }
+    ensures fault { IfErr result (λ refusal. IsFault (Err refusal)) }
+    ensures stays { Stays (seen S.Store store.old) (seen S.Store store.new) }
+{
+    let mut tx = match store.begin() {
+        Ok(tx) => tx,
+        Err(fault) => return Err(refusal_of(fault)),
+    };
+    match enrolled(&mut tx, name) {
+        Ok(kept) => Ok(kept),
+        Err(fault) => Err(refusal_of(fault)),
+    }
+}
+
+/// Whether nothing rests on the account: no total was reported, and no year is open; read in a
+/// transaction that is dropped. `Memory` and `Store` where there was no memory or the store failed.
+/// The tables stay as they are, whatever comes of it.
+pub fn is_unused<S: Alter>(store: &mut Store<S>, alloc: Global, name: &str) -> Result<bool, Refusal>
+    ensures knows { HasCleanDisk (seen S.Store store.new) → (s : State)
+        → KeptIfOpen (seen S.Store store.old) s
+        → IfOk result (λ unused. is_unused (entries_of s name.now) ≡ unused) }
+    ensures fault { IfErr result (λ refusal. IsFault (Err refusal)) }
+    ensures stays { Stays (seen S.Store store.old) (seen S.Store store.new) }
+{
+    let mut tx = match store.begin() {
+        Ok(tx) => tx,
+        Err(fault) => return Err(refusal_of(fault)),
+    };
+    match ftd_entries::is_unused(&mut tx, alloc, name) {
+        Ok(unused) => Ok(unused),
+        Err(fault) => Err(refusal_of(fault)),
+    }
+}
+
+/// The account's run of the number, void or not, or None where there is none, read in a
+/// transaction that is dropped. `Memory` and `Store` where there was no memory or the store failed.
+/// The tables stay as they are, whatever comes of it.
+pub fn kept_run<S: Alter>(
+    store: &mut Store<S>,
+    name: &str,
+    number: u32,
+) -> Result<Option<Voidable<PayRun>>, Refusal>
+    ensures knows { HasCleanDisk (seen S.Store store.new) → (s : State)
+        → KeptIfOpen (seen S.Store store.old) s
+        → IfOk result (λ kept. kept_at number (entries_of s name.now).runs ≡ kept) }
+    ensures fault { IfErr result (λ refusal. IsFault (Err refusal)) }
+    ensures stays { Stays (seen S.Store store.old) (seen S.Store store.new) }
+{
+    let mut tx = match store.begin() {
+        Ok(tx) => tx,
+        Err(fault) => return Err(refusal_of(fault)),
+    };
+    match tx.run(name, number) {
+        Ok(kept) => Ok(kept),
+        Err(fault) => Err(refusal_of(fault)),
+    }
+}
+
+/// The account's payment of the number, void or not, or None where there is none, read in a
+/// transaction that is dropped. `Memory` and `Store` where there was no memory or the store failed.
+/// The tables stay as they are, whatever comes of it.
+pub fn kept_payment<S: Alter>(
+    store: &mut Store<S>,
+    name: &str,
+    number: u32,
+) -> Result<Option<Voidable<Payment>>, Refusal>
+    ensures knows { HasCleanDisk (seen S.Store store.new) → (s : State)
+        → KeptIfOpen (seen S.Store store.old) s
+        → IfOk result (λ kept. kept_at number (entries_of s name.now).payments ≡ kept) }
+    ensures fault { IfErr result (λ refusal. IsFault (Err refusal)) }
+    ensures stays { Stays (seen S.Store store.old) (seen S.Store store.new) }
+{
+    let mut tx = match store.begin() {
+        Ok(tx) => tx,
+        Err(fault) => return Err(refusal_of(fault)),
+    };
+    match tx.payment(name, number) {
+        Ok(kept) => Ok(kept),
         Err(fault) => Err(refusal_of(fault)),
     }
 }

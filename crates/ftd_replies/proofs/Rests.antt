@@ -5,7 +5,7 @@ use Rattle.std.specs.Fmt.{decimal}
 use Rattle.std.specs.List.{concat}
 use Rattle.std.proofs.lemmas.Bool.{lt-ltb, le-ltb}
 use Rattle.ftd_machine.specs.declared.lists.UnappliedRow.{UnappliedRow}
-use Rattle.ftd_replies.specs.Hints.{file_text}
+use Rattle.ftd_replies.specs.Commands.{file_text}
 use Rattle.ftd_replies.specs.Notes.{amount_so, rest_text, unapplied_hint}
 
 pub rest_left : (amount paid : ℕ) → paid < amount

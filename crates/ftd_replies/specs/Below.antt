@@ -12,7 +12,7 @@ use Rattle.ftd_machine.specs.declared.requests.Request.{Request}
 use Rattle.ftd_machine.specs.declared.requests.Request.TheVariants as request
 use Rattle.ftd_reports.specs.Agendas.{left_cents}
 use Rattle.ftd_replies.specs.Added.{changes_text}
-use Rattle.ftd_replies.specs.Hints.{command_on}
+use Rattle.ftd_replies.specs.Commands.{command_on}
 
 -- a calendar that was given without days may be a mistake
 abbrev pub holidays_hint : List ℕ → List ℕ → List ℕ

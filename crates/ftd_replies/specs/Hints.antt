@@ -1,9 +1,8 @@
 -- What can be done about a refusal: lines below it, each of which begins with `hint: `.
-use Rattle.std.specs.Prelude.{ℕ, ◌+◌, ◌==◌, ◌||◌, ◌++◌, not, Bool, List, [], ◌∷◌, Option, Some}
-use Rattle.std.specs.Prelude.{None, codes, find, if◌then◌else◌, unwrap_or}
-use Rattle.std.specs.Char.{is_ascii_alphanumeric}
+use Rattle.std.specs.Prelude.{ℕ, ◌+◌, ◌++◌, not, List, [], ◌∷◌, Option, None, Some, codes, find}
+use Rattle.std.specs.Prelude.{unwrap_or}
 use Rattle.std.specs.Fmt.{decimal}
-use Rattle.std.specs.List.{concat, flat_map, list_all}
+use Rattle.std.specs.List.{concat, flat_map}
 use Rattle.ftd_days.specs.Business.{is_holiday}
 use Rattle.ftd_days.specs.Text.{day_text, quarter_text}
 use Rattle.ftd_machine.specs.declared.replies.Refusal.{Refusal}
@@ -13,31 +12,15 @@ use Rattle.ftd_machine.specs.declared.requests.Request.{Request}
 use Rattle.ftd_machine.specs.declared.requests.Request.TheVariants as request
 use Rattle.ftd_replies.specs.Questions.{paydays_years, calendars_years, years_asked}
 use Rattle.ftd_replies.specs.Questions.{paydays_days, days_asked}
+use Rattle.ftd_replies.specs.Commands.{command_of, command_on, file_text}
+use Rattle.ftd_replies.specs.Enrolment.{enrolment_text}
 use Rattle.ftd_replies.specs.Refusals.{refusal_text}
 use Rattle.ftd_replies.specs.declared.hints.Hint.{Hint}
 use Rattle.ftd_replies.specs.declared.hints.Hint.TheVariants as hint
 use Rattle.ftd_replies.specs.declared.hints.Known.{Known}
 use Rattle.ftd_replies.specs.declared.hints.Known.TheVariants.{Nothing, Missing, Given, Begins}
-use Rattle.ftd_replies.specs.declared.hints.Known.TheVariants.{Meant}
-
--- ---- commands to be typed
-
--- the file, where its name needs no quotes: letters, digits, `.`, `_`, `/` and `-` alone
-abbrev pub is_plain : ℕ → Bool
-is_plain byte =
-    is_ascii_alphanumeric byte || (byte == 46) || (byte == 95) || (byte == 47) || (byte == 45)
-
-abbrev pub file_text : List ℕ → List ℕ
-file_text db = if list_all is_plain db then db else codes "FILE"
-
--- a command on the file, with one word behind it, or with an account and another word
-abbrev pub command_on : List ℕ → List ℕ → List ℕ → List ℕ → List ℕ
-command_on before db word after =
-    concat (before ∷ file_text db ∷ codes " " ∷ word ∷ after ∷ [])
-
-abbrev pub command_of : List ℕ → List ℕ → List ℕ → List ℕ → List ℕ → List ℕ
-command_of before db account word after =
-    concat (before ∷ file_text db ∷ codes " " ∷ account ∷ codes " " ∷ word ∷ after ∷ [])
+use Rattle.ftd_replies.specs.Differing.{difference_text}
+use Rattle.ftd_replies.specs.declared.hints.Known.TheVariants.{Meant, Differs, Enrolled}
 
 -- the account that a request names, the empty text where it names none; and the number of its run
 -- or payment
@@ -401,6 +384,9 @@ hints_text db asked refusal (Missing quarters) =
 hints_text db asked refusal (Given given) = differing_text db (days_in asked) given.items
 hints_text db asked refusal (Begins first) = first_text first
 hints_text db asked refusal (Meant name) = meant_line name ++ hint_text db asked refusal
+hints_text db asked refusal (Enrolled enrolment) = enrolment_text db (account_in asked) enrolment
+hints_text db asked refusal (Differs differing) =
+    codes "hint: " ++ (difference_text differing ++ (codes "\n" ++ hint_text db asked refusal))
 
 -- the line of a refusal, and its hints below it
 unfoldable pub told_text : List ℕ → Request → Refusal → Known → List ℕ

@@ -1,5 +1,8 @@
 pub mod Added
 pub mod Below
+pub mod Commands
+pub mod Differing
+pub mod Enrolment
 pub mod Hints
 pub mod Notes
 pub mod Putting

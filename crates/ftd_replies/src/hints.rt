@@ -4,15 +4,19 @@ ghost use Rattle.std.specs.Prelude.{◌≡◌, ◌++◌, codes};
 ghost use Rattle.std.specs.Fmt.{decimal};
 ghost use Rattle.std.specs.List.{flat_map, list_all};
 ghost use Rattle.ftd_ports.specs.Writing.{Writes};
+ghost use Rattle.ftd_replies.specs.Differing.{difference_text};
 ghost use Rattle.ftd_replies.specs.Hints.{account_in, calendar_text};
-ghost use Rattle.ftd_replies.specs.Hints.{command_of, command_on, correct_text, days_in, days_text};
+ghost use Rattle.ftd_replies.specs.Commands.{command_of, command_on, file_text, is_plain};
+ghost use Rattle.ftd_replies.specs.Hints.{correct_text, days_in, days_text};
 ghost use Rattle.ftd_replies.specs.Hints.{differing_text, enrolled_as};
-ghost use Rattle.ftd_replies.specs.Hints.{file_text, first_beside, first_text, form_text};
+ghost use Rattle.ftd_replies.specs.Hints.{first_beside, first_text, form_text};
 ghost use Rattle.ftd_replies.specs.Hints.{hint_of, hint_text, hints_text};
-ghost use Rattle.ftd_replies.specs.Hints.{is_plain, left_out_text, meant_line, new_text};
+ghost use Rattle.ftd_replies.specs.Hints.{left_out_text, meant_line, new_text};
 ghost use Rattle.ftd_replies.specs.Hints.{next_text, number_in};
 ghost use Rattle.ftd_replies.specs.Hints.{quarter_hint, said_text, told_text, years_text};
 
+use crate::differing::{Differing, write_difference};
+use crate::enrolment::{Enrolment, write_enrolment};
 use crate::questions::{days_asked, years_asked};
 use crate::refusals::write_refusal;
 use ftd_days::{Day, Quarter};
@@ -34,6 +38,10 @@ pub enum Known {
     Begins(u32),
     /// The account whose name is nearest to the one that is unknown.
     Meant(AccountName),
+    /// The run or the payment that has the number.
+    Differs(Differing),
+    /// As what the account is enrolled, and whether it can be corrected.
+    Enrolled(Enrolment),
 }
 
 /// Writes the line of the refusal of a request to the desk of this file, and its hints below it.
@@ -71,6 +79,10 @@ fn write_hints<W: Target>(
         Known::Given(given) => write_differing(db, days_in(request), given, target),
         Known::Begins(first) => write_first(*first, target),
         Known::Meant(name) => write_meant(db, request, refusal, name.as_str(), target),
+        Known::Differs(differing) => write_differs(db, request, refusal, differing, target),
+        Known::Enrolled(enrolment) => {
+            write_enrolment(db, account_in(request), enrolment, target)
+        }
     }
 }
 
@@ -97,6 +109,25 @@ fn write_meant<W: Target>(
         (meant_line name.now ++ hint_text db.now request.now refusal) }
 {
     write_meant_line(name, target)?;
+    write_hint(db, request, refusal, target)
+}
+
+/// Writes the first field that differs from what has the number, and what can be done about it.
+#[tactic(auto, using(ftd_ports::proofs::WritingFacts::written_in_parts))]
+fn write_differs<W: Target>(
+    db: &str,
+    request: &Request,
+    refusal: Refusal,
+    differing: &Differing,
+    target: &mut W,
+) -> Result<(), WriteFault>
+    ensures { Writes result (W.taken target.old) (W.taken target.new)
+        (W.failed target.new) (codes "hint: " ++ (difference_text differing.now
+        ++ (codes "\n" ++ hint_text db.now request.now refusal))) }
+{
+    write_all(target, b"hint: ")?;
+    write_difference(differing, target)?;
+    write_all(target, b"\n")?;
     write_hint(db, request, refusal, target)
 }
 
@@ -317,7 +348,7 @@ pub(crate) fn write_on<W: Target>(
 }
 
 /// Writes a command on the file with an account and a word behind it.
-fn write_of<W: Target>(
+pub(crate) fn write_of<W: Target>(
     before: &[u8],
     db: &str,
     account: &str,

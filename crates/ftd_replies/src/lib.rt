@@ -3,6 +3,8 @@
 
 mod added;
 mod below;
+mod differing;
+mod enrolment;
 mod hints;
 mod notes;
 mod questions;
@@ -11,6 +13,8 @@ mod replies;
 mod telling;
 
 pub use crate::below::write_below;
+pub use crate::differing::{Differing, write_difference};
+pub use crate::enrolment::Enrolment;
 pub use crate::hints::{Known, account_in, write_told};
 pub use crate::notes::{asked_after, write_note};
 pub use crate::refusals::{status_of, write_refusal};

@@ -3,7 +3,8 @@
 ghost use Rattle.std.specs.Prelude.{◌≡◌, ◌≤◌, Err, IfErr, IfOk, option_map};
 ghost use Rattle.sqlite.specs.State.{HasCleanDisk};
 ghost use Rattle.ftd_machine.specs.Runs.{IsFault};
-ghost use Rattle.ftd_machine.specs.State.{State, calendar_at, entries_of};
+ghost use Rattle.ftd_machine.specs.Requests.{is_unused};
+ghost use Rattle.ftd_machine.specs.State.{State, calendar_at, enrolled_in, entries_of, kept_at};
 ghost use Rattle.ftd_questions.specs.Missing.{first_year, missing_from};
 ghost use Rattle.ftd_questions.specs.Nearest.{IsMeant};
 ghost use Rattle.ftd_desk.specs.Desks.{IsStopped, held, KeepsIfOpen};
@@ -11,7 +12,8 @@ ghost use Rattle.ftd_desk.specs.Telling.{StandsAsBefore};
 
 use crate::desk::Desk;
 use ftd_days::{Day, Quarter};
-use ftd_machine::{AccountName, Refusal};
+use ftd_machine::{Account, AccountName, Refusal};
+use ftd_rules::{PayRun, Payment, Voidable};
 use sqlite::Alter;
 
 impl<S: Alter> Desk<S> {
@@ -96,5 +98,85 @@ impl<S: Alter> Desk<S> {
             return Err(Refusal::Store);
         }
         ftd_questions::meant_account(&mut self.store, self.alloc, typed)
+    }
+
+    /// As what the account was enrolled, or None where there is none. `Memory` and `Store` may come in
+    /// place of it. The tables stay as they are. A desk that is stopped answers `Store`, and touches
+    /// nothing.
+    pub fn enrolled_account(&mut self, account: &str) -> Result<Option<Account>, Refusal>
+        ensures knows { HasCleanDisk (held S.Store self.new).db
+            → (s : State) → KeepsIfOpen (held S.Store self.old) s
+            → IfOk result (λ kept. enrolled_in s account.now ≡ kept) }
+        ensures fault { IfErr result (λ refusal. IsFault (Err refusal)) }
+        ensures stands { StandsAsBefore (held S.Store self.old) (held S.Store self.new) }
+        ensures stopped { IsStopped self.old
+            → (result ≡ Err Refusal.Store) × (self.new ≡ self.old) }
+    {
+        if self.stopped {
+            return Err(Refusal::Store);
+        }
+        ftd_questions::enrolled_account(&mut self.store, account)
+    }
+
+    /// Whether nothing rests on the account: no total was reported, and no year is open. `Memory` and
+    /// `Store` may come in place of it. The tables stay as they are. A desk that is stopped answers
+    /// `Store`, and touches nothing.
+    pub fn is_unused(&mut self, account: &str) -> Result<bool, Refusal>
+        ensures knows { HasCleanDisk (held S.Store self.new).db
+            → (s : State) → KeepsIfOpen (held S.Store self.old) s
+            → IfOk result (λ unused. is_unused (entries_of s account.now) ≡ unused) }
+        ensures fault { IfErr result (λ refusal. IsFault (Err refusal)) }
+        ensures stands { StandsAsBefore (held S.Store self.old) (held S.Store self.new) }
+        ensures stopped { IsStopped self.old
+            → (result ≡ Err Refusal.Store) × (self.new ≡ self.old) }
+    {
+        if self.stopped {
+            return Err(Refusal::Store);
+        }
+        ftd_questions::is_unused(&mut self.store, self.alloc, account)
+    }
+
+    /// The account's run of the number, void or not, or None where there is none. `Memory` and
+    /// `Store` may come in place of it. The tables stay as they are. A desk that is stopped answers
+    /// `Store`, and touches nothing.
+    pub fn kept_run(
+        &mut self,
+        account: &str,
+        number: u32,
+    ) -> Result<Option<Voidable<PayRun>>, Refusal>
+        ensures knows { HasCleanDisk (held S.Store self.new).db
+            → (s : State) → KeepsIfOpen (held S.Store self.old) s
+            → IfOk result (λ kept. kept_at number (entries_of s account.now).runs ≡ kept) }
+        ensures fault { IfErr result (λ refusal. IsFault (Err refusal)) }
+        ensures stands { StandsAsBefore (held S.Store self.old) (held S.Store self.new) }
+        ensures stopped { IsStopped self.old
+            → (result ≡ Err Refusal.Store) × (self.new ≡ self.old) }
+    {
+        if self.stopped {
+            return Err(Refusal::Store);
+        }
+        ftd_questions::kept_run(&mut self.store, account, number)
+    }
+
+    /// The account's payment of the number, void or not, or None where there is none. `Memory` and
+    /// `Store` may come in place of it. The tables stay as they are. A desk that is stopped answers
+    /// `Store`, and touches nothing.
+    pub fn kept_payment(
+        &mut self,
+        account: &str,
+        number: u32,
+    ) -> Result<Option<Voidable<Payment>>, Refusal>
+        ensures knows { HasCleanDisk (held S.Store self.new).db
+            → (s : State) → KeepsIfOpen (held S.Store self.old) s
+            → IfOk result (λ kept. kept_at number (entries_of s account.now).payments ≡ kept) }
+        ensures fault { IfErr result (λ refusal. IsFault (Err refusal)) }
+        ensures stands { StandsAsBefore (held S.Store self.old) (held S.Store self.new) }
+        ensures stopped { IsStopped self.old
+            → (result ≡ Err Refusal.Store) × (self.new ≡ self.old) }
+    {
+        if self.stopped {
+            return Err(Refusal::Store);
+        }
+        ftd_questions::kept_payment(&mut self.store, account, number)
     }
 }

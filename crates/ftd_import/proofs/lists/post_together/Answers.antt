@@ -27,7 +27,8 @@ count_all-requires-clause-answers g c =
 pub returns-clause-posts : goal.returns-clause-posts
 returns-clause-posts g c =
     let q : Summary = record c.args.done.now { notes = c.reserve.new.self } in
-    let room = with_room c.args.done.now q refl refl refl refl refl c.in-Ok.ensures.items in
+    let room = with_room c.args.done.now q refl refl refl refl refl refl
+    c.in-Ok.ensures.items in
     λ records is.
     posts_together (held g.S.Store c.args.desk.now) (held g.S.Store c.together.new.self) records
     c.deref.result.now c.in_ok-answers.answers.items c.args.done.now q c.count_all.new.done

@@ -13,7 +13,8 @@ returns-in_default-clause-stops g c = λ at later kept posts.
 
 pub returns-in-Some-clause-posts : goal.returns-in-Some-clause-posts
 returns-in-Some-clause-posts g c =
-    let room = with_room c.args.done.now _ refl refl refl refl refl c.in-Ok.ensures.items in
+    let room = with_room c.args.done.now _ refl refl refl refl refl refl
+    c.in-Ok.ensures.items in
     let before = held g.S.Store c.args.desk.now in
     λ at later kept posts.
     subst (λ (x : ℕ × SaidEntry). Posts before before (x ∷ []) c.args.done.now c.skip.new.self)
@@ -24,7 +25,8 @@ returns-in-Some-clause-posts g c =
 pub returns-in-Ok-post_entry-clause-posts : goal.returns-in-Ok-post_entry-clause-posts
 returns-in-Ok-post_entry-clause-posts g c =
     let q : Summary = record c.args.done.now { notes = c.reserve.new.self } in
-    let room = with_room c.args.done.now q refl refl refl refl refl c.in-Ok.ensures.items in
+    let room = with_room c.args.done.now q refl refl refl refl refl refl
+    c.in-Ok.ensures.items in
     let first : c.args.posts.now ≡ c.unwrap.result.0.now ∷ c.unwrap.result.1.now = search rules in
     λ at later kept posts.
     let (it, is) = is_entry at c.args.place.now kept c.in-None.is in

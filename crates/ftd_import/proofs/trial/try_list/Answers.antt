@@ -20,7 +20,8 @@ count_all-requires-clause-answers g c =
 pub returns-in-Ok-trial-clause-tells : goal.returns-in-Ok-trial-clause-tells
 returns-in-Ok-trial-clause-tells g c =
     let q : Summary = record c.args.done.now { notes = c.reserve.new.self } in
-    let room = with_room c.args.done.now q refl refl refl refl refl c.in-Ok.ensures.items in
+    let room = with_room c.args.done.now q refl refl refl refl refl refl
+    c.in-Ok.ensures.items in
     λ records is.
     tried_together (held g.S.Store c.args.desk.now) (held g.S.Store c.trial.new.self) records
     c.deref.result.now c.in-Ok-trial.answers.items c.args.done.now q c.count_all.new.done

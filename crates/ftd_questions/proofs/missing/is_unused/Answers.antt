@@ -1,0 +1,9 @@
+use Rattle.std.proofs.Common.{◌≡◌, rules, sym}
+use Rattle.ftd_questions.proofs.Dropped.{kept_told}
+use Rattle.ftd_questions.proofs.missing.is_unused.Goals as goal
+
+pub returns-in-Ok-is_unused-clause-knows : goal.returns-in-Ok-is_unused-clause-knows
+returns-in-Ok-is_unused-clause-knows g c =
+    let same : c.store-in-Ok-is_unused-1.given.0 ≡ c.drop-tx.new.self.0 = sym (search rules) in
+    rw same (λ clean s kept. let its = kept_told c.in-Ok.ensures.begun
+    c.in-Ok-is_unused.ensures.call c.drop-tx.ensures.crash clean s kept in its.1 s its.2)
