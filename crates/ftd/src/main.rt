@@ -1,12 +1,18 @@
-//! The federal tax deposit desk.
+//! The federal tax deposit desk: what is asked on the command line is done with the desk's file, or
+//! over the connections of a server.
 #![tactic(auto)]
 
+mod beginning;
+mod jobs;
+mod progress;
+mod server;
+
+use crate::jobs::{local, told};
+use crate::server::serve_file;
+use ftd_cli::{PlainTask, Task, decide};
 use ftd_files::{ProgramFault, standard_input, words};
-use ftd_http::serve_file;
-use ftd_local::{local, told};
 use ftd_ports::Port;
 use ftd_program::{print_plain, tell};
-use ftd_words::{PlainTask, Task, decide};
 use std::io;
 use std::process::ExitCode;
 

@@ -4,15 +4,15 @@ use Rattle.sqlite.specs.Schema.{Schema}
 use Rattle.sqlite.specs.State as database
 use Rattle.sqlite.specs.State.{HasCleanDisk}
 use Rattle.sqlite.specs.Steps.{IsEmpty}
-use Rattle.ftd_schema.specs.Making.{IsFree}
+use Rattle.ftd_sql.specs.Making.{IsFree}
 use Rattle.ftd_setup.specs.Versions.{IsNew}
 use Rattle.ftd_machine.specs.State.{nothing}
 use Rattle.ftd_desk.specs.Desks.{Held, Keeps}
 use Rattle.ftd_desk.specs.Opened.{Opens}
-use Rattle.ftd_messages.specs.Messages.{Message}
-use Rattle.ftd_connections.specs.Serving.{ServesMessages}
-use Rattle.ftd_connections.specs.declared.connection.Served.{Served}
-use Rattle.ftd_http.specs.Tables.{AnsweredBy}
+use Rattle.ftd_http.specs.Messages.{Message}
+use Rattle.ftd_server.specs.Serving.{ServesMessages}
+use Rattle.ftd_server.specs.declared.connection.Served.{Served}
+use Rattle.ftd_server.specs.Tables.{AnsweredBy}
 use Rattle.ftd_c.specs.Office.{AreAnswers, IsAnswered}
 
 abbrev no_tables : Schema

@@ -2,9 +2,9 @@
 use Rattle.std.specs.Prelude.{◌≡◌, ℕ, ◌<◌, ◌≤◌, ◌++◌, List, [], length, drop, Some, false}
 use Rattle.ftd_machine.specs.State.{State, nothing}
 use Rattle.ftd_machine.specs.Runs.{Goes}
-use Rattle.ftd_messages.specs.Messages.{Message}
-use Rattle.ftd_connections.specs.Serving.{Answered, ServesMessages}
-use Rattle.ftd_connections.specs.declared.connection.Served.{Served}
+use Rattle.ftd_http.specs.Messages.{Message}
+use Rattle.ftd_server.specs.Serving.{Answered, ServesMessages}
+use Rattle.ftd_server.specs.declared.connection.Served.{Served}
 
 -- what is answered where memory was refused: more than any answers have
 abbrev pub no_answers : ℕ

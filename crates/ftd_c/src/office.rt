@@ -8,8 +8,8 @@ ghost use Rattle.ftd_c.specs.Office.{AreAnswers, HasAnswered, no_answers};
 
 use crate::codes::CallFault;
 use ftd_desk::Desk;
-use ftd_http::serve;
 use ftd_ports::Port;
+use ftd_server::serve;
 use sqlite::{Connection, MemStore};
 use std::alloc::Global;
 

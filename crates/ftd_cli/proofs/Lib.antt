@@ -1,4 +1,3 @@
-pub mod Calendars
-pub mod Members
-pub mod Sums
-pub mod TakingFacts
+pub mod AppFacts
+pub mod Simple
+pub mod TaskFacts

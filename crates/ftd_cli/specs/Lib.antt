@@ -1,7 +1,8 @@
-pub mod Faults
-pub mod Plain
-pub mod Taking
-pub use Rattle.ftd_csv.specs.Answers
-pub use Rattle.ftd_csv.specs.Places
-pub use Rattle.ftd_days.specs.Calendar
-pub use Rattle.ftd_days.specs.Holidays
+pub mod Table
+pub mod Apps
+pub mod Parses
+pub mod Values
+pub mod Asking
+pub mod Escapes
+pub mod Tasks
+pub use Rattle.ftd_days.specs.Spelling

@@ -1,10 +1,20 @@
-//! The deposits of one employer in one year, out of its pay runs as CSV.
+//! The commands of the program and their words, as a table.
+//! What the words of the command line ask.
 #![tactic(auto)]
 
-mod calendar;
-mod deposits;
+mod asking;
+mod command;
+mod deciding;
+mod escape;
 mod fault;
-mod runs;
+mod parse;
+mod reading;
+mod table;
+mod tasks;
 
-pub use crate::deposits::plain;
-pub use crate::fault::PlainFault;
+pub use crate::asking::last_asked;
+pub use crate::deciding::decide;
+pub use crate::escape::{escaped, escaped_word};
+pub use crate::reading::GREATEST_NUMBER;
+pub use crate::table::{NAMES, Name, Takes, Word};
+pub use crate::tasks::{CliFault, Job, LocalTask, PlainTask, ServeTask, Task};

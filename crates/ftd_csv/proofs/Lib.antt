@@ -1,6 +1,11 @@
 pub mod AllRows
-pub mod Headers
+pub mod HeaderRecords
 pub mod Left
 pub mod Names
 pub mod ReadRows
 pub mod RowCounts
+pub mod HeaderFacts
+pub mod HintsLeft
+pub mod Marks
+pub mod ShownFacts
+pub mod Texts

@@ -4,4 +4,9 @@ pub mod Records
 pub mod Answers
 pub mod Rows
 pub mod Places
+pub mod Shown
+pub mod Headers
+pub mod FieldHints
+pub mod Hints
+pub mod HintPlaces
 pub use Rattle.ftd_rules.specs.Accounts

@@ -1,14 +1,21 @@
 //! What an office enters as CSV: pay runs, accounts, reported totals and payments.
+//! Hints: lines that say what is wrong with a text of CSV, and what is asked for.
 #![tactic(auto)]
 
 mod entries;
+mod field_hints;
 mod fields;
+mod headers;
 mod reading;
+mod records;
 mod rows;
 mod sheets;
+mod shown;
 
 pub use crate::entries::{
     Content, EmployerAccount, EmployerPayment, EmployerRun, EmployerTotal, Period, SheetEntry,
 };
+pub use crate::headers::write_header_hint;
 pub use crate::reading::{MOST_BYTES, RecordFault, Records};
+pub use crate::records::{HintFault, write_record_hints};
 pub use crate::sheets::Sheet;

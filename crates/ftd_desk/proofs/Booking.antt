@@ -3,10 +3,10 @@ use Rattle.std.proofs.Common.{◌≡◌, ◌∙◌, refl, sym, ap, subst, arith,
 use Rattle.std.proofs.Common.{false, Option, Some, Result, Ok, Err}
 use Rattle.std.specs.Prelude.{if◌then◌else◌, IfSome, MatchOption}
 use Rattle.sqlite.specs.Store as store
-use Rattle.ftd_rows.specs.declared.faults.StoreFault.{StoreFault}
+use Rattle.ftd_store.specs.declared.faults.StoreFault.{StoreFault}
 use Rattle.ftd_rules.specs.Liability.{liability}
 use Rattle.ftd_rules.specs.declared.run.PayRun.{PayRun}
-use Rattle.ftd_schema.specs.Standing.{Stands}
+use Rattle.ftd_sql.specs.Standing.{Stands}
 use Rattle.ftd_store.specs.declared.tx.Tx.{Tx}
 use Rattle.ftd_store.specs.Finds.{CountsRuns}
 use Rattle.ftd_store.specs.Frame.{Calls, Reads}

@@ -4,11 +4,11 @@ use Rattle.std.proofs.Common.{false, Option, Some, Result, Ok, Err, inl, inr, le
 use Rattle.std.specs.Prelude.{if◌then◌else◌, ◌⊎◌}
 use Rattle.sqlite.specs.Store as store
 use Rattle.sqlite.specs.State as database
-use Rattle.ftd_rows.specs.declared.faults.StoreFault.{StoreFault}
-use Rattle.ftd_rows.specs.declared.faults.StoreFault.TheVariants.{Failed}
+use Rattle.ftd_store.specs.declared.faults.StoreFault.{StoreFault}
+use Rattle.ftd_store.specs.declared.faults.StoreFault.TheVariants.{Failed}
 use Rattle.ftd_rules.specs.declared.run.PayRun.{PayRun}
 use Rattle.ftd_rules.specs.declared.payment.Payment.{Payment}
-use Rattle.ftd_schema.specs.Standing.{Tables, Stands}
+use Rattle.ftd_sql.specs.Standing.{Tables, Stands}
 use Rattle.ftd_store.specs.declared.tx.Tx.{Tx}
 use Rattle.ftd_store.specs.Finds.{CountsRuns, CountsPayments}
 use Rattle.ftd_store.specs.Frame.{Frame, Calls}

@@ -8,8 +8,8 @@ use Rattle.sqlite.specs.State as database
 use Rattle.sqlite.specs.State.{HasCleanDisk, KeepsCommit, Survives, Shows}
 use Rattle.sqlite.specs.Tree.{Trees}
 use Rattle.sqlite.proofs.StateLemmas.{survives_then, survives_weaker}
-use Rattle.ftd_schema.specs.States.{CrashKeeps}
-use Rattle.ftd_schema.proofs.Controls.{crash_none, crash_then}
+use Rattle.ftd_sql.specs.States.{CrashKeeps}
+use Rattle.ftd_sql.proofs.Controls.{crash_none, crash_then}
 use Rattle.ftd_store.specs.Ends.{Begins, LeavesRows, EndsAs, CrashLeaves}
 use Rattle.ftd_machine.specs.State.{State}
 use Rattle.ftd_machine.specs.Checks.{Answer}
@@ -17,8 +17,8 @@ use Rattle.ftd_machine.specs.Runs.{IsFault}
 use Rattle.ftd_machine.specs.declared.replies.Refusal.{Refusal}
 use Rattle.ftd_machine.specs.declared.replies.Refusal.TheVariants as refusal
 use Rattle.ftd_machine.specs.declared.requests.Request.{Request}
-use Rattle.ftd_rows.specs.declared.faults.StoreFault.{StoreFault}
-use Rattle.ftd_rows.specs.declared.faults.StoreFault.TheVariants as fault
+use Rattle.ftd_store.specs.declared.faults.StoreFault.{StoreFault}
+use Rattle.ftd_store.specs.declared.faults.StoreFault.TheVariants as fault
 use Rattle.ftd_questions.specs.Faults.{refusal_of}
 use Rattle.ftd_entries.specs.Words.{IsKept}
 use Rattle.ftd_desk.specs.Books.{IsKnown}

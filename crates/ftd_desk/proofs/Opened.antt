@@ -10,14 +10,14 @@ use Rattle.sqlite.specs.Held as connection
 use Rattle.sqlite.specs.State as database
 use Rattle.sqlite.specs.State.{HasCleanDisk}
 use Rattle.sqlite.specs.Store as store
-use Rattle.ftd_tables.specs.Places.{Holds}
-use Rattle.ftd_schema.specs.declared.TableName.TheVariants.{Metas}
-use Rattle.ftd_schema.specs.Standing.{Tables, StandsAs}
-use Rattle.ftd_schema.specs.Beginnings.{tag_row, HasVersion, IsEarlier}
-use Rattle.ftd_schema.specs.Making.{IsFree}
-use Rattle.ftd_schema.specs.Names.{name_of}
-use Rattle.ftd_schema.specs.Layout.{table_of}
-use Rattle.ftd_schema.specs.Rows.{MetaRow, cells_of}
+use Rattle.ftd_sql.specs.Places.{Holds}
+use Rattle.ftd_sql.specs.declared.TableName.TheVariants.{Metas}
+use Rattle.ftd_sql.specs.Standing.{Tables, StandsAs}
+use Rattle.ftd_sql.specs.Beginnings.{tag_row, HasVersion, IsEarlier}
+use Rattle.ftd_sql.specs.Making.{IsFree}
+use Rattle.ftd_sql.specs.Names.{name_of}
+use Rattle.ftd_sql.specs.Layout.{table_of}
+use Rattle.ftd_sql.specs.Rows.{MetaRow, cells_of}
 use Rattle.ftd_setup.specs.Versions.{IsNew, Opening, Opens, has_later}
 use Rattle.ftd_setup.specs.declared.opening.NotOpened.{NotOpened}
 use Rattle.ftd_machine.specs.State.{State, nothing}

@@ -8,8 +8,8 @@ use Rattle.sqlite.specs.State as database
 use Rattle.sqlite.specs.State.{HasCleanDisk, Survives, Shows}
 use Rattle.ftd_days.specs.declared.cents.Cents.{Cents}
 use Rattle.ftd_rules.specs.declared.run.PayRun.{PayRun}
-use Rattle.ftd_rows.specs.declared.faults.StoreFault.{StoreFault}
-use Rattle.ftd_schema.specs.Standing.{Tables, Stands}
+use Rattle.ftd_store.specs.declared.faults.StoreFault.{StoreFault}
+use Rattle.ftd_sql.specs.Standing.{Tables, Stands}
 use Rattle.ftd_store.specs.declared.tx.Tx.{Tx}
 use Rattle.ftd_store.specs.Seen.{shown}
 use Rattle.ftd_store.specs.Ends.{Begins}

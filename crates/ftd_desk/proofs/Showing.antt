@@ -5,8 +5,8 @@ use Rattle.std.proofs.lemmas.Bool.{true≢false}
 use Rattle.sqlite.specs.Store as store
 use Rattle.sqlite.specs.State as database
 use Rattle.sqlite.specs.State.{HasCleanDisk}
-use Rattle.ftd_schema.specs.Standing.{Tables, Stands}
-use Rattle.ftd_schema.specs.States.{CrashKeeps}
+use Rattle.ftd_sql.specs.Standing.{Tables, Stands}
+use Rattle.ftd_sql.specs.States.{CrashKeeps}
 use Rattle.ftd_store.specs.declared.tx.Tx.{Tx}
 use Rattle.ftd_store.specs.Seen.{shown}
 use Rattle.ftd_store.specs.Ends.{Begins}

@@ -3,8 +3,8 @@ use Rattle.std.proofs.Common.{subst, refl, inr, IsTrue, Ok, Err, List, []}
 use Rattle.std.proofs.lemmas.List.Elements.{All-nil}
 use Rattle.sqlite.specs.State as database
 use Rattle.sqlite.specs.State.{HasCleanDisk, KeepsCommit}
-use Rattle.ftd_schema.specs.States.{CrashKeeps}
-use Rattle.ftd_schema.proofs.Controls.{crash_none, crash_then}
+use Rattle.ftd_sql.specs.States.{CrashKeeps}
+use Rattle.ftd_sql.proofs.Controls.{crash_none, crash_then}
 use Rattle.ftd_store.specs.Ends.{Begins, LeavesRows, EndsAs}
 use Rattle.ftd_machine.specs.State.{State}
 use Rattle.ftd_machine.specs.Checks.{Answer}

@@ -2,8 +2,8 @@
 use Rattle.std.specs.Prelude.{◌≡◌, ℕ, List, Option, Some, Result, Ok, ◌⊎◌}
 use Rattle.sqlite.specs.Store as store
 use Rattle.sqlite.specs.State as database
-use Rattle.ftd_rows.specs.declared.faults.StoreFault.{StoreFault}
-use Rattle.ftd_schema.specs.Standing.{Tables}
+use Rattle.ftd_store.specs.declared.faults.StoreFault.{StoreFault}
+use Rattle.ftd_sql.specs.Standing.{Tables}
 use Rattle.ftd_store.specs.declared.tx.Tx.{Tx}
 use Rattle.ftd_store.specs.Frame.{Reads}
 use Rattle.ftd_machine.specs.State.{State}

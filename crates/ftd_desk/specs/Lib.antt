@@ -14,7 +14,7 @@ pub use Rattle.ftd_machine.specs.Limits
 pub use Rattle.ftd_machine.specs.State
 pub use Rattle.ftd_posting.specs.Repaired
 pub use Rattle.ftd_questions.specs.Missing
-pub use Rattle.ftd_schema.specs.States
+pub use Rattle.ftd_sql.specs.States
 pub use Rattle.ftd_store.specs.Finds
 pub use Rattle.ftd_store.specs.Frame
 pub use Rattle.ftd_store.specs.Seen

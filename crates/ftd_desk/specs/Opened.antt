@@ -5,9 +5,9 @@ use Rattle.sqlite.specs.Held as connection
 use Rattle.sqlite.specs.State as database
 use Rattle.sqlite.specs.State.{HasCleanDisk}
 use Rattle.sqlite.specs.Store as store
-use Rattle.ftd_schema.specs.Making.{IsFree}
-use Rattle.ftd_schema.specs.Beginnings.{IsEarlier}
-use Rattle.ftd_schema.specs.Standing.{Tables, StandsAs}
+use Rattle.ftd_sql.specs.Making.{IsFree}
+use Rattle.ftd_sql.specs.Beginnings.{IsEarlier}
+use Rattle.ftd_sql.specs.Standing.{Tables, StandsAs}
 use Rattle.ftd_setup.specs.Versions.{IsNew}
 use Rattle.ftd_setup.specs.declared.opening.NotOpened.{NotOpened}
 use Rattle.ftd_setup.specs.declared.opening.OpenFault.{OpenFault}

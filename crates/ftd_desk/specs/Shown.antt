@@ -2,7 +2,7 @@
 use Rattle.std.specs.Prelude.{Option, None, Some, ⊤}
 use Rattle.sqlite.specs.State as database
 use Rattle.sqlite.specs.State.{HasCleanDisk}
-use Rattle.ftd_schema.specs.Standing.{Tables, Stands}
+use Rattle.ftd_sql.specs.Standing.{Tables, Stands}
 use Rattle.ftd_machine.specs.Checks.{Answer}
 use Rattle.ftd_machine.specs.Questions.{question_of}
 use Rattle.ftd_machine.specs.declared.requests.Question.{Question}

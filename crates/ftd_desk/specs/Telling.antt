@@ -2,7 +2,7 @@
 use Rattle.std.specs.Prelude.{IsTrue}
 use Rattle.sqlite.specs.State.{HasCleanDisk}
 use Rattle.ftd_machine.specs.State.{State}
-use Rattle.ftd_schema.specs.States.{CrashKeeps}
+use Rattle.ftd_sql.specs.States.{CrashKeeps}
 use Rattle.ftd_desk.specs.Desks.{Held, Keeps}
 
 -- the desk stands for the state as it was, and a crash finds what it would have found before

@@ -14,10 +14,10 @@ use Rattle.ftd_machine.specs.Laws.{is_change}
 use Rattle.ftd_machine.specs.Refusals.{is_failure}
 use Rattle.ftd_machine.specs.declared.replies.Refusal.TheVariants.{Memory, Store}
 use Rattle.ftd_machine.specs.declared.requests.Request.{Request}
-use Rattle.ftd_schema.specs.States.{CrashKeeps}
+use Rattle.ftd_sql.specs.States.{CrashKeeps}
 use Rattle.ftd_store.specs.Ends.{CrashLeaves}
 use Rattle.ftd_machine.specs.Sound.{IsSound}
-use Rattle.ftd_schema.specs.Standing.{Tables, Stands}
+use Rattle.ftd_sql.specs.Standing.{Tables, Stands}
 use Rattle.ftd_machine.specs.declared.replies.Refusal.{Refusal}
 use Rattle.ftd_entries.specs.Standing.{StandsFor}
 use Rattle.ftd_entries.specs.Words.{IsKept}

@@ -6,10 +6,11 @@ ghost use Rattle.ftd_machine.specs.declared.requests.Request.TheVariants as requ
 ghost use Rattle.ftd_entries.specs.Words.{Serves};
 ghost use Rattle.ftd_questions.specs.Shown.{Shows};
 
-use ftd_kept::{accounts, holidays, reported, runs, years};
+use ftd_kept::{
+    accounts, explain, holidays, payments, reported, runs, schedule_b, status, unapplied, years,
+};
 use ftd_machine::{Answer, Kept, Question};
 use ftd_questions::{agenda, due_list, owed};
-use ftd_reasons::{explain, payments, schedule_b, status, unapplied};
 use ftd_store::{StoreFault, Tx};
 use sqlite::Alter;
 use std::alloc::Global;

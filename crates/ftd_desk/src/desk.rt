@@ -5,7 +5,7 @@ ghost use Rattle.ftd_store.specs.Seen.{seen};
 ghost use Rattle.ftd_machine.specs.Laws.{IsBounded};
 ghost use Rattle.ftd_machine.specs.State.{State};
 ghost use Rattle.ftd_desk.specs.Desks.{store_of, IsStopped, held, Rests, Keeps};
-ghost use Rattle.ftd_schema.specs.States.{CrashKeeps};
+ghost use Rattle.ftd_sql.specs.States.{CrashKeeps};
 ghost use Rattle.ftd_desk.specs.Shown.{ShowsAsked};
 ghost use Rattle.ftd_desk.specs.Words.{Handles, RepairsRows, HandlesAll};
 

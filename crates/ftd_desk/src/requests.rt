@@ -19,9 +19,8 @@ use ftd_days::{Cents, Day};
 use ftd_entries::{
     correct_account, enrol, open_year, pay, report, report_year, take_calendar, void_payment,
 };
-use ftd_holidays::{add_holiday, change_holiday};
 use ftd_machine::{Account, Answer, Beginning, Request};
-use ftd_posting::{correct_report, correct_report_year, post, void};
+use ftd_posting::{add_holiday, change_holiday, correct_report, correct_report_year, post, void};
 use ftd_rules::{Form, PayRun, Payment};
 use ftd_store::{StoreFault, Tx};
 use sqlite::Alter;

@@ -18,13 +18,13 @@ use Rattle.ftd_days.specs.Holidays.{YearDays}
 use Rattle.ftd_rules.specs.Lists.{Has, KeysRise}
 use Rattle.ftd_rules.proofs.Rising.{sorted_is, next_do_not_fall}
 use Rattle.ftd_rules.proofs.Members.{has_mapped}
-use Rattle.ftd_schema.specs.declared.TableName.TheVariants.{Holidays}
-use Rattle.ftd_schema.specs.Rows.{HolidayRow, CalendarYearRow}
-use Rattle.ftd_schema.specs.Standing.{Tables}
-use Rattle.ftd_schema.specs.Orders.{HolidaysRise}
-use Rattle.ftd_schema.specs.Tests.{is_calendar_year, is_holiday_of}
-use Rattle.ftd_rows.specs.Lists.{Pairs, Lists}
-use Rattle.ftd_rows.specs.Rows.{calendar_year_row, holiday_row}
+use Rattle.ftd_sql.specs.declared.TableName.TheVariants.{Holidays}
+use Rattle.ftd_sql.specs.Rows.{HolidayRow, CalendarYearRow}
+use Rattle.ftd_sql.specs.Standing.{Tables}
+use Rattle.ftd_sql.specs.Orders.{HolidaysRise}
+use Rattle.ftd_sql.specs.Tests.{is_calendar_year, is_holiday_of}
+use Rattle.ftd_store.specs.Lists.{Pairs, Lists}
+use Rattle.ftd_store.specs.Rows.{calendar_year_row, holiday_row}
 use Rattle.ftd_store.specs.Finds.{FindsCalendar, IsHoliday}
 use Rattle.ftd_machine.specs.Limits.{are_rising}
 use Rattle.ftd_machine.specs.State.{State, days_of, calendar_at}

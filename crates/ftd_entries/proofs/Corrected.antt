@@ -6,20 +6,20 @@ use Rattle.std.proofs.lemmas.Bool.{eqb-true, and_parts}
 use Rattle.ftd_days.specs.Calendar.{quarter_year, quarter_number}
 use Rattle.ftd_days.specs.declared.cents.Cents.{Cents}
 use Rattle.ftd_days.proofs.Spelling.{same_text}
-use Rattle.ftd_schema.specs.declared.TableName.TheVariants.{CorrectedAccounts}
-use Rattle.ftd_schema.specs.Orders.{CorrectionsRise, YearCorrectionsRise, AccountCorrectionsRise}
-use Rattle.ftd_schema.specs.Rows.{CorrectedQuarterRow, CorrectedYearRow, CorrectedAccountRow}
-use Rattle.ftd_schema.specs.Standing.{Tables}
-use Rattle.ftd_schema.specs.Tests.{is_correction, is_year_correction, is_account_correction_of}
-use Rattle.ftd_schema.specs.Tests.{is_account}
+use Rattle.ftd_sql.specs.declared.TableName.TheVariants.{CorrectedAccounts}
+use Rattle.ftd_sql.specs.Orders.{CorrectionsRise, YearCorrectionsRise, AccountCorrectionsRise}
+use Rattle.ftd_sql.specs.Rows.{CorrectedQuarterRow, CorrectedYearRow, CorrectedAccountRow}
+use Rattle.ftd_sql.specs.Standing.{Tables}
+use Rattle.ftd_sql.specs.Tests.{is_correction, is_year_correction, is_account_correction_of}
+use Rattle.ftd_sql.specs.Tests.{is_account}
 use Rattle.ftd_rules.specs.declared.Form.{Form}
-use Rattle.ftd_rows.specs.Lists.{Lists}
-use Rattle.ftd_rows.specs.Rows.{correction_row, year_correction_row, account_correction_row}
-use Rattle.ftd_rows.specs.Corrections.{as_corrected, last_account}
-use Rattle.ftd_rows.specs.Years.{is_carried as is_carried_in}
-use Rattle.ftd_rows.specs.declared.accounts.Account.{Account as StoredAccount}
-use Rattle.ftd_rows.specs.declared.corrections.AccountCorrection.{AccountCorrection}
-use Rattle.ftd_rows.specs.declared.corrections.Correction.{Correction}
+use Rattle.ftd_store.specs.Lists.{Lists}
+use Rattle.ftd_store.specs.Rows.{correction_row, year_correction_row, account_correction_row}
+use Rattle.ftd_store.specs.CorrectionRows.{as_corrected, last_account}
+use Rattle.ftd_store.specs.Years.{is_carried as is_carried_in}
+use Rattle.ftd_store.specs.declared.account_cells.Account.{Account as StoredAccount}
+use Rattle.ftd_store.specs.declared.correction_cells.AccountCorrection.{AccountCorrection}
+use Rattle.ftd_store.specs.declared.correction_cells.Correction.{Correction}
 use Rattle.ftd_store.specs.Corrections.{IsCorrection, IsCorrectionOfYear, IsAccountCorrection}
 use Rattle.ftd_store.specs.Corrections.{ListsCorrections, ListsYearCorrections}
 use Rattle.ftd_store.specs.Finds.{FindsReported, FindsReportedYear, FindsInForce, FindsForm}

@@ -7,7 +7,7 @@ use Rattle.std.proofs.lemmas.List.{length-append}
 use Rattle.ftd_rules.specs.Lists.{Has, KeysRise}
 use Rattle.ftd_rules.proofs.Rising.{sorted_is, next_do_not_fall}
 use Rattle.ftd_rules.proofs.Members.{filter_in, filter_out}
-use Rattle.ftd_rows.specs.Lists.{Lists, Pairs}
+use Rattle.ftd_store.specs.Lists.{Lists, Pairs}
 use Rattle.ftd_entries.specs.Standing.{with_earlier}
 
 -- a list of what is kept under one key, beside the list of all

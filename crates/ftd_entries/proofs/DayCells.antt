@@ -9,7 +9,7 @@ use Rattle.std.proofs.lemmas.Int.{ints}
 use Rattle.std.proofs.lemmas.Bool.{le-leb, lt-leb, lt-ltb, le-ltb, false_from_ne_true, cases_lt}
 use Rattle.std.proofs.lemmas.Bool.Decides.{Decides-int_eq, Decides-eqb, Decides-like}
 use Rattle.std.proofs.lemmas.Bool.Decides.{same_from_decides}
-use Rattle.ftd_rows.specs.Cells.{day_number}
+use Rattle.ftd_store.specs.Cells.{day_number}
 use Rattle.ftd_entries.proofs.Found.{day_is}
 
 passed : (b : Bool) → T b → b ≡ true

@@ -15,16 +15,16 @@ use Rattle.ftd_days.proofs.Years.{eq_same}
 use Rattle.ftd_rules.specs.Lists.{Has, KeysRise, KeysDoNotFall}
 use Rattle.ftd_rules.proofs.Rising.{rising_one, has_permuted}
 use Rattle.ftd_rules.proofs.Members.{has_kept}
-use Rattle.ftd_tables.specs.Order.{EachToNext}
-use Rattle.ftd_schema.specs.declared.TableName.TheVariants.{ChangedHolidays}
-use Rattle.ftd_schema.specs.Orders.{HolidayChangesRise}
-use Rattle.ftd_schema.specs.Rows.{ChangedHolidayRow}
-use Rattle.ftd_schema.specs.Standing.{Tables}
-use Rattle.ftd_schema.specs.Tests.{is_holiday_change_of}
-use Rattle.ftd_rows.specs.Cells.{day_number}
-use Rattle.ftd_rows.specs.Lists.{Pairs}
-use Rattle.ftd_rows.specs.Rows.{holiday_change_row}
-use Rattle.ftd_rows.specs.declared.corrections.HolidayChange.{HolidayChange}
+use Rattle.ftd_sql.specs.Order.{EachToNext}
+use Rattle.ftd_sql.specs.declared.TableName.TheVariants.{ChangedHolidays}
+use Rattle.ftd_sql.specs.Orders.{HolidayChangesRise}
+use Rattle.ftd_sql.specs.Rows.{ChangedHolidayRow}
+use Rattle.ftd_sql.specs.Standing.{Tables}
+use Rattle.ftd_sql.specs.Tests.{is_holiday_change_of}
+use Rattle.ftd_store.specs.Cells.{day_number}
+use Rattle.ftd_store.specs.Lists.{Pairs}
+use Rattle.ftd_store.specs.Rows.{holiday_change_row}
+use Rattle.ftd_store.specs.declared.correction_cells.HolidayChange.{HolidayChange}
 use Rattle.ftd_store.specs.Corrections.{IsHolidayChange, ListsHolidayChanges}
 use Rattle.ftd_store.specs.Holidays.{is_on, says_holiday, words_on, last_word, is_kept}
 use Rattle.ftd_store.proofs.Same.{same_int}

@@ -7,18 +7,18 @@ use Rattle.sqlite.specs.Effect.{Database}
 use Rattle.sqlite.specs.Does.{lacks_sequence}
 use Rattle.ftd_rules.specs.declared.Form.TheVariants.{F941}
 use Rattle.ftd_rules.specs.Lists.{Has}
-use Rattle.ftd_schema.specs.declared.TableName.TheVariants.{Accounts, ReportedQuarters}
-use Rattle.ftd_schema.specs.declared.TableName.TheVariants.{CalendarYears, Holidays, Years, Runs}
-use Rattle.ftd_schema.specs.declared.TableName.{TableName}
-use Rattle.ftd_schema.specs.declared.TableName.TheVariants.{Metas, Payments, Obligations, Forms}
-use Rattle.ftd_schema.specs.declared.TableName.TheVariants.{ReportedYears, AddedHolidays}
-use Rattle.ftd_schema.specs.declared.TableName.TheVariants.{CorrectedQuarters, CorrectedYears}
-use Rattle.ftd_schema.specs.declared.TableName.TheVariants.{ChangedHolidays, CorrectedAccounts}
-use Rattle.ftd_schema.specs.Rows.{FormRow, RowOf}
-use Rattle.ftd_schema.specs.Names.{since}
-use Rattle.ftd_schema.specs.Standing.{Tables, StandsAs}
-use Rattle.ftd_schema.specs.Beginnings.{new_tables, on_form_941, IsMade, IsMigration, IsMigrated}
-use Rattle.ftd_schema.specs.Beginnings.{IsEarlier}
+use Rattle.ftd_sql.specs.declared.TableName.TheVariants.{Accounts, ReportedQuarters}
+use Rattle.ftd_sql.specs.declared.TableName.TheVariants.{CalendarYears, Holidays, Years, Runs}
+use Rattle.ftd_sql.specs.declared.TableName.{TableName}
+use Rattle.ftd_sql.specs.declared.TableName.TheVariants.{Metas, Payments, Obligations, Forms}
+use Rattle.ftd_sql.specs.declared.TableName.TheVariants.{ReportedYears, AddedHolidays}
+use Rattle.ftd_sql.specs.declared.TableName.TheVariants.{CorrectedQuarters, CorrectedYears}
+use Rattle.ftd_sql.specs.declared.TableName.TheVariants.{ChangedHolidays, CorrectedAccounts}
+use Rattle.ftd_sql.specs.Rows.{FormRow, RowOf}
+use Rattle.ftd_sql.specs.Names.{since}
+use Rattle.ftd_sql.specs.Standing.{Tables, StandsAs}
+use Rattle.ftd_sql.specs.Beginnings.{new_tables, on_form_941, IsMade, IsMigration, IsMigrated}
+use Rattle.ftd_sql.specs.Beginnings.{IsEarlier}
 use Rattle.ftd_machine.specs.State.{State, nothing, Enrolled}
 use Rattle.ftd_machine.specs.Sound.{IsSound}
 use Rattle.ftd_machine.proofs.Soundness.{nothing_sound}

@@ -7,8 +7,8 @@ use Rattle.std.proofs.lemmas.List.Sorted.{IsPermutation-append_left}
 use Rattle.std.specs.Prelude.{filter, is_some, IsPermutation}
 use Rattle.ftd_days.proofs.Spelling.{same_text}
 use Rattle.ftd_rules.specs.Lists.{Has}
-use Rattle.ftd_schema.specs.declared.TableName.TheVariants.{Forms}
-use Rattle.ftd_schema.specs.Standing.{Tables}
+use Rattle.ftd_sql.specs.declared.TableName.TheVariants.{Forms}
+use Rattle.ftd_sql.specs.Standing.{Tables}
 use Rattle.ftd_machine.specs.declared.entries.Account.{Account}
 use Rattle.ftd_machine.specs.declared.requests.Request.{Request}
 use Rattle.ftd_machine.specs.declared.requests.Request.TheVariants.{Enrol}

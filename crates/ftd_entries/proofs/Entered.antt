@@ -2,9 +2,9 @@
 use Rattle.std.proofs.Common.{◌≡◌, ◌∙◌, refl, sym, ap, List, [], ◌∷◌, ◌++◌, map}
 use Rattle.std.proofs.Common.{append-nil, append_assoc}
 use Rattle.std.proofs.lemmas.List.{map-append}
-use Rattle.ftd_schema.specs.declared.TableName.TheVariants.{Metas}
-use Rattle.ftd_schema.specs.Beginnings.{HasVersion}
-use Rattle.ftd_schema.specs.Standing.{Tables}
+use Rattle.ftd_sql.specs.declared.TableName.TheVariants.{Metas}
+use Rattle.ftd_sql.specs.Beginnings.{HasVersion}
+use Rattle.ftd_sql.specs.Standing.{Tables}
 use Rattle.ftd_machine.specs.State.{State}
 use Rattle.ftd_entries.specs.Standing.{KeepsEntries, KeepsAccounts, KeepsFigures, KeepsDays}
 use Rattle.ftd_entries.specs.Standing.{KeepsPaid, with_earlier}

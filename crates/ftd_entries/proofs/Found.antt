@@ -6,14 +6,14 @@ use Rattle.std.specs.Prelude.{filter, find, bytes_eq, option_map, unwrap_or, ifâ
 use Rattle.sqlite.specs.Store as store
 use Rattle.ftd_rules.specs.declared.Form.{Form}
 use Rattle.ftd_rules.specs.declared.Form.TheVariants.{F941, F943}
-use Rattle.ftd_schema.specs.declared.TableName.TheVariants.{Forms}
-use Rattle.ftd_schema.specs.Rows.{AccountRow, FormRow}
-use Rattle.ftd_schema.specs.Standing.{Tables}
-use Rattle.ftd_schema.specs.Tests.{is_account, is_form_of}
-use Rattle.ftd_rows.specs.declared.accounts.Account.{Account as StoredAccount}
-use Rattle.ftd_rows.specs.Cells.{day_number, flag_number, form_number}
-use Rattle.ftd_rows.specs.Rows.{account_row, form_row}
-use Rattle.ftd_rows.specs.Reading.{rows_of}
+use Rattle.ftd_sql.specs.declared.TableName.TheVariants.{Forms}
+use Rattle.ftd_sql.specs.Rows.{AccountRow, FormRow}
+use Rattle.ftd_sql.specs.Standing.{Tables}
+use Rattle.ftd_sql.specs.Tests.{is_account, is_form_of}
+use Rattle.ftd_store.specs.declared.account_cells.Account.{Account as StoredAccount}
+use Rattle.ftd_store.specs.Cells.{day_number, flag_number, form_number}
+use Rattle.ftd_store.specs.Rows.{account_row, form_row}
+use Rattle.ftd_store.specs.Reading.{rows_of}
 use Rattle.ftd_store.specs.Finds.{FindsAccount, FindsForm}
 use Rattle.ftd_store.specs.Frame.{Reads}
 use Rattle.ftd_store.specs.declared.tx.Tx.{Tx}

@@ -19,8 +19,8 @@ use Rattle.ftd_rules.proofs.Rising.{all_has, has_all}
 use Rattle.ftd_rules.proofs.Resting.{obligations_later, obligations_same}
 use Rattle.ftd_rules.proofs.Stated.{rows_owed, rows_stated}
 use Rattle.ftd_rules.proofs.Members.{has_mapped, mapped_has}
-use Rattle.ftd_schema.specs.Standing.{Tables}
-use Rattle.ftd_rows.specs.Rows.{holiday_row}
+use Rattle.ftd_sql.specs.Standing.{Tables}
+use Rattle.ftd_store.specs.Rows.{holiday_row}
 use Rattle.ftd_store.specs.Changes.{with_calendar}
 use Rattle.ftd_machine.proofs.Few.{few_in_force}
 use Rattle.ftd_machine.specs.declared.requests.Request.{Request}

@@ -13,8 +13,8 @@ use Rattle.ftd_rules.specs.Lookback.{Counts, IsLookback, IsYearLookback}
 use Rattle.ftd_rules.specs.Years.{AreLines}
 use Rattle.ftd_rules.specs.Obligations.{AreObligations}
 use Rattle.ftd_rules.proofs.Owed.{has_left}
-use Rattle.ftd_schema.specs.declared.TableName.TheVariants.{Years, Obligations}
-use Rattle.ftd_schema.specs.Standing.{Tables}
+use Rattle.ftd_sql.specs.declared.TableName.TheVariants.{Years, Obligations}
+use Rattle.ftd_sql.specs.Standing.{Tables}
 use Rattle.ftd_machine.specs.State.{State, Entry, Entries, entries_of, holidays}
 use Rattle.ftd_machine.specs.History.{start_of, form_of, is_carried, figure_of, figures, live}
 use Rattle.ftd_machine.specs.History.{quarter_figures, year_figures}

@@ -4,7 +4,7 @@ use Rattle.std.proofs.Common.{List, [], ◌∷◌}
 use Rattle.std.specs.Prelude.{nat_lt}
 use Rattle.std.proofs.lemmas.Bool.{ltb-true, eqb-true, or_cases, and_parts}
 use Rattle.ftd_rules.specs.Lists.{Has, are_in_order}
-use Rattle.ftd_rows.specs.Lists.{Pairs}
+use Rattle.ftd_store.specs.Lists.{Pairs}
 use Rattle.ftd_store.proofs.Items.{paired_from}
 use Rattle.ftd_machine.specs.Agenda.{EachToLater}
 

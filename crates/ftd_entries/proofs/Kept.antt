@@ -10,12 +10,12 @@ use Rattle.ftd_days.specs.declared.cents.Cents.{Cents}
 use Rattle.ftd_rules.specs.declared.payment.Payment.{Payment}
 use Rattle.ftd_rules.specs.declared.run.PayRun.{PayRun}
 use Rattle.ftd_rules.specs.declared.run.Voidable.{Voidable}
-use Rattle.ftd_schema.specs.Rows.{ReportedQuarterRow, ReportedYearRow, RunRow, PaymentRow}
-use Rattle.ftd_schema.specs.Standing.{Tables}
-use Rattle.ftd_schema.specs.Tests.{is_reported, is_reported_year, is_run, is_run_of, is_payment}
-use Rattle.ftd_schema.specs.Tests.{is_payment_of}
-use Rattle.ftd_rows.specs.Rows.{reported_row, reported_year_row, run_row, payment_row}
-use Rattle.ftd_rows.specs.Reading.{rows_of}
+use Rattle.ftd_sql.specs.Rows.{ReportedQuarterRow, ReportedYearRow, RunRow, PaymentRow}
+use Rattle.ftd_sql.specs.Standing.{Tables}
+use Rattle.ftd_sql.specs.Tests.{is_reported, is_reported_year, is_run, is_run_of, is_payment}
+use Rattle.ftd_sql.specs.Tests.{is_payment_of}
+use Rattle.ftd_store.specs.Rows.{reported_row, reported_year_row, run_row, payment_row}
+use Rattle.ftd_store.specs.Reading.{rows_of}
 use Rattle.ftd_store.specs.Finds.{FindsReported, FindsReportedYear, FindsRun, FindsPayment}
 use Rattle.ftd_store.specs.Finds.{CountsRuns, CountsPayments}
 use Rattle.ftd_machine.specs.State.{State, Entry, entries_of, is_of, has_key, content_of, kept_at}

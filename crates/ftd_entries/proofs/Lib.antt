@@ -32,3 +32,14 @@ pub mod QuarterDays
 pub mod DayChanges
 pub mod PutRight
 pub mod InOrder
+mod Rising
+mod KeptSums
+pub mod LiableDays
+pub mod Searching
+mod LiabilityRead
+mod PaymentsRead
+mod Preceding
+pub mod ReturnDates
+pub mod YearsRead
+mod KeptEnrolled
+mod AccountOrder

@@ -12,13 +12,13 @@ use Rattle.ftd_rules.specs.Years.{YearsFrom, OnlyFirstCarried}
 use Rattle.ftd_rules.proofs.Rising.{sorted_is, next_do_not_fall}
 use Rattle.ftd_rules.proofs.Schedules.{years_within}
 use Rattle.ftd_rules.proofs.Members.{has_mapped}
-use Rattle.ftd_schema.specs.Rows.{YearRow}
-use Rattle.ftd_schema.specs.Standing.{Tables}
-use Rattle.ftd_rows.specs.declared.accounts.Account.{Account as StoredAccount}
-use Rattle.ftd_rows.specs.Cells.{day_number, schedule_number}
-use Rattle.ftd_rows.specs.Lists.{Pairs}
-use Rattle.ftd_rows.specs.Rows.{year_row}
-use Rattle.ftd_rows.specs.Years.{FirstCarriedAs, is_carried as is_carried_in}
+use Rattle.ftd_sql.specs.Rows.{YearRow}
+use Rattle.ftd_sql.specs.Standing.{Tables}
+use Rattle.ftd_store.specs.declared.account_cells.Account.{Account as StoredAccount}
+use Rattle.ftd_store.specs.Cells.{day_number, schedule_number}
+use Rattle.ftd_store.specs.Lists.{Pairs}
+use Rattle.ftd_store.specs.Rows.{year_row}
+use Rattle.ftd_store.specs.Years.{FirstCarriedAs, is_carried as is_carried_in}
 use Rattle.ftd_store.specs.Finds.{IsYear, ListsYears, FindsInForce}
 use Rattle.ftd_machine.specs.State.{State, entries_of}
 use Rattle.ftd_machine.specs.History.{is_carried, AreCarried}

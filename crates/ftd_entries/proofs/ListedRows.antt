@@ -6,10 +6,10 @@ use Rattle.std.proofs.lemmas.List.Sorted.{IsPermutation-sym}
 use Rattle.ftd_rules.specs.Lists.{Has}
 use Rattle.ftd_rules.proofs.Rising.{has_permuted}
 use Rattle.ftd_rules.proofs.Members.{has_kept, has_mapped}
-use Rattle.ftd_schema.specs.Rows.{ObligationRow}
-use Rattle.ftd_rows.specs.declared.obligations.AccountObligation.{AccountObligation}
-use Rattle.ftd_rows.specs.Lists.{Pairs, Lists}
-use Rattle.ftd_rows.specs.Rows.{obligation_row}
+use Rattle.ftd_sql.specs.Rows.{ObligationRow}
+use Rattle.ftd_store.specs.declared.obligation_cells.AccountObligation.{AccountObligation}
+use Rattle.ftd_store.specs.Lists.{Pairs, Lists}
+use Rattle.ftd_store.specs.Rows.{obligation_row}
 use Rattle.ftd_store.specs.Finds.{IsAccountObligation}
 use Rattle.ftd_machine.proofs.Members.{has_filtered}
 

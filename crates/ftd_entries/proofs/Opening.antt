@@ -31,11 +31,11 @@ use Rattle.ftd_rules.proofs.Stated.{rows_owed, rows_stated}
 use Rattle.ftd_rules.specs.Private.Obligations.{IsOwedPiece}
 use Rattle.ftd_rules.proofs.Rising.{has_permuted}
 use Rattle.ftd_rules.proofs.Members.{has_last, has_mapped, mapped_has, has_before}
-use Rattle.ftd_schema.specs.declared.TableName.TheVariants.{Years}
-use Rattle.ftd_schema.specs.Rows.{YearRow}
-use Rattle.ftd_schema.specs.Standing.{Tables}
-use Rattle.ftd_schema.specs.Tests.{is_year, is_year_of}
-use Rattle.ftd_rows.specs.Rows.{year_row}
+use Rattle.ftd_sql.specs.declared.TableName.TheVariants.{Years}
+use Rattle.ftd_sql.specs.Rows.{YearRow}
+use Rattle.ftd_sql.specs.Standing.{Tables}
+use Rattle.ftd_sql.specs.Tests.{is_year, is_year_of}
+use Rattle.ftd_store.specs.Rows.{year_row}
 use Rattle.ftd_store.specs.Changes.{with_year, put_among}
 use Rattle.ftd_machine.specs.Limits.{is_between}
 use Rattle.ftd_machine.specs.State.{State, Entry, Entries, entries_of, is_of, has_key, content_of}

@@ -14,15 +14,15 @@ use Rattle.ftd_rules.specs.Lists.{KeysRise}
 use Rattle.ftd_rules.specs.Obligations.{ByFirstDay, begins_on}
 use Rattle.ftd_rules.proofs.Rising.{sorted_is, next_do_not_fall}
 use Rattle.ftd_rules.proofs.Members.{has_mapped, filter_in, filter_out}
-use Rattle.ftd_tables.specs.Order.{EachToNext}
-use Rattle.ftd_schema.specs.Rows.{ObligationRow}
-use Rattle.ftd_schema.specs.Orders.{ObligationsRise}
-use Rattle.ftd_schema.specs.Tests.{is_obligation_between}
-use Rattle.ftd_rows.specs.Cells.{day_number, rule_number}
-use Rattle.ftd_rows.specs.Lists.{Pairs, Lists, ListsFirst}
-use Rattle.ftd_rows.specs.Rows.{obligation_row}
-use Rattle.ftd_schema.specs.declared.TableName.TheVariants.{Obligations}
-use Rattle.ftd_schema.specs.Standing.{Tables}
+use Rattle.ftd_sql.specs.Order.{EachToNext}
+use Rattle.ftd_sql.specs.Rows.{ObligationRow}
+use Rattle.ftd_sql.specs.Orders.{ObligationsRise}
+use Rattle.ftd_sql.specs.Tests.{is_obligation_between}
+use Rattle.ftd_store.specs.Cells.{day_number, rule_number}
+use Rattle.ftd_store.specs.Lists.{Pairs, Lists, ListsFirst}
+use Rattle.ftd_store.specs.Rows.{obligation_row}
+use Rattle.ftd_sql.specs.declared.TableName.TheVariants.{Obligations}
+use Rattle.ftd_sql.specs.Standing.{Tables}
 use Rattle.ftd_store.specs.Finds.{IsObligation, ListsObligations}
 use Rattle.ftd_store.proofs.Sifted.{sifted}
 use Rattle.ftd_machine.proofs.Adding.{own_name}

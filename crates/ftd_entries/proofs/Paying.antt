@@ -6,11 +6,11 @@ use Rattle.std.specs.Prelude.{bytes_eq}
 use Rattle.ftd_days.specs.Calendar.{year_of}
 use Rattle.ftd_rules.specs.declared.payment.Payment.{Payment}
 use Rattle.ftd_rules.specs.declared.run.Voidable.{Voidable}
-use Rattle.ftd_schema.specs.declared.TableName.TheVariants.{Payments}
-use Rattle.ftd_schema.specs.Rows.{PaymentRow}
-use Rattle.ftd_schema.specs.Standing.{Tables, with_rows}
-use Rattle.ftd_schema.specs.Tests.{is_payment, voided_payment}
-use Rattle.ftd_tables.specs.Kept.{changed}
+use Rattle.ftd_sql.specs.declared.TableName.TheVariants.{Payments}
+use Rattle.ftd_sql.specs.Rows.{PaymentRow}
+use Rattle.ftd_sql.specs.Standing.{Tables, with_rows}
+use Rattle.ftd_sql.specs.Tests.{is_payment, voided_payment}
+use Rattle.ftd_sql.specs.Kept.{changed}
 use Rattle.ftd_store.specs.Changes.{with_payment, with_void_payment}
 use Rattle.ftd_store.specs.Finds.{FindsPayment, CountsPayments}
 use Rattle.ftd_machine.specs.declared.entries.Account.{Account}

@@ -7,7 +7,7 @@ use Rattle.std.proofs.lemmas.List.Sums.{length-filter}
 use Rattle.ftd_rules.specs.Lists.{Has}
 use Rattle.ftd_rules.proofs.Rising.{has_permuted}
 use Rattle.ftd_rules.proofs.Members.{has_kept}
-use Rattle.ftd_rows.specs.Reading.{rows_of}
+use Rattle.ftd_store.specs.Reading.{rows_of}
 use Rattle.ftd_machine.proofs.Members.{has_filtered}
 
 pub at_most_one : {X Y : Type 0} (row : Y → X) (o : Option Y) → length (rows_of row o) ≤ 1

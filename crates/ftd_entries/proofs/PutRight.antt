@@ -8,9 +8,9 @@ use Rattle.std.proofs.lemmas.Bool.{eqb-true, and_parts}
 use Rattle.std.proofs.lemmas.List.{length-map}
 use Rattle.std.proofs.lemmas.List.Sorted.{length_permutation}
 use Rattle.ftd_rules.specs.declared.YearLine.{YearLine}
-use Rattle.ftd_schema.specs.Standing.{Tables}
-use Rattle.ftd_rows.specs.declared.kept.QuarterTotal.{QuarterTotal}
-use Rattle.ftd_rows.specs.declared.kept.YearTotal.{YearTotal}
+use Rattle.ftd_sql.specs.Standing.{Tables}
+use Rattle.ftd_store.specs.declared.kept_cells.QuarterTotal.{QuarterTotal}
+use Rattle.ftd_store.specs.declared.kept_cells.YearTotal.{YearTotal}
 use Rattle.ftd_store.specs.Changes.{with_account_correction}
 use Rattle.ftd_machine.specs.declared.entries.Account.{Account}
 use Rattle.ftd_machine.specs.declared.entries.Beginning.{Beginning}
@@ -27,10 +27,10 @@ use Rattle.ftd_machine.proofs.Others.{others}
 use Rattle.ftd_entries.specs.Correcting.{KnowsForCorrection}
 use Rattle.ftd_entries.specs.Standing.{StandsFor, IsSettled, account_correction_entry}
 use Rattle.std.specs.Prelude.{if◌then◌else◌}
-use Rattle.ftd_schema.specs.Orders.{QuartersRise, ReportedYearsRise}
-use Rattle.ftd_schema.specs.Tests.{is_reported_of, is_reported_year_of}
-use Rattle.ftd_rows.specs.Lists.{Lists}
-use Rattle.ftd_rows.specs.Rows.{account_correction_row}
+use Rattle.ftd_sql.specs.Orders.{QuartersRise, ReportedYearsRise}
+use Rattle.ftd_sql.specs.Tests.{is_reported_of, is_reported_year_of}
+use Rattle.ftd_store.specs.Lists.{Lists}
+use Rattle.ftd_store.specs.Rows.{account_correction_row}
 use Rattle.ftd_store.specs.Finds.{ListsYears}
 use Rattle.ftd_store.specs.Kept.{IsQuarterTotal, IsYearTotal, ListsReported, ListsReportedYears}
 use Rattle.ftd_store.proofs.Items.{pairs_length}

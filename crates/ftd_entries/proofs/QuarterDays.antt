@@ -9,7 +9,7 @@ use Rattle.ftd_days.specs.Calendar.{month_start, quarter_of, quarter_year, quart
 use Rattle.ftd_days.proofs.Months.{day_in_years, month_start-mono, month_start-end}
 use Rattle.ftd_rules.specs.Accounts.{is_account_name}
 use Rattle.ftd_rules.proofs.Status.{quarter_is, quarter_only}
-use Rattle.ftd_rows.specs.Cells.{day_number}
+use Rattle.ftd_store.specs.Cells.{day_number}
 use Rattle.ftd_machine.specs.Checks.{first_of, finds}
 use Rattle.ftd_machine.specs.Limits.{is_between}
 use Rattle.ftd_machine.specs.Requests.{kept_in_quarter_checks}

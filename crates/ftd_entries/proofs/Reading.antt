@@ -3,9 +3,9 @@ use Rattle.std.proofs.Common.{◌≡◌, List, Result, Ok, Err, true}
 use Rattle.std.specs.Prelude.{is_err}
 use Rattle.sqlite.specs.State.{State}
 use Rattle.sqlite.specs.Store as store
-use Rattle.ftd_schema.specs.Standing.{Tables}
+use Rattle.ftd_sql.specs.Standing.{Tables}
 use Rattle.ftd_store.specs.declared.tx.Tx.{Tx}
-use Rattle.ftd_rows.specs.declared.faults.StoreFault.{StoreFault}
+use Rattle.ftd_store.specs.declared.faults.StoreFault.{StoreFault}
 use Rattle.ftd_store.specs.Frame.{Calls, Frame, Reads, Writes, WritesOne, Rewrites}
 use Rattle.ftd_store.proofs.Going.{fails_after, then_fails}
 use Rattle.ftd_store.proofs.Telling.{reads_on, then_reads}

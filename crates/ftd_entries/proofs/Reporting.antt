@@ -2,7 +2,7 @@
 use Rattle.std.proofs.Common.{◌≡◌, ◌∙◌, refl, ℕ, List, [], ◌∷◌, Option, None, Some}
 use Rattle.std.proofs.Common.{Ok}
 use Rattle.ftd_days.specs.declared.cents.Cents.{Cents}
-use Rattle.ftd_schema.specs.Standing.{Tables}
+use Rattle.ftd_sql.specs.Standing.{Tables}
 use Rattle.ftd_store.specs.Changes.{with_reported, with_reported_year}
 use Rattle.ftd_store.specs.Finds.{FindsReported, FindsReportedYear}
 use Rattle.ftd_machine.specs.declared.entries.Account.{Account}

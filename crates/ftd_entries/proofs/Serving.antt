@@ -2,7 +2,7 @@
 use Rattle.std.proofs.Common.{Ok, sym, subst, arith}
 use Rattle.sqlite.specs.State as database
 use Rattle.sqlite.specs.Store as store
-use Rattle.ftd_schema.specs.Standing.{Tables, Stands}
+use Rattle.ftd_sql.specs.Standing.{Tables, Stands}
 use Rattle.ftd_store.specs.declared.tx.Tx.{Tx}
 use Rattle.ftd_store.specs.Frame.{Calls, Reads, Writes, Rewrites}
 use Rattle.ftd_store.proofs.Going.{goes_on, then_goes}

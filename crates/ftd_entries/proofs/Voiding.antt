@@ -3,7 +3,7 @@
 use Rattle.std.proofs.Common.{◌≡◌, ◌∙◌, refl, ap, ℕ, Bool, true, false, cond, List, [], ◌∷◌, map}
 use Rattle.std.specs.Prelude.{if◌then◌else◌}
 use Rattle.ftd_rules.specs.declared.run.Voidable.{Voidable}
-use Rattle.ftd_tables.specs.Kept.{changed}
+use Rattle.ftd_sql.specs.Kept.{changed}
 use Rattle.ftd_machine.specs.State.{Entry}
 use Rattle.ftd_machine.specs.Step.{with_voided, voided_if, is_under, as_voided}
 

@@ -13,16 +13,16 @@ use Rattle.ftd_days.specs.Calendar.{year_of}
 use Rattle.ftd_days.specs.Business.{is_holiday}
 use Rattle.ftd_days.specs.Holidays.{holidays_of}
 use Rattle.ftd_days.proofs.Years.{eq_same}
-use Rattle.ftd_schema.specs.declared.TableName.TheVariants.{AddedHolidays}
-use Rattle.ftd_schema.specs.Rows.{HolidayRow}
-use Rattle.ftd_schema.specs.Standing.{Tables}
-use Rattle.ftd_schema.specs.Tests.{is_holiday_of}
-use Rattle.ftd_rows.specs.Cells.{day_number}
-use Rattle.ftd_rows.specs.Lists.{Pairs}
+use Rattle.ftd_sql.specs.declared.TableName.TheVariants.{AddedHolidays}
+use Rattle.ftd_sql.specs.Rows.{HolidayRow}
+use Rattle.ftd_sql.specs.Standing.{Tables}
+use Rattle.ftd_sql.specs.Tests.{is_holiday_of}
+use Rattle.ftd_store.specs.Cells.{day_number}
+use Rattle.ftd_store.specs.Lists.{Pairs}
 use Rattle.ftd_store.specs.Finds.{IsHoliday, FindsCalendar, ListsAdded}
 use Rattle.ftd_store.specs.Corrections.{ListsHolidayChanges}
 use Rattle.ftd_store.specs.Holidays.{HasHolidays, is_holiday_in, is_kept}
-use Rattle.ftd_rows.specs.declared.corrections.HolidayChange.{HolidayChange}
+use Rattle.ftd_store.specs.declared.correction_cells.HolidayChange.{HolidayChange}
 use Rattle.ftd_machine.specs.State.{State, days_of, calendar_at, added_in, holidays, all_days}
 use Rattle.ftd_machine.specs.State.{is_in_force}
 use Rattle.ftd_machine.specs.Sound.{IsSound}

@@ -1,7 +1,7 @@
 -- What the rows tell of an account before it is put right.
 use Rattle.std.specs.Prelude.{◌≡◌, ℕ, Bool, List, length}
-use Rattle.ftd_schema.specs.Standing.{Tables}
-use Rattle.ftd_rows.specs.declared.corrections.AccountCorrection.{AccountCorrection}
+use Rattle.ftd_sql.specs.Standing.{Tables}
+use Rattle.ftd_store.specs.declared.correction_cells.AccountCorrection.{AccountCorrection}
 use Rattle.ftd_machine.specs.Requests.{is_unused}
 use Rattle.ftd_machine.specs.declared.entries.Beginning.{Beginning}
 use Rattle.ftd_machine.specs.State.{State, entries_of, moves_in, numbered}

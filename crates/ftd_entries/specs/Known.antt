@@ -3,10 +3,10 @@ use Rattle.std.specs.Prelude.{◌≡◌, ℕ, Bool, List, map, Option, None, Som
 use Rattle.ftd_days.specs.declared.cents.Cents.{Cents}
 use Rattle.ftd_rules.specs.declared.Form.{Form}
 use Rattle.ftd_rules.specs.declared.YearLine.{YearLine}
-use Rattle.ftd_schema.specs.Standing.{Tables}
-use Rattle.ftd_rows.specs.declared.accounts.Account.{Account as StoredAccount}
-use Rattle.ftd_rows.specs.declared.corrections.AccountCorrection.{AccountCorrection}
-use Rattle.ftd_rows.specs.declared.corrections.Correction.{Correction}
+use Rattle.ftd_sql.specs.Standing.{Tables}
+use Rattle.ftd_store.specs.declared.account_cells.Account.{Account as StoredAccount}
+use Rattle.ftd_store.specs.declared.correction_cells.AccountCorrection.{AccountCorrection}
+use Rattle.ftd_store.specs.declared.correction_cells.Correction.{Correction}
 use Rattle.ftd_store.specs.Changes.{with_account, with_form}
 use Rattle.ftd_store.specs.Finds.{FindsForm}
 use Rattle.ftd_machine.specs.declared.entries.Account.{Account}

@@ -2,7 +2,7 @@
 use Rattle.std.specs.Prelude.{◌≡◌, ◌⊎◌, ◌==◌, ◌&&◌, ◌-◌, ◌+◌, nat_lt, is_some, ℕ, Bool, List}
 use Rattle.std.specs.Prelude.{Option, None, length}
 use Rattle.std.specs.List.{list_any}
-use Rattle.ftd_schema.specs.Standing.{Tables}
+use Rattle.ftd_sql.specs.Standing.{Tables}
 use Rattle.ftd_machine.specs.declared.entries.Account.{Account}
 use Rattle.ftd_machine.specs.State.{State, entries_of, is_open, is_given}
 use Rattle.ftd_machine.specs.Sound.{IsSound}

@@ -2,7 +2,7 @@
 use Rattle.std.specs.Prelude.{◌≡◌, ℕ, List, filter}
 use Rattle.ftd_rules.specs.declared.Obligation.{Obligation}
 use Rattle.ftd_rules.specs.Obligations.{begins_on}
-use Rattle.ftd_schema.specs.Standing.{Tables}
+use Rattle.ftd_sql.specs.Standing.{Tables}
 use Rattle.ftd_machine.specs.State.{State}
 use Rattle.ftd_entries.specs.Standing.{StandsFor}
 

@@ -1,6 +1,6 @@
 -- What the rows tell of an account before a payment is taken.
 use Rattle.std.specs.Prelude.{ℕ, List}
-use Rattle.ftd_schema.specs.Standing.{Tables}
+use Rattle.ftd_sql.specs.Standing.{Tables}
 use Rattle.ftd_store.specs.Finds.{FindsPayment}
 use Rattle.ftd_entries.specs.declared.payments.KnownForPay.{KnownForPay}
 use Rattle.ftd_entries.specs.Known.{KnowsAccount, KnowsYear}

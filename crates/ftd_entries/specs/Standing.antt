@@ -13,24 +13,24 @@ use Rattle.ftd_rules.specs.declared.run.PayRun.{PayRun}
 use Rattle.ftd_rules.specs.declared.run.Voidable.{Voidable}
 use Rattle.ftd_rules.specs.declared.payment.Payment.{Payment}
 use Rattle.ftd_rules.specs.Obligations.{AreObligations}
-use Rattle.ftd_schema.specs.declared.TableName.TheVariants.{Metas, Accounts, ReportedQuarters}
-use Rattle.ftd_schema.specs.declared.TableName.TheVariants.{CalendarYears, Holidays, Years, Runs}
-use Rattle.ftd_schema.specs.declared.TableName.TheVariants.{Payments, Obligations, Forms}
-use Rattle.ftd_schema.specs.declared.TableName.TheVariants.{ReportedYears, AddedHolidays}
-use Rattle.ftd_schema.specs.declared.TableName.TheVariants.{CorrectedQuarters, CorrectedYears}
-use Rattle.ftd_schema.specs.declared.TableName.TheVariants.{ChangedHolidays, CorrectedAccounts}
-use Rattle.ftd_schema.specs.Rows.{AccountRow, FormRow, ReportedQuarterRow, ReportedYearRow}
-use Rattle.ftd_schema.specs.Rows.{CalendarYearRow, HolidayRow, RunRow, PaymentRow, ObligationRow}
-use Rattle.ftd_schema.specs.Rows.{CorrectedQuarterRow, CorrectedYearRow, ChangedHolidayRow}
-use Rattle.ftd_schema.specs.Rows.{CorrectedAccountRow}
-use Rattle.ftd_schema.specs.Standing.{Tables}
-use Rattle.ftd_schema.specs.Beginnings.{HasVersion}
-use Rattle.ftd_schema.specs.Tests.{is_year_of}
-use Rattle.ftd_rows.specs.Rows.{account_row, form_row, reported_row, reported_year_row}
-use Rattle.ftd_rows.specs.Rows.{calendar_year_row, holiday_row, year_row, run_row, payment_row}
-use Rattle.ftd_rows.specs.Rows.{obligation_row, correction_row, year_correction_row}
-use Rattle.ftd_rows.specs.Rows.{account_correction_row, holiday_change_row}
-use Rattle.ftd_rows.specs.declared.corrections.Correction.{Correction}
+use Rattle.ftd_sql.specs.declared.TableName.TheVariants.{Metas, Accounts, ReportedQuarters}
+use Rattle.ftd_sql.specs.declared.TableName.TheVariants.{CalendarYears, Holidays, Years, Runs}
+use Rattle.ftd_sql.specs.declared.TableName.TheVariants.{Payments, Obligations, Forms}
+use Rattle.ftd_sql.specs.declared.TableName.TheVariants.{ReportedYears, AddedHolidays}
+use Rattle.ftd_sql.specs.declared.TableName.TheVariants.{CorrectedQuarters, CorrectedYears}
+use Rattle.ftd_sql.specs.declared.TableName.TheVariants.{ChangedHolidays, CorrectedAccounts}
+use Rattle.ftd_sql.specs.Rows.{AccountRow, FormRow, ReportedQuarterRow, ReportedYearRow}
+use Rattle.ftd_sql.specs.Rows.{CalendarYearRow, HolidayRow, RunRow, PaymentRow, ObligationRow}
+use Rattle.ftd_sql.specs.Rows.{CorrectedQuarterRow, CorrectedYearRow, ChangedHolidayRow}
+use Rattle.ftd_sql.specs.Rows.{CorrectedAccountRow}
+use Rattle.ftd_sql.specs.Standing.{Tables}
+use Rattle.ftd_sql.specs.Beginnings.{HasVersion}
+use Rattle.ftd_sql.specs.Tests.{is_year_of}
+use Rattle.ftd_store.specs.Rows.{account_row, form_row, reported_row, reported_year_row}
+use Rattle.ftd_store.specs.Rows.{calendar_year_row, holiday_row, year_row, run_row, payment_row}
+use Rattle.ftd_store.specs.Rows.{obligation_row, correction_row, year_correction_row}
+use Rattle.ftd_store.specs.Rows.{account_correction_row, holiday_change_row}
+use Rattle.ftd_store.specs.declared.correction_cells.Correction.{Correction}
 use Rattle.ftd_machine.specs.State.{State, Enrolled, Entry, DayChange, entries_of, holidays, is_of}
 use Rattle.ftd_machine.specs.State.{Move, all_at, changes_of, moves_of}
 use Rattle.ftd_machine.specs.History.{form_of, live_sums, AreLinesOf}

@@ -1,7 +1,7 @@
 -- What a request does to the database.
 use Rattle.sqlite.specs.Effect.{Database}
 use Rattle.sqlite.specs.State as database
-use Rattle.ftd_schema.specs.Standing.{Tables, Stands}
+use Rattle.ftd_sql.specs.Standing.{Tables, Stands}
 use Rattle.ftd_machine.specs.State.{State}
 use Rattle.ftd_machine.specs.Sound.{IsSound}
 use Rattle.ftd_machine.specs.Checks.{Answer}

@@ -10,9 +10,8 @@ ghost use Rattle.ftd_entries.specs.Words.{Serves};
 
 use crate::accounts::known;
 use ftd_machine::{Account, Answer, Beginning, Reply, correct_account_check};
-use ftd_rows::{AccountCorrection, QuarterTotal, YearTotal};
 use ftd_rules::YearLine;
-use ftd_store::{StoreFault, Tx};
+use ftd_store::{AccountCorrection, QuarterTotal, StoreFault, Tx, YearTotal};
 use sqlite::Alter;
 use std::alloc::Global;
 

@@ -7,8 +7,7 @@ ghost use Rattle.ftd_machine.specs.State.{latest};
 ghost use Rattle.ftd_entries.specs.Known.{KnowsFigure, KnowsYearFigure, amounts_of};
 
 use ftd_days::{Cents, Quarter};
-use ftd_rows::Correction;
-use ftd_store::{StoreFault, Tx};
+use ftd_store::{Correction, StoreFault, Tx};
 use sqlite::Alter;
 use std::alloc::Global;
 

@@ -4,8 +4,8 @@
 ghost use Rattle.std.specs.Prelude.{◌≡◌, ℕ, false};
 ghost use Rattle.sqlite.specs.Effect.{Database};
 ghost use Rattle.sqlite.specs.Does.{lacks_sequence};
-ghost use Rattle.ftd_schema.specs.Standing.{Tables, StandsAs};
-ghost use Rattle.ftd_schema.specs.Beginnings.{IsEarlier, IsMade, IsMigrated};
+ghost use Rattle.ftd_sql.specs.Standing.{Tables, StandsAs};
+ghost use Rattle.ftd_sql.specs.Beginnings.{IsEarlier, IsMade, IsMigrated};
 ghost use Rattle.ftd_machine.specs.State.{State, nothing};
 ghost use Rattle.ftd_machine.specs.Sound.{IsSound};
 ghost use Rattle.ftd_entries.specs.Standing.{StandsForEarlier};

@@ -1,8 +1,11 @@
 //! Requests that enter something into the desk's tables: accounts, calendars, reported totals, open
 //! years, payments. Each is one function on a transaction, whose contract is the machine's step.
 //! `laws` says what new and migrated tables stand for.
+//! What several questions ask of the tables: all accounts, by name, and of one account what its
+//! return period has, its liability and its payments.
 #![tactic(auto)]
 
+mod account_list;
 mod accounts;
 mod beginnings;
 mod calendars;
@@ -12,8 +15,10 @@ mod lookbacks;
 mod open_years;
 mod payments;
 mod reported;
+mod return_periods;
 mod years;
 
+pub use crate::account_list::all_accounts;
 pub use crate::accounts::{enrol, enrolled, known};
 pub use crate::beginnings::{correct_account, is_unused};
 pub use crate::calendars::take_calendar;
@@ -22,4 +27,5 @@ pub use crate::lookbacks::lookback_total;
 pub use crate::open_years::open_year;
 pub use crate::payments::{pay, void_payment};
 pub use crate::reported::{report, report_year};
+pub use crate::return_periods::{AMOUNTS_END, ReturnPeriod, payments_of, return_period};
 pub use crate::years::{has_year, is_open};

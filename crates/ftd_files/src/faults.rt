@@ -1,7 +1,7 @@
 //! Why the program does not do what was asked.
 
-use ftd_rows::StoreFault;
 use ftd_setup::OpenFault;
+use ftd_store::StoreFault;
 use sqlite::{Error, ErrorCode};
 use sqlite_std_file::OpenError;
 use std::alloc::{AllocError, AllocFailed};

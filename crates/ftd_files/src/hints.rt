@@ -2,7 +2,7 @@
 
 use crate::faults::ProgramFault;
 use crate::folder::{has_folder, meant};
-use ftd_words::escaped_word;
+use ftd_cli::escaped_word;
 use std::fs::{self, File};
 use std::io::ErrorKind;
 

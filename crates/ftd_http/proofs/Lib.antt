@@ -1,1 +1,10 @@
-pub mod TableFacts
+pub mod CutFacts
+pub mod FieldFacts
+pub mod LengthFacts
+pub mod ListFacts
+pub mod LookFacts
+pub mod ReadingFacts
+pub mod RouteFacts
+pub mod BodyFacts
+pub mod PathFacts
+pub mod AskFacts

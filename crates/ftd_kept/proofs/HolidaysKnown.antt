@@ -8,8 +8,8 @@ use Rattle.std.proofs.lemmas.Bool.{eqb-true}
 use Rattle.ftd_days.specs.Calendar.{year_of}
 use Rattle.ftd_days.specs.Holidays.{YearDays}
 use Rattle.ftd_rules.specs.Lists.{Has}
-use Rattle.ftd_schema.specs.Standing.{Tables}
-use Rattle.ftd_rows.specs.declared.corrections.HolidayChange.{HolidayChange}
+use Rattle.ftd_sql.specs.Standing.{Tables}
+use Rattle.ftd_store.specs.declared.correction_cells.HolidayChange.{HolidayChange}
 use Rattle.ftd_store.specs.Corrections.{ListsHolidayChanges}
 use Rattle.ftd_store.specs.Finds.{ListsAdded}
 use Rattle.ftd_store.specs.Holidays.{is_kept}

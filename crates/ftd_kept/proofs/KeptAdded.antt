@@ -4,13 +4,13 @@ use Rattle.std.specs.Prelude.{◌↔◌, filter}
 use Rattle.ftd_days.specs.Calendar.{year_of}
 use Rattle.ftd_rules.specs.Lists.{Has, KeysRise}
 use Rattle.ftd_rules.proofs.Members.{has_mapped, mapped_has}
-use Rattle.ftd_schema.specs.Orders.{HolidaysRise}
-use Rattle.ftd_schema.specs.Rows.{HolidayRow}
-use Rattle.ftd_schema.specs.Standing.{Tables}
-use Rattle.ftd_schema.specs.Tests.{is_holiday_of}
-use Rattle.ftd_schema.specs.declared.TableName.TheVariants.{AddedHolidays}
-use Rattle.ftd_rows.specs.Lists.{Lists}
-use Rattle.ftd_rows.specs.Rows.{holiday_row}
+use Rattle.ftd_sql.specs.Orders.{HolidaysRise}
+use Rattle.ftd_sql.specs.Rows.{HolidayRow}
+use Rattle.ftd_sql.specs.Standing.{Tables}
+use Rattle.ftd_sql.specs.Tests.{is_holiday_of}
+use Rattle.ftd_sql.specs.declared.TableName.TheVariants.{AddedHolidays}
+use Rattle.ftd_store.specs.Lists.{Lists}
+use Rattle.ftd_store.specs.Rows.{holiday_row}
 use Rattle.ftd_store.specs.Finds.{IsHoliday}
 use Rattle.ftd_machine.specs.Agenda.{EachToLater}
 use Rattle.ftd_machine.specs.Kept.{IsAdded, IsDayBefore}

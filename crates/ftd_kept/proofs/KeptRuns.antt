@@ -7,15 +7,15 @@ use Rattle.ftd_rules.specs.declared.run.PayRun.{PayRun}
 use Rattle.ftd_rules.specs.declared.run.Voidable.{Voidable}
 use Rattle.ftd_rules.specs.Lists.{Has}
 use Rattle.ftd_rules.proofs.Members.{has_mapped, mapped_has}
-use Rattle.ftd_schema.specs.Orders.{RunsRise}
-use Rattle.ftd_schema.specs.Rows.{RunRow}
-use Rattle.ftd_schema.specs.Standing.{Tables}
-use Rattle.ftd_schema.specs.Tests.{is_run_between}
-use Rattle.ftd_schema.specs.declared.TableName.TheVariants.{Runs}
-use Rattle.ftd_rows.specs.Cells.{day_number}
-use Rattle.ftd_rows.specs.Lists.{Lists}
-use Rattle.ftd_rows.specs.Rows.{run_row}
-use Rattle.ftd_rows.specs.declared.kept.NumberedRun.{NumberedRun}
+use Rattle.ftd_sql.specs.Orders.{RunsRise}
+use Rattle.ftd_sql.specs.Rows.{RunRow}
+use Rattle.ftd_sql.specs.Standing.{Tables}
+use Rattle.ftd_sql.specs.Tests.{is_run_between}
+use Rattle.ftd_sql.specs.declared.TableName.TheVariants.{Runs}
+use Rattle.ftd_store.specs.Cells.{day_number}
+use Rattle.ftd_store.specs.Lists.{Lists}
+use Rattle.ftd_store.specs.Rows.{run_row}
+use Rattle.ftd_store.specs.declared.kept_cells.NumberedRun.{NumberedRun}
 use Rattle.ftd_store.specs.Kept.{IsNumberedRun}
 use Rattle.ftd_machine.specs.Kept.{IsRunIn}
 use Rattle.ftd_machine.specs.Sound.{IsSound}

@@ -6,15 +6,15 @@ use Rattle.ftd_days.specs.declared.cents.Cents.{Cents}
 use Rattle.ftd_rules.specs.declared.Form.TheVariants.{F941, F943}
 use Rattle.ftd_rules.specs.Lists.{Has}
 use Rattle.ftd_rules.proofs.Members.{has_mapped, mapped_has}
-use Rattle.ftd_schema.specs.Orders.{QuartersRise, ReportedYearsRise}
-use Rattle.ftd_schema.specs.Rows.{ReportedQuarterRow, ReportedYearRow}
-use Rattle.ftd_schema.specs.Standing.{Tables}
-use Rattle.ftd_schema.specs.Tests.{is_reported_of, is_reported_year_of}
-use Rattle.ftd_schema.specs.declared.TableName.TheVariants.{ReportedQuarters, ReportedYears}
-use Rattle.ftd_rows.specs.Lists.{Lists}
-use Rattle.ftd_rows.specs.Rows.{reported_row, reported_year_row}
-use Rattle.ftd_rows.specs.declared.kept.QuarterTotal.{QuarterTotal}
-use Rattle.ftd_rows.specs.declared.kept.YearTotal.{YearTotal}
+use Rattle.ftd_sql.specs.Orders.{QuartersRise, ReportedYearsRise}
+use Rattle.ftd_sql.specs.Rows.{ReportedQuarterRow, ReportedYearRow}
+use Rattle.ftd_sql.specs.Standing.{Tables}
+use Rattle.ftd_sql.specs.Tests.{is_reported_of, is_reported_year_of}
+use Rattle.ftd_sql.specs.declared.TableName.TheVariants.{ReportedQuarters, ReportedYears}
+use Rattle.ftd_store.specs.Lists.{Lists}
+use Rattle.ftd_store.specs.Rows.{reported_row, reported_year_row}
+use Rattle.ftd_store.specs.declared.kept_cells.QuarterTotal.{QuarterTotal}
+use Rattle.ftd_store.specs.declared.kept_cells.YearTotal.{YearTotal}
 use Rattle.ftd_store.specs.Kept.{IsQuarterTotal, IsYearTotal}
 use Rattle.ftd_machine.specs.Sound.{IsSound}
 use Rattle.ftd_machine.specs.State.{State, Entry, entries_of, kept_at}

@@ -5,3 +5,15 @@ mod TotalsKnown
 mod YearsKnown
 mod HolidaysKnown
 mod KeptAdded
+mod Scheduling
+mod Billing
+mod Paydays
+mod Counted
+mod ExplainedKnown
+mod Held
+mod PaymentOrder
+mod PaymentsTold
+mod Added
+mod UnappliedAdded
+mod UnappliedOrdered
+mod UnappliedKnown

@@ -10,10 +10,10 @@ use Rattle.ftd_rules.specs.declared.Form.TheVariants.{F941, F943}
 use Rattle.ftd_rules.specs.declared.YearLine.{YearLine}
 use Rattle.ftd_rules.specs.Lists.{Has}
 use Rattle.ftd_rules.proofs.Members.{has_mapped, mapped_has}
-use Rattle.ftd_schema.specs.Standing.{Tables}
-use Rattle.ftd_rows.specs.Lists.{Pairs}
-use Rattle.ftd_rows.specs.declared.kept.QuarterTotal.{QuarterTotal}
-use Rattle.ftd_rows.specs.declared.kept.YearTotal.{YearTotal}
+use Rattle.ftd_sql.specs.Standing.{Tables}
+use Rattle.ftd_store.specs.Lists.{Pairs}
+use Rattle.ftd_store.specs.declared.kept_cells.QuarterTotal.{QuarterTotal}
+use Rattle.ftd_store.specs.declared.kept_cells.YearTotal.{YearTotal}
 use Rattle.ftd_store.specs.Finds.{ListsYears}
 use Rattle.ftd_store.specs.Kept.{ListsReported, ListsReportedYears}
 use Rattle.ftd_store.proofs.Items.{taken, pairs_more, paired_from}

@@ -7,13 +7,13 @@ use Rattle.ftd_rules.specs.declared.Form.TheVariants.{F941, F943}
 use Rattle.ftd_rules.specs.declared.YearLine.{YearLine}
 use Rattle.ftd_rules.specs.Lists.{Has}
 use Rattle.ftd_rules.specs.Lookback.{IsLookback, IsFirstMissing, IsYearLookback, IsYearMissing}
-use Rattle.ftd_schema.specs.Standing.{Tables}
+use Rattle.ftd_sql.specs.Standing.{Tables}
 use Rattle.ftd_store.specs.Holidays.{is_kept}
 use Rattle.ftd_days.specs.declared.cents.Cents.{Cents}
-use Rattle.ftd_rows.specs.declared.corrections.HolidayChange.{HolidayChange}
-use Rattle.ftd_rows.specs.declared.kept.NumberedRun.{NumberedRun}
-use Rattle.ftd_rows.specs.declared.kept.QuarterTotal.{QuarterTotal}
-use Rattle.ftd_rows.specs.declared.kept.YearTotal.{YearTotal}
+use Rattle.ftd_store.specs.declared.correction_cells.HolidayChange.{HolidayChange}
+use Rattle.ftd_store.specs.declared.kept_cells.NumberedRun.{NumberedRun}
+use Rattle.ftd_store.specs.declared.kept_cells.QuarterTotal.{QuarterTotal}
+use Rattle.ftd_store.specs.declared.kept_cells.YearTotal.{YearTotal}
 use Rattle.ftd_machine.specs.Agenda.{EachToLater}
 use Rattle.ftd_machine.specs.Kept.{IsTotal, IsTotalBefore}
 use Rattle.ftd_machine.specs.Kept.{period_of, as_first_reported, line_of}

@@ -6,8 +6,7 @@ ghost use Rattle.ftd_kept.specs.Kept.{KnowsHolidays, told_days, told_holiday};
 
 use ftd_days::Day;
 use ftd_machine::{KeptHoliday, are_rising};
-use ftd_rows::HolidayChange;
-use ftd_store::{StoreFault, Tx, is_kept};
+use ftd_store::{HolidayChange, StoreFault, Tx, is_kept};
 use sqlite::Alter;
 use std::alloc::{AllocError, Global};
 

@@ -10,9 +10,8 @@ ghost use Rattle.ftd_kept.specs.Kept.{IsInForce, KnowsFirstTotals, KnowsTotals};
 use crate::holiday_rows::all_holidays;
 use crate::rows::{add_total, told_quarters, told_runs, told_years};
 use crate::year_rows::open_years;
-use ftd_accounts::all_accounts;
 use ftd_days::Quarter;
-use ftd_entries::{figure, known, year_figure};
+use ftd_entries::{all_accounts, figure, known, year_figure};
 use ftd_machine::{
     Answer, Facts, KeptAccounts, KeptHolidays, KeptRows, KeptRuns, KeptTotal, KeptTotals,
     KeptYears, Refusal, Reply, holidays_check, kept_in_quarter_check, kept_of_check,

@@ -8,8 +8,7 @@ ghost use Rattle.ftd_kept.specs.Kept.{kept_run, kept_quarter, kept_year, is_run_
 ghost use Rattle.ftd_kept.specs.Kept.{is_total_before};
 
 use ftd_machine::{KeptRun, KeptTotal};
-use ftd_rows::{NumberedRun, QuarterTotal, YearTotal};
-use ftd_store::StoreFault;
+use ftd_store::{NumberedRun, QuarterTotal, StoreFault, YearTotal};
 use std::alloc::{AllocError, Global};
 
 /// Adds a total. `Memory` where there was none.

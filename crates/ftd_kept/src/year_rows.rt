@@ -3,7 +3,7 @@
 
 ghost use Rattle.std.specs.Prelude.{◌≡◌, ◌≤◌, ◌↔◌, All, IfErr, IfOk, IsTrue, OnErr, map};
 ghost use Rattle.ftd_rules.specs.Lookback.{IsLookback, IsYearLookback};
-ghost use Rattle.ftd_rows.specs.Lists.{Pairs};
+ghost use Rattle.ftd_store.specs.Lists.{Pairs};
 ghost use Rattle.ftd_store.specs.Frame.{Reads};
 ghost use Rattle.ftd_kept.specs.Kept.{IsKeptYear, IsLookbackBy, KnowsYears, LacksLookback};
 ghost use Rattle.ftd_kept.specs.Kept.{LacksOne, LacksQuarter, LacksYear};
@@ -11,9 +11,8 @@ ghost use Rattle.ftd_kept.specs.Kept.{quarter_figure, year_figure};
 
 use ftd_days::{Cents, Day, Quarter};
 use ftd_machine::{Account, KeptYear};
-use ftd_rows::{QuarterTotal, YearTotal};
 use ftd_rules::{Form, YearLine, lookback, lookback_943};
-use ftd_store::{StoreFault, Tx};
+use ftd_store::{QuarterTotal, StoreFault, Tx, YearTotal};
 use sqlite::Alter;
 use std::alloc::{AllocError, Global};
 

@@ -14,3 +14,9 @@ pub mod AnswerSome
 pub mod Examples
 pub mod Deposit
 pub mod PaidInTime
+mod PlainFields
+mod RecordText
+mod PrintedDays
+mod ReadBack
+mod Reread
+mod Imported

@@ -1,7 +1,9 @@
 //! The laws of the deposit machine: what follows from its definitions alone. Nothing that runs
 //! stands on them.
+//! The pay runs of an account, told as CSV and read again: a law, and no code.
 #![tactic(auto)]
 
+pub mod laws;
 mod machine;
 
 pub use crate::machine::{

@@ -2,7 +2,7 @@
 use Rattle.std.proofs.Common.{◌≡◌, ◌∙◌, false, Ok, sym, subst, arith}
 use Rattle.std.proofs.lemmas.Bool.{true≢false}
 use Rattle.sqlite.specs.Store as store
-use Rattle.ftd_schema.specs.Standing.{Tables, Stands, Becomes}
+use Rattle.ftd_sql.specs.Standing.{Tables, Stands, Becomes}
 use Rattle.ftd_store.specs.declared.tx.Tx.{Tx}
 use Rattle.ftd_store.specs.Seen.{shown}
 use Rattle.ftd_store.specs.Frame.{Calls, Reads, Rewrites}

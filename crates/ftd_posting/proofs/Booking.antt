@@ -21,19 +21,19 @@ use Rattle.ftd_rules.specs.Liability.{liability, share}
 use Rattle.ftd_rules.specs.Lists.{Has}
 use Rattle.ftd_rules.proofs.Covering.{line_is}
 use Rattle.ftd_rules.proofs.Schedules.{year_facts, year_start-mono}
-use Rattle.ftd_schema.specs.declared.TableName.TheVariants.{Runs}
-use Rattle.ftd_schema.specs.Standing.{Tables, Stands}
+use Rattle.ftd_sql.specs.declared.TableName.TheVariants.{Runs}
+use Rattle.ftd_sql.specs.Standing.{Tables, Stands}
 use Rattle.ftd_store.specs.Changes.{with_run}
 use Rattle.ftd_store.specs.Finds.{CountsRuns, FindsRun}
 use Rattle.ftd_store.specs.Frame.{Calls, Reads, Rewrites}
 use Rattle.ftd_store.specs.Seen.{shown}
 use Rattle.ftd_store.specs.declared.tx.Tx.{Tx}
 use Rattle.ftd_store.proofs.Going.{goes_on, then_goes}
-use Rattle.ftd_rows.specs.Cells.{day_number}
-use Rattle.ftd_rows.specs.DaySums.{ListsDaySums}
-use Rattle.ftd_schema.specs.Orders.{RunsRise}
-use Rattle.ftd_schema.specs.Tests.{is_live_run_between}
-use Rattle.ftd_schema.specs.Rows.{RunRow}
+use Rattle.ftd_store.specs.Cells.{day_number}
+use Rattle.ftd_store.specs.DaySums.{ListsDaySums}
+use Rattle.ftd_sql.specs.Orders.{RunsRise}
+use Rattle.ftd_sql.specs.Tests.{is_live_run_between}
+use Rattle.ftd_sql.specs.Rows.{RunRow}
 use Rattle.ftd_buckets.specs.declared.Patch.{Patch}
 use Rattle.ftd_buckets.specs.declared.Window.{Window}
 use Rattle.ftd_buckets.specs.Histories.{History, IsHistory}

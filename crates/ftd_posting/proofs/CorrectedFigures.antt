@@ -17,16 +17,16 @@ use Rattle.ftd_rules.specs.Lists.{Has}
 use Rattle.ftd_rules.specs.Lookback.{lookback_quarters, IsLookback}
 use Rattle.ftd_rules.proofs.Covering.{line_is}
 use Rattle.ftd_rules.proofs.Members.{has_mapped, mapped_has}
-use Rattle.ftd_schema.specs.declared.TableName.TheVariants.{Accounts, CorrectedAccounts}
-use Rattle.ftd_schema.specs.Orders.{AccountCorrectionsRise}
-use Rattle.ftd_schema.specs.Rows.{AccountRow, CorrectedAccountRow}
-use Rattle.ftd_schema.specs.Tests.{is_account, is_account_correction_of}
-use Rattle.ftd_schema.specs.Standing.{Tables}
-use Rattle.ftd_rows.specs.declared.corrections.Correction.{Correction}
-use Rattle.ftd_rows.specs.Lists.{Lists}
-use Rattle.ftd_rows.specs.Reading.{rows_of}
-use Rattle.ftd_rows.specs.Rows.{account_row, correction_row, year_correction_row}
-use Rattle.ftd_rows.specs.declared.accounts.Account.{Account as StoredAccount}
+use Rattle.ftd_sql.specs.declared.TableName.TheVariants.{Accounts, CorrectedAccounts}
+use Rattle.ftd_sql.specs.Orders.{AccountCorrectionsRise}
+use Rattle.ftd_sql.specs.Rows.{AccountRow, CorrectedAccountRow}
+use Rattle.ftd_sql.specs.Tests.{is_account, is_account_correction_of}
+use Rattle.ftd_sql.specs.Standing.{Tables}
+use Rattle.ftd_store.specs.declared.correction_cells.Correction.{Correction}
+use Rattle.ftd_store.specs.Lists.{Lists}
+use Rattle.ftd_store.specs.Reading.{rows_of}
+use Rattle.ftd_store.specs.Rows.{account_row, correction_row, year_correction_row}
+use Rattle.ftd_store.specs.declared.account_cells.Account.{Account as StoredAccount}
 use Rattle.ftd_store.specs.Changes.{with_correction, with_year_correction}
 use Rattle.ftd_store.specs.Corrections.{IsAccountCorrection}
 use Rattle.ftd_store.specs.Finds.{FindsInForce}

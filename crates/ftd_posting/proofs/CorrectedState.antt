@@ -18,15 +18,15 @@ use Rattle.ftd_rules.proofs.Earlier.{counterpart}
 use Rattle.ftd_rules.proofs.Opened.{lines_some}
 use Rattle.ftd_rules.proofs.Owed.{has_append, has_left, has_right}
 use Rattle.ftd_rules.proofs.Schedules.{years_within}
-use Rattle.ftd_schema.specs.declared.TableName.{TableName}
-use Rattle.ftd_schema.specs.declared.TableName.TheVariants.{Years, Runs, Obligations}
-use Rattle.ftd_schema.specs.Orders.{RunsRise}
-use Rattle.ftd_schema.specs.Rows.{YearRow, ObligationRow, RunRow}
-use Rattle.ftd_schema.specs.Standing.{Tables, with_rows}
-use Rattle.ftd_schema.specs.Tests.{is_year_of, is_live_run_between}
-use Rattle.ftd_rows.specs.Cells.{day_number}
-use Rattle.ftd_rows.specs.DaySums.{ListsDaySums}
-use Rattle.ftd_rows.specs.Rows.{year_row, obligation_row}
+use Rattle.ftd_sql.specs.declared.TableName.{TableName}
+use Rattle.ftd_sql.specs.declared.TableName.TheVariants.{Years, Runs, Obligations}
+use Rattle.ftd_sql.specs.Orders.{RunsRise}
+use Rattle.ftd_sql.specs.Rows.{YearRow, ObligationRow, RunRow}
+use Rattle.ftd_sql.specs.Standing.{Tables, with_rows}
+use Rattle.ftd_sql.specs.Tests.{is_year_of, is_live_run_between}
+use Rattle.ftd_store.specs.Cells.{day_number}
+use Rattle.ftd_store.specs.DaySums.{ListsDaySums}
+use Rattle.ftd_store.specs.Rows.{year_row, obligation_row}
 use Rattle.ftd_buckets.specs.declared.Patch.{Patch}
 use Rattle.ftd_buckets.specs.Histories.{History}
 use Rattle.ftd_buckets.specs.Patches.{IsOwed}

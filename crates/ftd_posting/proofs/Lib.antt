@@ -14,3 +14,10 @@ pub mod PostedRuns
 pub mod Booking
 pub mod CorrectedState
 pub mod CorrectedFigures
+mod AddedDay
+mod ChangedDay
+mod DayTurned
+mod DueAgain
+mod MovedOwed
+mod MovedRows
+mod ReadYears

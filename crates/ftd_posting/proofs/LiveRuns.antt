@@ -16,14 +16,14 @@ use Rattle.ftd_rules.specs.Lists.{Has}
 use Rattle.ftd_rules.proofs.Adding.{runs_same}
 use Rattle.ftd_rules.proofs.Walk.{liability-cons}
 use Rattle.ftd_rules.proofs.Members.{filter_in, filter_out, kept_sum}
-use Rattle.ftd_schema.specs.Rows.{RunRow}
-use Rattle.ftd_schema.specs.Tests.{is_live_run_between}
-use Rattle.ftd_schema.specs.Orders.{RunsRise}
-use Rattle.ftd_rows.specs.Cells.{day_number, flag_number}
-use Rattle.ftd_rows.specs.Lists.{Pairs}
-use Rattle.ftd_rows.specs.Rows.{run_row}
-use Rattle.ftd_rows.specs.DaySums.{owed_on, IsLiveRun, ListsDaySums}
-use Rattle.ftd_rows.proofs.DaySums.{owed_is}
+use Rattle.ftd_sql.specs.Rows.{RunRow}
+use Rattle.ftd_sql.specs.Tests.{is_live_run_between}
+use Rattle.ftd_sql.specs.Orders.{RunsRise}
+use Rattle.ftd_store.specs.Cells.{day_number, flag_number}
+use Rattle.ftd_store.specs.Lists.{Pairs}
+use Rattle.ftd_store.specs.Rows.{run_row}
+use Rattle.ftd_store.specs.DaySums.{owed_on, IsLiveRun, ListsDaySums}
+use Rattle.ftd_store.proofs.DaySums.{owed_is}
 use Rattle.ftd_machine.specs.State.{Entry, is_of}
 use Rattle.ftd_machine.specs.History.{liability_of, live, is_live, value_of}
 use Rattle.ftd_machine.specs.Step.{with_entry, with_voided, voided_if, is_under, as_voided, taken}

@@ -14,11 +14,11 @@ use Rattle.ftd_rules.proofs.Covering.{within_period}
 use Rattle.ftd_rules.proofs.Only.{rows_one}
 use Rattle.ftd_rules.proofs.Stated.{piece_owed}
 use Rattle.ftd_rules.proofs.Members.{filter_in, has_kept}
-use Rattle.ftd_schema.specs.declared.TableName.TheVariants.{Obligations}
-use Rattle.ftd_schema.specs.Standing.{Tables}
-use Rattle.ftd_schema.specs.Tests.{is_obligation_between}
-use Rattle.ftd_rows.specs.Cells.{day_number}
-use Rattle.ftd_rows.specs.Rows.{obligation_row}
+use Rattle.ftd_sql.specs.declared.TableName.TheVariants.{Obligations}
+use Rattle.ftd_sql.specs.Standing.{Tables}
+use Rattle.ftd_sql.specs.Tests.{is_obligation_between}
+use Rattle.ftd_store.specs.Cells.{day_number}
+use Rattle.ftd_store.specs.Rows.{obligation_row}
 use Rattle.ftd_buckets.specs.Histories.{History, IsHistory}
 use Rattle.ftd_buckets.specs.Patches.{IsOwed}
 use Rattle.ftd_machine.specs.History.{form_of, live_sums}

@@ -15,17 +15,17 @@ use Rattle.ftd_rules.specs.declared.run.Voidable.{Voidable}
 use Rattle.ftd_rules.specs.Lists.{Has}
 use Rattle.ftd_rules.specs.Obligations.{AreObligations}
 use Rattle.ftd_rules.specs.Years.{AreOpenYears, basis_of}
-use Rattle.ftd_schema.specs.declared.TableName.TheVariants.{Metas, Accounts, ReportedQuarters}
-use Rattle.ftd_schema.specs.declared.TableName.TheVariants.{CalendarYears, Holidays, Years, Runs}
-use Rattle.ftd_schema.specs.declared.TableName.TheVariants.{Payments, Obligations, Forms}
-use Rattle.ftd_schema.specs.declared.TableName.TheVariants.{ReportedYears, AddedHolidays}
-use Rattle.ftd_schema.specs.declared.TableName.TheVariants.{CorrectedQuarters, CorrectedYears}
-use Rattle.ftd_schema.specs.declared.TableName.TheVariants.{ChangedHolidays, CorrectedAccounts}
-use Rattle.ftd_schema.specs.Rows.{ObligationRow, FormRow}
-use Rattle.ftd_schema.specs.Standing.{Tables}
-use Rattle.ftd_schema.specs.Tests.{is_year_of, is_obligation_between}
-use Rattle.ftd_rows.specs.Cells.{day_number}
-use Rattle.ftd_rows.specs.Rows.{year_row, obligation_row}
+use Rattle.ftd_sql.specs.declared.TableName.TheVariants.{Metas, Accounts, ReportedQuarters}
+use Rattle.ftd_sql.specs.declared.TableName.TheVariants.{CalendarYears, Holidays, Years, Runs}
+use Rattle.ftd_sql.specs.declared.TableName.TheVariants.{Payments, Obligations, Forms}
+use Rattle.ftd_sql.specs.declared.TableName.TheVariants.{ReportedYears, AddedHolidays}
+use Rattle.ftd_sql.specs.declared.TableName.TheVariants.{CorrectedQuarters, CorrectedYears}
+use Rattle.ftd_sql.specs.declared.TableName.TheVariants.{ChangedHolidays, CorrectedAccounts}
+use Rattle.ftd_sql.specs.Rows.{ObligationRow, FormRow}
+use Rattle.ftd_sql.specs.Standing.{Tables}
+use Rattle.ftd_sql.specs.Tests.{is_year_of, is_obligation_between}
+use Rattle.ftd_store.specs.Cells.{day_number}
+use Rattle.ftd_store.specs.Rows.{year_row, obligation_row}
 use Rattle.ftd_buckets.specs.declared.Patch.{Patch}
 use Rattle.ftd_buckets.specs.Histories.{History, IsHistory}
 use Rattle.ftd_buckets.specs.Patches.{IsOwed, Replaces}

@@ -11,10 +11,10 @@ use Rattle.ftd_rules.specs.declared.run.PayRun.{PayRun}
 use Rattle.ftd_rules.specs.declared.run.Voidable.{Voidable}
 use Rattle.ftd_rules.specs.Liability.{liability}
 use Rattle.ftd_rules.specs.Lists.{Has}
-use Rattle.ftd_schema.specs.declared.TableName.TheVariants.{Runs}
-use Rattle.ftd_schema.specs.Standing.{Tables}
-use Rattle.ftd_schema.specs.Tests.{is_run, voided_run}
-use Rattle.ftd_tables.specs.Kept.{changed}
+use Rattle.ftd_sql.specs.declared.TableName.TheVariants.{Runs}
+use Rattle.ftd_sql.specs.Standing.{Tables}
+use Rattle.ftd_sql.specs.Tests.{is_run, voided_run}
+use Rattle.ftd_sql.specs.Kept.{changed}
 use Rattle.ftd_store.specs.Changes.{with_run, with_void_run}
 use Rattle.ftd_store.specs.Finds.{CountsRuns}
 use Rattle.ftd_machine.specs.declared.entries.Account.{Account}

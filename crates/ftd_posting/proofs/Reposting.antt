@@ -19,13 +19,13 @@ use Rattle.ftd_rules.proofs.Covering.{line_is}
 use Rattle.ftd_rules.proofs.Earlier.{counterpart}
 use Rattle.ftd_rules.proofs.Opened.{lines_some}
 use Rattle.ftd_rules.proofs.Schedules.{year_facts}
-use Rattle.ftd_schema.specs.declared.TableName.TheVariants.{Runs}
-use Rattle.ftd_schema.specs.Rows.{RunRow}
-use Rattle.ftd_schema.specs.Standing.{Tables, with_rows}
-use Rattle.ftd_schema.specs.Tests.{is_live_run_between}
-use Rattle.ftd_schema.specs.Orders.{RunsRise}
-use Rattle.ftd_rows.specs.Cells.{day_number}
-use Rattle.ftd_rows.specs.DaySums.{ListsDaySums}
+use Rattle.ftd_sql.specs.declared.TableName.TheVariants.{Runs}
+use Rattle.ftd_sql.specs.Rows.{RunRow}
+use Rattle.ftd_sql.specs.Standing.{Tables, with_rows}
+use Rattle.ftd_sql.specs.Tests.{is_live_run_between}
+use Rattle.ftd_sql.specs.Orders.{RunsRise}
+use Rattle.ftd_store.specs.Cells.{day_number}
+use Rattle.ftd_store.specs.DaySums.{ListsDaySums}
 use Rattle.ftd_buckets.specs.declared.Patch.{Patch}
 use Rattle.ftd_buckets.specs.declared.Window.{Window}
 use Rattle.ftd_buckets.specs.Histories.{History, IsChange}

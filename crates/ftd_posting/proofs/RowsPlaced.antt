@@ -19,10 +19,10 @@ use Rattle.ftd_rules.specs.Lists.{Has}
 use Rattle.ftd_rules.proofs.Rising.{has_permuted}
 use Rattle.ftd_rules.proofs.Members.{has_mapped, mapped_has, filter_in, filter_out, has_kept}
 use Rattle.ftd_rules.specs.Obligations.{begins_on}
-use Rattle.ftd_schema.specs.Rows.{ObligationRow}
-use Rattle.ftd_schema.specs.Tests.{is_obligation_between}
-use Rattle.ftd_rows.specs.Cells.{day_number}
-use Rattle.ftd_rows.specs.Rows.{obligation_row}
+use Rattle.ftd_sql.specs.Rows.{ObligationRow}
+use Rattle.ftd_sql.specs.Tests.{is_obligation_between}
+use Rattle.ftd_store.specs.Cells.{day_number}
+use Rattle.ftd_store.specs.Rows.{obligation_row}
 use Rattle.ftd_store.proofs.Sifted.{both_tests, both_are, sifted}
 use Rattle.ftd_machine.proofs.Adding.{own_name, other_name}
 use Rattle.ftd_machine.proofs.Members.{has_filtered}

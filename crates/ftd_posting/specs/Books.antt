@@ -12,7 +12,7 @@ use Rattle.ftd_rules.specs.declared.Obligation.{Obligation}
 use Rattle.ftd_rules.specs.declared.YearLine.{YearLine}
 use Rattle.ftd_rules.specs.declared.run.PayRun.{PayRun}
 use Rattle.ftd_rules.specs.declared.run.Voidable.{Voidable}
-use Rattle.ftd_schema.specs.Standing.{Tables}
+use Rattle.ftd_sql.specs.Standing.{Tables}
 use Rattle.ftd_machine.specs.State.{State, Entries, entries_of, holidays, is_open, kept_at}
 use Rattle.ftd_machine.specs.History.{AreLinesOf, AreOwed, live_sums}
 use Rattle.ftd_machine.specs.Checks.{Answer, first_of}

@@ -3,8 +3,8 @@ use Rattle.std.specs.Prelude.{◌≡◌, ◌⊎◌, ◌≤◌, ℕ, Bool, true, 
 use Rattle.ftd_days.specs.declared.cents.Cents.{Cents}
 use Rattle.ftd_rules.specs.Lists.{Has}
 use Rattle.ftd_rules.specs.Lookback.{lookback_quarters}
-use Rattle.ftd_schema.specs.Standing.{Tables}
-use Rattle.ftd_rows.specs.declared.corrections.Correction.{Correction}
+use Rattle.ftd_sql.specs.Standing.{Tables}
+use Rattle.ftd_store.specs.declared.correction_cells.Correction.{Correction}
 use Rattle.ftd_store.specs.Changes.{with_correction, with_year_correction}
 use Rattle.ftd_store.specs.Finds.{FindsReported, FindsReportedYear}
 use Rattle.ftd_machine.specs.State.{State, entries_of, numbered, all_at}

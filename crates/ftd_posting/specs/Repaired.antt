@@ -6,7 +6,7 @@ use Rattle.ftd_days.specs.declared.cents.Cents.{Cents}
 use Rattle.ftd_rules.specs.declared.Form.{Form}
 use Rattle.ftd_rules.specs.declared.run.PayRun.{PayRun}
 use Rattle.ftd_rules.specs.declared.run.Voidable.{Voidable}
-use Rattle.ftd_schema.specs.Standing.{Tables, Becomes}
+use Rattle.ftd_sql.specs.Standing.{Tables, Becomes}
 use Rattle.ftd_store.specs.Changes.{with_run, with_void_run}
 use Rattle.ftd_store.specs.Finds.{FindsForm, FindsRun}
 use Rattle.ftd_machine.specs.declared.entries.Account.{Account}

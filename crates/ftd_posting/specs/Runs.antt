@@ -1,6 +1,6 @@
 -- What the rows tell of an account before one of its runs is posted or voided.
 use Rattle.std.specs.Prelude.{ℕ, List}
-use Rattle.ftd_schema.specs.Standing.{Tables}
+use Rattle.ftd_sql.specs.Standing.{Tables}
 use Rattle.ftd_store.specs.Finds.{FindsRun}
 use Rattle.ftd_entries.specs.Known.{KnowsAccount, HasForm, KnowsYear}
 use Rattle.ftd_posting.specs.declared.known_runs.KnownForPost.{KnownForPost}

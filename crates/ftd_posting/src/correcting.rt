@@ -15,8 +15,7 @@ use crate::figures::{FigureEntry, enter_and_follow, year_counting};
 use ftd_days::{Cents, Quarter};
 use ftd_entries::{is_open, known};
 use ftd_machine::{Account, Answer, Reply, correct_report_check, correct_report_year_check};
-use ftd_rows::Correction;
-use ftd_store::{StoreFault, Tx};
+use ftd_store::{Correction, StoreFault, Tx};
 use sqlite::Alter;
 use std::alloc::Global;
 

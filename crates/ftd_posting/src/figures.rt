@@ -2,7 +2,7 @@
 //! of the year in whose lookback period the figure counts, and the years that open otherwise then.
 
 ghost use Rattle.std.specs.Prelude.{◌≡◌};
-ghost use Rattle.ftd_rows.specs.Amounts.{IsStorable};
+ghost use Rattle.ftd_store.specs.Amounts.{IsStorable};
 ghost use Rattle.ftd_store.specs.Frame.{Rewrites, Writes};
 ghost use Rattle.ftd_posting.specs.Correcting.{EntersFigure, IsOnlyYearOf, correction_in};
 ghost use Rattle.ftd_posting.specs.Correcting.{unchanged, with_corrected};
@@ -11,9 +11,8 @@ use ftd_days::{Day, Quarter};
 use ftd_entries::lookback_total;
 use ftd_machine::{Account, Difference};
 use ftd_repairs::correct_lookback;
-use ftd_rows::Correction;
 use ftd_rules::{Obligations, YearLines};
-use ftd_store::{StoreFault, Tx};
+use ftd_store::{Correction, StoreFault, Tx};
 use sqlite::Alter;
 use std::alloc::Global;
 

@@ -7,10 +7,10 @@ use Rattle.std.proofs.lemmas.List.Sums.{sum_by-append, sum_by-cons}
 use Rattle.ftd_ports.specs.Writing.{WritesPrefix}
 use Rattle.ftd_rules.specs.Verdicts.{amount_of}
 use Rattle.ftd_rules.specs.declared.verdict.DueRow.{DueRow}
-use Rattle.ftd_reports.specs.DueLists.{due_text}
-use Rattle.ftd_reports.specs.LateTexts.{BreaksAt, BreaksIn, HasRows, TakesRow, writer_of}
-use Rattle.ftd_reports.specs.declared.late_due_texts.LateDueText.{LateDueText}
-use Rattle.ftd_reports.proofs.LateFacts.{first_part}
+use Rattle.ftd_answers.specs.DueLists.{due_text}
+use Rattle.ftd_answers.specs.LateTexts.{BreaksAt, BreaksIn, HasRows, TakesRow, writer_of}
+use Rattle.ftd_answers.specs.declared.late_due_texts.LateDueText.{LateDueText}
+use Rattle.ftd_answers.proofs.LateFacts.{first_part}
 use Rattle.ftd_machine.specs.Checks.{Answer}
 use Rattle.ftd_machine.specs.Limits.{amounts_end}
 use Rattle.ftd_machine.specs.Runs.{IsFault}

@@ -1,3 +1,15 @@
+pub mod Again
+pub mod Counting
+pub mod Places
+pub mod Texts
+pub mod Together
+pub mod Outcomes
+pub mod Tried
+mod StillAdded
+pub mod Calendars
+pub mod Members
+pub mod Sums
+pub mod TakingFacts
 pub mod Notes
 mod DueFacts
 mod Mended

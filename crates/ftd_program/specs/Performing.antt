@@ -6,7 +6,7 @@ use Rattle.ftd_ports.specs.Writing.{WritesPrefix}
 use Rattle.sqlite.specs.State.{HasCleanDisk}
 use Rattle.sqlite.specs.Store as store
 use Rattle.ftd_rules.specs.declared.verdict.DueRow.{DueRow}
-use Rattle.ftd_reports.specs.DueLists.{due_text}
+use Rattle.ftd_answers.specs.DueLists.{due_text}
 use Rattle.ftd_machine.specs.State.{State}
 use Rattle.ftd_machine.specs.Runs.{IsFault}
 use Rattle.ftd_machine.specs.Checks.{Answer}
@@ -23,36 +23,36 @@ use Rattle.ftd_machine.specs.declared.requests.Request.TheVariants.{Question}
 use Rattle.ftd_questions.specs.Shown.{ShowsRows}
 use Rattle.ftd_questions.specs.Telling.{Replies, Refuses}
 use Rattle.ftd_questions.specs.Walks.{StandIfOpen}
-use Rattle.ftd_schema.specs.Standing.{Tables}
+use Rattle.ftd_sql.specs.Standing.{Tables}
 use Rattle.ftd_desk.specs.Desks.{Held, IsStopped, Keeps, held}
 use Rattle.ftd_desk.specs.declared.desk.Desk.{Desk}
 use Rattle.ftd_desk.specs.Telling.{StandsAsBefore}
 use Rattle.ftd_desk.specs.Words.{Handles}
 use Rattle.ftd_csv.specs.declared.sheets.Sheet.{Sheet}
-use Rattle.ftd_import.specs.Added.{added_by}
-use Rattle.ftd_import.specs.Imports.{Imports, Stops}
-use Rattle.ftd_import.specs.Trials.{FailsTrial, WouldImport}
-use Rattle.ftd_import.specs.declared.summary.StopCause.{StopCause}
-use Rattle.ftd_import.specs.declared.summary.Stopped.{Stopped}
-use Rattle.ftd_import.specs.declared.summary.Summary.{Summary}
-use Rattle.ftd_words.specs.Values.{greatest_number}
-use Rattle.ftd_words.specs.declared.tasks.Job.{Job}
-use Rattle.ftd_words.specs.declared.tasks.Job.TheVariants as job
-use Rattle.ftd_hints.specs.Hints.{record_hints}
+use Rattle.ftd_program.specs.Added.{added_by}
+use Rattle.ftd_program.specs.Imports.{Imports, Stops}
+use Rattle.ftd_program.specs.Trials.{FailsTrial, WouldImport}
+use Rattle.ftd_program.specs.declared.summary.StopCause.{StopCause}
+use Rattle.ftd_program.specs.declared.summary.Stopped.{Stopped}
+use Rattle.ftd_program.specs.declared.summary.Summary.{Summary}
+use Rattle.ftd_cli.specs.Values.{greatest_number}
+use Rattle.ftd_cli.specs.declared.tasks.Job.{Job}
+use Rattle.ftd_cli.specs.declared.tasks.Job.TheVariants as job
+use Rattle.ftd_csv.specs.Hints.{record_hints}
 use Rattle.ftd_replies.specs.Below.{below_text}
 use Rattle.ftd_replies.specs.Hints.{told_text}
 use Rattle.ftd_replies.specs.Notes.{asked_after, note_text}
 use Rattle.ftd_replies.specs.Putting.{IsPut}
 use Rattle.ftd_replies.specs.Refusals.{refusal_status}
 use Rattle.ftd_replies.specs.Replies.{reply_text}
-use Rattle.ftd_formats.specs.Formats.{list_format}
-use Rattle.ftd_formats.specs.declared.formats.Format.{Format}
-use Rattle.ftd_formats.specs.declared.formats.Format.TheVariants as formats
-use Rattle.ftd_formats.specs.declared.formats.ListFormat.{ListFormat}
-use Rattle.ftd_formats.specs.declared.formats.ListFormat.TheVariants.{Text, Csv, Json}
+use Rattle.ftd_answers.specs.Formats.{list_format}
+use Rattle.ftd_answers.specs.declared.formats.Format.{Format}
+use Rattle.ftd_answers.specs.declared.formats.Format.TheVariants as formats
+use Rattle.ftd_answers.specs.declared.formats.ListFormat.{ListFormat}
+use Rattle.ftd_answers.specs.declared.formats.ListFormat.TheVariants.{Text, Csv, Json}
 use Rattle.ftd_replies.specs.declared.hints.Known.{Known}
 use Rattle.ftd_replies.specs.declared.hints.Known.TheVariants.{Nothing}
-use Rattle.ftd_program.specs.Added.{added_notes}
+use Rattle.ftd_program.specs.AddedNotes.{added_notes}
 use Rattle.ftd_program.specs.Mending.{KnowsAfter, KnowsOf, or_nothing}
 use Rattle.ftd_program.specs.Numbering.{next_of, number_text}
 use Rattle.ftd_program.specs.RecordNotes.{PutsRefusals}

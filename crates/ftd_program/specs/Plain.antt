@@ -1,65 +1,147 @@
--- What the program prints of the deposits of one account out of pay runs.
-use Rattle.std.specs.Prelude.{◌≡◌, ◌⊎◌, ℕ, Bool, true, List, [], ◌∷◌, ◌++◌, Option, Result}
-use Rattle.std.specs.Prelude.{MatchResult, codes}
-use Rattle.std.specs.Io.KnownBytes.{Appends}
-use Rattle.std.specs.Fmt.{decimal}
-use Rattle.ftd_cli.specs.Faults.{fault_text}
-use Rattle.ftd_cli.specs.Plain.{PlainFails, PlainGives}
-use Rattle.ftd_cli.specs.declared.fault.PlainFault.{PlainFault}
-use Rattle.ftd_cli.specs.declared.fault.PlainFault.TheVariants as fault
+-- What the command `plain` answers: the deposits of one employer in one year, from its pay runs.
+use Rattle.std.specs.Prelude.{◌≡◌, ◌≢◌, ℕ, ◌+◌, ◌==◌, ◌&&◌, ◌<◌, ◌≤◌, ◌⊎◌, ◌↔◌, Bool, false, List}
+use Rattle.std.specs.Prelude.{[], ◌∷◌, ◌++◌, length, map, Option, Some, None, IsTrue, All, AllPairs}
+use Rattle.std.specs.Prelude.{Contains, count_by, if◌then◌else◌, ⊤}
+use Rattle.std.specs.List.{filter_map, flat_map}
+use Rattle.std.specs.List.Sorted.{IsStrictlyIncreasing}
+use Rattle.std.specs.Str.{bytes_eq}
+use Rattle.ftd_days.specs.Calendar.{year_of}
+use Rattle.ftd_rules.specs.declared.DaySum.{DaySum}
+use Rattle.ftd_rules.specs.declared.Obligation.{Obligation}
+use Rattle.ftd_rules.specs.declared.Form.TheVariants.{F941}
+use Rattle.ftd_rules.specs.declared.YearLine.{YearLine}
+use Rattle.ftd_rules.specs.Liability.{run_liability}
+use Rattle.ftd_rules.specs.Years.{AreLines}
+use Rattle.ftd_rules.specs.Obligations.{AreObligations}
+use Rattle.ftd_rules.specs.Text.{obligation_text}
+use Rattle.ftd_csv.specs.Answers.{most_bytes}
 use Rattle.ftd_csv.specs.declared.sheets.Sheet.TheVariants.{Runs}
-use Rattle.ftd_words.specs.declared.tasks.PlainTask.{PlainTask}
-use Rattle.ftd_ports.specs.Writing.{WritesPrefix}
-use Rattle.ftd_hints.specs.Headers.{header_hint}
-use Rattle.ftd_hints.specs.Hints.{record_hints}
-use Rattle.ftd_program.specs.Performing.{PrintsOut}
-use Rattle.ftd_program.specs.declared.performing.Performed.{Performed}
+use Rattle.ftd_csv.specs.Records.{Run, SaidRun, enters, malformed, HasHeader, run_records}
+use Rattle.ftd_program.specs.declared.fault.PlainFault.{PlainFault}
+use Rattle.ftd_program.specs.declared.fault.PlainFault.TheVariants as fault
 
--- `refused header`, `record 4 malformed field 3`, `run 2 differs`
-unfoldable pub record_line : ℕ → ℕ → List ℕ
-record_line number field =
-    codes "record " ++ (decimal number ++ (codes " malformed field " ++ (decimal field ++ 10 ∷ [])))
+-- the most runs of an account
+abbrev pub most_runs : ℕ
+most_runs = 20_000
 
-unfoldable pub run_line : ℕ → List ℕ
-run_line number = codes "run " ++ (decimal number ++ codes " differs\n")
+-- the holidays are a calendar of the year and the next: days of these years that rise, at most 60
+-- of each
+pub record IsCalendar (year : ℕ) (holidays : List ℕ) : Type 0 where
+  pub rising : IsStrictlyIncreasing holidays
+  pub in_years : All (λ day. (year_of day ≡ year) ⊎ (year_of day ≡ year + 1)) holidays
+  pub few : count_by (λ day. year_of day == year) holidays ≤ 60
+  pub few_next : count_by (λ day. year_of day == year + 1) holidays ≤ 60
 
-abbrev pub fault_line : PlainFault → List ℕ
-fault_line fault = fault_text fault ++ 10 ∷ []
+-- the runs that the records say of the account with a payday in the year
+abbrev pub is_taken : List ℕ → ℕ → Run → Bool
+is_taken account year run = bytes_eq run.employer account && (year_of run.payday == year)
 
--- the hints of a bad header, and of the malformed record; none of the others
-abbrev pub fault_hints : List ℕ → PlainFault → List ℕ
-fault_hints input fault.BadHeader = header_hint Runs input
-fault_hints input (fault.Malformed number field) = record_hints Runs 1 input
-fault_hints input _ = []
+abbrev pub taken_run : List ℕ → ℕ → SaidRun → Option Run
+taken_run account year (enters run) = if is_taken account year run then Some run else None
+taken_run account year (malformed place) = None
 
-abbrev pub fault_status : PlainFault → ℕ
-fault_status fault.Memory = 3
-fault_status _ = 1
+abbrev pub taken : List ℕ → ℕ → List SaidRun → List Run
+taken account year records = filter_map (taken_run account year) records
 
--- the line was written whole, and below it as many of its hints as there was memory for; or the
--- target failed after a prefix of the line
-abbrev pub IsHinted : Option (List ℕ) → Option (List ℕ) → Bool → List ℕ → List ℕ → Type 0
-IsHinted before after failed line hints =
-    ((told : Option (List ℕ)) × Appends before told line × WritesPrefix told after hints)
-    ⊎ (WritesPrefix before after line × (failed ≡ true))
+-- these runs count: no two have one number, and they are exactly the taken ones. So a run that was
+-- given twice with equal content counts once.
+pub record AreCounted (taken counted : List Run) : Type 0 where
+  pub each_once : AllPairs (λ a b. a.number ≢ b.number) counted
+  pub same : (run : Run) → Contains counted run ↔ Contains taken run
 
--- why there are none, on standard error
-pub record PrintsFault {O E : Type 0} (e_taken : E → Option (List ℕ)) (e_failed : E → Bool)
-    (out : O) (err : E) (p : Performed O E) (input : List ℕ) (why : PlainFault) : Type 0 where
-  pub status_is : p.status ≡ fault_status why
-  pub out_is : p.out ≡ out
-  pub lines : IsHinted (e_taken err) (e_taken p.err) (e_failed p.err) (fault_line why)
-      (fault_hints input why)
+-- the run can't join those that were taken before it: one of them has its number and other content,
+-- or it brings one number more than the most
+abbrev pub RunFault : List Run → Run → PlainFault → Type 0
+RunFault before run (fault.RunDiffers number) =
+    (number ≡ run.number)
+    × ((other : Run) × Contains before other × (other.number ≡ run.number) × (other ≢ run))
+RunFault before run fault.TooManyRuns =
+    ((other : Run) → Contains before other → other.number ≢ run.number)
+    × ((counted : List Run) × AreCounted before counted × (length counted ≡ most_runs))
+RunFault before run fault.BadHeader = ⊥
+RunFault before run fault.TooLong = ⊥
+RunFault before run (fault.Malformed number field) = ⊥
+RunFault before run fault.BadCalendar = ⊥
+RunFault before run fault.Memory = ⊥
 
-module _ {O E : Type 0} (o_taken : O → Option (List ℕ)) (o_failed : O → Bool)
-    (e_taken : E → Option (List ℕ)) (e_failed : E → Bool)
-    (out : O) (err : E) (p : Performed O E) where
-  -- the deposits were printed, or why there are none
-  pub record PerformsPlain (input : List ℕ) (task : PlainTask) : Type 0 where
-    pub deposits : Result (List ℕ) PlainFault
-    pub gives : MatchResult deposits
-        (λ text. PlainGives input task.account task.year task.holidays text)
-        (λ fault. PlainFails input task.account task.year task.holidays fault)
-    pub prints : MatchResult deposits
-        (λ text. PrintsOut o_taken o_failed e_taken e_failed out err p 0 text)
-        (λ fault. PrintsFault e_taken e_failed out err p input fault)
+-- a record is at fault, given the records before it. Records are numbered from 1, and the header is
+-- record 1.
+abbrev pub AtFault : List ℕ → ℕ → List SaidRun → SaidRun → PlainFault → Type 0
+AtFault account year before (malformed place) f = f ≡ fault.Malformed (2 + length before) place
+AtFault account year before (enters run) f =
+    IsTrue (is_taken account year run) × RunFault (taken account year before) run f
+
+-- no record is at fault, each given the records before it
+abbrev pub NoneAtFault : List ℕ → ℕ → List SaidRun → Type 0
+NoneAtFault account year records =
+    (before : List SaidRun) (record_at : SaidRun) (after : List SaidRun) (f : PlainFault)
+    → records ≡ before ++ record_at ∷ after → AtFault account year before record_at f → ⊥
+
+-- the first record that is at fault, and its fault
+pub record FirstFault (account : List ℕ) (year : ℕ) (records : List SaidRun)
+    (f : PlainFault) : Type 0 where
+  pub before : List SaidRun
+  pub record_at : SaidRun
+  pub after : List SaidRun
+  pub parts : records ≡ before ++ record_at ∷ after
+  pub none_before : NoneAtFault account year before
+  pub at_fault : AtFault account year before record_at f
+
+-- what a run adds to the liability of its payday: the income tax withheld and both shares of social
+-- security and of Medicare tax
+abbrev pub day_sum : Run → DaySum
+day_sum run =
+    record { day = run.payday; cents = record { 0 = run_liability run.fit run.ss run.medicare } }
+
+-- the line of an obligation
+abbrev pub line_text : Obligation → List ℕ
+line_text row = obligation_text row ++ 10 ∷ []
+
+-- the text prints the obligations of a monthly depositor on Form 941 with these sums in the year, a
+-- line for each by first day: the year's lookback total is zero, and the account is not carried
+pub record Prints (year : ℕ) (holidays : List ℕ) (sums : List DaySum) (text : List ℕ) : Type 0 where
+  pub line : YearLine
+  pub of_year : line.year ≡ year
+  pub no_lookback : line.lookback.0 ≡ 0
+  pub not_carried : line.carried ≡ false
+  pub scheduled : AreLines sums (line ∷ [])
+  pub rows : List Obligation
+  pub owed : AreObligations F941 (line ∷ []) sums holidays rows
+  pub printed : text ≡ flat_map line_text rows
+
+-- the text of the deposits of the records, of which none is at fault
+pub record Deposits (account : List ℕ) (year : ℕ) (holidays : List ℕ) (records : List SaidRun)
+    (text : List ℕ) : Type 0 where
+  pub none_at_fault : NoneAtFault account year records
+  pub counted : List Run
+  pub are_counted : AreCounted (taken account year records) counted
+  pub prints : Prints year holidays (map day_sum counted) text
+
+-- the records of the text are looked at: it is not too long, the holidays are a calendar, and it
+-- has the header
+pub record IsLookedAt (csv : List ℕ) (year : ℕ) (holidays : List ℕ) : Type 0 where
+  pub short : length csv ≤ most_bytes
+  pub calendar : IsCalendar year holidays
+  pub header : HasHeader Runs csv
+
+-- where each fault of `plain` stands; want of memory may come at any point
+abbrev pub PlainFails : List ℕ → List ℕ → ℕ → List ℕ → PlainFault → Type 0
+PlainFails csv account year holidays fault.TooLong = most_bytes < length csv
+PlainFails csv account year holidays fault.BadCalendar =
+    (length csv ≤ most_bytes) × ¬ IsCalendar year holidays
+PlainFails csv account year holidays fault.BadHeader =
+    (length csv ≤ most_bytes) × IsCalendar year holidays × ¬ HasHeader Runs csv
+PlainFails csv account year holidays (fault.Malformed number field) =
+    IsLookedAt csv year holidays
+    × FirstFault account year (run_records csv) (fault.Malformed number field)
+PlainFails csv account year holidays (fault.RunDiffers number) =
+    IsLookedAt csv year holidays
+    × FirstFault account year (run_records csv) (fault.RunDiffers number)
+PlainFails csv account year holidays fault.TooManyRuns =
+    IsLookedAt csv year holidays × FirstFault account year (run_records csv) fault.TooManyRuns
+PlainFails csv account year holidays fault.Memory = ⊤
+
+-- what `plain` gives
+pub record PlainGives (csv account : List ℕ) (year : ℕ) (holidays text : List ℕ) : Type 0 where
+  pub looked_at : IsLookedAt csv year holidays
+  pub deposits : Deposits account year holidays (run_records csv) text

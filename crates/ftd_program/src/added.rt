@@ -1,88 +1,110 @@
-//! What is said below the summary of an import: which accounts it added obligations to.
+//! The obligations that an import added, account by account.
 
-ghost use Rattle.std.specs.Prelude.{◌≡◌, []};
-ghost use Rattle.ftd_ports.specs.Writing.{Writes, WritesPrefix};
-ghost use Rattle.ftd_import.specs.Added.{added_by};
-ghost use Rattle.ftd_program.specs.Added.{account_note, added_notes, counted_note, earliest};
+ghost use Rattle.std.specs.Prelude.{◌≡◌, IfOk};
+ghost use Rattle.std.specs.List.{list_any};
+ghost use Rattle.ftd_program.specs.Added.{added_by, added_then, begins_in, is_of, still_added};
 
+use crate::changes::AccountChange;
+use crate::collection::Collection;
 use ftd_days::Day;
-use ftd_formats::{RowFormat, write_rows};
-use ftd_import::{AccountAdded, AccountChange, Collection};
-use ftd_ports::{Target, WriteFault, write_all, write_pieces};
-use ftd_reports::day_bytes;
-use ftd_rules::Obligation;
-use itoa::Buffer;
+use ftd_machine::AccountName;
+use ftd_rules::{Obligation, Obligations};
+use std::alloc::{AllocError, Global};
 
-/// The earliest of the day and the due dates of the rows.
-fn earliest(day: Day, rows: &[Obligation]) -> Day
-    ensures { result ≡ earliest day rows.now }
-{
-    let mut due = day;
-    for row in rows {
-        due = due.min(row.due);
-    }
-    due
-}
-
-/// Writes how many obligations were added to an account, of which this is the first, and the
-/// earliest due date among them.
-fn write_counted<W: Target>(
-    added: &AccountAdded,
-    count: usize,
-    due: Day,
-    target: &mut W,
-) -> Result<(), WriteFault>
-    ensures { Writes result (W.taken target.old) (W.taken target.new)
-        (W.failed target.new) (counted_note added.now.account count due) }
-{
-    let mut digits = Buffer::new();
-    let count = digits.format(count).as_bytes();
-    let due = day_bytes(due);
-    write_pieces(
-        target,
-        &[
-            b"note: ",
-            added.account.as_str().as_bytes(),
-            b": obligations added: ",
-            count,
-            b", earliest due date ",
-            &due,
-            b"\n",
-        ],
-    )
-}
-
-/// A line for each account.
+/// The obligations that an import added to an account, and did not remove again.
 #[derive(Drop)]
-struct AccountNotes;
+pub struct AccountAdded {
+    /// The account.
+    pub account: AccountName,
+    /// The obligations, in the order in which they were added.
+    pub rows: Obligations,
+}
 
-// Nothing of one of whose obligations none is left.
-impl RowFormat<AccountAdded> for AccountNotes {
-    ghost row_text = { λ notes added. account_note added };
+/// Whether one of the rows begins on the day.
+fn begins_in(rows: &[Obligation], day: Day) -> bool
+    ensures { result ≡ begins_in rows.now day }
+{
+    rows.iter().any(|row| row.first == day)
+}
 
-    fn write_row<W: Target>(&self, added: &AccountAdded, target: &mut W) -> Result<(), WriteFault> {
-        match added.rows.as_slice() {
-            [] => write_all(target, b""),
-            [first, later @ ..] => {
-                let due = earliest(first.due, later);
-                write_counted(added, later.len() + 1, due, target)
-            }
+/// Whether the change is the account's.
+fn is_of(account: &str, change: &AccountChange) -> bool
+    ensures { result ≡ is_of account.now change.now }
+{
+    change.account.as_str() == account
+}
+
+/// Whether one of the changes is the account's.
+fn is_named(account: &str, changes: &[AccountChange]) -> bool
+    ensures { result ≡ list_any (is_of account.now) changes.now }
+{
+    changes.iter().any(|change| is_of(account, change))
+}
+
+/// Of the rows those that the change does not remove, and those that it adds.
+fn rows_then(
+    alloc: Global,
+    rows: &[Obligation],
+    change: &AccountChange,
+) -> Result<Vec<Obligation>, AllocError>
+    ensures { IfOk result (λ then. then.items ≡ added_then rows.now change.now) }
+{
+    let mut then = Vec::new(alloc);
+    for row in rows {
+        if !begins_in(change.removed.as_slice(), row.first) {
+            then.push(*row)?;
         }
     }
+    then.extend_from_slice(change.added.as_slice())?;
+    Ok(then)
 }
 
-/// Puts the lines on standard error. They may be left out where there is no memory.
-pub(crate) fn put_added<E: Target>(changes: &Collection<AccountChange>, err: &mut E)
-    ensures notes { WritesPrefix (E.taken err.old) (E.taken err.new)
-        (added_notes (added_by changes.now.entries.items)) }
-    ensures none { changes.now.entries.items ≡ [] → err.new ≡ err.old }
+/// The obligations that changes of the account added, and that no later one removed.
+fn still_added(
+    alloc: Global,
+    account: &str,
+    changes: &[AccountChange],
+) -> Result<Vec<Obligation>, AllocError>
+    ensures { IfOk result (λ rows. rows.items ≡ still_added account.now changes.now) }
 {
-    if !changes.are_all || changes.entries.is_empty() {
-        return;
+    let mut rows = Vec::new(alloc);
+    for change in changes {
+        if is_of(account, change) {
+            rows = rows_then(alloc, &rows, change)?;
+        }
     }
-    let Ok(accounts) = ftd_import::added_by(changes) else {
-        return;
-    };
-    // Where standard error fails, the status still tells.
-    let _ = write_rows(&AccountNotes, &accounts, err);
+    Ok(rows)
+}
+
+/// The obligations that were added to the account.
+fn account_added(
+    alloc: Global,
+    account: &str,
+    changes: &[AccountChange],
+) -> Result<AccountAdded, AllocError>
+    ensures { IfOk result (λ added. (added.account ≡ account.now)
+        × (added.rows ≡ still_added account.now changes.now)) }
+{
+    let rows = still_added(alloc, account, changes)?;
+    Ok(AccountAdded {
+        account: AccountName::from_string(String::from_str(alloc, account)?),
+        rows: Obligations::from_vec(rows),
+    })
+}
+
+/// The obligations that were added to each account and not removed again, in the order of the last
+/// changes of the accounts. An error if there is no memory; the changes stay as they are.
+pub fn added_by(changes: &Collection<AccountChange>) -> Result<Vec<AccountAdded>, AllocError>
+    ensures { IfOk result (λ list. list.items ≡ added_by changes.now.entries.items) }
+{
+    let alloc = changes.alloc;
+    let changes = changes.entries.as_slice();
+    let mut list = Vec::new(alloc);
+    for (i, change) in changes.iter().enumerate() {
+        let account = change.account.as_str();
+        if !is_named(account, &changes[i + 1..]) {
+            list.push(account_added(alloc, account, changes)?)?;
+        }
+    }
+    Ok(list)
 }

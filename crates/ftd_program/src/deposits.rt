@@ -1,145 +1,120 @@
-//! The deposits of one account out of pay runs, without a desk.
+//! The deposits of one employer in one year, from its pay runs.
 
-ghost use Rattle.std.specs.Prelude.{◌≡◌};
-ghost use Rattle.ftd_ports.specs.Writing.{Writes, WritesPrefix};
-ghost use Rattle.ftd_program.specs.Performing.{PrintsOut};
-ghost use Rattle.ftd_program.specs.Plain.{IsHinted, PerformsPlain, PrintsFault, fault_hints};
-ghost use Rattle.ftd_program.specs.Plain.{fault_line, fault_status, record_line, run_line};
+ghost use Rattle.std.specs.Prelude.{◌≡◌, ◌≤◌, ◌++◌, IfOk, OnOk, MatchResult, All, length, map};
+ghost use Rattle.std.specs.BTreeMap.{values};
+ghost use Rattle.std.specs.List.{flat_map};
+ghost use Rattle.ftd_days.specs.Calendar.{year_of};
+ghost use Rattle.ftd_days.specs.Holidays.{holidays_of};
+ghost use Rattle.ftd_program.specs.Plain.{PlainFails, PlainGives, Prints, line_text, most_runs};
+ghost use Rattle.ftd_program.specs.Taking.{IsSmall, sum_of};
 
-use crate::performing::{Performed, fail_output};
-use ftd_cli::{PlainFault, plain};
-use ftd_csv::Sheet;
-use ftd_hints::{write_header_hint, write_record_hints};
-use ftd_ports::{Target, WriteFault, write_all, write_pieces};
-use ftd_words::PlainTask;
-use itoa::Buffer;
-use std::alloc::Global;
+use crate::calendar::calendar;
+use crate::fault::PlainFault;
+use crate::runs::take_records;
+use ftd_csv::{MOST_BYTES, Records, Sheet};
+use ftd_days::{Cents, Day, Holidays};
+use ftd_rules::{DaySum, Form, Kind, Obligation, PayRun, YearLine, assess};
+use std::alloc::{AllocError, Global};
+use std::collections::BTreeMap;
 
-/// Prints the deposits of an account in a year, from the pay runs of the input, CSV with the header
-/// `employer,run,payday,fit,ss,medicare`: a line for each obligation on `out`, or on `err` why
-/// there are none. The status is 1 where the input is refused, 3 where there was no memory, or
-/// where `out` failed after a prefix of the lines.
-pub fn print_plain<O: Target, E: Target>(
+/// The deposits of an account in a year, from its pay runs as CSV (Pub. 15, section 11): the
+/// obligations of an employer that opens the year as a monthly depositor (its lookback total is
+/// zero, and it is not carried into the year as semiweekly), one line each, by first day.
+///
+/// The year is one of 2001 to 2098. The holidays rise, lie in the year or the next, and are at most
+/// 60 for each. The text has at most 16 MiB and the header `employer,run,payday,fit,ss,medicare`.
+/// Under it runs of other accounts and years are read too, and left out. A run of the account that
+/// comes again with equal content counts once. `PlainFault` says when which fault is answered.
+pub fn plain(
     alloc: Global,
-    task: &PlainTask,
-    input: &[u8],
-    out: O,
-    err: E,
-) -> Performed<O, E>
-    ensures { PerformsPlain O.taken O.failed E.taken E.failed out err result
-        input.now task.now }
+    csv: &[u8],
+    account: &str,
+    year: u32,
+    holidays: &[Day],
+) -> Result<Vec<u8>, PlainFault>
+    requires from { 2001 ≤ year }
+    requires to { year ≤ 2098 }
+    ensures { MatchResult result
+        (λ text. PlainGives csv.now account.now year holidays.now text.items)
+        (λ fault. PlainFails csv.now account.now year holidays.now fault) }
 {
-    let account = task.account.as_str();
-    match plain(alloc, input, account, task.year, task.holidays.as_slice()) {
-        Ok(text) => print_text(&text, out, err),
-        Err(fault) => print_fault(alloc, input, fault, out, err),
+    if csv.len() > MOST_BYTES {
+        return Err(PlainFault::TooLong);
+    }
+    let calendar = calendar(alloc, year, holidays)?;
+    let mut records = Records::open(alloc, Sheet::Runs, csv)?;
+    let runs = take_records(alloc, &mut records, account, year)?;
+    let sums = day_sums(alloc, &runs)?;
+    let text = deposits(alloc, year, &sums, &calendar)?;
+    Ok(text)
+}
+
+/// What the run adds to the liability of its payday: the income tax withheld and both shares of
+/// social security and of Medicare tax.
+fn day_sum(run: &PayRun) -> DaySum
+    requires { IsSmall run.now }
+    ensures { result ≡ sum_of run.now }
+{
+    DaySum {
+        day: run.payday,
+        cents: Cents(run.fit.0 + run.ss.0 + run.medicare.0),
     }
 }
 
-/// Prints the text of the deposits.
-fn print_text<O: Target, E: Target>(text: &[u8], out: O, err: E) -> Performed<O, E>
-    ensures { PrintsOut O.taken O.failed E.taken E.failed out err result 0 text.now }
+/// What the runs add to the liability of their paydays.
+fn day_sums(alloc: Global, runs: &BTreeMap<u32, PayRun>) -> Result<Vec<DaySum>, AllocError>
+    requires { All IsSmall (values runs.now) }
+    ensures { IfOk result (λ sums. sums.items ≡ map sum_of (values runs.now)) }
 {
-    let mut out = out;
-    match write_all(&mut out, text) {
-        Ok(()) => Performed {
-            status: 0,
-            out,
-            err,
-        },
-        Err(_) => fail_output(out, err),
+    let mut sums = Vec::new(alloc);
+    for pay_run in runs.values() {
+        sums.push(day_sum(pay_run))?;
     }
+    Ok(sums)
 }
 
-/// Prints why there are no deposits, and the hints below it.
-fn print_fault<O, E: Target>(
+/// The deposits of a monthly depositor with these sums in the year, as text.
+fn deposits(
     alloc: Global,
-    input: &[u8],
-    fault: PlainFault,
-    out: O,
-    err: E,
-) -> Performed<O, E>
-    ensures { PrintsFault E.taken E.failed out err result input.now fault }
+    year: u32,
+    sums: &[DaySum],
+    holidays: &Holidays,
+) -> Result<Vec<u8>, AllocError>
+    requires from { 2001 ≤ year }
+    requires to { year ≤ 2098 }
+    requires few { length sums.now ≤ most_runs }
+    requires in_year { All (λ sum. year_of sum.day ≡ year) sums.now }
+    requires small { All (λ sum. sum.cents.0 ≤ 299_999_999_997) sums.now }
+    ensures { IfOk result (λ text. Prints year (holidays_of holidays.now) sums.now text.items) }
 {
-    let mut err = err;
-    put_fault(alloc, input, fault, &mut err);
-    Performed {
-        status: status_of(fault),
-        out,
-        err,
+    let line = YearLine {
+        year,
+        lookback: Cents(0),
+        carried: false,
+        opening: Kind::Monthly,
+        turn: None,
+    };
+    let assessment = assess(Form::F941, alloc, &[line], sums, holidays)?;
+    lines(alloc, assessment.rows.as_slice())
+}
+
+/// The rows as text, one line each.
+fn lines(alloc: Global, rows: &[Obligation]) -> Result<Vec<u8>, AllocError>
+    ensures { IfOk result (λ text. text.items ≡ flat_map line_text rows.now) }
+{
+    let mut text = Vec::new(alloc);
+    for row in rows {
+        push_line(alloc, &mut text, row)?;
     }
+    Ok(text)
 }
 
-/// Prints the line of the fault, and the hints below it.
-fn put_fault<E: Target>(alloc: Global, input: &[u8], fault: PlainFault, err: &mut E)
-    ensures { IsHinted (E.taken err.old) (E.taken err.new) (E.failed err.new)
-        (fault_line fault) (fault_hints input.now fault) }
+/// Writes the line of the row at the end of the text.
+fn push_line(alloc: Global, text: &mut Vec<u8>, row: &Obligation) -> Result<(), AllocError>
+    ensures { OnOk result (text.new.items ≡ text.old.items ++ line_text row.now) }
 {
-    // Where standard error fails, the status still tells.
-    if let Ok(()) = write_fault(fault, err) {
-        put_hints(alloc, input, fault, err);
-    }
-}
-
-/// Prints the hints of the fault. Some may be left out where there is no memory.
-fn put_hints<E: Target>(alloc: Global, input: &[u8], fault: PlainFault, err: &mut E)
-    ensures { WritesPrefix (E.taken err.old) (E.taken err.new) (fault_hints input.now fault) }
-{
-    match fault {
-        PlainFault::BadHeader => {
-            let _ = write_header_hint(Sheet::Runs, input, err);
-        }
-        PlainFault::Malformed { .. } => {
-            let _ = write_record_hints(alloc, Sheet::Runs, input, 1, err);
-        }
-        _ => {}
-    }
-}
-
-/// The exit status where there are no deposits.
-fn status_of(fault: PlainFault) -> u8
-    ensures { result ≡ fault_status fault }
-{
-    match fault {
-        PlainFault::Memory => 3,
-        _ => 1,
-    }
-}
-
-/// Writes the line of the fault.
-fn write_fault<E: Target>(fault: PlainFault, err: &mut E) -> Result<(), WriteFault>
-    ensures { Writes result (E.taken err.old) (E.taken err.new)
-        (E.failed err.new) (fault_line fault) }
-{
-    match fault {
-        PlainFault::BadHeader => write_all(err, b"refused header\n"),
-        PlainFault::TooLong => write_all(err, b"refused length\n"),
-        PlainFault::Malformed { number, field } => write_record(number, field, err),
-        PlainFault::RunDiffers(number) => write_run(number, err),
-        PlainFault::TooManyRuns => write_all(err, b"refused 19 TooManyRuns\n"),
-        PlainFault::BadCalendar => write_all(err, b"refused 5 BadCalendar\n"),
-        PlainFault::Memory => write_all(err, b"failed 21 Memory\n"),
-    }
-}
-
-/// Writes which record is malformed, and its least bad field.
-fn write_record<E: Target>(number: u32, field: u8, err: &mut E) -> Result<(), WriteFault>
-    ensures { Writes result (E.taken err.old) (E.taken err.new)
-        (E.failed err.new) (record_line number field) }
-{
-    let (mut number_digits, mut field_digits) = (Buffer::new(), Buffer::new());
-    let number = number_digits.format(number).as_bytes();
-    let field = field_digits.format(field).as_bytes();
-    let pieces: [&[u8]; 5] = [b"record ", number, b" malformed field ", field, b"\n"];
-    write_pieces(err, &pieces)
-}
-
-/// Writes the number of which two runs differ.
-fn write_run<E: Target>(number: u32, err: &mut E) -> Result<(), WriteFault>
-    ensures { Writes result (E.taken err.old) (E.taken err.new)
-        (E.failed err.new) (run_line number) }
-{
-    let mut digits = Buffer::new();
-    let number = digits.format(number).as_bytes();
-    write_pieces(err, &[b"run ", number, b" differs\n"])
+    let line = row.to_string(alloc)?;
+    text.extend_from_slice(line.as_bytes())?;
+    text.push(b'\n')?;
+    Ok(())
 }

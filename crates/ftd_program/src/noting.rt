@@ -5,8 +5,8 @@ ghost use Rattle.ftd_program.specs.Performing.{AnswersThenNotes, Notes, NotesAft
 ghost use Rattle.ftd_program.specs.Performing.{asked_then};
 
 use crate::performing::{Performed, print_answer};
+use ftd_answers::Format;
 use ftd_desk::Desk;
-use ftd_formats::Format;
 use ftd_machine::{Answer, Reply, Request};
 use ftd_ports::Target;
 use ftd_replies::{asked_after, write_note};

@@ -6,11 +6,11 @@ ghost use Rattle.ftd_program.specs.Numbering.{next_of, number_text};
 ghost use Rattle.ftd_program.specs.Performing.{AsksNext, AsksUnder};
 
 use crate::performing::{Performed, answer, fail_output, print_answer};
+use ftd_answers::{Format, ListFormat};
+use ftd_cli::GREATEST_NUMBER;
 use ftd_desk::Desk;
-use ftd_formats::{Format, ListFormat};
 use ftd_machine::{Answer, Refusal, Request};
 use ftd_ports::{Target, WriteFault, write_pieces};
-use ftd_words::GREATEST_NUMBER;
 use itoa::Buffer;
 use sqlite::Alter;
 

@@ -2,7 +2,7 @@
 
 ghost use Rattle.std.specs.Prelude.{◌≡◌, IfOk, MatchBool, codes};
 ghost use Rattle.ftd_desk.specs.Desks.{held};
-ghost use Rattle.ftd_formats.specs.Formats.{list_format};
+ghost use Rattle.ftd_answers.specs.Formats.{list_format};
 ghost use Rattle.ftd_program.specs.Performing.{Asks, AsksDue, Does, Performs, PerformsDue};
 ghost use Rattle.ftd_program.specs.Performing.{PrintsAnswer};
 ghost use Rattle.ftd_program.specs.Performing.{PerformsImport, PerformsTrial, PrintsRefusal};
@@ -11,29 +11,27 @@ ghost use Rattle.ftd_machine.specs.Laws.{IsBounded};
 ghost use Rattle.ftd_machine.specs.declared.requests.Question.TheVariants.{DueList};
 ghost use Rattle.ftd_machine.specs.declared.requests.Request.TheVariants as requests;
 ghost use Rattle.ftd_ports.specs.Writing.{WritesPrefix};
-ghost use Rattle.ftd_hints.specs.Hints.{record_hints};
+ghost use Rattle.ftd_csv.specs.Hints.{record_hints};
 ghost use Rattle.ftd_replies.specs.Below.{below_text};
 ghost use Rattle.ftd_replies.specs.Putting.{IsPut};
 ghost use Rattle.ftd_replies.specs.Replies.{reply_text};
 ghost use Rattle.ftd_program.specs.Summaries.{stop_status, stop_text, summary_status};
 
-use crate::added::put_added;
+use crate::added_notes::put_added;
 use crate::mending::{known_for, or_nothing};
 use crate::noting::answer_then_note;
 use crate::numbering::ask_next;
 use crate::record_notes::put_refusals;
 use crate::summaries::{write_bad_header, write_summary};
-use ftd_csv::Sheet;
+use crate::{Progress, StopCause, Stopped, Summary, import, import_trial};
+use ftd_answers::{Format, LateDueText, ListFormat, Unwritten};
+use ftd_cli::Job;
+use ftd_csv::{Sheet, write_record_hints};
 use ftd_days::{Day, Quarter};
 use ftd_desk::{Desk, DueFault};
-use ftd_formats::{Format, ListFormat};
-use ftd_hints::write_record_hints;
-use ftd_import::{Progress, StopCause, Stopped, Summary, import, import_trial};
 use ftd_machine::{Answer, Question, Refusal, Reply, Request};
 use ftd_ports::Target;
 use ftd_replies::{Known, put, status_of, write_below, write_reply, write_told};
-use ftd_reports::{LateDueText, Unwritten};
-use ftd_words::Job;
 use sqlite::Alter;
 use std::alloc::Global;
 

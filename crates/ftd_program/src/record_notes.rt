@@ -15,14 +15,13 @@ ghost use Rattle.ftd_program.specs.RecordNotes.{owner_text, record_line, record_
 ghost use Rattle.ftd_program.specs.RecordNotes.{PutsRefusals, records_in};
 
 use crate::differences::{account_difference, payment_difference, run_difference};
+use crate::{Collection, RecordEntry, RefusedRecord};
+use ftd_answers::{RowFormat, quarter_bytes, write_rows};
 use ftd_csv::Period;
 use ftd_desk::Desk;
-use ftd_formats::{RowFormat, write_rows};
-use ftd_import::{Collection, RecordEntry, RefusedRecord};
 use ftd_machine::{AccountName, Refusal};
 use ftd_ports::{Target, WriteFault, write_all, write_pieces};
 use ftd_replies::{Differing, write_difference};
-use ftd_reports::quarter_bytes;
 use itoa::Buffer;
 use sqlite::Alter;
 use std::alloc::{AllocError, Global};

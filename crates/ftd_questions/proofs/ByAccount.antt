@@ -11,9 +11,9 @@ use Rattle.ftd_rules.specs.Lists.{Has}
 use Rattle.ftd_rules.specs.Obligations.{ByFirstDay}
 use Rattle.ftd_rules.proofs.Owed.{has_append, has_left, has_right}
 use Rattle.ftd_rules.proofs.Members.{has_mapped, mapped_has, has_kept}
-use Rattle.ftd_schema.specs.Standing.{Tables}
-use Rattle.ftd_rows.specs.Lists.{Pairs}
-use Rattle.ftd_rows.specs.declared.obligations.AccountObligation.{AccountObligation}
+use Rattle.ftd_sql.specs.Standing.{Tables}
+use Rattle.ftd_store.specs.Lists.{Pairs}
+use Rattle.ftd_store.specs.declared.obligation_cells.AccountObligation.{AccountObligation}
 use Rattle.ftd_store.proofs.Items.{has_at, has_more, has_now, has_still, paired_from, paired_to}
 use Rattle.ftd_store.proofs.Items.{kept_pair, left_pair}
 use Rattle.ftd_store.proofs.Replaced.{all_taken}
@@ -27,7 +27,7 @@ use Rattle.ftd_machine.specs.declared.kept.KeptAccount.{KeptAccount}
 use Rattle.ftd_machine.proofs.Members.{has_filtered, some_of}
 use Rattle.ftd_entries.specs.Standing.{StandsFor}
 use Rattle.ftd_entries.proofs.OwedRows.{kept_by_first_day}
-use Rattle.ftd_accounts.specs.Accounts.{KnowsAccounts}
+use Rattle.ftd_entries.specs.Accounts.{KnowsAccounts}
 use Rattle.ftd_questions.specs.Listing.{AddsDue, AreDue, AreOwn, HasOwed, IsOwedBefore, IsOwedBy}
 use Rattle.ftd_questions.specs.Listing.{IsUnpaidBy, KnowsDue, KnowsOwn, is_due_on}
 use Rattle.ftd_questions.proofs.OwedDays.{piece}

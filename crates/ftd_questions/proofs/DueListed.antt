@@ -24,8 +24,8 @@ use Rattle.ftd_rules.proofs.DueDates.{due_later}
 use Rattle.ftd_rules.proofs.Near.{due_near}
 use Rattle.ftd_rules.proofs.Status.{return_period_is}
 use Rattle.ftd_rules.proofs.Members.{has_kept}
-use Rattle.ftd_schema.specs.Standing.{Tables}
-use Rattle.ftd_rows.specs.Lists.{Pairs}
+use Rattle.ftd_sql.specs.Standing.{Tables}
+use Rattle.ftd_store.specs.Lists.{Pairs}
 use Rattle.ftd_store.specs.Holidays.{HasYears}
 use Rattle.ftd_machine.specs.State.{State, Entries, entries_of, holidays}
 use Rattle.ftd_machine.specs.History.{form_of, live_sums, live_payments}
@@ -39,15 +39,15 @@ use Rattle.ftd_machine.proofs.Few.{few_in_force}
 use Rattle.ftd_machine.proofs.Members.{has_filtered}
 use Rattle.ftd_machine.proofs.DueSome.{makeup_one, verdict_one}
 use Rattle.ftd_entries.specs.Standing.{StandsFor, IsSettled}
-use Rattle.ftd_accounts.specs.Returns.{KnowsPeriod}
+use Rattle.ftd_entries.specs.Returns.{KnowsPeriod}
 use Rattle.ftd_questions.specs.DueRows.{begins_in, IsReturnBy, IsRowBy, KnowsReturnDue}
 use Rattle.ftd_questions.specs.Walks.{begun}
-use Rattle.ftd_accounts.specs.declared.return_periods.ReturnPeriod.{ReturnPeriod}
+use Rattle.ftd_entries.specs.declared.return_periods.ReturnPeriod.{ReturnPeriod}
 use Rattle.ftd_questions.specs.declared.due_rows.QuarterReturn.{QuarterReturn}
 use Rattle.ftd_questions.proofs.OneVerdict.{same_test}
 use Rattle.ftd_entries.proofs.OwedRows.{kept_by_first_day}
-use Rattle.ftd_accounts.proofs.YearsRead.{years_agree}
-use Rattle.ftd_accounts.proofs.ReturnDates.{AgreeIn, return_same, makeup_same}
+use Rattle.ftd_entries.proofs.YearsRead.{years_agree}
+use Rattle.ftd_entries.proofs.ReturnDates.{AgreeIn, return_same, makeup_same}
 use Rattle.ftd_questions.proofs.OwedDays.{quarter_begins, piece, period_days, some_days}
 use Rattle.ftd_store.proofs.Items.{paired_from, paired_to}
 

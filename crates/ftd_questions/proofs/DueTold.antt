@@ -9,8 +9,8 @@ use Rattle.ftd_days.specs.Holidays.{YearDays, holidays_of}
 use Rattle.ftd_rules.specs.declared.Obligation.{Obligation}
 use Rattle.ftd_rules.specs.declared.Form.{Form}
 use Rattle.ftd_rules.specs.declared.verdict.DueRow.{DueRow}
-use Rattle.ftd_schema.specs.Standing.{Tables}
-use Rattle.ftd_rows.specs.Lists.{Pairs}
+use Rattle.ftd_sql.specs.Standing.{Tables}
+use Rattle.ftd_store.specs.Lists.{Pairs}
 use Rattle.ftd_store.specs.Holidays.{HasYears}
 use Rattle.ftd_machine.specs.declared.entries.Account.{Account}
 use Rattle.ftd_machine.specs.declared.requests.Question.TheVariants.{DueList}
@@ -29,13 +29,13 @@ use Rattle.ftd_machine.proofs.Deciding.{decided, passed}
 use Rattle.ftd_machine.proofs.Heads.{Gives, gives_needs, skip_needs}
 use Rattle.ftd_entries.specs.Standing.{StandsFor}
 use Rattle.ftd_entries.specs.Owed.{KnowsObligations}
-use Rattle.ftd_accounts.specs.Returns.{KnowsPeriod}
+use Rattle.ftd_entries.specs.Returns.{KnowsPeriod}
 use Rattle.ftd_questions.specs.DueRows.{begins_in, is_next_day_row, IsReturnBy, IsRowBy}
 use Rattle.ftd_questions.specs.DueRows.{KnowsForDue, KnowsDueList}
 use Rattle.ftd_questions.specs.Telling.{Passes, KnowsAsked, KnowsRows}
 use Rattle.ftd_questions.specs.Walks.{KnowsNextDayOfReturn}
 use Rattle.ftd_questions.specs.declared.asking.KnownReturn.{KnownReturn}
-use Rattle.ftd_accounts.specs.declared.return_periods.ReturnPeriod.{ReturnPeriod}
+use Rattle.ftd_entries.specs.declared.return_periods.ReturnPeriod.{ReturnPeriod}
 use Rattle.ftd_questions.specs.declared.due_rows.QuarterReturn.{QuarterReturn}
 use Rattle.ftd_questions.specs.declared.due.KnownForDue.{KnownForDue}
 use Rattle.ftd_questions.proofs.DueListed.{due_listed}

@@ -1,7 +1,7 @@
 -- The first of an account's years, by its rows.
 use Rattle.std.proofs.Common.{◌≡◌, ◌∙◌, ℕ, List, Option, Vec, map, ap, sym}
 use Rattle.ftd_rules.specs.declared.YearLine.{YearLine}
-use Rattle.ftd_schema.specs.Standing.{Tables}
+use Rattle.ftd_sql.specs.Standing.{Tables}
 use Rattle.ftd_store.specs.Finds.{ListsYears}
 use Rattle.ftd_machine.specs.History.{year_of_line}
 use Rattle.ftd_machine.specs.State.{State, entries_of}

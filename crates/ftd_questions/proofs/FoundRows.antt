@@ -11,16 +11,16 @@ use Rattle.ftd_rules.specs.Lists.{Has}
 use Rattle.ftd_rules.specs.Periods.{return_period_of}
 use Rattle.ftd_rules.proofs.Members.{filter_in, filter_out}
 use Rattle.ftd_rules.specs.Obligations.{begins_on}
-use Rattle.ftd_schema.specs.Standing.{Tables}
+use Rattle.ftd_sql.specs.Standing.{Tables}
 use Rattle.ftd_machine.specs.State.{State, entries_of}
 use Rattle.ftd_machine.specs.History.{form_of}
 use Rattle.ftd_machine.specs.Asking.{return_period, has_next_day}
 use Rattle.ftd_entries.specs.Standing.{StandsFor}
 use Rattle.ftd_entries.specs.Owed.{KnowsObligations}
-use Rattle.ftd_accounts.specs.Returns.{KnowsPeriod}
+use Rattle.ftd_entries.specs.Returns.{KnowsPeriod}
 use Rattle.ftd_questions.specs.DueRows.{begins_in, is_next_day_row}
 use Rattle.ftd_questions.specs.Walks.{begun}
-use Rattle.ftd_accounts.specs.declared.return_periods.ReturnPeriod.{ReturnPeriod}
+use Rattle.ftd_entries.specs.declared.return_periods.ReturnPeriod.{ReturnPeriod}
 use Rattle.ftd_questions.proofs.DueListed.{same_return}
 use Rattle.ftd_questions.proofs.OwedDays.{quarter_begins, begins_is}
 

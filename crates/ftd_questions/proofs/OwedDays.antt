@@ -19,7 +19,7 @@ use Rattle.ftd_rules.proofs.Status.{quarter_only, return_period_is, return_perio
 use Rattle.ftd_rules.proofs.Status.{return_period_grows}
 use Rattle.ftd_rules.proofs.Members.{filter_in, filter_out}
 use Rattle.ftd_rules.specs.Obligations.{begins_on}
-use Rattle.ftd_schema.specs.Standing.{Tables}
+use Rattle.ftd_sql.specs.Standing.{Tables}
 use Rattle.ftd_machine.specs.State.{State, entries_of, holidays}
 use Rattle.ftd_machine.specs.History.{form_of, live_sums}
 use Rattle.ftd_entries.specs.Standing.{StandsFor}

@@ -14,7 +14,7 @@ use Rattle.ftd_rules.specs.Obligations.{ByFirstDay, begins_on}
 use Rattle.ftd_rules.specs.Payments.{paid_by}
 use Rattle.ftd_rules.proofs.DueDates.{due_later}
 use Rattle.ftd_rules.proofs.Members.{has_kept}
-use Rattle.ftd_schema.specs.Standing.{Tables}
+use Rattle.ftd_sql.specs.Standing.{Tables}
 use Rattle.ftd_store.proofs.Items.{taken}
 use Rattle.ftd_machine.specs.History.{form_of, live_sums}
 use Rattle.ftd_machine.specs.Sound.{IsSound}
@@ -25,7 +25,7 @@ use Rattle.ftd_entries.specs.Owed.{KnowsObligations}
 use Rattle.ftd_entries.specs.Standing.{StandsFor}
 use Rattle.ftd_entries.proofs.OwedRows.{kept_by_first_day}
 use Rattle.ftd_questions.specs.Listing.{AreOwn, KnowsOwn, is_unpaid}
-use Rattle.ftd_accounts.specs.Returns.{KnowsPayments}
+use Rattle.ftd_entries.specs.Returns.{KnowsPayments}
 use Rattle.ftd_questions.proofs.DueYears.{begins_late}
 use Rattle.ftd_questions.proofs.OwedDays.{period_days, piece, some_days}
 

@@ -8,10 +8,10 @@ use Rattle.ftd_rules.specs.declared.Obligation.{Obligation}
 use Rattle.ftd_rules.specs.declared.verdict.Case.{Case}
 use Rattle.ftd_rules.specs.declared.verdict.DueRow.{DueRow}
 use Rattle.ftd_rules.specs.Payments.{paid_by}
-use Rattle.ftd_rows.specs.Lists.{Pairs}
-use Rattle.ftd_rows.specs.declared.faults.StoreFault.{StoreFault}
-use Rattle.ftd_rows.specs.declared.faults.StoreFault.TheVariants as fault
-use Rattle.ftd_schema.specs.Standing.{Tables}
+use Rattle.ftd_store.specs.Lists.{Pairs}
+use Rattle.ftd_store.specs.declared.faults.StoreFault.{StoreFault}
+use Rattle.ftd_store.specs.declared.faults.StoreFault.TheVariants as fault
+use Rattle.ftd_sql.specs.Standing.{Tables}
 use Rattle.ftd_machine.specs.Runs.{IsFault}
 use Rattle.ftd_machine.specs.declared.replies.Refusal.{Refusal}
 use Rattle.ftd_machine.specs.declared.replies.Refusal.TheVariants.{Store}

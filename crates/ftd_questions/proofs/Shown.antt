@@ -19,13 +19,13 @@ use Rattle.ftd_rules.specs.Lists.{Has, KeysDoNotFall}
 use Rattle.ftd_rules.specs.Periods.{return_period_first, return_period_last, return_period_end}
 use Rattle.ftd_rules.proofs.Rising.{has_permuted, next_do_not_fall}
 use Rattle.ftd_rules.proofs.Status.{quarter_is, quarter_only}
-use Rattle.ftd_schema.specs.Rows.{ObligationRow}
-use Rattle.ftd_schema.specs.Orders.{ObligationsRise}
-use Rattle.ftd_schema.specs.Standing.{Tables}
-use Rattle.ftd_schema.specs.declared.TableName.TheVariants.{Obligations}
-use Rattle.ftd_rows.specs.Cells.{day_number}
-use Rattle.ftd_rows.specs.Lists.{Pairs, Lists}
-use Rattle.ftd_rows.specs.Rows.{obligation_row}
+use Rattle.ftd_sql.specs.Rows.{ObligationRow}
+use Rattle.ftd_sql.specs.Orders.{ObligationsRise}
+use Rattle.ftd_sql.specs.Standing.{Tables}
+use Rattle.ftd_sql.specs.declared.TableName.TheVariants.{Obligations}
+use Rattle.ftd_store.specs.Cells.{day_number}
+use Rattle.ftd_store.specs.Lists.{Pairs, Lists}
+use Rattle.ftd_store.specs.Rows.{obligation_row}
 use Rattle.ftd_store.specs.Finds.{IsObligation}
 use Rattle.ftd_store.specs.Frame.{Calls, Reads}
 use Rattle.ftd_store.specs.declared.tx.Tx.{Tx}

@@ -10,12 +10,12 @@ use Rattle.sqlite.specs.State as database
 use Rattle.sqlite.specs.State.{HasCleanDisk, IsUnchanged}
 use Rattle.ftd_days.specs.Calendar.{quarter_start}
 use Rattle.ftd_rules.specs.declared.Obligation.{Obligation}
-use Rattle.ftd_schema.specs.States.{CrashKeeps}
-use Rattle.ftd_schema.specs.Orders.{ObligationsRise}
-use Rattle.ftd_schema.proofs.Controls.{crash_none, crash_then}
-use Rattle.ftd_schema.specs.Standing.{Tables, Stands}
-use Rattle.ftd_schema.specs.declared.TableName.TheVariants.{Obligations}
-use Rattle.ftd_rows.specs.Lists.{Lists, ListsFirst}
+use Rattle.ftd_sql.specs.States.{CrashKeeps}
+use Rattle.ftd_sql.specs.Orders.{ObligationsRise}
+use Rattle.ftd_sql.proofs.Controls.{crash_none, crash_then}
+use Rattle.ftd_sql.specs.Standing.{Tables, Stands}
+use Rattle.ftd_sql.specs.declared.TableName.TheVariants.{Obligations}
+use Rattle.ftd_store.specs.Lists.{Lists, ListsFirst}
 use Rattle.ftd_store.specs.Ends.{LeavesRows, IsSettled}
 use Rattle.ftd_store.specs.Finds.{IsObligation}
 use Rattle.ftd_store.specs.Walking.{rows_in, walked, HasListed, Continues}

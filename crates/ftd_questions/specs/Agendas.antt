@@ -8,9 +8,9 @@ use Rattle.ftd_rules.specs.declared.verdict.Verdict.TheVariants.{Met, WithReturn
 use Rattle.ftd_rules.specs.declared.verdict.Verdict.TheVariants.{Short, Late}
 use Rattle.ftd_rules.specs.Lists.{Has}
 use Rattle.ftd_rules.specs.Returns.{IsReturnDue}
-use Rattle.ftd_schema.specs.Standing.{Tables}
-use Rattle.ftd_rows.specs.Lists.{Pairs}
-use Rattle.ftd_rows.specs.declared.obligations.AccountObligation.{AccountObligation}
+use Rattle.ftd_sql.specs.Standing.{Tables}
+use Rattle.ftd_store.specs.Lists.{Pairs}
+use Rattle.ftd_store.specs.declared.obligation_cells.AccountObligation.{AccountObligation}
 use Rattle.ftd_machine.specs.State.{State, entries_of, holidays}
 use Rattle.ftd_machine.specs.Sound.{IsSound}
 use Rattle.ftd_machine.specs.Asking.{IsDueList}

@@ -9,7 +9,7 @@ use Rattle.ftd_rules.specs.declared.verdict.DueRow.{DueRow}
 use Rattle.ftd_rules.specs.Payments.{paid_by}
 use Rattle.ftd_rules.specs.Returns.{IsReturnDue, IsMakeup, IsSmallQuarter}
 use Rattle.ftd_rules.specs.Verdicts.{IsVerdict}
-use Rattle.ftd_schema.specs.Standing.{Tables}
+use Rattle.ftd_sql.specs.Standing.{Tables}
 use Rattle.ftd_store.specs.Holidays.{HasYears}
 use Rattle.ftd_machine.specs.State.{State, entries_of, holidays}
 use Rattle.ftd_machine.specs.History.{form_of}
@@ -19,7 +19,7 @@ use Rattle.ftd_machine.specs.declared.facts.Facts.TheVariants.{Due}
 use Rattle.ftd_machine.specs.declared.replies.Reply.TheVariants.{Told}
 use Rattle.ftd_entries.specs.Known.{KnowsAccount, KnowsYear}
 use Rattle.ftd_entries.specs.Standing.{StandsFor}
-use Rattle.ftd_accounts.specs.declared.return_periods.ReturnPeriod.{ReturnPeriod}
+use Rattle.ftd_entries.specs.declared.return_periods.ReturnPeriod.{ReturnPeriod}
 use Rattle.ftd_questions.specs.declared.due_rows.QuarterReturn.{QuarterReturn}
 use Rattle.ftd_questions.specs.declared.due.KnownForDue.{KnownForDue}
 

@@ -1,6 +1,6 @@
 -- Faults of the store as refusals.
-use Rattle.ftd_rows.specs.declared.faults.StoreFault.{StoreFault}
-use Rattle.ftd_rows.specs.declared.faults.StoreFault.TheVariants as fault
+use Rattle.ftd_store.specs.declared.faults.StoreFault.{StoreFault}
+use Rattle.ftd_store.specs.declared.faults.StoreFault.TheVariants as fault
 use Rattle.ftd_machine.specs.declared.replies.Refusal.{Refusal}
 use Rattle.ftd_machine.specs.declared.replies.Refusal.TheVariants as refusal
 

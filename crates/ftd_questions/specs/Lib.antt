@@ -16,7 +16,7 @@ pub use Rattle.ftd_machine.specs.Requests
 pub use Rattle.ftd_machine.specs.Runs
 pub use Rattle.ftd_machine.specs.Sound
 pub use Rattle.ftd_machine.specs.State
-pub use Rattle.ftd_rows.specs.Lists
+pub use Rattle.ftd_store.specs.Lists
 pub use Rattle.ftd_rules.specs.Liability
 pub use Rattle.ftd_rules.specs.Payments
 pub use Rattle.ftd_rules.specs.Periods

@@ -6,9 +6,9 @@ use Rattle.ftd_rules.specs.declared.payment.Payment.{Payment}
 use Rattle.ftd_rules.specs.Lists.{Has}
 use Rattle.ftd_rules.specs.Obligations.{ByFirstDay}
 use Rattle.ftd_rules.specs.Payments.{paid_by}
-use Rattle.ftd_schema.specs.Standing.{Tables}
-use Rattle.ftd_rows.specs.Lists.{Pairs}
-use Rattle.ftd_rows.specs.declared.obligations.AccountObligation.{AccountObligation}
+use Rattle.ftd_sql.specs.Standing.{Tables}
+use Rattle.ftd_store.specs.Lists.{Pairs}
+use Rattle.ftd_store.specs.declared.obligation_cells.AccountObligation.{AccountObligation}
 use Rattle.ftd_machine.specs.History.{live_payments}
 use Rattle.ftd_machine.specs.State.{State, entries_of}
 use Rattle.ftd_machine.specs.Sound.{IsSound}

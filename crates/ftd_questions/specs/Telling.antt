@@ -3,8 +3,8 @@ use Rattle.std.specs.Prelude.{◌≡◌, ◌⊎◌, ◌+◌, ℕ, List, [], ◌�
 use Rattle.ftd_days.specs.Calendar.{quarter_year}
 use Rattle.ftd_days.specs.Holidays.{holidays_of}
 use Rattle.ftd_rules.specs.declared.verdict.DueRow.{DueRow}
-use Rattle.ftd_schema.specs.Standing.{Tables}
-use Rattle.ftd_rows.specs.Lists.{Pairs}
+use Rattle.ftd_sql.specs.Standing.{Tables}
+use Rattle.ftd_store.specs.Lists.{Pairs}
 use Rattle.ftd_store.specs.Holidays.{HasYears}
 use Rattle.ftd_machine.specs.State.{State, entries_of, is_open}
 use Rattle.ftd_machine.specs.History.{form_of}
@@ -20,7 +20,7 @@ use Rattle.ftd_machine.specs.declared.requests.Question.TheVariants.{DueList}
 use Rattle.ftd_machine.specs.declared.requests.Request.TheVariants.{Question}
 use Rattle.ftd_entries.specs.Standing.{StandsFor}
 use Rattle.ftd_questions.specs.DueRows.{IsRowBy}
-use Rattle.ftd_accounts.specs.Returns.{KnowsPeriod}
+use Rattle.ftd_entries.specs.Returns.{KnowsPeriod}
 use Rattle.ftd_questions.specs.Shown.{ShowsRows}
 use Rattle.ftd_questions.specs.Walks.{begun}
 use Rattle.ftd_questions.specs.declared.asking.KnownReturn.{KnownReturn}

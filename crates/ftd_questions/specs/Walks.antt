@@ -5,8 +5,8 @@ use Rattle.sqlite.specs.State as database
 use Rattle.sqlite.specs.State.{HasCleanDisk}
 use Rattle.ftd_rules.specs.declared.Form.{Form}
 use Rattle.ftd_rules.specs.declared.Obligation.{Obligation}
-use Rattle.ftd_schema.specs.States.{CrashKeeps}
-use Rattle.ftd_schema.specs.Standing.{Tables, Stands}
+use Rattle.ftd_sql.specs.States.{CrashKeeps}
+use Rattle.ftd_sql.specs.Standing.{Tables, Stands}
 use Rattle.ftd_store.specs.Ends.{IsSettled, LeavesRows}
 use Rattle.ftd_machine.specs.State.{State}
 use Rattle.ftd_machine.specs.Asking.{return_period, has_next_day}

@@ -5,7 +5,7 @@ ghost use Rattle.std.specs.Prelude.{◌≡◌, ◌≤◌, IfOk, IfSome, IsTrue, 
 ghost use Rattle.std.specs.Prelude.{string_bytes};
 ghost use Rattle.ftd_days.specs.Calendar.{quarter_of, quarter_year};
 ghost use Rattle.ftd_rules.specs.Lists.{Has};
-ghost use Rattle.ftd_schema.specs.Standing.{Tables};
+ghost use Rattle.ftd_sql.specs.Standing.{Tables};
 ghost use Rattle.ftd_store.specs.Frame.{Reads};
 ghost use Rattle.ftd_entries.specs.Known.{KnowsAccount};
 ghost use Rattle.ftd_questions.specs.Agendas.{day_for, KnowsList, KnowsLast, IsLast, IsRowOf};
@@ -17,10 +17,9 @@ use crate::listing::due_between;
 use ftd_days::{Day, Holidays, Quarter};
 use ftd_entries::known;
 use ftd_machine::{Account, AccountName, AgendaRow};
-use ftd_rows::AccountObligation;
 use ftd_rules::period::return_period;
 use ftd_rules::{DueRow, Form, Verdict};
-use ftd_store::{StoreFault, Tx};
+use ftd_store::{AccountObligation, StoreFault, Tx};
 use sqlite::Alter;
 use std::alloc::Global;
 

@@ -6,7 +6,7 @@ ghost use Rattle.std.specs.List.{sum_by};
 ghost use Rattle.ftd_days.specs.Calendar.{quarter_year};
 ghost use Rattle.ftd_rules.specs.Payments.{payment_cents};
 ghost use Rattle.sqlite.specs.State.{HasCleanDisk};
-ghost use Rattle.ftd_schema.specs.Standing.{Tables};
+ghost use Rattle.ftd_sql.specs.Standing.{Tables};
 ghost use Rattle.ftd_store.specs.Frame.{Reads};
 ghost use Rattle.ftd_store.specs.Seen.{seen};
 ghost use Rattle.ftd_machine.specs.History.{form_of};
@@ -18,8 +18,8 @@ ghost use Rattle.ftd_questions.specs.Walks.{Stays, StandIfOpen};
 
 use crate::due::{KnownForDue, known_for_due};
 use crate::faults::refusal_of;
-use ftd_accounts::{ReturnPeriod, return_period};
 use ftd_days::{Day, Holidays, Quarter};
+use ftd_entries::{ReturnPeriod, return_period};
 use ftd_machine::{Answer, Refusal, due_list_check};
 use ftd_rules::Form;
 use ftd_store::{Store, StoreFault, Tx};

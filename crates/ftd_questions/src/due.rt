@@ -10,9 +10,8 @@ ghost use Rattle.ftd_questions.specs.DueRows.{KnowsForDue, KnowsYears};
 ghost use Rattle.ftd_questions.specs.Shown.{KnowsQuarter, Shows};
 
 use crate::due_rows::{due_rows, has_next_day, quarter_return};
-use ftd_accounts::return_period;
 use ftd_days::{Day, Holidays, Quarter};
-use ftd_entries::{is_open, known};
+use ftd_entries::{is_open, known, return_period};
 use ftd_machine::{Account, Answer, DueRows, Facts, Refusal, Reply, due_list_check};
 use ftd_rules::{DueRow, Form};
 use ftd_store::{StoreFault, Tx};

@@ -4,11 +4,11 @@ ghost use Rattle.std.specs.Prelude.{◌≡◌, ◌<◌, ◌≤◌, filter, IfOk,
 ghost use Rattle.std.specs.List.{list_any, sum_by};
 ghost use Rattle.ftd_days.specs.Calendar.{quarter_year};
 ghost use Rattle.ftd_rules.specs.Payments.{payment_cents};
-ghost use Rattle.ftd_rows.specs.Lists.{Pairs};
+ghost use Rattle.ftd_store.specs.Lists.{Pairs};
 ghost use Rattle.ftd_questions.specs.DueRows.{IsReturnBy, IsRowBy, begins_in, is_next_day_row};
 
-use ftd_accounts::{AMOUNTS_END, ReturnPeriod};
 use ftd_days::{Day, Holidays, Quarter};
+use ftd_entries::{AMOUNTS_END, ReturnPeriod};
 use ftd_rules::{
     Case, DueRow, Form, Obligation, Payment, Rule, makeup, paid_by, return_due, with_return,
 };

@@ -9,11 +9,10 @@ ghost use Rattle.ftd_rules.specs.Payments.{payment_cents};
 ghost use Rattle.ftd_store.specs.Frame.{Reads};
 ghost use Rattle.ftd_questions.specs.Listing.{AddsDue, KnowsDue, KnowsOwn, is_due_on, is_unpaid};
 
-use ftd_accounts::{all_accounts, payments_of};
 use ftd_days::Day;
-use ftd_rows::AccountObligation;
+use ftd_entries::{all_accounts, payments_of};
 use ftd_rules::{Obligation, Payment, paid_by};
-use ftd_store::{StoreFault, Tx};
+use ftd_store::{AccountObligation, StoreFault, Tx};
 use sqlite::Alter;
 use std::alloc::Global;
 

@@ -12,7 +12,7 @@ ghost use Rattle.ftd_questions.specs.Walks.{Stays, KeptIfOpen};
 
 use crate::faults::refusal_of;
 use crate::names::nearest;
-use ftd_accounts::all_accounts;
+use ftd_entries::all_accounts;
 use ftd_machine::{AccountName, KeptAccount, Refusal};
 use ftd_store::{Store, StoreFault, Tx};
 use sqlite::Alter;

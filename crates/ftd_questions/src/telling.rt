@@ -6,7 +6,7 @@ ghost use Rattle.sqlite.specs.Held.{state};
 ghost use Rattle.sqlite.specs.State.{HasCleanDisk};
 ghost use Rattle.ftd_rules.specs.Payments.{payment_cents};
 ghost use Rattle.ftd_rules.specs.declared.verdict.DueRow.{DueRow as DueRowValue};
-ghost use Rattle.ftd_schema.specs.Standing.{Tables, Stands};
+ghost use Rattle.ftd_sql.specs.Standing.{Tables, Stands};
 ghost use Rattle.ftd_store.specs.Seen.{seen};
 ghost use Rattle.ftd_store.specs.Walking.{walked, HasListed};
 ghost use Rattle.ftd_machine.specs.Sound.{IsSound};

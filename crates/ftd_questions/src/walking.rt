@@ -4,7 +4,7 @@ ghost use Rattle.std.specs.Prelude.{◌≡◌, ◌<◌, ◌≤◌, ◌↔◌, �
 ghost use Rattle.sqlite.specs.Held.{state};
 ghost use Rattle.ftd_days.specs.Calendar.{quarter_of, quarter_year};
 ghost use Rattle.ftd_rules.specs.Periods.{return_period_of};
-ghost use Rattle.ftd_schema.specs.Standing.{Tables, Stands};
+ghost use Rattle.ftd_sql.specs.Standing.{Tables, Stands};
 ghost use Rattle.ftd_store.specs.Seen.{seen};
 ghost use Rattle.ftd_store.specs.Walking.{walked, HasListed};
 ghost use Rattle.ftd_machine.specs.Asking.{return_period};

@@ -1,8 +1,8 @@
 -- A loop of readings that has read nothing yet, or something.
 use Rattle.std.proofs.Common.{◌≡◌, ◌⊎◌, inl, inr, Result, Ok, Err, subst}
 use Rattle.sqlite.specs.Store as store
-use Rattle.ftd_schema.specs.Standing.{Tables}
-use Rattle.ftd_rows.specs.declared.faults.StoreFault.{StoreFault}
+use Rattle.ftd_sql.specs.Standing.{Tables}
+use Rattle.ftd_store.specs.declared.faults.StoreFault.{StoreFault}
 use Rattle.ftd_store.specs.declared.tx.Tx.{Tx}
 use Rattle.ftd_store.specs.Frame.{Frame, Reads}
 use Rattle.ftd_store.proofs.Going.{then_call}

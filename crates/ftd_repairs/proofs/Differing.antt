@@ -7,7 +7,7 @@ use Rattle.ftd_rules.specs.Lists.{Has, KeysRise}
 use Rattle.ftd_rules.specs.Obligations.{ByFirstDay}
 use Rattle.ftd_rules.proofs.Owed.{has_append, has_left, has_right}
 use Rattle.ftd_rules.proofs.Rising.{rises_push}
-use Rattle.ftd_rows.specs.Lists.{Pairs, Lists}
+use Rattle.ftd_store.specs.Lists.{Pairs, Lists}
 use Rattle.ftd_machine.specs.Posting.{AreThose}
 use Rattle.ftd_store.proofs.Items.{has_at, has_more, has_still, has_now}
 

@@ -13,7 +13,7 @@ use Rattle.ftd_buckets.specs.Windows.{IsNeeded, IsPeriodOf, IsNext, IsLastNeeded
 use Rattle.ftd_buckets.specs.Patches.{AreSumsOf, IsPatch}
 use Rattle.ftd_buckets.specs.Ready.{Repairing}
 use Rattle.ftd_buckets.specs.Standing.{Stands, IfNeed, IfDone}
-use Rattle.ftd_schema.specs.Standing.{Tables}
+use Rattle.ftd_sql.specs.Standing.{Tables}
 use Rattle.ftd_repairs.specs.Repaired.{IsRightWhere, AreLiveIn, AreWithin, RunsAre, Repairs}
 use Rattle.ftd_repairs.specs.Repaired.{SumsAre}
 use Rattle.ftd_store.proofs.Items.{has_middle}

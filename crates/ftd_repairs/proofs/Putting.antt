@@ -10,12 +10,12 @@ use Rattle.ftd_rules.specs.declared.YearLine.{YearLine}
 use Rattle.ftd_rules.specs.Years.{YearsFrom}
 use Rattle.ftd_rules.proofs.Items.{drop_item}
 use Rattle.ftd_buckets.specs.declared.Patch.{Patch}
-use Rattle.ftd_schema.specs.declared.TableName.TheVariants.{Years}
-use Rattle.ftd_schema.specs.Rows.{YearRow}
-use Rattle.ftd_schema.specs.Standing.{Tables, with_rows}
-use Rattle.ftd_schema.proofs.OneOfAll.{set_twice, set_own}
-use Rattle.ftd_schema.specs.Tests.{is_year_of}
-use Rattle.ftd_rows.specs.Rows.{year_row}
+use Rattle.ftd_sql.specs.declared.TableName.TheVariants.{Years}
+use Rattle.ftd_sql.specs.Rows.{YearRow}
+use Rattle.ftd_sql.specs.Standing.{Tables, with_rows}
+use Rattle.ftd_sql.proofs.OneOfAll.{set_twice, set_own}
+use Rattle.ftd_sql.specs.Tests.{is_year_of}
+use Rattle.ftd_store.specs.Rows.{year_row}
 use Rattle.ftd_store.specs.Changes.{with_year}
 use Rattle.ftd_repairs.specs.Rescheduled.{IsAfter, IsRescheduled, IsUnnamed, AreAfter, HasLines}
 use Rattle.ftd_repairs.specs.Rescheduled.{PutsLines, PutsRows, PutsPatch, PutsInto}

@@ -7,12 +7,12 @@ use Rattle.ftd_days.specs.Holidays.{holidays_of}
 use Rattle.ftd_rules.specs.declared.Form.{Form}
 use Rattle.ftd_rules.specs.declared.YearLine.{YearLine}
 use Rattle.ftd_buckets.specs.declared.Patch.{Patch}
-use Rattle.ftd_schema.specs.declared.TableName.TheVariants.{Years}
-use Rattle.ftd_schema.specs.Rows.{YearRow}
-use Rattle.ftd_schema.specs.Standing.{Tables}
-use Rattle.ftd_schema.specs.Orders.{YearsRise}
-use Rattle.ftd_schema.specs.Tests.{is_year_of}
-use Rattle.ftd_rows.specs.Rows.{year_row}
+use Rattle.ftd_sql.specs.declared.TableName.TheVariants.{Years}
+use Rattle.ftd_sql.specs.Rows.{YearRow}
+use Rattle.ftd_sql.specs.Standing.{Tables}
+use Rattle.ftd_sql.specs.Orders.{YearsRise}
+use Rattle.ftd_sql.specs.Tests.{is_year_of}
+use Rattle.ftd_store.specs.Rows.{year_row}
 use Rattle.ftd_store.specs.declared.tx.Tx.{Tx}
 use Rattle.ftd_store.specs.Frame.{Reads, Rewrites}
 use Rattle.ftd_machine.specs.declared.replies.Difference.{Difference}

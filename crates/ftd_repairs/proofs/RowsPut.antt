@@ -11,16 +11,16 @@ use Rattle.std.proofs.lemmas.List.Sorted.{IsPermutation-to_front, length_permuta
 use Rattle.ftd_rules.specs.declared.Obligation.{Obligation}
 use Rattle.ftd_rules.specs.Lists.{Has}
 use Rattle.ftd_rules.proofs.Rising.{has_permuted}
-use Rattle.ftd_tables.specs.Kept.{changed}
-use Rattle.ftd_schema.specs.Rows.{ObligationRow}
-use Rattle.ftd_schema.specs.Tests.{is_obligation, is_obligation_between, with_terms}
-use Rattle.ftd_rows.specs.Cells.{day_number}
-use Rattle.ftd_rows.specs.Rows.{obligation_row}
+use Rattle.ftd_sql.specs.Kept.{changed}
+use Rattle.ftd_sql.specs.Rows.{ObligationRow}
+use Rattle.ftd_sql.specs.Tests.{is_obligation, is_obligation_between, with_terms}
+use Rattle.ftd_store.specs.Cells.{day_number}
+use Rattle.ftd_store.specs.Rows.{obligation_row}
 use Rattle.ftd_store.proofs.Same.{same_int}
 use Rattle.ftd_machine.proofs.Adding.{own_name}
 use Rattle.ftd_machine.proofs.Members.{has_filtered}
-use Rattle.ftd_schema.specs.Standing.{Tables}
-use Rattle.ftd_schema.specs.declared.TableName.TheVariants.{Obligations}
+use Rattle.ftd_sql.specs.Standing.{Tables}
+use Rattle.ftd_sql.specs.declared.TableName.TheVariants.{Obligations}
 use Rattle.ftd_buckets.specs.declared.Patch.{Patch}
 use Rattle.ftd_store.specs.Changes.{with_obligation, with_obligations}
 use Rattle.ftd_repairs.specs.Replaced.{AreBetween}

@@ -9,10 +9,10 @@ use Rattle.ftd_days.specs.declared.cents.Cents.{Cents}
 use Rattle.ftd_rules.specs.declared.Form.{Form}
 use Rattle.ftd_rules.specs.declared.YearLine.{YearLine}
 use Rattle.ftd_rules.specs.Years.{YearsFrom}
-use Rattle.ftd_schema.specs.declared.TableName.TheVariants.{Years}
-use Rattle.ftd_schema.specs.Standing.{Tables}
-use Rattle.ftd_schema.specs.Tests.{is_year_of}
-use Rattle.ftd_rows.specs.Rows.{year_row}
+use Rattle.ftd_sql.specs.declared.TableName.TheVariants.{Years}
+use Rattle.ftd_sql.specs.Standing.{Tables}
+use Rattle.ftd_sql.specs.Tests.{is_year_of}
+use Rattle.ftd_store.specs.Rows.{year_row}
 use Rattle.ftd_store.specs.Changes.{with_year}
 use Rattle.ftd_machine.specs.declared.replies.Difference.{Difference}
 use Rattle.ftd_repairs.specs.Reopened.{IsAt, Retotals, lines_with}

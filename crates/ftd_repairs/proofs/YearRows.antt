@@ -15,10 +15,10 @@ use Rattle.ftd_rules.specs.Lists.{Has}
 use Rattle.ftd_rules.specs.Years.{YearsFrom}
 use Rattle.ftd_rules.proofs.Schedules.{years_within}
 use Rattle.ftd_rules.proofs.Members.{filter_in, filter_out}
-use Rattle.ftd_tables.specs.Kept.{changed}
-use Rattle.ftd_schema.specs.Rows.{YearRow}
-use Rattle.ftd_schema.specs.Tests.{is_year, is_year_of}
-use Rattle.ftd_rows.specs.Rows.{year_row}
+use Rattle.ftd_sql.specs.Kept.{changed}
+use Rattle.ftd_sql.specs.Rows.{YearRow}
+use Rattle.ftd_sql.specs.Tests.{is_year, is_year_of}
+use Rattle.ftd_store.specs.Rows.{year_row}
 use Rattle.ftd_store.specs.Changes.{put_among}
 use Rattle.ftd_store.proofs.Same.{same_int}
 use Rattle.ftd_machine.proofs.Adding.{own_name, other_name}

@@ -17,7 +17,7 @@ use Rattle.ftd_rules.proofs.Owed.{has_right}
 use Rattle.ftd_rules.proofs.Schedules.{year_facts, years_within}
 use Rattle.ftd_buckets.specs.declared.Patch.{Patch}
 use Rattle.ftd_buckets.specs.Histories.{History}
-use Rattle.ftd_schema.specs.Standing.{Tables}
+use Rattle.ftd_sql.specs.Standing.{Tables}
 use Rattle.ftd_store.proofs.Items.{has_at}
 use Rattle.ftd_repairs.specs.declared.reopening.Anew.{Anew}
 use Rattle.ftd_repairs.specs.Reopened.{IsAmong}

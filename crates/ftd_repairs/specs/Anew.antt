@@ -10,7 +10,7 @@ use Rattle.ftd_rules.specs.Years.{basis_of, year_last}
 use Rattle.ftd_rules.specs.Private.Walk.{due_date, AreOwed, periods}
 use Rattle.ftd_rules.specs.Private.Years.{IsScheduled, semiweekly_from}
 use Rattle.ftd_buckets.specs.declared.Patch.{Patch}
-use Rattle.ftd_schema.specs.Standing.{Tables}
+use Rattle.ftd_sql.specs.Standing.{Tables}
 use Rattle.ftd_repairs.specs.declared.reopening.Anew.{Anew}
 use Rattle.ftd_repairs.specs.declared.reopening.Replacement.{Replacement}
 use Rattle.ftd_repairs.specs.Repaired.{AreLiveIn}

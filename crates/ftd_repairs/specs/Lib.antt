@@ -11,7 +11,7 @@ pub use Rattle.ftd_buckets.specs.Histories
 pub use Rattle.ftd_days.specs.Holidays
 pub use Rattle.ftd_machine.specs.History
 pub use Rattle.ftd_machine.specs.Posting
-pub use Rattle.ftd_rows.specs.Amounts
+pub use Rattle.ftd_store.specs.Amounts
 pub use Rattle.ftd_rules.specs.Liability
 pub use Rattle.ftd_rules.specs.Lists
 pub use Rattle.ftd_rules.specs.Obligations

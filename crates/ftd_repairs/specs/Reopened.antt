@@ -5,7 +5,7 @@ use Rattle.ftd_days.specs.Calendar.{year_start}
 use Rattle.ftd_days.specs.declared.cents.Cents.{Cents}
 use Rattle.ftd_rules.specs.declared.Form.{Form}
 use Rattle.ftd_rules.specs.declared.YearLine.{YearLine}
-use Rattle.ftd_schema.specs.Standing.{Tables}
+use Rattle.ftd_sql.specs.Standing.{Tables}
 use Rattle.ftd_store.specs.Changes.{with_year}
 use Rattle.ftd_store.specs.Finds.{ListsYears}
 use Rattle.ftd_machine.specs.declared.replies.Difference.{Difference}

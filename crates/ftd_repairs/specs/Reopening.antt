@@ -13,7 +13,7 @@ use Rattle.ftd_buckets.specs.declared.Window.{Window}
 use Rattle.ftd_buckets.specs.Histories.{History, IsHistory, TurnOf}
 use Rattle.ftd_buckets.specs.Patches.{AreSumsOf, Replaces}
 use Rattle.ftd_buckets.specs.Windows.{IsYearOf}
-use Rattle.ftd_schema.specs.Standing.{Tables}
+use Rattle.ftd_sql.specs.Standing.{Tables}
 use Rattle.ftd_repairs.specs.Repaired.{AreLiveIn}
 
 -- ---- the change

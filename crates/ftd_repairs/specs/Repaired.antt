@@ -9,12 +9,12 @@ use Rattle.ftd_buckets.specs.declared.Patch.{Patch}
 use Rattle.ftd_buckets.specs.Histories.{History, IsChange, AreLast}
 use Rattle.ftd_buckets.specs.Windows.{IsNeeded, IsLastNeeded}
 use Rattle.ftd_buckets.specs.Patches.{AreSumsOf, IsPatch}
-use Rattle.ftd_schema.specs.declared.TableName.TheVariants.{Runs}
-use Rattle.ftd_schema.specs.Standing.{Tables}
-use Rattle.ftd_schema.specs.Orders.{RunsRise}
-use Rattle.ftd_schema.specs.Tests.{is_live_run_between}
-use Rattle.ftd_rows.specs.Cells.{day_number}
-use Rattle.ftd_rows.specs.DaySums.{ListsDaySums}
+use Rattle.ftd_sql.specs.declared.TableName.TheVariants.{Runs}
+use Rattle.ftd_sql.specs.Standing.{Tables}
+use Rattle.ftd_sql.specs.Orders.{RunsRise}
+use Rattle.ftd_sql.specs.Tests.{is_live_run_between}
+use Rattle.ftd_store.specs.Cells.{day_number}
+use Rattle.ftd_store.specs.DaySums.{ListsDaySums}
 
 -- these are the day sums of the account's live runs with a payday in the window
 abbrev pub AreLiveIn : List ℕ → Tables → Window → List DaySum → Type 0

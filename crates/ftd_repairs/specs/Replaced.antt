@@ -4,11 +4,11 @@ use Rattle.std.specs.List.Sorted.{IsPermutation}
 use Rattle.ftd_rules.specs.declared.Obligation.{Obligation}
 use Rattle.ftd_rules.specs.declared.YearLine.{YearLine}
 use Rattle.ftd_rules.specs.Obligations.{ByFirstDay, begins_on}
-use Rattle.ftd_schema.specs.declared.TableName.TheVariants.{Obligations}
-use Rattle.ftd_schema.specs.Standing.{Tables}
-use Rattle.ftd_schema.specs.Tests.{is_obligation_between}
-use Rattle.ftd_rows.specs.Cells.{day_number}
-use Rattle.ftd_rows.specs.Rows.{obligation_row}
+use Rattle.ftd_sql.specs.declared.TableName.TheVariants.{Obligations}
+use Rattle.ftd_sql.specs.Standing.{Tables}
+use Rattle.ftd_sql.specs.Tests.{is_obligation_between}
+use Rattle.ftd_store.specs.Cells.{day_number}
+use Rattle.ftd_store.specs.Rows.{obligation_row}
 use Rattle.ftd_machine.specs.Posting.{Differ}
 use Rattle.ftd_machine.specs.declared.replies.Difference.{Difference}
 

@@ -9,7 +9,7 @@ use Rattle.ftd_rules.specs.declared.run.PayRun.{PayRun}
 use Rattle.ftd_rules.specs.declared.YearLine.{YearLine}
 use Rattle.ftd_buckets.specs.declared.Patch.{Patch}
 use Rattle.ftd_buckets.specs.declared.Window.{Window}
-use Rattle.ftd_schema.specs.Standing.{Tables}
+use Rattle.ftd_sql.specs.Standing.{Tables}
 use Rattle.ftd_store.specs.Finds.{ListsYears, ListsLiability}
 use Rattle.ftd_machine.specs.History.{liability_of}
 use Rattle.ftd_machine.specs.Posting.{AreOnOtherSchedules}

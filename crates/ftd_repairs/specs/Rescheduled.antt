@@ -5,12 +5,12 @@ use Rattle.ftd_rules.specs.declared.YearLine.{YearLine}
 use Rattle.ftd_rules.specs.Lists.{Has}
 use Rattle.ftd_rules.specs.Years.{AreOpenYears}
 use Rattle.ftd_buckets.specs.declared.Patch.{Patch}
-use Rattle.ftd_schema.specs.declared.TableName.{TableName}
-use Rattle.ftd_schema.specs.declared.TableName.TheVariants.{Years, Obligations}
-use Rattle.ftd_schema.specs.Standing.{Tables, with_rows}
-use Rattle.ftd_schema.specs.Tests.{is_year_of}
-use Rattle.ftd_rows.specs.Lists.{Pairs}
-use Rattle.ftd_rows.specs.Rows.{year_row}
+use Rattle.ftd_sql.specs.declared.TableName.{TableName}
+use Rattle.ftd_sql.specs.declared.TableName.TheVariants.{Years, Obligations}
+use Rattle.ftd_sql.specs.Standing.{Tables, with_rows}
+use Rattle.ftd_sql.specs.Tests.{is_year_of}
+use Rattle.ftd_store.specs.Lists.{Pairs}
+use Rattle.ftd_store.specs.Rows.{year_row}
 use Rattle.ftd_store.specs.Changes.{with_obligations}
 
 -- the line under the opening and the turn of another one

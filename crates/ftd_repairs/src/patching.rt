@@ -5,7 +5,7 @@ ghost use Rattle.std.specs.Prelude.{All};
 ghost use Rattle.ftd_rules.specs.declared.Obligation.{Obligation};
 ghost use Rattle.ftd_rules.specs.declared.YearLine.{YearLine};
 ghost use Rattle.ftd_buckets.specs.Histories.{MayBegin};
-ghost use Rattle.ftd_rows.specs.Amounts.{IsStorable};
+ghost use Rattle.ftd_store.specs.Amounts.{IsStorable};
 ghost use Rattle.ftd_repairs.specs.Rescheduled.{IsRescheduled, IsUnnamed, HasLines, PutsInto};
 ghost use Rattle.ftd_repairs.specs.Rescheduled.{PutsRows};
 ghost use Rattle.ftd_repairs.specs.Replaced.{AreBetween};

@@ -1,7 +1,7 @@
 //! A pay run is added or made void, and the account's rows are repaired.
 
 ghost use Rattle.std.specs.Prelude.{IsTrue};
-ghost use Rattle.ftd_rows.specs.Amounts.{HasStorableAmounts};
+ghost use Rattle.ftd_store.specs.Amounts.{HasStorableAmounts};
 ghost use Rattle.ftd_store.specs.Changes.{with_run, with_void_run};
 ghost use Rattle.ftd_repairs.specs.Reposted.{IsReposted};
 ghost use Rattle.ftd_store.specs.Frame.{Rewrites};

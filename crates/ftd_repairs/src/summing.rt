@@ -5,8 +5,8 @@ ghost use Rattle.ftd_machine.specs.History.{liability_of};
 ghost use Rattle.ftd_rules.specs.Liability.{share, liability};
 ghost use Rattle.ftd_repairs.specs.Reposted.{AddsRun};
 
-use ftd_rows::{StoreFault, added, sum_of};
 use ftd_rules::{DaySum, PayRun};
+use ftd_store::{StoreFault, added, sum_of};
 
 /// Adds an amount to the sum of its day, or in the place of that day where there is none. `Failed`
 /// where they are more than a `u64` of cents, `Memory` where there is none.

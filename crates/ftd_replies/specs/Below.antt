@@ -10,7 +10,7 @@ use Rattle.ftd_machine.specs.declared.replies.Reply.{Reply}
 use Rattle.ftd_machine.specs.declared.replies.Reply.TheVariants as reply
 use Rattle.ftd_machine.specs.declared.requests.Request.{Request}
 use Rattle.ftd_machine.specs.declared.requests.Request.TheVariants as request
-use Rattle.ftd_reports.specs.Agendas.{left_cents}
+use Rattle.ftd_answers.specs.Agendas.{left_cents}
 use Rattle.ftd_replies.specs.Added.{changes_text}
 use Rattle.ftd_replies.specs.Commands.{command_on}
 

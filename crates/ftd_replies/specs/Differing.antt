@@ -4,7 +4,7 @@
 use Rattle.std.specs.Prelude.{ℕ, nat_eq, Bool, true, false, List, [], ◌∷◌, codes, if◌then◌else◌}
 use Rattle.std.specs.List.{concat}
 use Rattle.ftd_days.specs.Text.{cents_text, day_text}
-use Rattle.ftd_reports.specs.Agendas.{form_number}
+use Rattle.ftd_answers.specs.Agendas.{form_number}
 use Rattle.ftd_machine.specs.Requests.{is_form}
 use Rattle.ftd_machine.specs.declared.entries.Account.{Account}
 use Rattle.ftd_rules.specs.declared.payment.Payment.{Payment}

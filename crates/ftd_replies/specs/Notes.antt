@@ -16,7 +16,7 @@ use Rattle.ftd_machine.specs.declared.requests.Question.{Question}
 use Rattle.ftd_machine.specs.declared.requests.Question.TheVariants as question
 use Rattle.ftd_machine.specs.declared.requests.Request.{Request}
 use Rattle.ftd_machine.specs.declared.requests.Request.TheVariants as request
-use Rattle.ftd_words.specs.Asking.{last_asked}
+use Rattle.ftd_cli.specs.Asking.{last_asked}
 use Rattle.ftd_replies.specs.Commands.{file_text}
 
 -- ---- what is asked

@@ -4,12 +4,12 @@ use Rattle.std.specs.Prelude.{List, [], ℕ, Option, Some, None, codes}
 use Rattle.ftd_rules.specs.declared.DaySum.{DaySum}
 use Rattle.ftd_rules.specs.declared.verdict.DueRow.{DueRow}
 use Rattle.ftd_rules.specs.declared.Kind.{Kind}
-use Rattle.ftd_formats.specs.Formats.{agenda_as, b_as, due_as, list_format, owed_as}
-use Rattle.ftd_formats.specs.declared.formats.Format.{Format}
-use Rattle.ftd_listings.specs.Explanations.{status_text}
-use Rattle.ftd_listings.specs.ExplanationForms.{explanation_as}
-use Rattle.ftd_listings.specs.KeptForms.{kept_as}
-use Rattle.ftd_listings.specs.Unapplied.{unapplied_as}
+use Rattle.ftd_answers.specs.Formats.{agenda_as, b_as, due_as, list_format, owed_as}
+use Rattle.ftd_answers.specs.declared.formats.Format.{Format}
+use Rattle.ftd_answers.specs.Explanations.{status_text}
+use Rattle.ftd_answers.specs.ExplanationForms.{explanation_as}
+use Rattle.ftd_answers.specs.KeptForms.{kept_as}
+use Rattle.ftd_answers.specs.Unapplied.{unapplied_as}
 use Rattle.ftd_machine.specs.declared.explained.Explanation.{Explanation}
 use Rattle.ftd_machine.specs.declared.facts.Facts.{Facts}
 use Rattle.ftd_machine.specs.declared.facts.Facts.TheVariants as facts

@@ -5,11 +5,11 @@ use Rattle.std.specs.Io.KnownBytes.{Appends}
 use Rattle.std.specs.List.{concat}
 use Rattle.std.specs.String.{string_bytes}
 use Rattle.ftd_ports.specs.Writing.{WritesPrefix}
-use Rattle.ftd_commands.specs.Table.{word_text}
-use Rattle.ftd_commands.specs.declared.table.Word.{Word}
-use Rattle.ftd_commands.specs.declared.table.Word.TheVariants as word
-use Rattle.ftd_words.specs.declared.tasks.CliFault.{CliFault}
-use Rattle.ftd_words.specs.declared.tasks.CliFault.TheVariants as fault
+use Rattle.ftd_cli.specs.Table.{word_text}
+use Rattle.ftd_cli.specs.declared.table.Word.{Word}
+use Rattle.ftd_cli.specs.declared.table.Word.TheVariants as word
+use Rattle.ftd_cli.specs.declared.tasks.CliFault.{CliFault}
+use Rattle.ftd_cli.specs.declared.tasks.CliFault.TheVariants as fault
 use Rattle.ftd_replies.specs.Putting.{IsPut}
 
 -- what is asked for as the value of a word

@@ -6,10 +6,9 @@ ghost use Rattle.ftd_replies.specs.Added.{added_cents, added_days, added_note, a
 ghost use Rattle.ftd_replies.specs.Added.{changes_text, due_end, more_note, schedule_note};
 
 use crate::notes::write_amount_so;
-use ftd_formats::{RowFormat, write_rows};
+use ftd_answers::{RowFormat, day_bytes, rule_name, write_rows};
 use ftd_machine::Difference;
 use ftd_ports::{Target, WriteFault, write_all, write_pieces};
-use ftd_reports::{day_bytes, rule_name};
 use ftd_rules::{Kind, Obligation, YearLine};
 use itoa::Buffer;
 

@@ -8,10 +8,10 @@ ghost use Rattle.ftd_replies.specs.Below.{holidays_hint, told_hint};
 
 use crate::added::write_changes;
 use crate::hints::write_on;
+use ftd_answers::{day_bytes, left_of};
 use ftd_days::Day;
 use ftd_machine::{AgendaRow, Facts, Reply, Request};
 use ftd_ports::{Target, WriteFault, write_all};
-use ftd_reports::{day_bytes, left_of};
 
 /// Writes what is said of the days that a calendar was given with: if there are none, that this may
 /// be a mistake.

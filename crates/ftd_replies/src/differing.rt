@@ -8,10 +8,10 @@ ghost use Rattle.ftd_replies.specs.Differing.{account_difference, amounts_text, 
 ghost use Rattle.ftd_replies.specs.Differing.{days_text, difference_text, enrolled_text};
 ghost use Rattle.ftd_replies.specs.Differing.{payment_difference, run_amounts, run_difference};
 
+use ftd_answers::{amount_text, day_bytes, form_bytes};
 use ftd_days::{Cents, Day};
 use ftd_machine::Account;
 use ftd_ports::{Target, WriteFault, write_all, write_pieces};
-use ftd_reports::{amount_text, day_bytes, form_bytes};
 use ftd_rules::{Form, PayRun, Payment};
 use itoa::Buffer;
 

@@ -9,9 +9,9 @@ ghost use Rattle.ftd_replies.specs.Differing.{difference_text};
 
 use crate::differing::{Differing, is_form, write_difference};
 use crate::hints::write_of;
+use ftd_answers::day_bytes;
 use ftd_machine::Account;
 use ftd_ports::{Target, WriteFault, write_all};
-use ftd_reports::day_bytes;
 
 /// An account that was asked for, and the other one that is enrolled under its name.
 #[derive(Clone, Copy, Debug, PartialEq, Eq)]

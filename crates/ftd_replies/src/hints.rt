@@ -19,10 +19,10 @@ use crate::differing::{Differing, write_difference};
 use crate::enrolment::{Enrolment, write_enrolment};
 use crate::questions::{days_asked, years_asked};
 use crate::refusals::write_refusal;
+use ftd_answers::{day_bytes, quarter_bytes};
 use ftd_days::{Day, Quarter};
 use ftd_machine::{AccountName, Refusal, Request};
 use ftd_ports::{Target, WriteFault, write_all, write_pieces};
-use ftd_reports::{day_bytes, quarter_bytes};
 use itoa::Buffer;
 
 /// What was asked of the desk for the hints of a refusal.

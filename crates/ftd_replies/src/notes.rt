@@ -10,11 +10,11 @@ ghost use Rattle.ftd_replies.specs.Notes.{counts_text, kept_cents, note_text, pa
 ghost use Rattle.ftd_replies.specs.Notes.{rest_text, unapplied_hint};
 
 use crate::hints::file_bytes;
+use ftd_answers::{Counted, amount_text, day_bytes, total};
+use ftd_cli::last_asked;
 use ftd_days::Cents;
 use ftd_machine::{Explanation, Facts, KeptPayment, Question, Reply, Request, UnappliedRow};
 use ftd_ports::{Target, WriteFault, write_all, write_pieces};
-use ftd_reports::{Counted, amount_text, day_bytes, total};
-use ftd_words::last_asked;
 use itoa::Buffer;
 
 // ---- what is asked

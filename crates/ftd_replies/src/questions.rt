@@ -12,8 +12,10 @@ ghost use Rattle.ftd_replies.specs.Questions.{agenda_told, days_asked, days_told
 ghost use Rattle.ftd_replies.specs.Questions.{facts_told, kept_told, status_told, why_told};
 ghost use Rattle.ftd_replies.specs.Questions.{unapplied_told, years_asked};
 
-use ftd_formats::{Format, write_agenda_as, write_b_as, write_due_as, write_owed_as};
-use ftd_listings::{write_explanation_as, write_kept_as, write_schedule, write_unapplied_as};
+use ftd_answers::{
+    Format, write_agenda_as, write_b_as, write_due_as, write_explanation_as, write_kept_as,
+    write_owed_as, write_schedule, write_unapplied_as,
+};
 use ftd_machine::{
     AgendaRow, Explanation, Facts, Kept, KeptRows, Question, Reason, Request, UnappliedRow,
 };

@@ -7,10 +7,10 @@ ghost use Rattle.ftd_ports.specs.Writing.{Writes};
 ghost use Rattle.ftd_replies.specs.Refusals.{line_of, named_text, refusal_status};
 ghost use Rattle.ftd_replies.specs.Refusals.{refusal_text, verb_text};
 
+use ftd_answers::quarter_bytes;
 use ftd_days::Quarter;
 use ftd_machine::{Named, Refusal};
 use ftd_ports::{Target, WriteFault, write_pieces};
-use ftd_reports::quarter_bytes;
 use itoa::Buffer;
 
 /// The exit status where the desk refuses: 3 where memory or the store failed, else 1.

@@ -5,10 +5,9 @@ ghost use Rattle.ftd_machine.specs.Laws.{IsBounded};
 ghost use Rattle.ftd_replies.specs.Replies.{posted_text, reply_text};
 
 use crate::questions::write_facts;
-use ftd_formats::Format;
+use ftd_answers::{Format, day_bytes};
 use ftd_machine::{Difference, Reply, Request};
 use ftd_ports::{Target, WriteFault, write_pieces};
-use ftd_reports::day_bytes;
 use itoa::Buffer;
 
 /// Writes the text of the reply to a request, in a format where it has several.

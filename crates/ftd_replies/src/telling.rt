@@ -5,9 +5,8 @@ ghost use Rattle.ftd_replies.specs.Putting.{IsPut};
 ghost use Rattle.ftd_replies.specs.Telling.{Tells, TellsHelp, asked_text, bad_text, bad_word};
 ghost use Rattle.ftd_replies.specs.Telling.{given_text};
 
-use ftd_commands::Word;
+use ftd_cli::{CliFault, Word};
 use ftd_ports::{Target, write_all, write_pieces};
-use ftd_words::CliFault;
 
 /// Prints why the words of a command line ask nothing, or the help that they ask for, and answers
 /// the exit status: 0 for help, 2 for a bad command line, 3 where there was no memory, or where

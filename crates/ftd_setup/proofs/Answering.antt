@@ -4,17 +4,17 @@ use Rattle.std.specs.Prelude.{Result, IsErrAnd}
 use Rattle.std.specs.List.Sorted.{IsPermutation}
 use Rattle.sqlite.specs.Order.{Row}
 use Rattle.sqlite.specs.State.{State}
-use Rattle.ftd_tables.specs.Places.{Holds}
-use Rattle.ftd_schema.specs.declared.TableName.TheVariants.{Metas}
-use Rattle.ftd_schema.specs.Names.{name_of}
-use Rattle.ftd_schema.specs.Rows.{MetaRow, cells_of}
-use Rattle.ftd_schema.specs.Layout.{table_of}
-use Rattle.ftd_schema.specs.Answers.{meta_shown}
+use Rattle.ftd_sql.specs.Places.{Holds}
+use Rattle.ftd_sql.specs.declared.TableName.TheVariants.{Metas}
+use Rattle.ftd_sql.specs.Names.{name_of}
+use Rattle.ftd_sql.specs.Rows.{MetaRow, cells_of}
+use Rattle.ftd_sql.specs.Layout.{table_of}
+use Rattle.ftd_sql.specs.Answers.{meta_shown}
 use Rattle.std.specs.Prelude.{map}
-use Rattle.ftd_schema.proofs.Meanings.{shows_metas}
+use Rattle.ftd_sql.proofs.Meanings.{shows_metas}
 use Rattle.ftd_setup.specs.declared.opening.OpenFault.{OpenFault}
 use Rattle.ftd_setup.specs.declared.opening.OpenFault.TheVariants.{NotOurs, Newer, Store}
-use Rattle.ftd_schema.specs.Beginnings.{HasVersion}
+use Rattle.ftd_sql.specs.Beginnings.{HasVersion}
 use Rattle.ftd_setup.specs.Versions.{has_later, ReadsVersion, IsStoreFault, Opens, OpensByReading}
 use Rattle.ftd_setup.proofs.Readings.{has_version, reads_version}
 

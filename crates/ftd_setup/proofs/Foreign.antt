@@ -9,17 +9,17 @@ use Rattle.std.proofs.lemmas.List.Folds.{list_any_at}
 use Rattle.sqlite.specs.Schema.{Schema}
 use Rattle.sqlite.specs.Table.{Table}
 use Rattle.sqlite_schema.specs.Names.{same_name, table_named}
-use Rattle.ftd_tables.specs.Places.{IsAt}
-use Rattle.ftd_schema.specs.declared.TableName.{TableName}
-use Rattle.ftd_schema.specs.declared.TableName.TheVariants.{Metas, Accounts, ReportedQuarters}
-use Rattle.ftd_schema.specs.declared.TableName.TheVariants.{CalendarYears, Holidays, Years, Runs}
-use Rattle.ftd_schema.specs.declared.TableName.TheVariants.{Payments, Obligations, Forms}
-use Rattle.ftd_schema.specs.declared.TableName.TheVariants.{ReportedYears, AddedHolidays}
-use Rattle.ftd_schema.specs.declared.TableName.TheVariants.{CorrectedQuarters, CorrectedYears}
-use Rattle.ftd_schema.specs.declared.TableName.TheVariants.{ChangedHolidays, CorrectedAccounts}
-use Rattle.ftd_schema.specs.Names.{name_of, all_names, is_taken}
-use Rattle.ftd_schema.specs.Standing.{IsForeign}
-use Rattle.ftd_schema.proofs.Making.{self_named}
+use Rattle.ftd_sql.specs.Places.{IsAt}
+use Rattle.ftd_sql.specs.declared.TableName.{TableName}
+use Rattle.ftd_sql.specs.declared.TableName.TheVariants.{Metas, Accounts, ReportedQuarters}
+use Rattle.ftd_sql.specs.declared.TableName.TheVariants.{CalendarYears, Holidays, Years, Runs}
+use Rattle.ftd_sql.specs.declared.TableName.TheVariants.{Payments, Obligations, Forms}
+use Rattle.ftd_sql.specs.declared.TableName.TheVariants.{ReportedYears, AddedHolidays}
+use Rattle.ftd_sql.specs.declared.TableName.TheVariants.{CorrectedQuarters, CorrectedYears}
+use Rattle.ftd_sql.specs.declared.TableName.TheVariants.{ChangedHolidays, CorrectedAccounts}
+use Rattle.ftd_sql.specs.Names.{name_of, all_names, is_taken}
+use Rattle.ftd_sql.specs.Standing.{IsForeign}
+use Rattle.ftd_sql.proofs.Making.{self_named}
 use Rattle.ftd_setup.specs.Versions.{IsNew}
 
 unfound : {X : Type 0} (p : X → Bool) (i k : ℕ) (xs : List X) (x : X) → position_from p i xs ≡ None

@@ -12,27 +12,27 @@ use Rattle.sqlite.specs.declared.types.Value.{Value}
 use Rattle.sqlite.specs.Values.{bound_value}
 use Rattle.sqlite.specs.declared.types.Value.TheVariants.{Int, Text}
 use Rattle.sqlite_value.specs.Order.{column}
-use Rattle.ftd_schema.specs.Answers.{name_shown}
-use Rattle.ftd_schema.specs.declared.texts.TheConstants.{LIST_ACCOUNTS}
-use Rattle.ftd_schema.proofs.Meanings.{lists_names}
+use Rattle.ftd_sql.specs.Answers.{name_shown}
+use Rattle.ftd_sql.specs.declared.texts.TheConstants.{LIST_ACCOUNTS}
+use Rattle.ftd_sql.proofs.Meanings.{lists_names}
 use Rattle.sqlite.specs.State.{State, Executes, Shown, IsUnchanged}
 use Rattle.sqlite_tied.specs.Compute.{everything}
-use Rattle.ftd_tables.specs.Kept.{changed}
-use Rattle.ftd_tables.specs.Places.{KeepsTables}
-use Rattle.ftd_schema.specs.declared.TableName.{TableName}
-use Rattle.ftd_schema.specs.declared.TableName.TheVariants.{Metas, Accounts, Forms}
-use Rattle.ftd_schema.specs.Names.{all_names, later_names, since}
-use Rattle.ftd_schema.specs.Rows.{cells_of, MetaRow, AccountRow, FormRow}
-use Rattle.ftd_schema.specs.Standing.{Tables, no_rows, with_rows, Stands, KeepsForeign, Becomes}
-use Rattle.ftd_schema.specs.Standing.{StandsAs, rows_as}
-use Rattle.ftd_schema.proofs.OneOfAll.{foreign_then, stands_same, set_own, set_twice}
-use Rattle.ftd_schema.specs.Making.{AreFree, IsFree, add_of}
-use Rattle.ftd_schema.specs.Tests.{is_tag, with_version}
-use Rattle.ftd_schema.proofs.Controls.{keeps_tables_then}
-use Rattle.ftd_schema.proofs.Making.{AreMade, all_made, later_free, later_made}
-use Rattle.ftd_schema.proofs.Writing.{adds}
-use Rattle.ftd_schema.specs.Beginnings.{IsMade, tag_row, HasVersion, on_form_941, IsMigration}
-use Rattle.ftd_schema.specs.Beginnings.{IsMigratedFrom}
+use Rattle.ftd_sql.specs.Kept.{changed}
+use Rattle.ftd_sql.specs.Places.{KeepsTables}
+use Rattle.ftd_sql.specs.declared.TableName.{TableName}
+use Rattle.ftd_sql.specs.declared.TableName.TheVariants.{Metas, Accounts, Forms}
+use Rattle.ftd_sql.specs.Names.{all_names, later_names, since}
+use Rattle.ftd_sql.specs.Rows.{cells_of, MetaRow, AccountRow, FormRow}
+use Rattle.ftd_sql.specs.Standing.{Tables, no_rows, with_rows, Stands, KeepsForeign, Becomes}
+use Rattle.ftd_sql.specs.Standing.{StandsAs, rows_as}
+use Rattle.ftd_sql.proofs.OneOfAll.{foreign_then, stands_same, set_own, set_twice}
+use Rattle.ftd_sql.specs.Making.{AreFree, IsFree, add_of}
+use Rattle.ftd_sql.specs.Tests.{is_tag, with_version}
+use Rattle.ftd_sql.proofs.Controls.{keeps_tables_then}
+use Rattle.ftd_sql.proofs.Making.{AreMade, all_made, later_free, later_made}
+use Rattle.ftd_sql.proofs.Writing.{adds}
+use Rattle.ftd_sql.specs.Beginnings.{IsMade, tag_row, HasVersion, on_form_941, IsMigration}
+use Rattle.ftd_sql.specs.Beginnings.{IsMigratedFrom}
 use Rattle.ftd_setup.specs.Versions.{IsNew, KeepsRows}
 use Rattle.ftd_setup.proofs.Foreign.{all_foreign}
 

@@ -12,17 +12,17 @@ use Rattle.sqlite.specs.declared.types.Value.TheVariants.{Int, Text}
 use Rattle.sqlite.proofs.Callers.{IsPlain, one_permutation}
 use Rattle.sqlite_value.specs.Order.{column}
 use Rattle.sqlite_tied.specs.Compute.{everything}
-use Rattle.ftd_tables.specs.Places.{Holds}
-use Rattle.ftd_tables.specs.TextKinds.{IsReadText}
-use Rattle.ftd_tables.proofs.Meaning.{select_plain}
-use Rattle.ftd_schema.specs.declared.TableName.TheVariants.{Metas}
-use Rattle.ftd_schema.specs.Names.{name_of}
-use Rattle.ftd_schema.specs.Rows.{MetaRow, cells_of}
-use Rattle.ftd_schema.specs.Layout.{table_of}
-use Rattle.ftd_schema.specs.Answers.{meta_shown}
-use Rattle.ftd_schema.specs.Beginnings.{tag_row, HasVersion, IsMigratedFrom, IsMigrated}
-use Rattle.ftd_schema.specs.declared.texts.TheConstants.{LIST_METAS}
-use Rattle.ftd_schema.proofs.Meanings.{shows_metas}
+use Rattle.ftd_sql.specs.Places.{Holds}
+use Rattle.ftd_sql.specs.TextKinds.{IsReadText}
+use Rattle.ftd_sql.proofs.Meaning.{select_plain}
+use Rattle.ftd_sql.specs.declared.TableName.TheVariants.{Metas}
+use Rattle.ftd_sql.specs.Names.{name_of}
+use Rattle.ftd_sql.specs.Rows.{MetaRow, cells_of}
+use Rattle.ftd_sql.specs.Layout.{table_of}
+use Rattle.ftd_sql.specs.Answers.{meta_shown}
+use Rattle.ftd_sql.specs.Beginnings.{tag_row, HasVersion, IsMigratedFrom, IsMigrated}
+use Rattle.ftd_sql.specs.declared.texts.TheConstants.{LIST_METAS}
+use Rattle.ftd_sql.proofs.Meanings.{shows_metas}
 use Rattle.ftd_setup.specs.Versions.{is_tagged, ReadsVersion}
 
 -- ---- the cells of the tag

@@ -5,11 +5,11 @@ use Rattle.sqlite.specs.Store as store
 use Rattle.sqlite.specs.State.{State, Executes}
 use Rattle.sqlite.specs.declared.transaction.Transaction.{Transaction}
 use Rattle.sqlite.proofs.InsideLemmas.{keeps_then}
-use Rattle.ftd_rows.specs.declared.faults.StoreFault.{StoreFault}
-use Rattle.ftd_schema.specs.States.{within}
-use Rattle.ftd_schema.proofs.Controls.{keeps_self, crash_none, crash_then}
-use Rattle.ftd_schema.specs.declared.TableName.{TableName}
-use Rattle.ftd_schema.proofs.Indexing.{Indexes, indexes}
+use Rattle.ftd_store.specs.declared.faults.StoreFault.{StoreFault}
+use Rattle.ftd_sql.specs.States.{within}
+use Rattle.ftd_sql.proofs.Controls.{keeps_self, crash_none, crash_then}
+use Rattle.ftd_sql.specs.declared.TableName.{TableName}
+use Rattle.ftd_sql.proofs.IndexTexts.{Indexes, indexes}
 use Rattle.ftd_setup.specs.Steps.{Steps}
 use Rattle.ftd_setup.specs.Versions.{KeepsRows}
 

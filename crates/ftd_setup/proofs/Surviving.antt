@@ -11,9 +11,9 @@ use Rattle.sqlite.specs.Order.{Row}
 use Rattle.sqlite.specs.State.{State, HasCleanDisk, Survives, KeepsCommit, Shown, IsUnchanged}
 use Rattle.sqlite.proofs.Callers.{survives_begin}
 use Rattle.sqlite.proofs.StateLemmas.{survives_then}
-use Rattle.ftd_schema.specs.Beginnings.{IsEarlier, IsMigratedFrom}
-use Rattle.ftd_schema.specs.States.{CrashKeeps, ShowsAgain}
-use Rattle.ftd_schema.specs.declared.texts.TheConstants.{LIST_METAS}
+use Rattle.ftd_sql.specs.Beginnings.{IsEarlier, IsMigratedFrom}
+use Rattle.ftd_sql.specs.States.{CrashKeeps, ShowsAgain}
+use Rattle.ftd_sql.specs.declared.texts.TheConstants.{LIST_METAS}
 use Rattle.ftd_setup.specs.declared.opening.Change.{Change}
 use Rattle.ftd_setup.specs.Versions.{has_later, ReadsVersion, Becomes, MayBecome, MayBeMigrated}
 use Rattle.ftd_setup.specs.Versions.{OpensByReading}

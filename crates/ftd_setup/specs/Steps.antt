@@ -3,8 +3,8 @@ use Rattle.std.specs.Prelude.{◌≡◌, Result, IfOk, OnOk}
 use Rattle.sqlite.specs.Store as store
 use Rattle.sqlite.specs.State.{State, HasCleanDisk, KeepsCommit}
 use Rattle.sqlite.specs.declared.transaction.Transaction.{Transaction}
-use Rattle.ftd_rows.specs.declared.faults.StoreFault.{StoreFault}
-use Rattle.ftd_schema.specs.States.{CrashKeeps, within}
+use Rattle.ftd_store.specs.declared.faults.StoreFault.{StoreFault}
+use Rattle.ftd_sql.specs.States.{CrashKeeps, within}
 
 -- what the step keeps, whatever comes of it, and what it did with Ok
 pub record Steps {S A : Type 0} (g : store.Ghosts S) (old new : Transaction S)

@@ -10,16 +10,16 @@ use Rattle.sqlite.specs.Table.{Table}
 use Rattle.sqlite.specs.Tree.{Trees}
 use Rattle.sqlite.specs.declared.types.Value.TheVariants.{Int, Text}
 use Rattle.sqlite_schema.specs.Names.{table_named, column_named}
-use Rattle.ftd_tables.specs.Places.{KeepsTables, Holds}
-use Rattle.ftd_schema.specs.declared.TableName.TheVariants.{Metas}
-use Rattle.ftd_schema.specs.Names.{name_of, all_names, later_names, has_any}
-use Rattle.ftd_schema.specs.Layout.{table_of}
-use Rattle.ftd_schema.specs.Rows.{cells_of, MetaRow}
-use Rattle.ftd_schema.specs.Standing.{Tables, Stands}
-use Rattle.ftd_schema.specs.Beginnings.{HasVersion, IsMade, IsEarlier, IsMigratedFrom, IsMigrated}
-use Rattle.ftd_schema.specs.Making.{IsFree}
-use Rattle.ftd_schema.specs.States.{ShowsAgain}
-use Rattle.ftd_schema.specs.declared.texts.TheConstants.{LIST_METAS}
+use Rattle.ftd_sql.specs.Places.{KeepsTables, Holds}
+use Rattle.ftd_sql.specs.declared.TableName.TheVariants.{Metas}
+use Rattle.ftd_sql.specs.Names.{name_of, all_names, later_names, has_any}
+use Rattle.ftd_sql.specs.Layout.{table_of}
+use Rattle.ftd_sql.specs.Rows.{cells_of, MetaRow}
+use Rattle.ftd_sql.specs.Standing.{Tables, Stands}
+use Rattle.ftd_sql.specs.Beginnings.{HasVersion, IsMade, IsEarlier, IsMigratedFrom, IsMigrated}
+use Rattle.ftd_sql.specs.Making.{IsFree}
+use Rattle.ftd_sql.specs.States.{ShowsAgain}
+use Rattle.ftd_sql.specs.declared.texts.TheConstants.{LIST_METAS}
 use Rattle.ftd_setup.specs.declared.opening.Change.{Change}
 use Rattle.ftd_setup.specs.declared.opening.Change.TheVariants.{Make, MigrateFirst, MigrateSecond}
 use Rattle.ftd_setup.specs.declared.opening.OpenFault.{OpenFault}

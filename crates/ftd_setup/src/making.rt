@@ -1,15 +1,15 @@
 //! Making the tables and their indexes.
 
 ghost use Rattle.std.specs.Prelude.{◌≡◌};
-ghost use Rattle.ftd_schema.specs.Making.{create_of, AreFree, IsFree};
-ghost use Rattle.ftd_schema.proofs.Making.{AreMade};
+ghost use Rattle.ftd_sql.specs.Making.{create_of, AreFree, IsFree};
+ghost use Rattle.ftd_sql.proofs.Making.{AreMade};
 ghost use Rattle.ftd_setup.specs.Steps.{Steps};
-ghost use Rattle.ftd_schema.specs.Beginnings.{IsMade};
+ghost use Rattle.ftd_sql.specs.Beginnings.{IsMade};
 ghost use Rattle.ftd_setup.specs.Versions.{IsNew, KeepsRows};
 
 use crate::steps::run;
-use ftd_rows::StoreFault;
-use ftd_schema::{ALL, TableName, is_taken, texts};
+use ftd_sql::{ALL, TableName, is_taken, texts};
+use ftd_store::StoreFault;
 use sqlite::{Alter, Transaction, params};
 use sqlite_schema::schema::Schema;
 

@@ -2,19 +2,19 @@
 
 ghost use Rattle.std.specs.Prelude.{◌≡◌, ◌++◌, ◌∷◌, [], pos, codes, map, List};
 ghost use Rattle.std.specs.List.Sorted.{IsPermutation};
-ghost use Rattle.ftd_tables.specs.Kept.{changed};
-ghost use Rattle.ftd_schema.specs.declared.TableName.TheVariants.{Metas, Accounts, Forms};
-ghost use Rattle.ftd_schema.specs.Rows.{AccountRow};
-ghost use Rattle.ftd_schema.specs.Standing.{Tables, with_rows, Stands, Becomes};
-ghost use Rattle.ftd_schema.specs.Answers.{name_shown};
-ghost use Rattle.ftd_schema.specs.Tests.{is_tag, with_version};
+ghost use Rattle.ftd_sql.specs.Kept.{changed};
+ghost use Rattle.ftd_sql.specs.declared.TableName.TheVariants.{Metas, Accounts, Forms};
+ghost use Rattle.ftd_sql.specs.Rows.{AccountRow};
+ghost use Rattle.ftd_sql.specs.Standing.{Tables, with_rows, Stands, Becomes};
+ghost use Rattle.ftd_sql.specs.Answers.{name_shown};
+ghost use Rattle.ftd_sql.specs.Tests.{is_tag, with_version};
 ghost use Rattle.ftd_setup.specs.Steps.{Steps};
-ghost use Rattle.ftd_schema.specs.Beginnings.{on_form_941, IsMigratedFrom};
+ghost use Rattle.ftd_sql.specs.Beginnings.{on_form_941, IsMigratedFrom};
 
 use crate::making::{Indexes, VERSION, make_indexes, make_tables};
 use crate::steps::{read, run};
-use ftd_rows::StoreFault;
-use ftd_schema::{AFTER_FIRST, AFTER_SECOND, texts};
+use ftd_sql::{AFTER_FIRST, AFTER_SECOND, texts};
+use ftd_store::StoreFault;
 use sqlite::types::ValueRef;
 use sqlite::{Alter, Row, Transaction, params};
 

@@ -3,21 +3,21 @@
 ghost use Rattle.std.specs.Prelude.{◌≡◌, true, false, [], IsTrue, IfOk, IfErr, OnOk, OnErr, Err};
 ghost use Rattle.sqlite.specs.State.{HasCleanDisk, IsUnchanged, Survives, Shown};
 ghost use Rattle.sqlite.specs.Held.{state};
-ghost use Rattle.ftd_schema.specs.Names.{all_names, has_any};
-ghost use Rattle.ftd_schema.specs.Making.{IsFree};
-ghost use Rattle.ftd_schema.specs.States.{CrashKeeps, ShowsAgain};
-ghost use Rattle.ftd_schema.specs.declared.texts.TheConstants.{LIST_METAS};
+ghost use Rattle.ftd_sql.specs.Names.{all_names, has_any};
+ghost use Rattle.ftd_sql.specs.Making.{IsFree};
+ghost use Rattle.ftd_sql.specs.States.{CrashKeeps, ShowsAgain};
+ghost use Rattle.ftd_sql.specs.declared.texts.TheConstants.{LIST_METAS};
 ghost use Rattle.ftd_setup.specs.Ended.{seen_of, Ended};
 ghost use Rattle.ftd_setup.specs.Steps.{Steps};
-ghost use Rattle.ftd_schema.specs.Beginnings.{IsMade};
+ghost use Rattle.ftd_sql.specs.Beginnings.{IsMade};
 ghost use Rattle.ftd_setup.specs.Versions.{IsNew, is_tagged, Becomes, MayBecome, MayBeMigrated};
 ghost use Rattle.ftd_setup.specs.Versions.{MayBeOpened, IsStoreFault, OpensByReading, Opening};
 
 use crate::making::{Indexes, make};
 use crate::migrating::{migrate_first, migrate_second};
 use crate::versions::{is_tagged, told};
-use ftd_rows::StoreFault;
-use ftd_schema::{AFTER_FIRST, AFTER_SECOND, ALL, has_any, texts};
+use ftd_sql::{AFTER_FIRST, AFTER_SECOND, ALL, has_any, texts};
+use ftd_store::StoreFault;
 use sqlite::{Alter, Connection, Row, Transaction};
 use thiserror::Error;
 

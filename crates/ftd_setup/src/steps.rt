@@ -3,10 +3,10 @@
 ghost use Rattle.std.specs.Prelude.{Ok, []};
 ghost use Rattle.sqlite.specs.State.{Executes, Shown, IsUnchanged};
 ghost use Rattle.sqlite.specs.Values.{bound};
-ghost use Rattle.ftd_tables.specs.TextKinds.{IsReadText};
+ghost use Rattle.ftd_sql.specs.TextKinds.{IsReadText};
 ghost use Rattle.ftd_setup.specs.Steps.{Steps};
 
-use ftd_rows::StoreFault;
+use ftd_store::StoreFault;
 use sqlite::types::ValueRef;
 use sqlite::{Alter, Row, Transaction};
 

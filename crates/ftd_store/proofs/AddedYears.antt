@@ -13,8 +13,8 @@ use Rattle.ftd_days.specs.Business.{is_holiday}
 use Rattle.ftd_days.specs.Calendar.{year_of}
 use Rattle.ftd_days.specs.Holidays.{YearDays, holidays_of}
 use Rattle.ftd_days.proofs.Among.{is_among}
-use Rattle.ftd_schema.specs.Standing.{Tables}
-use Rattle.ftd_rows.specs.declared.corrections.HolidayChange.{HolidayChange}
+use Rattle.ftd_sql.specs.Standing.{Tables}
+use Rattle.ftd_store.specs.declared.correction_cells.HolidayChange.{HolidayChange}
 use Rattle.ftd_store.specs.Holidays.{HasHolidays, HasYears, AddsYear, is_holiday_in, is_kept}
 use Rattle.ftd_store.proofs.Items.{taken}
 

@@ -6,15 +6,15 @@ use Rattle.std.proofs.lemmas.Bool.{false≢true}
 use Rattle.sqlite.specs.Store as store
 use Rattle.sqlite.specs.State.{State, KeepsCommit, HasCleanDisk}
 use Rattle.sqlite.proofs.InsideLemmas.{keeps_then}
-use Rattle.ftd_schema.specs.States.{CrashKeeps}
-use Rattle.ftd_rows.specs.declared.faults.StoreFault.{StoreFault}
+use Rattle.ftd_sql.specs.States.{CrashKeeps}
+use Rattle.ftd_store.specs.declared.faults.StoreFault.{StoreFault}
 use Rattle.ftd_store.specs.declared.tx.Tx.{Tx}
 use Rattle.ftd_store.specs.Seen.{seen, shown}
 use Rattle.ftd_store.specs.Frame.{HasFailed, Frame, Calls, Writes}
-use Rattle.ftd_schema.proofs.Controls.{crash_then}
-use Rattle.ftd_schema.specs.declared.TableName.{TableName}
-use Rattle.ftd_schema.specs.Standing.{Tables}
-use Rattle.ftd_schema.proofs.OneOfAll.{stands_same, foreign_then}
+use Rattle.ftd_sql.proofs.Controls.{crash_then}
+use Rattle.ftd_sql.specs.declared.TableName.{TableName}
+use Rattle.ftd_sql.specs.Standing.{Tables}
+use Rattle.ftd_sql.proofs.OneOfAll.{stands_same, foreign_then}
 
 module _ {S A B : Type 0} (g : store.Ghosts S) (old : Tx S) where
   -- what follows from its last step

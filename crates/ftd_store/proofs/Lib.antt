@@ -1,3 +1,7 @@
+pub mod Found
+pub mod Listed
+pub mod DaySums
+pub mod OpenYears
 pub mod Going
 pub mod Beginning
 pub mod Replaced

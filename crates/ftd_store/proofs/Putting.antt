@@ -3,15 +3,15 @@ use Rattle.std.proofs.Common.{◌≡◌, [], ◌∷◌, ◌++◌, Result, Ok, Er
 use Rattle.std.specs.Prelude.{filter}
 use Rattle.sqlite.specs.Store as store
 use Rattle.sqlite.specs.State.{HasCleanDisk, Executes}
-use Rattle.ftd_schema.specs.declared.TableName.{TableName}
-use Rattle.ftd_schema.specs.declared.TableName.TheVariants.{Years}
-use Rattle.ftd_schema.specs.Rows.{YearRow, cells_of}
-use Rattle.ftd_schema.specs.Standing.{Tables, with_rows}
-use Rattle.ftd_schema.proofs.OneOfAll.{set_twice, stands_same, foreign_then}
-use Rattle.ftd_schema.specs.declared.texts.TheConstants.{SET_YEAR}
-use Rattle.ftd_schema.specs.Tests.{is_year}
-use Rattle.ftd_schema.proofs.Meanings.{figures_set}
-use Rattle.ftd_rows.specs.declared.faults.StoreFault.{StoreFault}
+use Rattle.ftd_sql.specs.declared.TableName.{TableName}
+use Rattle.ftd_sql.specs.declared.TableName.TheVariants.{Years}
+use Rattle.ftd_sql.specs.Rows.{YearRow, cells_of}
+use Rattle.ftd_sql.specs.Standing.{Tables, with_rows}
+use Rattle.ftd_sql.proofs.OneOfAll.{set_twice, stands_same, foreign_then}
+use Rattle.ftd_sql.specs.declared.texts.TheConstants.{SET_YEAR}
+use Rattle.ftd_sql.specs.Tests.{is_year}
+use Rattle.ftd_sql.proofs.Meanings.{figures_set}
+use Rattle.ftd_store.specs.declared.faults.StoreFault.{StoreFault}
 use Rattle.ftd_store.specs.declared.tx.Tx.{Tx}
 use Rattle.ftd_store.specs.Changes.{adding, put_among}
 use Rattle.ftd_store.specs.Seen.{shown}

@@ -1,16 +1,16 @@
 -- The text of each statement that reads rows speaks of reading alone.
-use Rattle.ftd_tables.specs.TextKinds.{IsReadText}
-use Rattle.ftd_schema.proofs.Asking.{reads_account, lists_enrolled, reads_form, lists_forms}
-use Rattle.ftd_schema.proofs.Asking.{reads_reported, lists_reported, reads_reported_year}
-use Rattle.ftd_schema.proofs.Asking.{lists_reported_years, lists_corrections, lists_corrected}
-use Rattle.ftd_schema.proofs.Asking.{lists_year_corrections, lists_corrected_years}
-use Rattle.ftd_schema.proofs.Asking.{lists_account_corrections, reads_calendar_year}
-use Rattle.ftd_schema.proofs.Asking.{lists_holidays, lists_added_holidays, lists_changed_holidays}
-use Rattle.ftd_schema.proofs.Asking.{lists_years, reads_run, counts_runs, lists_runs}
-use Rattle.ftd_schema.proofs.Asking.{lists_kept_runs, reads_payment, counts_payments}
-use Rattle.ftd_schema.proofs.Asking.{lists_payments, lists_kept_payments, lists_obligations}
-use Rattle.ftd_schema.proofs.Asking.{lists_due_over, lists_due_between}
-use Rattle.ftd_schema.proofs.Reading.{asking, counting}
+use Rattle.ftd_sql.specs.TextKinds.{IsReadText}
+use Rattle.ftd_sql.proofs.Asking.{reads_account, lists_enrolled, reads_form, lists_forms}
+use Rattle.ftd_sql.proofs.Asking.{reads_reported, lists_reported, reads_reported_year}
+use Rattle.ftd_sql.proofs.Asking.{lists_reported_years, lists_corrections, lists_corrected}
+use Rattle.ftd_sql.proofs.Asking.{lists_year_corrections, lists_corrected_years}
+use Rattle.ftd_sql.proofs.Asking.{lists_account_corrections, reads_calendar_year}
+use Rattle.ftd_sql.proofs.Asking.{lists_holidays, lists_added_holidays, lists_changed_holidays}
+use Rattle.ftd_sql.proofs.Asking.{lists_years, reads_run, counts_runs, lists_runs}
+use Rattle.ftd_sql.proofs.Asking.{lists_kept_runs, reads_payment, counts_payments}
+use Rattle.ftd_sql.proofs.Asking.{lists_payments, lists_kept_payments, lists_obligations}
+use Rattle.ftd_sql.proofs.Asking.{lists_due_over, lists_due_between}
+use Rattle.ftd_sql.proofs.Reading.{asking, counting}
 use Rattle.ftd_store.specs.Readings.{text_of}
 use Rattle.ftd_store.specs.declared.readings.Reading.{Reading}
 use Rattle.ftd_store.specs.declared.readings.Reading.TheVariants as reading

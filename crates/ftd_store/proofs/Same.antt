@@ -4,24 +4,24 @@ use Rattle.std.specs.Ordering.{int_eq}
 use Rattle.std.proofs.lemmas.Bool.Decides.{Decides-int_eq}
 use Rattle.std.proofs.lemmas.Bool.{and_parts}
 use Rattle.sqlite.specs.Order.{Row}
-use Rattle.ftd_schema.specs.Rows.{ObligationRow}
-use Rattle.ftd_schema.specs.Answers.{account_shown, form_shown, reported_shown, reported_year_shown}
-use Rattle.ftd_schema.specs.Answers.{calendar_year_shown, holiday_shown, run_shown, live_run_shown}
-use Rattle.ftd_schema.specs.Answers.{payment_shown, live_payment_shown, obligation_shown}
-use Rattle.ftd_schema.specs.Answers.{account_obligation_shown}
-use Rattle.ftd_schema.specs.Tests.{is_account, is_form_of, is_reported, is_reported_year}
-use Rattle.ftd_schema.specs.Tests.{is_calendar_year, is_holiday_of, is_run, is_live_run_between}
-use Rattle.ftd_schema.specs.Tests.{is_payment, is_live_payment_between, is_obligation_between}
+use Rattle.ftd_sql.specs.Rows.{ObligationRow}
+use Rattle.ftd_sql.specs.Answers.{account_shown, form_shown, reported_shown, reported_year_shown}
+use Rattle.ftd_sql.specs.Answers.{calendar_year_shown, holiday_shown, run_shown, live_run_shown}
+use Rattle.ftd_sql.specs.Answers.{payment_shown, live_payment_shown, obligation_shown}
+use Rattle.ftd_sql.specs.Answers.{account_obligation_shown}
+use Rattle.ftd_sql.specs.Tests.{is_account, is_form_of, is_reported, is_reported_year}
+use Rattle.ftd_sql.specs.Tests.{is_calendar_year, is_holiday_of, is_run, is_live_run_between}
+use Rattle.ftd_sql.specs.Tests.{is_payment, is_live_payment_between, is_obligation_between}
 use Rattle.ftd_days.specs.Calendar.{quarter_year, quarter_number}
 use Rattle.ftd_days.proofs.Spelling.{same_text}
-use Rattle.ftd_rows.specs.declared.obligations.AccountObligation.{AccountObligation}
-use Rattle.ftd_rows.specs.Cells.{account_cells}
-use Rattle.ftd_rows.specs.Cells.{form_cells, cents_cells, count_cells, day_cells, stored_run_cells}
-use Rattle.ftd_rows.specs.Cells.{pay_run_cells, stored_payment_cells, payment_cells}
-use Rattle.ftd_rows.specs.Cells.{obligation_cells, account_obligation_cells}
-use Rattle.ftd_rows.specs.Rows.{account_row, form_row, reported_row, reported_year_row}
-use Rattle.ftd_rows.specs.Rows.{calendar_year_row, run_row, payment_row}
-use Rattle.ftd_rows.specs.DaySums.{IsLiveRun}
+use Rattle.ftd_store.specs.declared.obligation_cells.AccountObligation.{AccountObligation}
+use Rattle.ftd_store.specs.Cells.{account_cells}
+use Rattle.ftd_store.specs.Cells.{form_cells, cents_cells, count_cells, day_cells, stored_run_cells}
+use Rattle.ftd_store.specs.Cells.{pay_run_cells, stored_payment_cells, payment_cells}
+use Rattle.ftd_store.specs.Cells.{obligation_cells, account_obligation_cells}
+use Rattle.ftd_store.specs.Rows.{account_row, form_row, reported_row, reported_year_row}
+use Rattle.ftd_store.specs.Rows.{calendar_year_row, run_row, payment_row}
+use Rattle.ftd_store.specs.DaySums.{IsLiveRun}
 use Rattle.ftd_store.specs.Finds.{IsHoliday, IsLivePayment, IsObligation, IsAccountObligation}
 
 pub same_int : (a b : ℤ) → int_eq a b ≡ true → a ≡ b

@@ -1,15 +1,15 @@
 -- The row that a listed correction, or change of a holiday, stands for.
 use Rattle.std.proofs.Common.{ℕ, pos, List}
 use Rattle.ftd_days.specs.Calendar.{quarter_year, quarter_number}
-use Rattle.ftd_schema.specs.Answers.{correction_shown, quarter_correction_shown}
-use Rattle.ftd_schema.specs.Answers.{correction_of_year_shown, year_correction_shown}
-use Rattle.ftd_schema.specs.Answers.{account_correction_shown, holiday_change_shown}
-use Rattle.ftd_schema.specs.Tests.{is_correction, is_correction_of, is_year_correction}
-use Rattle.ftd_schema.specs.Tests.{is_year_correction_of, is_account_correction_of}
-use Rattle.ftd_schema.specs.Tests.{is_holiday_change_of}
-use Rattle.ftd_rows.specs.Corrections.{correction_cells, quarter_correction_cells}
-use Rattle.ftd_rows.specs.Corrections.{year_correction_cells, account_correction_cells}
-use Rattle.ftd_rows.specs.Corrections.{holiday_change_cells}
+use Rattle.ftd_sql.specs.Answers.{correction_shown, quarter_correction_shown}
+use Rattle.ftd_sql.specs.Answers.{correction_of_year_shown, year_correction_shown}
+use Rattle.ftd_sql.specs.Answers.{account_correction_shown, holiday_change_shown}
+use Rattle.ftd_sql.specs.Tests.{is_correction, is_correction_of, is_year_correction}
+use Rattle.ftd_sql.specs.Tests.{is_year_correction_of, is_account_correction_of}
+use Rattle.ftd_sql.specs.Tests.{is_holiday_change_of}
+use Rattle.ftd_store.specs.CorrectionRows.{correction_cells, quarter_correction_cells}
+use Rattle.ftd_store.specs.CorrectionRows.{year_correction_cells, account_correction_cells}
+use Rattle.ftd_store.specs.CorrectionRows.{holiday_change_cells}
 use Rattle.ftd_store.specs.Corrections.{IsCorrection, IsQuarterCorrection, IsCorrectionOfYear}
 use Rattle.ftd_store.specs.Corrections.{IsYearCorrection, IsAccountCorrection, IsHolidayChange}
 use Rattle.ftd_store.proofs.Same.{IsTold, row_told}

@@ -1,14 +1,14 @@
 -- The row that a listed value stands for.
 use Rattle.std.proofs.Common.{◌≡◌, ℕ, ℤ, List, rules}
-use Rattle.ftd_schema.specs.Answers.{enrolled_shown, account_form_shown, quarter_total_shown}
-use Rattle.ftd_schema.specs.Answers.{year_total_shown, kept_run_shown, kept_payment_shown}
-use Rattle.ftd_schema.specs.Rows.{AccountRow, FormRow}
-use Rattle.ftd_schema.specs.Tests.{is_reported_of, is_reported_year_of, is_run_between}
-use Rattle.ftd_schema.specs.Tests.{is_payment_between}
-use Rattle.ftd_rows.specs.Kept.{named_account_cells, named_form_cells, quarter_total_cells}
-use Rattle.ftd_rows.specs.Kept.{year_total_cells, numbered_run_cells, numbered_payment_cells}
-use Rattle.ftd_rows.specs.declared.kept.NamedAccount.{NamedAccount}
-use Rattle.ftd_rows.specs.declared.kept.NamedForm.{NamedForm}
+use Rattle.ftd_sql.specs.Answers.{enrolled_shown, account_form_shown, quarter_total_shown}
+use Rattle.ftd_sql.specs.Answers.{year_total_shown, kept_run_shown, kept_payment_shown}
+use Rattle.ftd_sql.specs.Rows.{AccountRow, FormRow}
+use Rattle.ftd_sql.specs.Tests.{is_reported_of, is_reported_year_of, is_run_between}
+use Rattle.ftd_sql.specs.Tests.{is_payment_between}
+use Rattle.ftd_store.specs.KeptRows.{named_account_cells, named_form_cells, quarter_total_cells}
+use Rattle.ftd_store.specs.KeptRows.{year_total_cells, numbered_run_cells, numbered_payment_cells}
+use Rattle.ftd_store.specs.declared.kept_cells.NamedAccount.{NamedAccount}
+use Rattle.ftd_store.specs.declared.kept_cells.NamedForm.{NamedForm}
 use Rattle.ftd_store.specs.Kept.{IsNamedAccount, IsNamedForm, IsQuarterTotal, IsYearTotal}
 use Rattle.ftd_store.specs.Kept.{IsNumberedRun, IsNumberedPayment}
 use Rattle.ftd_store.proofs.Same.{IsTold, row_told}

@@ -6,16 +6,16 @@ use Rattle.std.specs.List.Sorted.{IsNonDecreasingBy}
 use Rattle.std.proofs.lemmas.Int.{ints}
 use Rattle.std.proofs.lemmas.List.Sorted.{IsNonDecreasingBy-from_all_adjacent}
 use Rattle.ftd_store.proofs.Items.{pairs_length}
-use Rattle.ftd_tables.specs.Order.{EachToNext}
-use Rattle.ftd_schema.specs.Rows.{RunRow}
-use Rattle.ftd_schema.specs.Orders.{RunsRise}
+use Rattle.ftd_sql.specs.Order.{EachToNext}
+use Rattle.ftd_sql.specs.Rows.{RunRow}
+use Rattle.ftd_sql.specs.Orders.{RunsRise}
 use Rattle.ftd_rules.specs.declared.DaySum.{DaySum}
 use Rattle.ftd_rules.specs.Liability.{liability}
 use Rattle.ftd_rules.specs.declared.run.PayRun.{PayRun}
-use Rattle.ftd_rows.specs.Cells.{day_number}
-use Rattle.ftd_rows.specs.Rows.{run_row}
-use Rattle.ftd_rows.specs.Lists.{Pairs, Lists}
-use Rattle.ftd_rows.specs.DaySums.{DaysRise, ArePositive, owed_on, IsLiveRun, ListsDaySums}
+use Rattle.ftd_store.specs.Cells.{day_number}
+use Rattle.ftd_store.specs.Rows.{run_row}
+use Rattle.ftd_store.specs.Lists.{Pairs, Lists}
+use Rattle.ftd_store.specs.DaySums.{DaysRise, ArePositive, owed_on, IsLiveRun, ListsDaySums}
 
 at : {X Y : Type 0} (R : X → Y → Type 0) (xs : List X) (ys : List Y) → Pairs R xs ys
     → (k : ℕ) (e : X) (d : Y) → k < length ys → R (get_or xs k e) (get_or ys k d)

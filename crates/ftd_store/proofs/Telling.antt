@@ -3,25 +3,25 @@
 use Rattle.std.proofs.Common.{◌≡◌, ◌<◌, ◌^◌, arith, length, ℕ, pos, List, [], ◌∷◌, map, Result, Ok}
 use Rattle.std.proofs.Common.{Err, Option, Bool, true, false, sym, subst, ◌∙◌}
 use Rattle.std.specs.Borrow.{MutBor}
-use Rattle.ftd_schema.specs.States.{CrashKeeps}
+use Rattle.ftd_sql.specs.States.{CrashKeeps}
 use Rattle.std.specs.Prelude.{filter, min, IfOk, OnOk}
 use Rattle.sqlite.specs.Order.{Row}
 use Rattle.sqlite.specs.Store as store
 use Rattle.sqlite.specs.State.{HasCleanDisk, KeepsCommit, IsUnchanged, Shown, Executes}
-use Rattle.ftd_tables.specs.Kept.{changed}
-use Rattle.ftd_schema.specs.declared.TableName.{TableName}
-use Rattle.ftd_schema.specs.Rows.{RowOf}
-use Rattle.ftd_schema.specs.Standing.{Tables, Stands, with_rows}
-use Rattle.ftd_schema.proofs.Meanings as meaning
-use Rattle.ftd_rows.specs.declared.faults.StoreFault.{StoreFault}
-use Rattle.ftd_rows.specs.Cells.{count_cells}
-use Rattle.ftd_tables.proofs.Counting.{greatest_count}
+use Rattle.ftd_sql.specs.Kept.{changed}
+use Rattle.ftd_sql.specs.declared.TableName.{TableName}
+use Rattle.ftd_sql.specs.Rows.{RowOf}
+use Rattle.ftd_sql.specs.Standing.{Tables, Stands, with_rows}
+use Rattle.ftd_sql.proofs.Meanings as meaning
+use Rattle.ftd_store.specs.declared.faults.StoreFault.{StoreFault}
+use Rattle.ftd_store.specs.Cells.{count_cells}
+use Rattle.ftd_sql.proofs.Counting.{greatest_count}
 use Rattle.sqlite.specs.declared.types.Value.TheVariants.{Int}
 use Rattle.sqlite.proofs.Callers.{unchanged_then}
-use Rattle.ftd_rows.specs.Reading.{rows_of}
-use Rattle.ftd_rows.specs.Lists.{Lists}
-use Rattle.ftd_rows.proofs.Found.{only_shown}
-use Rattle.ftd_rows.proofs.Listed.{lists_shown}
+use Rattle.ftd_store.specs.Reading.{rows_of}
+use Rattle.ftd_store.specs.Lists.{Lists}
+use Rattle.ftd_store.proofs.Found.{only_shown}
+use Rattle.ftd_store.proofs.Listed.{lists_shown}
 use Rattle.ftd_store.specs.declared.tx.Tx.{Tx}
 use Rattle.ftd_store.specs.declared.store.Store.{Store}
 use Rattle.ftd_store.specs.Seen.{seen, shown}

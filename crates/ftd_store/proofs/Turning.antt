@@ -3,9 +3,9 @@ use Rattle.std.proofs.Common.{◌≡◌, List, Result, Ok, Err, true, refl, sym,
 use Rattle.std.specs.Prelude.{is_err}
 use Rattle.sqlite.specs.Store as store
 use Rattle.sqlite.specs.State.{State}
-use Rattle.ftd_schema.specs.Standing.{Tables, Stands, KeepsForeign}
-use Rattle.ftd_schema.proofs.OneOfAll.{foreign_then}
-use Rattle.ftd_rows.specs.declared.faults.StoreFault.{StoreFault}
+use Rattle.ftd_sql.specs.Standing.{Tables, Stands, KeepsForeign}
+use Rattle.ftd_sql.proofs.OneOfAll.{foreign_then}
+use Rattle.ftd_store.specs.declared.faults.StoreFault.{StoreFault}
 use Rattle.ftd_store.specs.declared.tx.Tx.{Tx}
 use Rattle.ftd_store.specs.Seen.{shown}
 use Rattle.ftd_store.specs.Frame.{Frame, Calls, Reads, Writes, WritesOne, Rewrites}

@@ -15,26 +15,26 @@ use Rattle.sqlite_resolve.specs.declared.compiled.Compiled.{Compiled}
 use Rattle.sqlite.specs.Schema.{Schema}
 use Rattle.sqlite_resolve.specs.declared.error.CompileError.{CompileError}
 use Rattle.std.proofs.lemmas.Bool.{false≢true}
-use Rattle.ftd_tables.specs.TextKinds.{IsReadText}
-use Rattle.ftd_tables.proofs.Commits.{reading_commits_nothing}
-use Rattle.ftd_tables.proofs.Meaning.{select_plain}
-use Rattle.ftd_tables.proofs.Selects.{selects}
+use Rattle.ftd_sql.specs.TextKinds.{IsReadText}
+use Rattle.ftd_sql.proofs.Commits.{reading_commits_nothing}
+use Rattle.ftd_sql.proofs.Meaning.{select_plain}
+use Rattle.ftd_sql.proofs.Selects.{selects}
 use Rattle.ftd_rules.specs.declared.Obligation.{Obligation}
-use Rattle.ftd_schema.specs.declared.TableName.TheVariants.{Obligations}
-use Rattle.ftd_schema.specs.Standing.{Tables, Stands}
-use Rattle.ftd_schema.specs.declared.texts.TheConstants.{LIST_OBLIGATIONS}
-use Rattle.ftd_schema.specs.Answers.{obligation_shown}
-use Rattle.ftd_schema.specs.Given.{pair_given}
-use Rattle.ftd_schema.specs.States.{CrashKeeps}
-use Rattle.ftd_schema.proofs.Controls.{weaker}
-use Rattle.ftd_schema.proofs.Leaves.{query_leaves}
-use Rattle.ftd_schema.specs.Orders.{ObligationsRise}
-use Rattle.ftd_schema.specs.Tests.{is_obligation_between}
-use Rattle.ftd_schema.proofs.Asking.{lists_obligations}
-use Rattle.ftd_schema.proofs.Meanings.{obligations_in_order}
-use Rattle.ftd_rows.specs.Cells.{obligation_cells}
-use Rattle.ftd_rows.specs.Lists.{Lists, ListsFirst}
-use Rattle.ftd_rows.proofs.Listed.{lists_shown, first_shown}
+use Rattle.ftd_sql.specs.declared.TableName.TheVariants.{Obligations}
+use Rattle.ftd_sql.specs.Standing.{Tables, Stands}
+use Rattle.ftd_sql.specs.declared.texts.TheConstants.{LIST_OBLIGATIONS}
+use Rattle.ftd_sql.specs.Answers.{obligation_shown}
+use Rattle.ftd_sql.specs.Given.{pair_given}
+use Rattle.ftd_sql.specs.States.{CrashKeeps}
+use Rattle.ftd_sql.proofs.Controls.{weaker}
+use Rattle.ftd_sql.proofs.Leaves.{query_leaves}
+use Rattle.ftd_sql.specs.Orders.{ObligationsRise}
+use Rattle.ftd_sql.specs.Tests.{is_obligation_between}
+use Rattle.ftd_sql.proofs.Asking.{lists_obligations}
+use Rattle.ftd_sql.proofs.Meanings.{obligations_in_order}
+use Rattle.ftd_store.specs.Cells.{obligation_cells}
+use Rattle.ftd_store.specs.Lists.{Lists, ListsFirst}
+use Rattle.ftd_store.proofs.Listed.{lists_shown, first_shown}
 use Rattle.ftd_store.specs.Ends.{IsSettled, LeavesRows}
 use Rattle.ftd_store.specs.Finds.{IsObligation}
 use Rattle.ftd_store.proofs.Beginning.{failed_rests}

@@ -5,16 +5,16 @@ use Rattle.std.specs.Prelude.{filter, option_map}
 use Rattle.std.proofs.lemmas.Bool.{cases_Bool}
 use Rattle.sqlite.specs.declared.types.Value.TheVariants.{Int}
 use Rattle.sqlite.specs.Values.{or_null, bound_value}
-use Rattle.ftd_tables.specs.Kept.{changed}
-use Rattle.ftd_schema.specs.Rows.{YearRow}
-use Rattle.ftd_schema.specs.Answers.{year_shown}
-use Rattle.ftd_schema.specs.Orders.{YearsRise}
-use Rattle.ftd_schema.specs.Tests.{is_year, is_year_of, with_figures}
-use Rattle.ftd_rows.specs.declared.cells.StoredDay.{StoredDay}
-use Rattle.ftd_rows.specs.declared.years.StoredYear.{StoredYear}
-use Rattle.ftd_rows.specs.Cells.{day_number, year_cells}
-use Rattle.ftd_rows.specs.Lists.{Pairs, Lists}
-use Rattle.ftd_rows.specs.Years.{year_line, year_lines}
+use Rattle.ftd_sql.specs.Kept.{changed}
+use Rattle.ftd_sql.specs.Rows.{YearRow}
+use Rattle.ftd_sql.specs.Answers.{year_shown}
+use Rattle.ftd_sql.specs.Orders.{YearsRise}
+use Rattle.ftd_sql.specs.Tests.{is_year, is_year_of, with_figures}
+use Rattle.ftd_store.specs.declared.cells.StoredDay.{StoredDay}
+use Rattle.ftd_store.specs.declared.year_cells.StoredYear.{StoredYear}
+use Rattle.ftd_store.specs.Cells.{day_number, year_cells}
+use Rattle.ftd_store.specs.Lists.{Pairs, Lists}
+use Rattle.ftd_store.specs.Years.{year_line, year_lines}
 use Rattle.ftd_store.specs.Changes.{put_among}
 use Rattle.ftd_store.specs.Finds.{IsYear}
 use Rattle.ftd_store.proofs.Same.{row_told}

@@ -1,34 +1,34 @@
 -- What each writing call makes of the rows.
 use Rattle.std.specs.Prelude.{ℕ, pos, false, not, List, [], ◌∷◌, ◌++◌, map, filter}
-use Rattle.ftd_tables.specs.Kept.{changed}
-use Rattle.ftd_schema.specs.declared.TableName.{TableName}
-use Rattle.ftd_schema.specs.declared.TableName.TheVariants.{Accounts, ReportedQuarters}
-use Rattle.ftd_schema.specs.declared.TableName.TheVariants.{CalendarYears, Holidays, Years, Runs}
-use Rattle.ftd_schema.specs.declared.TableName.TheVariants.{Payments, Obligations, Forms}
-use Rattle.ftd_schema.specs.declared.TableName.TheVariants.{ReportedYears, AddedHolidays}
-use Rattle.ftd_schema.specs.declared.TableName.TheVariants.{CorrectedQuarters, CorrectedYears}
-use Rattle.ftd_schema.specs.declared.TableName.TheVariants.{ChangedHolidays, CorrectedAccounts}
-use Rattle.ftd_schema.specs.Rows.{RowOf, YearRow}
-use Rattle.ftd_schema.specs.Standing.{Tables, with_rows}
-use Rattle.ftd_schema.specs.Tests.{is_run, voided_run, is_payment, voided_payment}
-use Rattle.ftd_schema.specs.Tests.{is_obligation_between, is_obligation, with_terms, with_due}
-use Rattle.ftd_schema.specs.Tests.{is_year}
+use Rattle.ftd_sql.specs.Kept.{changed}
+use Rattle.ftd_sql.specs.declared.TableName.{TableName}
+use Rattle.ftd_sql.specs.declared.TableName.TheVariants.{Accounts, ReportedQuarters}
+use Rattle.ftd_sql.specs.declared.TableName.TheVariants.{CalendarYears, Holidays, Years, Runs}
+use Rattle.ftd_sql.specs.declared.TableName.TheVariants.{Payments, Obligations, Forms}
+use Rattle.ftd_sql.specs.declared.TableName.TheVariants.{ReportedYears, AddedHolidays}
+use Rattle.ftd_sql.specs.declared.TableName.TheVariants.{CorrectedQuarters, CorrectedYears}
+use Rattle.ftd_sql.specs.declared.TableName.TheVariants.{ChangedHolidays, CorrectedAccounts}
+use Rattle.ftd_sql.specs.Rows.{RowOf, YearRow}
+use Rattle.ftd_sql.specs.Standing.{Tables, with_rows}
+use Rattle.ftd_sql.specs.Tests.{is_run, voided_run, is_payment, voided_payment}
+use Rattle.ftd_sql.specs.Tests.{is_obligation_between, is_obligation, with_terms, with_due}
+use Rattle.ftd_sql.specs.Tests.{is_year}
 use Rattle.ftd_days.specs.Calendar.{year_of}
 use Rattle.ftd_days.specs.declared.cents.Cents.{Cents}
 use Rattle.ftd_rules.specs.declared.Form.{Form}
 use Rattle.ftd_rules.specs.declared.Obligation.{Obligation}
 use Rattle.ftd_rules.specs.declared.YearLine.{YearLine}
-use Rattle.ftd_rows.specs.declared.accounts.Account.{Account}
+use Rattle.ftd_store.specs.declared.account_cells.Account.{Account}
 use Rattle.ftd_rules.specs.declared.run.PayRun.{PayRun}
 use Rattle.ftd_rules.specs.declared.payment.Payment.{Payment}
-use Rattle.ftd_rows.specs.Cells.{day_number}
-use Rattle.ftd_rows.specs.Rows.{account_row, form_row, reported_row, reported_year_row}
-use Rattle.ftd_rows.specs.Rows.{calendar_year_row, holiday_row, year_row, run_row, payment_row}
-use Rattle.ftd_rows.specs.Rows.{obligation_row, correction_row, year_correction_row}
-use Rattle.ftd_rows.specs.Rows.{account_correction_row, holiday_change_row}
-use Rattle.ftd_rows.specs.declared.corrections.AccountCorrection.{AccountCorrection}
-use Rattle.ftd_rows.specs.declared.corrections.Correction.{Correction}
-use Rattle.ftd_rows.specs.declared.corrections.HolidayChange.{HolidayChange}
+use Rattle.ftd_store.specs.Cells.{day_number}
+use Rattle.ftd_store.specs.Rows.{account_row, form_row, reported_row, reported_year_row}
+use Rattle.ftd_store.specs.Rows.{calendar_year_row, holiday_row, year_row, run_row, payment_row}
+use Rattle.ftd_store.specs.Rows.{obligation_row, correction_row, year_correction_row}
+use Rattle.ftd_store.specs.Rows.{account_correction_row, holiday_change_row}
+use Rattle.ftd_store.specs.declared.correction_cells.AccountCorrection.{AccountCorrection}
+use Rattle.ftd_store.specs.declared.correction_cells.Correction.{Correction}
+use Rattle.ftd_store.specs.declared.correction_cells.HolidayChange.{HolidayChange}
 
 -- one more row in a table
 abbrev pub adding : (n : TableName) → RowOf n → Tables → Tables

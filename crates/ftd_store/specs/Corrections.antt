@@ -1,25 +1,25 @@
 -- What a list of what was put right tells of the tables.
 use Rattle.std.specs.Prelude.{◌≡◌, ℕ, pos, List, Vec, filter}
-use Rattle.ftd_schema.specs.Orders.{CorrectionsRise, QuarterCorrectionsRise, YearCorrectionsRise}
-use Rattle.ftd_schema.specs.Orders.{YearsCorrectionsRise, AccountCorrectionsRise}
-use Rattle.ftd_schema.specs.Orders.{HolidayChangesRise}
-use Rattle.ftd_schema.specs.Rows.{CorrectedQuarterRow, CorrectedYearRow, CorrectedAccountRow}
-use Rattle.ftd_schema.specs.Rows.{ChangedHolidayRow}
-use Rattle.ftd_schema.specs.Standing.{Tables}
-use Rattle.ftd_schema.specs.Tests.{is_correction, is_correction_of, is_year_correction}
-use Rattle.ftd_schema.specs.Tests.{is_year_correction_of, is_account_correction_of}
-use Rattle.ftd_schema.specs.Tests.{is_holiday_change_of}
-use Rattle.ftd_schema.specs.declared.TableName.TheVariants.{CorrectedQuarters, CorrectedYears}
-use Rattle.ftd_schema.specs.declared.TableName.TheVariants.{ChangedHolidays, CorrectedAccounts}
+use Rattle.ftd_sql.specs.Orders.{CorrectionsRise, QuarterCorrectionsRise, YearCorrectionsRise}
+use Rattle.ftd_sql.specs.Orders.{YearsCorrectionsRise, AccountCorrectionsRise}
+use Rattle.ftd_sql.specs.Orders.{HolidayChangesRise}
+use Rattle.ftd_sql.specs.Rows.{CorrectedQuarterRow, CorrectedYearRow, CorrectedAccountRow}
+use Rattle.ftd_sql.specs.Rows.{ChangedHolidayRow}
+use Rattle.ftd_sql.specs.Standing.{Tables}
+use Rattle.ftd_sql.specs.Tests.{is_correction, is_correction_of, is_year_correction}
+use Rattle.ftd_sql.specs.Tests.{is_year_correction_of, is_account_correction_of}
+use Rattle.ftd_sql.specs.Tests.{is_holiday_change_of}
+use Rattle.ftd_sql.specs.declared.TableName.TheVariants.{CorrectedQuarters, CorrectedYears}
+use Rattle.ftd_sql.specs.declared.TableName.TheVariants.{ChangedHolidays, CorrectedAccounts}
 use Rattle.ftd_days.specs.Calendar.{quarter_year, quarter_number}
-use Rattle.ftd_rows.specs.Lists.{Lists}
-use Rattle.ftd_rows.specs.Rows.{correction_row, year_correction_row, account_correction_row}
-use Rattle.ftd_rows.specs.Rows.{holiday_change_row}
-use Rattle.ftd_rows.specs.declared.corrections.AccountCorrection.{AccountCorrection}
-use Rattle.ftd_rows.specs.declared.corrections.Correction.{Correction}
-use Rattle.ftd_rows.specs.declared.corrections.HolidayChange.{HolidayChange}
-use Rattle.ftd_rows.specs.declared.corrections.QuarterCorrection.{QuarterCorrection}
-use Rattle.ftd_rows.specs.declared.corrections.YearCorrection.{YearCorrection}
+use Rattle.ftd_store.specs.Lists.{Lists}
+use Rattle.ftd_store.specs.Rows.{correction_row, year_correction_row, account_correction_row}
+use Rattle.ftd_store.specs.Rows.{holiday_change_row}
+use Rattle.ftd_store.specs.declared.correction_cells.AccountCorrection.{AccountCorrection}
+use Rattle.ftd_store.specs.declared.correction_cells.Correction.{Correction}
+use Rattle.ftd_store.specs.declared.correction_cells.HolidayChange.{HolidayChange}
+use Rattle.ftd_store.specs.declared.correction_cells.QuarterCorrection.{QuarterCorrection}
+use Rattle.ftd_store.specs.declared.correction_cells.YearCorrection.{YearCorrection}
 
 -- ---- totals of quarters
 

@@ -2,20 +2,20 @@
 use Rattle.std.specs.Prelude.{◌≡◌, ℕ, ℤ, pos, false, List, [], ◌∷◌, filter, length, string_bytes}
 use Rattle.std.specs.Prelude.{Option, None, Some, Vec, Bool, if◌then◌else◌}
 use Rattle.std.specs.List.{All}
-use Rattle.ftd_schema.specs.declared.TableName.TheVariants.{Accounts, ReportedQuarters}
-use Rattle.ftd_schema.specs.declared.TableName.TheVariants.{CalendarYears, Holidays, Years, Runs}
-use Rattle.ftd_schema.specs.declared.TableName.TheVariants.{CorrectedAccounts}
-use Rattle.ftd_schema.specs.declared.TableName.TheVariants.{Payments, Obligations, Forms}
-use Rattle.ftd_schema.specs.declared.TableName.TheVariants.{ReportedYears, AddedHolidays}
-use Rattle.ftd_schema.specs.Rows.{HolidayRow, YearRow, PaymentRow, ObligationRow}
-use Rattle.ftd_schema.specs.Standing.{Tables}
-use Rattle.ftd_schema.specs.Tests.{is_account, is_form_of, is_reported, is_reported_year}
-use Rattle.ftd_schema.specs.Tests.{is_calendar_year, is_holiday_of, is_year_of, is_run, is_run_of}
-use Rattle.ftd_schema.specs.Tests.{is_live_run_between, is_payment, is_payment_of}
-use Rattle.ftd_schema.specs.Tests.{is_live_payment_between, is_obligation_between, is_due_over}
-use Rattle.ftd_schema.specs.Tests.{is_due_between, is_account_correction_of}
-use Rattle.ftd_schema.specs.Orders.{HolidaysRise, YearsRise, RunsRise, PaymentsRise}
-use Rattle.ftd_schema.specs.Orders.{ObligationsRise, AccountsRise, AccountCorrectionsRise}
+use Rattle.ftd_sql.specs.declared.TableName.TheVariants.{Accounts, ReportedQuarters}
+use Rattle.ftd_sql.specs.declared.TableName.TheVariants.{CalendarYears, Holidays, Years, Runs}
+use Rattle.ftd_sql.specs.declared.TableName.TheVariants.{CorrectedAccounts}
+use Rattle.ftd_sql.specs.declared.TableName.TheVariants.{Payments, Obligations, Forms}
+use Rattle.ftd_sql.specs.declared.TableName.TheVariants.{ReportedYears, AddedHolidays}
+use Rattle.ftd_sql.specs.Rows.{HolidayRow, YearRow, PaymentRow, ObligationRow}
+use Rattle.ftd_sql.specs.Standing.{Tables}
+use Rattle.ftd_sql.specs.Tests.{is_account, is_form_of, is_reported, is_reported_year}
+use Rattle.ftd_sql.specs.Tests.{is_calendar_year, is_holiday_of, is_year_of, is_run, is_run_of}
+use Rattle.ftd_sql.specs.Tests.{is_live_run_between, is_payment, is_payment_of}
+use Rattle.ftd_sql.specs.Tests.{is_live_payment_between, is_obligation_between, is_due_over}
+use Rattle.ftd_sql.specs.Tests.{is_due_between, is_account_correction_of}
+use Rattle.ftd_sql.specs.Orders.{HolidaysRise, YearsRise, RunsRise, PaymentsRise}
+use Rattle.ftd_sql.specs.Orders.{ObligationsRise, AccountsRise, AccountCorrectionsRise}
 use Rattle.ftd_days.specs.Calendar.{quarter_year, quarter_number}
 use Rattle.ftd_days.specs.declared.cents.Cents.{Cents}
 use Rattle.ftd_rules.specs.declared.DaySum.{DaySum}
@@ -23,21 +23,21 @@ use Rattle.ftd_rules.specs.declared.Form.{Form}
 use Rattle.ftd_rules.specs.declared.Obligation.{Obligation}
 use Rattle.ftd_rules.specs.declared.YearLine.{YearLine}
 use Rattle.ftd_rules.specs.Years.{AreOpenYears, OnlyFirstCarried}
-use Rattle.ftd_rows.specs.Corrections.{as_corrected}
-use Rattle.ftd_rows.specs.declared.accounts.Account.{Account}
-use Rattle.ftd_rows.specs.declared.corrections.AccountCorrection.{AccountCorrection}
+use Rattle.ftd_store.specs.CorrectionRows.{as_corrected}
+use Rattle.ftd_store.specs.declared.account_cells.Account.{Account}
+use Rattle.ftd_store.specs.declared.correction_cells.AccountCorrection.{AccountCorrection}
 use Rattle.ftd_rules.specs.declared.run.PayRun.{PayRun}
 use Rattle.ftd_rules.specs.declared.run.Voidable.{Voidable}
 use Rattle.ftd_rules.specs.declared.payment.Payment.{Payment}
-use Rattle.ftd_rows.specs.declared.obligations.AccountObligation.{AccountObligation}
-use Rattle.ftd_rows.specs.Cells.{day_number}
-use Rattle.ftd_rows.specs.Rows.{account_row, form_row, reported_row, reported_year_row}
-use Rattle.ftd_rows.specs.Rows.{calendar_year_row, holiday_row, year_row, run_row, payment_row}
-use Rattle.ftd_rows.specs.Rows.{obligation_row}
-use Rattle.ftd_rows.specs.Reading.{rows_of}
-use Rattle.ftd_rows.specs.Lists.{Lists}
-use Rattle.ftd_rows.specs.DaySums.{ListsDaySums}
-use Rattle.ftd_rows.specs.Years.{FirstCarriedAs, HasFittingTurn}
+use Rattle.ftd_store.specs.declared.obligation_cells.AccountObligation.{AccountObligation}
+use Rattle.ftd_store.specs.Cells.{day_number}
+use Rattle.ftd_store.specs.Rows.{account_row, form_row, reported_row, reported_year_row}
+use Rattle.ftd_store.specs.Rows.{calendar_year_row, holiday_row, year_row, run_row, payment_row}
+use Rattle.ftd_store.specs.Rows.{obligation_row}
+use Rattle.ftd_store.specs.Reading.{rows_of}
+use Rattle.ftd_store.specs.Lists.{Lists}
+use Rattle.ftd_store.specs.DaySums.{ListsDaySums}
+use Rattle.ftd_store.specs.Years.{FirstCarriedAs, HasFittingTurn}
 use Rattle.ftd_store.specs.Corrections.{IsAccountCorrection}
 
 -- ---- accounts, their forms, and what they reported

@@ -4,10 +4,10 @@ use Rattle.std.specs.Borrow.{MutBor}
 use Rattle.sqlite.specs.Order.{Row}
 use Rattle.sqlite.specs.Store as store
 use Rattle.sqlite.specs.State.{State, Shows, IsUnchanged, KeepsCommit, HasCleanDisk, Shown}
-use Rattle.ftd_schema.specs.States.{CrashKeeps}
-use Rattle.ftd_schema.specs.Standing.{Tables, Stands, Becomes}
-use Rattle.ftd_rows.specs.declared.faults.StoreFault.{StoreFault}
-use Rattle.ftd_rows.specs.declared.faults.StoreFault.TheVariants.{Failed}
+use Rattle.ftd_sql.specs.States.{CrashKeeps}
+use Rattle.ftd_sql.specs.Standing.{Tables, Stands, Becomes}
+use Rattle.ftd_store.specs.declared.faults.StoreFault.{StoreFault}
+use Rattle.ftd_store.specs.declared.faults.StoreFault.TheVariants.{Failed}
 use Rattle.ftd_store.specs.declared.store.Store.{Store}
 use Rattle.ftd_store.specs.declared.tx.Tx.{Tx}
 use Rattle.ftd_store.specs.Seen.{shown}

@@ -1,24 +1,24 @@
 -- What a list of what is kept tells of the tables.
 use Rattle.std.specs.Prelude.{◌≡◌, ℕ, pos, List, Vec, filter, string_bytes}
-use Rattle.ftd_schema.specs.Orders.{NamesRise, FormsRise, QuartersRise, ReportedYearsRise, RunsRise}
-use Rattle.ftd_schema.specs.Orders.{PaymentsRise}
-use Rattle.ftd_schema.specs.Rows.{AccountRow, FormRow, ReportedQuarterRow, ReportedYearRow, RunRow}
-use Rattle.ftd_schema.specs.Rows.{PaymentRow}
-use Rattle.ftd_schema.specs.Standing.{Tables}
-use Rattle.ftd_schema.specs.Tests.{is_any_account, is_any_form, is_reported_of}
-use Rattle.ftd_schema.specs.Tests.{is_reported_year_of, is_run_between, is_payment_between}
-use Rattle.ftd_schema.specs.declared.TableName.TheVariants.{Accounts, Forms, ReportedQuarters}
-use Rattle.ftd_schema.specs.declared.TableName.TheVariants.{ReportedYears, Runs, Payments}
-use Rattle.ftd_rows.specs.Cells.{day_number}
-use Rattle.ftd_rows.specs.Lists.{Lists}
-use Rattle.ftd_rows.specs.Rows.{account_row, form_row, reported_row, reported_year_row, run_row}
-use Rattle.ftd_rows.specs.Rows.{payment_row}
-use Rattle.ftd_rows.specs.declared.kept.NamedAccount.{NamedAccount}
-use Rattle.ftd_rows.specs.declared.kept.NamedForm.{NamedForm}
-use Rattle.ftd_rows.specs.declared.kept.NumberedPayment.{NumberedPayment}
-use Rattle.ftd_rows.specs.declared.kept.NumberedRun.{NumberedRun}
-use Rattle.ftd_rows.specs.declared.kept.QuarterTotal.{QuarterTotal}
-use Rattle.ftd_rows.specs.declared.kept.YearTotal.{YearTotal}
+use Rattle.ftd_sql.specs.Orders.{NamesRise, FormsRise, QuartersRise, ReportedYearsRise, RunsRise}
+use Rattle.ftd_sql.specs.Orders.{PaymentsRise}
+use Rattle.ftd_sql.specs.Rows.{AccountRow, FormRow, ReportedQuarterRow, ReportedYearRow, RunRow}
+use Rattle.ftd_sql.specs.Rows.{PaymentRow}
+use Rattle.ftd_sql.specs.Standing.{Tables}
+use Rattle.ftd_sql.specs.Tests.{is_any_account, is_any_form, is_reported_of}
+use Rattle.ftd_sql.specs.Tests.{is_reported_year_of, is_run_between, is_payment_between}
+use Rattle.ftd_sql.specs.declared.TableName.TheVariants.{Accounts, Forms, ReportedQuarters}
+use Rattle.ftd_sql.specs.declared.TableName.TheVariants.{ReportedYears, Runs, Payments}
+use Rattle.ftd_store.specs.Cells.{day_number}
+use Rattle.ftd_store.specs.Lists.{Lists}
+use Rattle.ftd_store.specs.Rows.{account_row, form_row, reported_row, reported_year_row, run_row}
+use Rattle.ftd_store.specs.Rows.{payment_row}
+use Rattle.ftd_store.specs.declared.kept_cells.NamedAccount.{NamedAccount}
+use Rattle.ftd_store.specs.declared.kept_cells.NamedForm.{NamedForm}
+use Rattle.ftd_store.specs.declared.kept_cells.NumberedPayment.{NumberedPayment}
+use Rattle.ftd_store.specs.declared.kept_cells.NumberedRun.{NumberedRun}
+use Rattle.ftd_store.specs.declared.kept_cells.QuarterTotal.{QuarterTotal}
+use Rattle.ftd_store.specs.declared.kept_cells.YearTotal.{YearTotal}
 
 -- all accounts, by name
 abbrev pub IsNamedAccount : AccountRow → NamedAccount → Type 0

@@ -3,8 +3,8 @@ use Rattle.std.specs.Prelude.{Result}
 use Rattle.std.specs.Borrow.{Fml, RattleType, MutBor, RestsIfErr}
 use Rattle.sqlite.specs.Store as store
 use Rattle.sqlite.specs.State.{HasCleanDisk}
-use Rattle.ftd_schema.specs.States.{CrashKeeps}
-use Rattle.ftd_rows.specs.declared.faults.StoreFault.{StoreFault}
+use Rattle.ftd_sql.specs.States.{CrashKeeps}
+use Rattle.ftd_store.specs.declared.faults.StoreFault.{StoreFault}
 use Rattle.ftd_store.specs.declared.store.Store.{Store}
 use Rattle.ftd_store.specs.declared.tx.Tx.{Tx}
 use Rattle.ftd_store.specs.contracts.store.Store as contracts

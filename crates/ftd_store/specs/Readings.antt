@@ -1,6 +1,6 @@
 -- The text of each statement that reads rows.
 use Rattle.std.specs.Prelude.{ℕ, List}
-use Rattle.ftd_schema.specs.declared.texts.TheConstants as text
+use Rattle.ftd_sql.specs.declared.texts.TheConstants as text
 use Rattle.ftd_store.specs.declared.readings.Reading.{Reading}
 use Rattle.ftd_store.specs.declared.readings.Reading.TheVariants as reading
 

@@ -7,7 +7,7 @@ use Rattle.sqlite.specs.Held.{Held, state}
 use Rattle.sqlite.specs.declared.error.Error.{Error}
 use Rattle.sqlite.specs.declared.rows.stream.Rows.{Rows}
 use Rattle.sqlite.specs.contracts.connection.Connection as connection
-use Rattle.ftd_schema.specs.States.{CrashKeeps}
+use Rattle.ftd_sql.specs.States.{CrashKeeps}
 use Rattle.ftd_store.specs.Ends.{LeavesRows}
 use Rattle.ftd_store.specs.declared.store.Store.{Store}
 use Rattle.ftd_store.specs.contracts.store.Store as contracts

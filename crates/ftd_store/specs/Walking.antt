@@ -7,15 +7,15 @@ use Rattle.sqlite.specs.declared.rows.stream.Rows.{Rows}
 use Rattle.sqlite.specs.Given.{HasGiven}
 use Rattle.ftd_days.specs.Calendar.{quarter_start}
 use Rattle.ftd_rules.specs.declared.Obligation.{Obligation}
-use Rattle.ftd_schema.specs.declared.TableName.TheVariants.{Obligations}
-use Rattle.ftd_schema.specs.Rows.{ObligationRow}
-use Rattle.ftd_schema.specs.Standing.{Tables, Stands}
-use Rattle.ftd_schema.specs.declared.texts.TheConstants.{LIST_OBLIGATIONS}
-use Rattle.ftd_schema.specs.Given.{pair_given}
-use Rattle.ftd_schema.specs.Orders.{ObligationsRise}
-use Rattle.ftd_schema.specs.Tests.{is_obligation_between}
-use Rattle.ftd_rows.specs.Cells.{day_number, obligation_cells}
-use Rattle.ftd_rows.specs.Lists.{Lists, ListsFirst}
+use Rattle.ftd_sql.specs.declared.TableName.TheVariants.{Obligations}
+use Rattle.ftd_sql.specs.Rows.{ObligationRow}
+use Rattle.ftd_sql.specs.Standing.{Tables, Stands}
+use Rattle.ftd_sql.specs.declared.texts.TheConstants.{LIST_OBLIGATIONS}
+use Rattle.ftd_sql.specs.Given.{pair_given}
+use Rattle.ftd_sql.specs.Orders.{ObligationsRise}
+use Rattle.ftd_sql.specs.Tests.{is_obligation_between}
+use Rattle.ftd_store.specs.Cells.{day_number, obligation_cells}
+use Rattle.ftd_store.specs.Lists.{Lists, ListsFirst}
 use Rattle.ftd_store.specs.Finds.{IsObligation}
 
 -- the obligations of the account with a first day in the quarter

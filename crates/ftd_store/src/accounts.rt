@@ -6,9 +6,9 @@ ghost use Rattle.ftd_store.specs.Frame.{Reads, Writes};
 
 use crate::readings::Reading;
 use crate::tx::Tx;
-use ftd_rows::{Account, StoreFault, StoredDay, StoredFlag, StoredForm, as_corrected};
+use crate::{Account, StoreFault, StoredDay, StoredFlag, StoredForm, as_corrected};
 use ftd_rules::Form;
-use ftd_schema::TableName;
+use ftd_sql::TableName;
 use sqlite::{Alter, params};
 use std::alloc::Global;
 

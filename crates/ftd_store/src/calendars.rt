@@ -1,16 +1,16 @@
 //! The calendars: the years that were given, and their holidays.
 
-ghost use Rattle.ftd_schema.specs.declared.TableName.TheVariants.{CalendarYears, Holidays};
-ghost use Rattle.ftd_rows.specs.Rows.{calendar_year_row, holiday_row};
+ghost use Rattle.ftd_sql.specs.declared.TableName.TheVariants.{CalendarYears, Holidays};
+ghost use Rattle.ftd_store.specs.Rows.{calendar_year_row, holiday_row};
 ghost use Rattle.ftd_store.specs.Changes.{adding, with_calendar, with_added_holiday};
 ghost use Rattle.ftd_store.specs.Finds.{HasCalendar, FindsCalendar, ListsAdded};
 ghost use Rattle.ftd_store.specs.Frame.{Reads, Writes};
 
 use crate::readings::Reading;
 use crate::tx::Tx;
+use crate::{StoreFault, StoredDay};
 use ftd_days::Day;
-use ftd_rows::{StoreFault, StoredDay};
-use ftd_schema::TableName;
+use ftd_sql::TableName;
 use sqlite::{Alter, params};
 use std::alloc::Global;
 

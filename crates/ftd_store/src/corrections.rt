@@ -1,6 +1,6 @@
 //! What was put right: corrections of totals and of accounts, and changes of holidays.
 
-ghost use Rattle.ftd_rows.specs.Amounts.{IsStorable};
+ghost use Rattle.ftd_store.specs.Amounts.{IsStorable};
 ghost use Rattle.ftd_store.specs.Changes.{with_correction, with_year_correction};
 ghost use Rattle.ftd_store.specs.Changes.{with_account_correction, with_holiday_change};
 ghost use Rattle.ftd_store.specs.Corrections.{ListsCorrections, ListsCorrected};
@@ -10,12 +10,12 @@ ghost use Rattle.ftd_store.specs.Frame.{Reads, Writes};
 
 use crate::readings::Reading;
 use crate::tx::Tx;
-use ftd_days::Quarter;
-use ftd_rows::{
+use crate::{
     AccountCorrection, Correction, HolidayChange, QuarterCorrection, StoreFault, StoredCents,
     StoredDay, StoredFlag, YearCorrection,
 };
-use ftd_schema::TableName;
+use ftd_days::Quarter;
+use ftd_sql::TableName;
 use sqlite::{Alter, params};
 use std::alloc::Global;
 

@@ -10,8 +10,8 @@ ghost use Rattle.ftd_store.specs.Holidays.{AddsIfGiven, AddsYear, HasYears};
 ghost use Rattle.ftd_store.specs.Holidays.{is_holiday_in, is_kept};
 
 use crate::tx::Tx;
+use crate::{HolidayChange, StoreFault};
 use ftd_days::{CalendarFault, Day, Holidays};
-use ftd_rows::{HolidayChange, StoreFault};
 use sqlite::Alter;
 use std::alloc::Global;
 

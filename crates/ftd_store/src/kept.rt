@@ -6,11 +6,11 @@ ghost use Rattle.ftd_store.specs.Kept.{ListsReportedYears, ListsKeptRuns, ListsK
 
 use crate::readings::Reading;
 use crate::tx::Tx;
-use ftd_days::Day;
-use ftd_rows::{
+use crate::{
     NamedAccount, NamedForm, NumberedPayment, NumberedRun, QuarterTotal, StoreFault, StoredDay,
     YearTotal,
 };
+use ftd_days::Day;
 use sqlite::{Alter, params};
 use std::alloc::Global;
 

@@ -4,17 +4,17 @@ ghost use Rattle.std.specs.Prelude.{◌≡◌, ℕ, List, [], IfOk, OnOk, OnErr}
 ghost use Rattle.std.specs.Borrow.{sem};
 ghost use Rattle.sqlite.specs.State.{HasCleanDisk, IsUnchanged};
 ghost use Rattle.sqlite.specs.Held.{state};
-ghost use Rattle.ftd_schema.specs.States.{CrashKeeps};
+ghost use Rattle.ftd_sql.specs.States.{CrashKeeps};
 ghost use Rattle.ftd_rules.specs.declared.Obligation.{Obligation as ObligationValue};
 ghost use Rattle.ftd_store.specs.Ends.{IsSettled, LeavesRows};
 ghost use Rattle.ftd_store.specs.RowsLending.{rows_rest};
 ghost use Rattle.ftd_store.specs.Walking.{walked, HasListed, Continues};
 
 use crate::store::Store;
+use crate::{FromRow, StoreFault, StoredDay};
 use ftd_days::Quarter;
-use ftd_rows::{FromRow, StoreFault, StoredDay};
 use ftd_rules::Obligation;
-use ftd_schema::texts;
+use ftd_sql::texts;
 use sqlite::{Alter, Connection, Error, ErrorCode, Rows, params};
 
 impl<S: Alter> Store<S> {

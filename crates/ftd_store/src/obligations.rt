@@ -1,11 +1,11 @@
 //! The obligations of the accounts.
 
 ghost use Rattle.std.specs.Prelude.{filter, All};
-ghost use Rattle.ftd_schema.specs.declared.TableName.TheVariants.{Obligations};
-ghost use Rattle.ftd_schema.specs.Tests.{is_obligation};
-ghost use Rattle.ftd_rows.specs.Amounts.{IsStorable};
-ghost use Rattle.ftd_rows.specs.Cells.{day_number};
-ghost use Rattle.ftd_rows.specs.Rows.{obligation_row};
+ghost use Rattle.ftd_sql.specs.declared.TableName.TheVariants.{Obligations};
+ghost use Rattle.ftd_sql.specs.Tests.{is_obligation};
+ghost use Rattle.ftd_store.specs.Amounts.{IsStorable};
+ghost use Rattle.ftd_store.specs.Cells.{day_number};
+ghost use Rattle.ftd_store.specs.Rows.{obligation_row};
 ghost use Rattle.ftd_store.specs.Changes.{adding, without_obligations, with_obligations};
 ghost use Rattle.ftd_store.specs.Changes.{with_obligation, with_due_date};
 ghost use Rattle.ftd_store.specs.Finds.{ListsObligations, ListsDueOver, ListsDueBetween};
@@ -13,10 +13,10 @@ ghost use Rattle.ftd_store.specs.Frame.{Reads, Writes, WritesOne};
 
 use crate::readings::Reading;
 use crate::tx::Tx;
+use crate::{AccountObligation, StoreFault, StoredCents, StoredDay, StoredRule};
 use ftd_days::Day;
-use ftd_rows::{AccountObligation, StoreFault, StoredCents, StoredDay, StoredRule};
 use ftd_rules::Obligation;
-use ftd_schema::{TableName, texts};
+use ftd_sql::{TableName, texts};
 use sqlite::{Alter, params};
 use std::alloc::Global;
 

@@ -1,19 +1,19 @@
 //! The payments of the accounts.
 
 ghost use Rattle.std.specs.Prelude.{pos, filter};
-ghost use Rattle.ftd_schema.specs.declared.TableName.TheVariants.{Payments};
-ghost use Rattle.ftd_schema.specs.Tests.{is_payment};
-ghost use Rattle.ftd_rows.specs.Amounts.{IsStorable};
+ghost use Rattle.ftd_sql.specs.declared.TableName.TheVariants.{Payments};
+ghost use Rattle.ftd_sql.specs.Tests.{is_payment};
+ghost use Rattle.ftd_store.specs.Amounts.{IsStorable};
 ghost use Rattle.ftd_store.specs.Changes.{with_payment, with_void_payment};
 ghost use Rattle.ftd_store.specs.Finds.{FindsPayment, CountsPayments, ListsPayments};
 ghost use Rattle.ftd_store.specs.Frame.{Reads, Writes, WritesOne};
 
 use crate::readings::Reading;
 use crate::tx::Tx;
+use crate::{StoreFault, StoredCents, StoredDay, StoredFlag};
 use ftd_days::Day;
-use ftd_rows::{StoreFault, StoredCents, StoredDay, StoredFlag};
 use ftd_rules::{Payment, Voidable};
-use ftd_schema::{TableName, texts};
+use ftd_sql::{TableName, texts};
 use sqlite::{Alter, params};
 use std::alloc::Global;
 

@@ -3,7 +3,7 @@
 ghost use Rattle.std.specs.Prelude.{◌≡◌};
 ghost use Rattle.ftd_store.specs.Readings.{text_of};
 
-use ftd_schema::texts;
+use ftd_sql::texts;
 
 /// A statement that shows rows of one table, or counts them.
 #[derive(Clone, Copy)]

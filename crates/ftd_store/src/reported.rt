@@ -1,15 +1,15 @@
 //! The totals that the accounts reported.
 
-ghost use Rattle.ftd_rows.specs.Amounts.{IsStorable};
+ghost use Rattle.ftd_store.specs.Amounts.{IsStorable};
 ghost use Rattle.ftd_store.specs.Changes.{with_reported, with_reported_year};
 ghost use Rattle.ftd_store.specs.Finds.{FindsReported, FindsReportedYear};
 ghost use Rattle.ftd_store.specs.Frame.{Reads, Writes};
 
 use crate::readings::Reading;
 use crate::tx::Tx;
+use crate::{StoreFault, StoredCents};
 use ftd_days::{Cents, Quarter};
-use ftd_rows::{StoreFault, StoredCents};
-use ftd_schema::TableName;
+use ftd_sql::TableName;
 use sqlite::{Alter, params};
 
 impl<'store, S: Alter> Tx<'store, S> {

@@ -1,19 +1,19 @@
 //! The pay runs of the accounts.
 
 ghost use Rattle.std.specs.Prelude.{pos, filter};
-ghost use Rattle.ftd_schema.specs.declared.TableName.TheVariants.{Runs};
-ghost use Rattle.ftd_schema.specs.Tests.{is_run};
-ghost use Rattle.ftd_rows.specs.Amounts.{HasStorableAmounts};
+ghost use Rattle.ftd_sql.specs.declared.TableName.TheVariants.{Runs};
+ghost use Rattle.ftd_sql.specs.Tests.{is_run};
+ghost use Rattle.ftd_store.specs.Amounts.{HasStorableAmounts};
 ghost use Rattle.ftd_store.specs.Changes.{with_run, with_void_run};
 ghost use Rattle.ftd_store.specs.Finds.{FindsRun, CountsRuns, ListsLiability};
 ghost use Rattle.ftd_store.specs.Frame.{Reads, Writes, WritesOne};
 
 use crate::readings::Reading;
 use crate::tx::Tx;
+use crate::{StoreFault, StoredCents, StoredDay, StoredFlag, sums_of};
 use ftd_days::Day;
-use ftd_rows::{StoreFault, StoredCents, StoredDay, StoredFlag, sums_of};
 use ftd_rules::{DaySum, PayRun, Voidable};
-use ftd_schema::{TableName, texts};
+use ftd_sql::{TableName, texts};
 use sqlite::{Alter, params};
 use std::alloc::Global;
 

@@ -3,13 +3,13 @@
 ghost use Rattle.std.specs.Prelude.{◌≡◌, false, IsTrue, IfOk, OnOk, OnErr};
 ghost use Rattle.std.specs.Borrow.{sem};
 ghost use Rattle.sqlite.specs.State.{HasCleanDisk, KeepsCommit, Survives, Shows};
-ghost use Rattle.ftd_schema.specs.States.{CrashKeeps};
+ghost use Rattle.ftd_sql.specs.States.{CrashKeeps};
 ghost use Rattle.ftd_store.specs.Seen.{seen, shown};
 ghost use Rattle.ftd_store.specs.Frame.{HasFailed, Borrows};
 ghost use Rattle.ftd_store.specs.Ends.{Begins, LeavesRows, EndsAs, CrashLeaves};
 
+use crate::StoreFault;
 use crate::tx::Tx;
-use ftd_rows::StoreFault;
 use sqlite::{Alter, Connection};
 
 /// The desk's tables.

@@ -4,11 +4,11 @@ ghost use Rattle.std.specs.Prelude.{◌≡◌, ◌<◌, ◌^◌, true, false, is
 ghost use Rattle.std.specs.Prelude.{◌∷◌, IsTrue, IfOk, OnOk, OnErr, Err, Ok};
 ghost use Rattle.sqlite.specs.State.{HasCleanDisk, Survives, Shows, Executes};
 ghost use Rattle.sqlite.specs.Values.{bound};
-ghost use Rattle.ftd_tables.specs.TextKinds.{IsRowText};
-ghost use Rattle.ftd_schema.specs.Rows.{RowOf, cells_of};
-ghost use Rattle.ftd_schema.specs.States.{CrashKeeps};
-ghost use Rattle.ftd_rows.specs.Cells.{count_cells};
-ghost use Rattle.ftd_rows.specs.Reading.{rows_of};
+ghost use Rattle.ftd_sql.specs.TextKinds.{IsRowText};
+ghost use Rattle.ftd_sql.specs.Rows.{RowOf, cells_of};
+ghost use Rattle.ftd_sql.specs.States.{CrashKeeps};
+ghost use Rattle.ftd_store.specs.Cells.{count_cells};
+ghost use Rattle.ftd_store.specs.Reading.{rows_of};
 ghost use Rattle.ftd_store.specs.Seen.{seen, shown};
 ghost use Rattle.ftd_store.specs.Frame.{Frame, Queries, Writes, HasFailed};
 ghost use Rattle.ftd_store.specs.Ends.{EndsAs, CrashLeaves};
@@ -17,8 +17,8 @@ ghost use Rattle.ftd_store.specs.Readings.{text_of};
 
 use crate::readings::Reading;
 use crate::store::Store;
-use ftd_rows::{FromRow, StoreFault, all, only};
-use ftd_schema::TableName;
+use crate::{FromRow, StoreFault, all, only};
+use ftd_sql::TableName;
 use sqlite::types::ValueRef;
 use sqlite::{Alter, Row};
 use std::alloc::Global;

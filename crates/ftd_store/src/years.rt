@@ -1,15 +1,15 @@
 //! The open years of the accounts.
 
-ghost use Rattle.ftd_rows.specs.Amounts.{IsStorable};
+ghost use Rattle.ftd_store.specs.Amounts.{IsStorable};
 ghost use Rattle.ftd_store.specs.Changes.{with_year};
 ghost use Rattle.ftd_store.specs.Finds.{ListsYears};
 ghost use Rattle.ftd_store.specs.Frame.{Reads, Writes};
 
 use crate::readings::Reading;
 use crate::tx::Tx;
-use ftd_rows::{StoreFault, StoredCents, StoredSchedule, StoredYear, open_years, stored_turn};
+use crate::{StoreFault, StoredCents, StoredSchedule, StoredYear, open_years, stored_turn};
 use ftd_rules::YearLine;
-use ftd_schema::{TableName, texts};
+use ftd_sql::{TableName, texts};
 use sqlite::{Alter, params};
 use std::alloc::Global;
 

@@ -1,10 +1,9 @@
 //! Commands of the program asked of a desk, and what is printed of them.
 
+use ftd_cli::{LocalTask, Task, decide};
 use ftd_desk::Desk;
-use ftd_import::Quiet;
 use ftd_ports::Port;
-use ftd_program::perform;
-use ftd_words::{LocalTask, Task, decide};
+use ftd_program::{Quiet, perform};
 use sqlite::Alter;
 use std::alloc::Global;
 use std::process::Abort;

@@ -1,8 +1,8 @@
 //! Peers that send and take their bytes in pieces, or fail.
 
 use ftd_desk::Desk;
-use ftd_http::{ServeFault, Served, serve};
 use ftd_ports::Port;
+use ftd_server::{ServeFault, Served, serve};
 use sqlite::MemStore;
 use std::alloc::Global;
 use std::io::{Error, ErrorKind, Read};

@@ -4,9 +4,9 @@ ghost use Rattle.std.specs.Prelude.{◌≡◌, ◌<◌, IfOk};
 ghost use Rattle.std.specs.List.{sum_by};
 ghost use Rattle.ftd_rules.specs.Verdicts.{amount_of};
 
+use ftd_answers::{DueText, Unwritten, due_list, schedule_b};
 use ftd_days::{Cents, Day, Quarter};
 use ftd_ports::{Port, PortFault, Source, Target, WriteFault};
-use ftd_reports::{DueText, Unwritten, due_list, schedule_b};
 use ftd_rules::{DaySum, DueRow, DueSink, Obligation, Rule, SinkFault, Verdict};
 use std::alloc::{AllocError, Global};
 use std::io::{Error, ErrorKind, Read, Write};

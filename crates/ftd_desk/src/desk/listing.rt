@@ -2,7 +2,7 @@
 
 ghost use Rattle.std.specs.Prelude.{◌≡◌, ◌⊎◌, Err, IfOk, OnErr};
 ghost use Rattle.ftd_desk.specs.Desks.{IsStopped, held};
-ghost use Rattle.ftd_schema.specs.States.{CrashKeeps};
+ghost use Rattle.ftd_sql.specs.States.{CrashKeeps};
 ghost use Rattle.ftd_desk.specs.Trials.{Tries};
 ghost use Rattle.ftd_desk.specs.Words.{AreAnswers, HandlesTogether, listed};
 

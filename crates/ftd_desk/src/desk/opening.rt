@@ -4,7 +4,7 @@ ghost use Rattle.std.specs.Prelude.{◌≡◌, true, false, IfOk, IfErr};
 ghost use Rattle.sqlite.specs.Held.{state};
 ghost use Rattle.sqlite.specs.State.{HasCleanDisk};
 ghost use Rattle.ftd_machine.specs.State.{State};
-ghost use Rattle.ftd_schema.specs.Names.{all_names, has_any};
+ghost use Rattle.ftd_sql.specs.Names.{all_names, has_any};
 ghost use Rattle.ftd_setup.specs.Versions.{is_tagged, Opening};
 ghost use Rattle.ftd_store.specs.Opened.{IsOver};
 ghost use Rattle.ftd_desk.specs.Desks.{store_of, IsStopped, held, Rests, Keeps};

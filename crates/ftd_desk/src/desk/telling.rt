@@ -5,7 +5,7 @@ ghost use Rattle.sqlite.specs.State.{HasCleanDisk};
 ghost use Rattle.ftd_machine.specs.State.{State};
 ghost use Rattle.ftd_questions.specs.Telling.{Tells, TakesShown};
 ghost use Rattle.ftd_questions.specs.Walks.{StandIfOpen};
-ghost use Rattle.ftd_schema.specs.Standing.{Tables};
+ghost use Rattle.ftd_sql.specs.Standing.{Tables};
 ghost use Rattle.ftd_desk.specs.Desks.{IsStopped, held, KeepsIfOpen};
 ghost use Rattle.ftd_desk.specs.Telling.{StandsAsBefore};
 

@@ -1,7 +1,7 @@
 use Rattle.std.proofs.Common.{◌∙◌, sym}
 use Rattle.csv.specs.Records.{fields_of}
 use Rattle.ftd_csv.specs.Sheets.{header_row}
-use Rattle.ftd_csv.proofs.Headers.{all_same, more_same, not_header}
+use Rattle.ftd_csv.proofs.HeaderRecords.{all_same, more_same, not_header}
 use Rattle.ftd_csv.proofs.sheets.is_header.Goals as goal
 
 pub returns-then-not-is_field : goal.returns-then-not-is_field

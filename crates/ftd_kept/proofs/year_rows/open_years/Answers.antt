@@ -1,5 +1,5 @@
 use Rattle.std.proofs.Common.{map, subst}
-use Rattle.ftd_rows.specs.Lists.{Pairs}
+use Rattle.ftd_store.specs.Lists.{Pairs}
 use Rattle.ftd_entries.proofs.Reading.{three_told}
 use Rattle.ftd_kept.specs.Kept.{IsKeptYear, quarter_figure, year_figure}
 use Rattle.ftd_kept.proofs.YearsKnown.{knows_years}

@@ -1,5 +1,5 @@
 use Rattle.std.proofs.Common.{take}
-use Rattle.ftd_rows.specs.Lists.{Pairs}
+use Rattle.ftd_store.specs.Lists.{Pairs}
 use Rattle.ftd_kept.specs.Kept.{IsKeptYear}
 use Rattle.ftd_kept.proofs.year_rows.told_years.Given as goal
 

@@ -1,7 +1,7 @@
 use Rattle.std.proofs.Common.{◌≡◌, ◌∙◌, sym, inl, inr, Ok, subst, rules, arith}
 use Rattle.std.proofs.lemmas.Bool.{true≢false}
 use Rattle.ftd_days.specs.declared.cents.Cents.{Cents}
-use Rattle.ftd_schema.specs.Standing.{Tables}
+use Rattle.ftd_sql.specs.Standing.{Tables}
 use Rattle.ftd_store.specs.Frame.{Rewrites}
 use Rattle.ftd_store.proofs.Turning.{writes_turn, reads_turn, turns_on, turns_then}
 use Rattle.ftd_entries.proofs.Reading.{turn_then_turn}

@@ -10,9 +10,9 @@ use Rattle.ftd_machine.proofs.Listed.{lists_bounded}
 use Rattle.ftd_desk.specs.Desks.{KeepsIfOpen, held}
 use Rattle.ftd_program.specs.Mending.{KnowsFor}
 use Rattle.ftd_program.proofs.Mended.{known_of, nothing_of, stands_on}
-use Rattle.ftd_reports.specs.LateTexts.{BreaksAt, TakesRow, writer_of}
+use Rattle.ftd_answers.specs.LateTexts.{BreaksAt, TakesRow, writer_of}
 use Rattle.ftd_ports.specs.Writing.{WritesPrefix}
-use Rattle.ftd_reports.specs.DueLists.{due_text}
+use Rattle.ftd_answers.specs.DueLists.{due_text}
 use Rattle.ftd_program.specs.Performing.{broken, failed, refused, unbegun, whole}
 use Rattle.ftd_program.proofs.DueFacts.{as_refused, as_sink, come_to, fault_status, has_broken}
 use Rattle.ftd_program.proofs.DueFacts.{has_first, has_taken, some_status}

@@ -1,6 +1,6 @@
 use Rattle.std.proofs.Common.{take}
 use Rattle.std.specs.Prelude.{filter}
-use Rattle.ftd_rows.specs.Lists.{Pairs}
+use Rattle.ftd_store.specs.Lists.{Pairs}
 use Rattle.ftd_questions.specs.DueRows.{IsRowBy, begins_in}
 use Rattle.ftd_questions.proofs.due_rows.due_rows.Given as goal
 

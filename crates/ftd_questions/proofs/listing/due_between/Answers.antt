@@ -2,7 +2,7 @@ use Rattle.std.proofs.Common.{sym, subst, arith}
 use Rattle.ftd_store.proofs.Going.{then_goes}
 use Rattle.ftd_store.proofs.Telling.{reads_on, then_reads}
 use Rattle.ftd_store.proofs.Turning.{gave_up_after}
-use Rattle.ftd_accounts.specs.Accounts.{KnowsAccounts}
+use Rattle.ftd_entries.specs.Accounts.{KnowsAccounts}
 use Rattle.ftd_questions.proofs.ByAccount.{due_known_all, of_none, so_far_due_more}
 use Rattle.ftd_questions.proofs.listing.due_between.Goals as goal
 

@@ -1,5 +1,5 @@
 use Rattle.std.proofs.Common.{[], ◌∷◌, ◌++◌, Err, refl, sym, ◌∙◌, subst}
-use Rattle.ftd_rows.specs.declared.faults.StoreFault.TheVariants.{Failed}
+use Rattle.ftd_store.specs.declared.faults.StoreFault.TheVariants.{Failed}
 use Rattle.ftd_store.specs.Walking.{walked}
 use Rattle.ftd_questions.specs.DueRows.{IsRowBy}
 use Rattle.ftd_questions.specs.Telling.{Tells}

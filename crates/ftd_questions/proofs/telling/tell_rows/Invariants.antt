@@ -1,7 +1,7 @@
 use Rattle.std.proofs.Common.{◌≡◌, List}
 use Rattle.ftd_rules.specs.declared.Obligation.{Obligation}
 use Rattle.ftd_rules.specs.declared.verdict.DueRow.{DueRow}
-use Rattle.ftd_rows.specs.Lists.{Pairs}
+use Rattle.ftd_store.specs.Lists.{Pairs}
 use Rattle.ftd_store.specs.Walking.{walked}
 use Rattle.ftd_questions.specs.DueRows.{IsRowBy}
 use Rattle.ftd_questions.specs.Telling.{HasTaken}

@@ -1,7 +1,7 @@
 use Rattle.std.proofs.Common.{◌≡◌, ◌<◌, ◌≤◌, ℕ, false}
 use Rattle.std.specs.List.{list_any}
 use Rattle.sqlite.specs.State.{HasCleanDisk}
-use Rattle.ftd_schema.specs.Standing.{Tables}
+use Rattle.ftd_sql.specs.Standing.{Tables}
 use Rattle.ftd_store.specs.Seen.{seen}
 use Rattle.ftd_machine.specs.State.{State}
 use Rattle.ftd_entries.specs.Standing.{StandsFor}

@@ -3,8 +3,8 @@ use Rattle.std.proofs.Math.ListN.{drop_of_length-le}
 use Rattle.std.proofs.lemmas.List.Elements.{All-set, All-get_or}
 use Rattle.ftd_days.specs.declared.cents.Cents.{Cents}
 use Rattle.ftd_rules.specs.declared.YearLine.{YearLine}
-use Rattle.ftd_rows.specs.Amounts.{IsStorable}
-use Rattle.ftd_schema.specs.Standing.{Tables}
+use Rattle.ftd_store.specs.Amounts.{IsStorable}
+use Rattle.ftd_sql.specs.Standing.{Tables}
 use Rattle.ftd_store.proofs.Replaced.{all_taken}
 use Rattle.ftd_repairs.specs.Replaced.{AreBetween}
 use Rattle.ftd_repairs.specs.Rescheduled.{HasLines, IsRescheduled, IsUnnamed, PutsInto}

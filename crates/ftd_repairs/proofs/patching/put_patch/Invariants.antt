@@ -1,5 +1,5 @@
 use Rattle.std.proofs.Common.{Ok, All}
-use Rattle.ftd_rows.specs.Amounts.{IsStorable}
+use Rattle.ftd_store.specs.Amounts.{IsStorable}
 use Rattle.ftd_repairs.specs.Replaced.{AreBetween}
 use Rattle.ftd_repairs.specs.Rescheduled.{HasLines}
 use Rattle.ftd_store.specs.Frame.{Rewrites}

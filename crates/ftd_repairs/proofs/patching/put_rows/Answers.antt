@@ -1,8 +1,8 @@
 use Rattle.std.proofs.Common.{◌≡◌, ◌∷◌, [], List, All, sym, subst, arith}
 use Rattle.std.proofs.lemmas.List.Elements.{All-get_or}
 use Rattle.ftd_rules.specs.declared.Obligation.{Obligation}
-use Rattle.ftd_rows.specs.Amounts.{IsStorable}
-use Rattle.ftd_schema.specs.Standing.{Tables}
+use Rattle.ftd_store.specs.Amounts.{IsStorable}
+use Rattle.ftd_sql.specs.Standing.{Tables}
 use Rattle.ftd_store.specs.Changes.{with_obligation, with_obligations}
 use Rattle.ftd_store.proofs.Turning.{one_turns, writes_turn, turns_on}
 use Rattle.ftd_repairs.specs.Replaced.{AreBetween}

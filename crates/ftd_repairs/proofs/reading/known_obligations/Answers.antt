@@ -1,8 +1,8 @@
 use Rattle.std.proofs.Common.{List, subst}
 use Rattle.ftd_rules.specs.declared.Obligation.{Obligation}
 use Rattle.ftd_rules.specs.Obligations.{ByFirstDay}
-use Rattle.ftd_schema.specs.Orders.{ObligationsRise}
-use Rattle.ftd_rows.specs.Rows.{obligation_row}
+use Rattle.ftd_sql.specs.Orders.{ObligationsRise}
+use Rattle.ftd_store.specs.Rows.{obligation_row}
 use Rattle.ftd_store.proofs.Telling.{reads_on}
 use Rattle.ftd_repairs.specs.Replaced.{AreBetween}
 use Rattle.ftd_repairs.proofs.Differing.{are_listed}

@@ -4,7 +4,7 @@ use Rattle.ftd_days.specs.Holidays.{holidays_of}
 use Rattle.ftd_rules.specs.declared.YearLine.{YearLine}
 use Rattle.ftd_rules.specs.Lists.{Has}
 use Rattle.ftd_rules.proofs.Schedules.{years_within}
-use Rattle.ftd_schema.specs.Standing.{Tables}
+use Rattle.ftd_sql.specs.Standing.{Tables}
 use Rattle.ftd_store.specs.Finds.{ListsYears}
 use Rattle.ftd_store.specs.Holidays.{HasYears}
 use Rattle.ftd_store.proofs.Telling.{then_reads}

@@ -1,7 +1,7 @@
 use Rattle.std.proofs.Common.{◌≡◌, ℕ, List, Ok, set, sym, ap, ◌∙◌, subst}
 use Rattle.ftd_days.specs.Holidays.{holidays_of}
 use Rattle.ftd_rules.specs.declared.YearLine.{YearLine}
-use Rattle.ftd_schema.specs.Standing.{Tables}
+use Rattle.ftd_sql.specs.Standing.{Tables}
 use Rattle.ftd_store.specs.Changes.{with_year}
 use Rattle.ftd_store.specs.Frame.{Writes}
 use Rattle.ftd_store.proofs.Turning.{read_then_turn, turns_then, writes_turn}

@@ -1,7 +1,7 @@
 use Rattle.ftd_ports.proofs.WritingFacts.{goes_on, stops_after}
 use Rattle.ftd_replies.specs.Hints.{quarter_hint}
 use Rattle.ftd_replies.proofs.hints.write_missing.Goals as goal
-use Rattle.ftd_formats.proofs.RowFacts.{texts_at}
+use Rattle.ftd_answers.proofs.RowFormatFacts.{texts_at}
 
 pub returns-in_err-write_quarter : goal.returns-in_err-write_quarter
 returns-in_err-write_quarter g c =

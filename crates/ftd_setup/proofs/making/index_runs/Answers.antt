@@ -1,4 +1,4 @@
-use Rattle.ftd_schema.proofs.Indexing.{indexes_runs}
+use Rattle.ftd_sql.proofs.IndexTexts.{indexes_runs}
 use Rattle.ftd_setup.proofs.Stepping.{steps_indexed, steps_kept}
 use Rattle.ftd_setup.proofs.making.index_runs.Goals as goal
 

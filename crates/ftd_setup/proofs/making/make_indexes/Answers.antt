@@ -1,5 +1,5 @@
-use Rattle.ftd_schema.specs.States.{within}
-use Rattle.ftd_schema.proofs.Controls.{keeps_tables_then}
+use Rattle.ftd_sql.specs.States.{within}
+use Rattle.ftd_sql.proofs.Controls.{keeps_tables_then}
 use Rattle.ftd_setup.proofs.Stepping.{steps_then}
 use Rattle.ftd_setup.proofs.making.make_indexes.Goals as goal
 

@@ -1,7 +1,7 @@
 use Rattle.std.proofs.Common.{◌+◌, List, take}
-use Rattle.ftd_schema.specs.declared.TableName.{TableName}
-use Rattle.ftd_schema.specs.Making.{AreFree}
-use Rattle.ftd_schema.proofs.Making.{AreMade, next_made}
+use Rattle.ftd_sql.specs.declared.TableName.{TableName}
+use Rattle.ftd_sql.specs.Making.{AreFree}
+use Rattle.ftd_sql.proofs.Making.{AreMade, next_made}
 use Rattle.ftd_setup.proofs.Stepping.{steps_both}
 use Rattle.ftd_setup.proofs.making.make_tables.Goals as goal
 

@@ -1,6 +1,6 @@
 use Rattle.std.proofs.Common.{take, Ok}
-use Rattle.ftd_schema.specs.Making.{AreFree}
-use Rattle.ftd_schema.proofs.Making.{AreMade}
+use Rattle.ftd_sql.specs.Making.{AreFree}
+use Rattle.ftd_sql.proofs.Making.{AreMade}
 use Rattle.ftd_setup.specs.Steps.{Steps}
 use Rattle.ftd_setup.proofs.making.make_tables.Given as goal
 

@@ -2,12 +2,12 @@ use Rattle.std.proofs.Common.{◌≡◌, ◌+◌, ◌++◌, List, ◌∷◌, map
 use Rattle.std.proofs.Common.{add-one, arith, ap, subst, length}
 use Rattle.std.proofs.lemmas.List.{take_all, length-map}
 use Rattle.sqlite.specs.Order.{Row}
-use Rattle.ftd_schema.specs.declared.TableName.TheVariants.{Forms}
-use Rattle.ftd_schema.specs.Rows.{AccountRow}
-use Rattle.ftd_schema.specs.Standing.{Tables, with_rows, Stands, Becomes}
-use Rattle.ftd_schema.specs.Answers.{name_shown}
-use Rattle.ftd_schema.specs.States.{within}
-use Rattle.ftd_schema.specs.Beginnings.{on_form_941}
+use Rattle.ftd_sql.specs.declared.TableName.TheVariants.{Forms}
+use Rattle.ftd_sql.specs.Rows.{AccountRow}
+use Rattle.ftd_sql.specs.Standing.{Tables, with_rows, Stands, Becomes}
+use Rattle.ftd_sql.specs.Answers.{name_shown}
+use Rattle.ftd_sql.specs.States.{within}
+use Rattle.ftd_sql.specs.Beginnings.{on_form_941}
 use Rattle.ftd_setup.proofs.Made.{no_form_added, more_forms}
 use Rattle.ftd_setup.proofs.Stepping.{steps_none, steps_both, steps_so}
 use Rattle.ftd_setup.proofs.migrating.add_forms.Goals as goal

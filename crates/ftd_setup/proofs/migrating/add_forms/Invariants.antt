@@ -1,10 +1,10 @@
 use Rattle.std.proofs.Common.{◌≡◌, ◌++◌, List, map, take, Ok}
-use Rattle.ftd_schema.specs.declared.TableName.TheVariants.{Forms}
-use Rattle.ftd_schema.specs.Rows.{AccountRow}
-use Rattle.ftd_schema.specs.Standing.{Tables, with_rows, Stands, Becomes}
-use Rattle.ftd_schema.specs.Answers.{name_shown}
+use Rattle.ftd_sql.specs.declared.TableName.TheVariants.{Forms}
+use Rattle.ftd_sql.specs.Rows.{AccountRow}
+use Rattle.ftd_sql.specs.Standing.{Tables, with_rows, Stands, Becomes}
+use Rattle.ftd_sql.specs.Answers.{name_shown}
 use Rattle.ftd_setup.specs.Steps.{Steps}
-use Rattle.ftd_schema.specs.Beginnings.{on_form_941}
+use Rattle.ftd_sql.specs.Beginnings.{on_form_941}
 use Rattle.ftd_setup.proofs.migrating.add_forms.Given as goal
 
 abbrev pub invariant-loop-name : goal.invariant-loop-name

@@ -1,6 +1,6 @@
 use Rattle.std.proofs.Common.{◌∙◌}
-use Rattle.ftd_schema.proofs.Asking.{lists_accounts}
-use Rattle.ftd_schema.proofs.Reading.{asking}
+use Rattle.ftd_sql.proofs.Asking.{lists_accounts}
+use Rattle.ftd_sql.proofs.Reading.{asking}
 use Rattle.ftd_setup.proofs.Made.{given_forms}
 use Rattle.ftd_setup.proofs.Stepping.{steps_then}
 use Rattle.ftd_setup.proofs.migrating.give_forms.Goals as goal

@@ -1,6 +1,6 @@
 use Rattle.std.proofs.Common.{pos, codes}
-use Rattle.ftd_schema.specs.States.{within}
-use Rattle.ftd_schema.proofs.Meanings.{version_set}
+use Rattle.ftd_sql.specs.States.{within}
+use Rattle.ftd_sql.proofs.Meanings.{version_set}
 use Rattle.ftd_setup.proofs.Stepping.{steps_so}
 use Rattle.ftd_setup.proofs.migrating.set_version.Goals as goal
 

@@ -1,9 +1,9 @@
 use Rattle.std.proofs.Common.{inl, inr}
 use Rattle.sqlite.specs.State.{HasCleanDisk, IsUnchanged}
-use Rattle.ftd_schema.specs.States.{within}
-use Rattle.ftd_schema.proofs.Controls.{keeps_left}
-use Rattle.ftd_schema.proofs.Inside.{reading_stays}
-use Rattle.ftd_schema.proofs.Leaves.{query_leaves}
+use Rattle.ftd_sql.specs.States.{within}
+use Rattle.ftd_sql.proofs.Controls.{keeps_left}
+use Rattle.ftd_sql.proofs.Inside.{reading_stays}
+use Rattle.ftd_sql.proofs.Leaves.{query_leaves}
 use Rattle.ftd_setup.proofs.steps.read.Goals as goal
 
 pub returns-in-Err : goal.returns-in-Err

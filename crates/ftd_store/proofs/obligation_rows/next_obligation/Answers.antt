@@ -1,7 +1,7 @@
 use Rattle.std.proofs.Common.{ap, sym, ◌∙◌}
 use Rattle.std.specs.Prelude.{option_copied}
 use Rattle.sqlite.specs.Held.{state}
-use Rattle.ftd_schema.proofs.Controls.{on_err}
+use Rattle.ftd_sql.proofs.Controls.{on_err}
 use Rattle.ftd_store.proofs.Beginning.{stopped_rests}
 use Rattle.ftd_store.proofs.Walks.{all_given, first_given}
 use Rattle.ftd_store.proofs.obligation_rows.next_obligation.Goals as goal

@@ -2,12 +2,12 @@ use Rattle.std.proofs.Common.{◌≡◌, ◌+◌, ◌-◌, arith, refl}
 use Rattle.std.proofs.lemmas.Result.{IfOk-weaker}
 use Rattle.ftd_days.specs.Calendar.{quarter_start}
 use Rattle.sqlite.specs.Held.{state}
-use Rattle.ftd_schema.specs.declared.TableName.TheVariants.{Obligations}
-use Rattle.ftd_tables.proofs.Commits.{reading_commits_nothing}
-use Rattle.ftd_schema.specs.declared.texts.TheConstants.{LIST_OBLIGATIONS}
-use Rattle.ftd_schema.proofs.Asking.{lists_obligations}
-use Rattle.ftd_schema.proofs.Controls.{weaker}
-use Rattle.ftd_schema.proofs.Reading.{asking}
+use Rattle.ftd_sql.specs.declared.TableName.TheVariants.{Obligations}
+use Rattle.ftd_sql.proofs.Commits.{reading_commits_nothing}
+use Rattle.ftd_sql.specs.declared.texts.TheConstants.{LIST_OBLIGATIONS}
+use Rattle.ftd_sql.proofs.Asking.{lists_obligations}
+use Rattle.ftd_sql.proofs.Controls.{weaker}
+use Rattle.ftd_sql.proofs.Reading.{asking}
 use Rattle.ftd_store.proofs.Beginning.{settled_stays}
 use Rattle.ftd_store.proofs.Walks.{begun_reading, refused_rests}
 use Rattle.ftd_store.proofs.obligation_rows.rows_of.Goals as goal

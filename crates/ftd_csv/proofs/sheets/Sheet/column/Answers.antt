@@ -3,7 +3,7 @@ use Rattle.std.proofs.Common.{option_map, sym, arith}
 use Rattle.std.specs.Prelude.{MatchOption}
 use Rattle.ftd_csv.specs.Fields.{numbered_field}
 use Rattle.ftd_csv.specs.Sheets.{header_row}
-use Rattle.ftd_csv.proofs.Headers.{column_is}
+use Rattle.ftd_csv.proofs.HeaderRecords.{column_is}
 use Rattle.ftd_csv.proofs.sheets.Sheet.column.Goals as goal
 
 bounds : {A : Type 0} (found : Option A) (n i : ℕ) (P : A → Type 0)

@@ -1,6 +1,6 @@
 use Rattle.std.proofs.Common.{◌≡◌, true, false, inl, inr, Err, rules, refl, sym, subst}
 use Rattle.std.specs.Prelude.{is_err}
-use Rattle.ftd_schema.proofs.Controls.{crash_then, on_err}
+use Rattle.ftd_sql.proofs.Controls.{crash_then, on_err}
 use Rattle.ftd_store.specs.Seen.{seen, shown}
 use Rattle.ftd_store.specs.declared.store.Store.{Store as StoreOf}
 use Rattle.ftd_desk.specs.Desks.{Held, held}

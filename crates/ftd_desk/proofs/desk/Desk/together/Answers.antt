@@ -2,7 +2,7 @@ use Rattle.std.proofs.Common.{◌≡◌, [], ◌∷◌, true, false, inr, rules,
 use Rattle.std.specs.Prelude.{is_err}
 use Rattle.std.proofs.lemmas.List.{nil_from_length}
 use Rattle.ftd_machine.specs.declared.replies.Refusal.TheVariants as refusal
-use Rattle.ftd_schema.proofs.Controls.{crash_then}
+use Rattle.ftd_sql.proofs.Controls.{crash_then}
 use Rattle.ftd_store.specs.declared.store.Store.{Store}
 use Rattle.ftd_desk.specs.Desks.{held}
 use Rattle.ftd_desk.proofs.Handling.{none_known, at_err, at_ok}

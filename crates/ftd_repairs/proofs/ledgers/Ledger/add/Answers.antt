@@ -5,7 +5,7 @@ use Rattle.ftd_days.specs.Holidays.{holidays_of}
 use Rattle.ftd_rules.specs.declared.DaySum.{DaySum}
 use Rattle.ftd_rules.specs.declared.Obligation.{Obligation}
 use Rattle.ftd_rules.specs.declared.YearLine.{YearLine}
-use Rattle.ftd_schema.specs.Standing.{Tables}
+use Rattle.ftd_sql.specs.Standing.{Tables}
 use Rattle.ftd_store.specs.Changes.{with_run}
 use Rattle.ftd_store.specs.Frame.{Rewrites}
 use Rattle.ftd_store.proofs.Turning.{writes_turn, turns_then}

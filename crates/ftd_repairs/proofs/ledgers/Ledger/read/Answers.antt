@@ -1,6 +1,6 @@
 use Rattle.std.proofs.Common.{Vec, Global, refl}
 use Rattle.ftd_rules.specs.declared.DaySum.{DaySum}
-use Rattle.ftd_schema.specs.Standing.{Tables}
+use Rattle.ftd_sql.specs.Standing.{Tables}
 use Rattle.ftd_store.specs.Finds.{ListsLiability}
 use Rattle.ftd_store.proofs.Telling.{then_reads}
 use Rattle.ftd_repairs.specs.Calendars.{KnowsYears}

@@ -3,7 +3,7 @@ use Rattle.sqlite.specs.Effect.{Database}
 use Rattle.std.proofs.Common.{true}
 use Rattle.sqlite.specs.State.{HasCleanDisk, KeepsCommit}
 use Rattle.sqlite.specs.Held.{state}
-use Rattle.ftd_schema.specs.States.{within}
+use Rattle.ftd_sql.specs.States.{within}
 use Rattle.ftd_setup.specs.Versions.{Becomes}
 use Rattle.ftd_setup.proofs.Surviving.{becoming_survives, kept_begin, undone}
 use Rattle.ftd_setup.proofs.opening.Found.carry_out.Goals as goal

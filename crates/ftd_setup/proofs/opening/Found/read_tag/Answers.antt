@@ -1,13 +1,13 @@
 use Rattle.std.proofs.Common.{inl}
 use Rattle.sqlite.specs.Held.{state}
-use Rattle.ftd_schema.specs.declared.TableName.TheVariants.{Metas}
-use Rattle.ftd_tables.proofs.Commits.{reading_commits_nothing}
-use Rattle.ftd_schema.specs.declared.texts.TheConstants.{LIST_METAS}
-use Rattle.ftd_schema.proofs.Asking.{lists_metas}
-use Rattle.ftd_schema.proofs.Controls.{weaker, shows_again}
-use Rattle.ftd_schema.proofs.Inside.{reading_stays}
-use Rattle.ftd_schema.proofs.Leaves.{query_leaves}
-use Rattle.ftd_schema.proofs.Reading.{asking}
+use Rattle.ftd_sql.specs.declared.TableName.TheVariants.{Metas}
+use Rattle.ftd_sql.proofs.Commits.{reading_commits_nothing}
+use Rattle.ftd_sql.specs.declared.texts.TheConstants.{LIST_METAS}
+use Rattle.ftd_sql.proofs.Asking.{lists_metas}
+use Rattle.ftd_sql.proofs.Controls.{weaker, shows_again}
+use Rattle.ftd_sql.proofs.Inside.{reading_stays}
+use Rattle.ftd_sql.proofs.Leaves.{query_leaves}
+use Rattle.ftd_sql.proofs.Reading.{asking}
 use Rattle.ftd_setup.proofs.Readings.{shown_before}
 use Rattle.ftd_setup.proofs.opening.Found.read_tag.Goals as goal
 

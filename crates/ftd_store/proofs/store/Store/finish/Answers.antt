@@ -2,8 +2,8 @@ use Rattle.std.proofs.Common.{ap, ◌∙◌}
 use Rattle.sqlite.specs.Effect.{Database}
 use Rattle.sqlite.specs.Held.{state}
 use Rattle.sqlite.proofs.StateLemmas.{survives_weaker}
-use Rattle.ftd_schema.proofs.Controls.{on_err, commits, commit_text, commit_commits, failed_leaves}
-use Rattle.ftd_schema.proofs.Controls.{keeps_left}
+use Rattle.ftd_sql.proofs.Controls.{on_err, commits, commit_text, commit_commits, failed_leaves}
+use Rattle.ftd_sql.proofs.Controls.{keeps_left}
 use Rattle.ftd_store.proofs.store.Store.finish.Goals as goal
 
 pub returns-clause-ok : goal.returns-clause-ok

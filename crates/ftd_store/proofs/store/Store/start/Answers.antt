@@ -1,7 +1,7 @@
 use Rattle.std.proofs.Common.{Ok}
 use Rattle.sqlite.specs.Held.{state}
-use Rattle.ftd_schema.proofs.Controls.{on_err, begins, failed_leaves, weaker, begin_commits_nothing}
-use Rattle.ftd_schema.proofs.Controls.{begin_text}
+use Rattle.ftd_sql.proofs.Controls.{on_err, begins, failed_leaves, weaker, begin_commits_nothing}
+use Rattle.ftd_sql.proofs.Controls.{begin_text}
 use Rattle.ftd_store.proofs.Beginning.{begins_settled, failed_rests}
 use Rattle.ftd_store.proofs.store.Store.start.Goals as goal
 

@@ -1,5 +1,5 @@
 use Rattle.sqlite.specs.Held.{state}
-use Rattle.ftd_schema.proofs.Controls.{rolls_back, weaker, rollback_commits_nothing, busy_if}
+use Rattle.ftd_sql.proofs.Controls.{rolls_back, weaker, rollback_commits_nothing, busy_if}
 use Rattle.ftd_store.proofs.store.Store.undo.Goals as goal
 
 pub returns-clause-undone : goal.returns-clause-undone

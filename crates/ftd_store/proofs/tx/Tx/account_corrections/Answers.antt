@@ -1,7 +1,7 @@
 use Rattle.std.proofs.Common.{rules}
 use Rattle.ftd_store.specs.Corrections.{IsAccountCorrection}
-use Rattle.ftd_schema.specs.declared.TableName.TheVariants.{CorrectedAccounts}
-use Rattle.ftd_schema.proofs.Meanings.{account_corrections_in_order}
+use Rattle.ftd_sql.specs.declared.TableName.TheVariants.{CorrectedAccounts}
+use Rattle.ftd_sql.proofs.Meanings.{account_corrections_in_order}
 use Rattle.ftd_store.proofs.SameCorrections.{account_correction_is}
 use Rattle.ftd_store.proofs.Telling.{lists}
 use Rattle.ftd_store.proofs.tx.Tx.account_corrections.Goals as goal

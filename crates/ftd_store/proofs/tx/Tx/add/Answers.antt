@@ -1,9 +1,9 @@
 use Rattle.std.proofs.Common.{Ok, sym, subst}
 use Rattle.sqlite.specs.State.{Executes}
 use Rattle.sqlite.specs.Values.{bound}
-use Rattle.ftd_schema.specs.Making.{add_of}
-use Rattle.ftd_tables.specs.TextKinds.{IsRowText}
-use Rattle.ftd_schema.proofs.Writing.{add_is_row_text, adds}
+use Rattle.ftd_sql.specs.Making.{add_of}
+use Rattle.ftd_sql.specs.TextKinds.{IsRowText}
+use Rattle.ftd_sql.proofs.Writing.{add_is_row_text, adds}
 use Rattle.ftd_store.specs.Seen.{shown}
 use Rattle.ftd_store.proofs.Going.{goes_on}
 use Rattle.ftd_store.proofs.tx.Tx.add.Goals as goal

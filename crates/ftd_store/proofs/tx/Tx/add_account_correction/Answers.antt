@@ -1,5 +1,5 @@
 use Rattle.std.proofs.Common.{rules}
-use Rattle.ftd_rows.specs.Rows.{account_correction_row}
+use Rattle.ftd_store.specs.Rows.{account_correction_row}
 use Rattle.ftd_store.proofs.tx.Tx.add_account_correction.Goals as goal
 
 pub returns : goal.returns

@@ -1,8 +1,8 @@
 use Rattle.std.proofs.Common.{◌≡◌, List, ℕ, [], refl, ap, ◌∙◌, append-nil, rules, arith}
-use Rattle.ftd_schema.specs.declared.TableName.{TableName}
-use Rattle.ftd_schema.specs.declared.TableName.TheVariants.{CalendarYears, Holidays}
-use Rattle.ftd_schema.specs.Standing.{Tables, with_rows}
-use Rattle.ftd_rows.specs.Rows.{calendar_year_row, holiday_row}
+use Rattle.ftd_sql.specs.declared.TableName.{TableName}
+use Rattle.ftd_sql.specs.declared.TableName.TheVariants.{CalendarYears, Holidays}
+use Rattle.ftd_sql.specs.Standing.{Tables, with_rows}
+use Rattle.ftd_store.specs.Rows.{calendar_year_row, holiday_row}
 use Rattle.ftd_store.specs.Changes.{adding, with_calendar}
 use Rattle.ftd_store.proofs.Going.{call_fails_after, then_writes, writes_same}
 use Rattle.ftd_store.proofs.Replaced.{one_more, all_taken}

@@ -1,5 +1,5 @@
 use Rattle.std.proofs.Common.{rules}
-use Rattle.ftd_rows.specs.Rows.{form_row}
+use Rattle.ftd_store.specs.Rows.{form_row}
 use Rattle.ftd_store.proofs.tx.Tx.add_form.Goals as goal
 
 pub returns : goal.returns

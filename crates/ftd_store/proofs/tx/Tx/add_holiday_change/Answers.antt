@@ -1,6 +1,6 @@
 use Rattle.std.proofs.Common.{rules}
 use Rattle.ftd_days.specs.Calendar.{year_of}
-use Rattle.ftd_rows.specs.Rows.{holiday_change_row}
+use Rattle.ftd_store.specs.Rows.{holiday_change_row}
 use Rattle.ftd_store.proofs.tx.Tx.add_holiday_change.Goals as goal
 
 pub returns : goal.returns

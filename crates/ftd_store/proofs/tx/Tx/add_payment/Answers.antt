@@ -1,5 +1,5 @@
 use Rattle.std.proofs.Common.{pos, false, rules}
-use Rattle.ftd_rows.specs.Rows.{payment_row}
+use Rattle.ftd_store.specs.Rows.{payment_row}
 use Rattle.ftd_store.proofs.tx.Tx.add_payment.Goals as goal
 
 pub returns : goal.returns

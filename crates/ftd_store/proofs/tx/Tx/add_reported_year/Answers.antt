@@ -1,5 +1,5 @@
 use Rattle.std.proofs.Common.{rules}
-use Rattle.ftd_rows.specs.Rows.{reported_year_row}
+use Rattle.ftd_store.specs.Rows.{reported_year_row}
 use Rattle.ftd_store.proofs.tx.Tx.add_reported_year.Goals as goal
 
 pub returns : goal.returns

@@ -1,5 +1,5 @@
 use Rattle.std.proofs.Common.{pos, false, rules}
-use Rattle.ftd_rows.specs.Rows.{run_row}
+use Rattle.ftd_store.specs.Rows.{run_row}
 use Rattle.ftd_store.proofs.tx.Tx.add_run.Goals as goal
 
 pub returns : goal.returns

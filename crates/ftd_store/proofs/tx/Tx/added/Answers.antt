@@ -1,7 +1,7 @@
 use Rattle.std.proofs.Common.{pos, rules}
 use Rattle.ftd_store.specs.Finds.{IsHoliday}
-use Rattle.ftd_schema.specs.declared.TableName.TheVariants.{AddedHolidays}
-use Rattle.ftd_schema.proofs.Meanings.{added_holidays_in_order}
+use Rattle.ftd_sql.specs.declared.TableName.TheVariants.{AddedHolidays}
+use Rattle.ftd_sql.proofs.Meanings.{added_holidays_in_order}
 use Rattle.ftd_store.proofs.Same.{holiday_is}
 use Rattle.ftd_store.proofs.Telling.{lists}
 use Rattle.ftd_store.proofs.tx.Tx.added.Goals as goal

@@ -1,7 +1,7 @@
 use Rattle.std.proofs.Common.{pos, None, Some, Ok, rules}
 use Rattle.ftd_store.specs.Finds.{IsHoliday}
-use Rattle.ftd_schema.specs.declared.TableName.TheVariants.{Holidays}
-use Rattle.ftd_schema.proofs.Meanings.{holidays_in_order}
+use Rattle.ftd_sql.specs.declared.TableName.TheVariants.{Holidays}
+use Rattle.ftd_sql.proofs.Meanings.{holidays_in_order}
 use Rattle.ftd_store.proofs.Same.{holiday_is}
 use Rattle.ftd_store.proofs.Telling.{lists, reads_on, then_reads}
 use Rattle.ftd_store.proofs.tx.Tx.calendar.Goals as goal

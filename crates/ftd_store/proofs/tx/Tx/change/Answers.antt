@@ -1,9 +1,9 @@
 use Rattle.std.proofs.Common.{refl, sym, subst}
 use Rattle.sqlite.specs.State.{HasCleanDisk, Shows}
 use Rattle.sqlite.specs.Held.{state}
-use Rattle.ftd_schema.proofs.Controls.{failed_leaves, keeps_left, keeps_shown, weaker, busy_if}
-use Rattle.ftd_tables.proofs.Commits.{commits_nothing}
-use Rattle.ftd_schema.proofs.Inside.{rows_stay_inside}
+use Rattle.ftd_sql.proofs.Controls.{failed_leaves, keeps_left, keeps_shown, weaker, busy_if}
+use Rattle.ftd_sql.proofs.Commits.{commits_nothing}
+use Rattle.ftd_sql.proofs.Inside.{rows_stay_inside}
 use Rattle.ftd_store.proofs.Going.{fails}
 use Rattle.ftd_store.proofs.tx.Tx.change.Goals as goal
 

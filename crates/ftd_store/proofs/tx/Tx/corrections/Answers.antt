@@ -1,7 +1,7 @@
 use Rattle.std.proofs.Common.{pos, rules}
 use Rattle.ftd_store.specs.Corrections.{IsCorrection}
-use Rattle.ftd_schema.specs.declared.TableName.TheVariants.{CorrectedQuarters}
-use Rattle.ftd_schema.proofs.Meanings.{corrections_in_order}
+use Rattle.ftd_sql.specs.declared.TableName.TheVariants.{CorrectedQuarters}
+use Rattle.ftd_sql.proofs.Meanings.{corrections_in_order}
 use Rattle.ftd_days.specs.Calendar.{quarter_year, quarter_number}
 use Rattle.ftd_store.proofs.SameCorrections.{correction_is}
 use Rattle.ftd_store.proofs.Telling.{lists}

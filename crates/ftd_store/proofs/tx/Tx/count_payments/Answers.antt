@@ -1,5 +1,5 @@
 use Rattle.std.proofs.Common.{rules}
-use Rattle.ftd_schema.proofs.Meanings.{payments_counted}
+use Rattle.ftd_sql.proofs.Meanings.{payments_counted}
 use Rattle.ftd_store.proofs.Telling.{counts}
 use Rattle.ftd_store.proofs.tx.Tx.count_payments.Goals as goal
 

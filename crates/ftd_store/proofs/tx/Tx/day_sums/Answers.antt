@@ -1,8 +1,8 @@
 use Rattle.std.proofs.Common.{Ok, rules}
-use Rattle.ftd_rows.specs.DaySums.{IsLiveRun}
-use Rattle.ftd_schema.specs.declared.TableName.TheVariants.{Runs}
-use Rattle.ftd_schema.proofs.Meanings.{runs_in_order}
-use Rattle.ftd_rows.specs.Cells.{day_number}
+use Rattle.ftd_store.specs.DaySums.{IsLiveRun}
+use Rattle.ftd_sql.specs.declared.TableName.TheVariants.{Runs}
+use Rattle.ftd_sql.proofs.Meanings.{runs_in_order}
+use Rattle.ftd_store.specs.Cells.{day_number}
 use Rattle.ftd_store.proofs.Same.{live_run_is}
 use Rattle.ftd_store.proofs.Telling.{lists, reads_on}
 use Rattle.ftd_store.proofs.Sums.{sums_listed}

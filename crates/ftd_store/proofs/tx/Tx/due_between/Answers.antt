@@ -1,8 +1,8 @@
 use Rattle.std.proofs.Common.{rules}
 use Rattle.ftd_store.specs.Finds.{IsAccountObligation}
-use Rattle.ftd_schema.specs.declared.TableName.TheVariants.{Obligations}
-use Rattle.ftd_schema.proofs.Meanings.{due_between_in_order}
-use Rattle.ftd_rows.specs.Cells.{day_number}
+use Rattle.ftd_sql.specs.declared.TableName.TheVariants.{Obligations}
+use Rattle.ftd_sql.proofs.Meanings.{due_between_in_order}
+use Rattle.ftd_store.specs.Cells.{day_number}
 use Rattle.ftd_store.proofs.Same.{account_obligation_is}
 use Rattle.ftd_store.proofs.Telling.{lists}
 use Rattle.ftd_store.proofs.tx.Tx.due_between.Goals as goal

@@ -1,7 +1,7 @@
-use Rattle.ftd_schema.specs.Tests.{is_any_account}
-use Rattle.ftd_schema.proofs.Meanings.{enrolled_in_order}
+use Rattle.ftd_sql.specs.Tests.{is_any_account}
+use Rattle.ftd_sql.proofs.Meanings.{enrolled_in_order}
 use Rattle.ftd_store.specs.Kept.{IsNamedAccount}
-use Rattle.ftd_schema.specs.declared.TableName.TheVariants.{Accounts}
+use Rattle.ftd_sql.specs.declared.TableName.TheVariants.{Accounts}
 use Rattle.ftd_store.proofs.SameKept.{named_account_is}
 use Rattle.ftd_store.proofs.Telling.{lists}
 use Rattle.ftd_store.proofs.tx.Tx.enrolled.Goals as goal

@@ -1,5 +1,5 @@
 use Rattle.std.proofs.Common.{rules}
-use Rattle.ftd_schema.proofs.Meanings.{shows_form}
+use Rattle.ftd_sql.proofs.Meanings.{shows_form}
 use Rattle.ftd_store.proofs.Same.{form_is}
 use Rattle.ftd_store.proofs.Telling.{finds}
 use Rattle.ftd_store.proofs.tx.Tx.form.Goals as goal

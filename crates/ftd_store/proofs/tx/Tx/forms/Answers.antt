@@ -1,7 +1,7 @@
-use Rattle.ftd_schema.specs.Tests.{is_any_form}
-use Rattle.ftd_schema.proofs.Meanings.{forms_in_order}
+use Rattle.ftd_sql.specs.Tests.{is_any_form}
+use Rattle.ftd_sql.proofs.Meanings.{forms_in_order}
 use Rattle.ftd_store.specs.Kept.{IsNamedForm}
-use Rattle.ftd_schema.specs.declared.TableName.TheVariants.{Forms}
+use Rattle.ftd_sql.specs.declared.TableName.TheVariants.{Forms}
 use Rattle.ftd_store.proofs.SameKept.{named_form_is}
 use Rattle.ftd_store.proofs.Telling.{lists}
 use Rattle.ftd_store.proofs.tx.Tx.forms.Goals as goal

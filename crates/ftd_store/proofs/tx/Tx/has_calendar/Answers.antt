@@ -1,9 +1,9 @@
 use Rattle.std.proofs.Common.{◌≡◌, ℕ, pos, Bool, Option, None, Some, Ok, List, [], ◌∷◌, rules}
 use Rattle.std.specs.Prelude.{is_some, if◌then◌else◌}
-use Rattle.ftd_schema.specs.Rows.{CalendarYearRow}
-use Rattle.ftd_schema.proofs.Meanings.{shows_calendar_year}
-use Rattle.ftd_rows.specs.Reading.{rows_of}
-use Rattle.ftd_rows.specs.Rows.{calendar_year_row}
+use Rattle.ftd_sql.specs.Rows.{CalendarYearRow}
+use Rattle.ftd_sql.proofs.Meanings.{shows_calendar_year}
+use Rattle.ftd_store.specs.Reading.{rows_of}
+use Rattle.ftd_store.specs.Rows.{calendar_year_row}
 use Rattle.ftd_store.proofs.Same.{calendar_year_is}
 use Rattle.ftd_store.proofs.Telling.{finds, reads_on}
 use Rattle.ftd_store.proofs.tx.Tx.has_calendar.Goals as goal

@@ -1,7 +1,7 @@
 use Rattle.std.proofs.Common.{pos, rules}
 use Rattle.ftd_store.specs.Corrections.{IsHolidayChange}
-use Rattle.ftd_schema.specs.declared.TableName.TheVariants.{ChangedHolidays}
-use Rattle.ftd_schema.proofs.Meanings.{holiday_changes_in_order}
+use Rattle.ftd_sql.specs.declared.TableName.TheVariants.{ChangedHolidays}
+use Rattle.ftd_sql.proofs.Meanings.{holiday_changes_in_order}
 use Rattle.ftd_store.proofs.SameCorrections.{holiday_change_is}
 use Rattle.ftd_store.proofs.Telling.{lists}
 use Rattle.ftd_store.proofs.tx.Tx.holiday_changes.Goals as goal

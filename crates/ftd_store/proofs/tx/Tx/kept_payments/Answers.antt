@@ -1,8 +1,8 @@
 use Rattle.std.proofs.Common.{rules}
 use Rattle.ftd_store.specs.Kept.{IsNumberedPayment}
-use Rattle.ftd_schema.specs.declared.TableName.TheVariants.{Payments}
-use Rattle.ftd_schema.proofs.Meanings.{kept_payments_in_order}
-use Rattle.ftd_rows.specs.Cells.{day_number}
+use Rattle.ftd_sql.specs.declared.TableName.TheVariants.{Payments}
+use Rattle.ftd_sql.proofs.Meanings.{kept_payments_in_order}
+use Rattle.ftd_store.specs.Cells.{day_number}
 use Rattle.ftd_store.proofs.SameKept.{numbered_payment_is}
 use Rattle.ftd_store.proofs.Telling.{lists}
 use Rattle.ftd_store.proofs.tx.Tx.kept_payments.Goals as goal

@@ -1,8 +1,8 @@
 use Rattle.std.proofs.Common.{rules}
 use Rattle.ftd_store.specs.Kept.{IsNumberedRun}
-use Rattle.ftd_schema.specs.declared.TableName.TheVariants.{Runs}
-use Rattle.ftd_schema.proofs.Meanings.{kept_runs_in_order}
-use Rattle.ftd_rows.specs.Cells.{day_number}
+use Rattle.ftd_sql.specs.declared.TableName.TheVariants.{Runs}
+use Rattle.ftd_sql.proofs.Meanings.{kept_runs_in_order}
+use Rattle.ftd_store.specs.Cells.{day_number}
 use Rattle.ftd_store.proofs.SameKept.{numbered_run_is}
 use Rattle.ftd_store.proofs.Telling.{lists}
 use Rattle.ftd_store.proofs.tx.Tx.kept_runs.Goals as goal

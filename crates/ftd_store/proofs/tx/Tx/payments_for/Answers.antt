@@ -1,8 +1,8 @@
 use Rattle.std.proofs.Common.{rules}
 use Rattle.ftd_store.specs.Finds.{IsLivePayment}
-use Rattle.ftd_schema.specs.declared.TableName.TheVariants.{Payments}
-use Rattle.ftd_schema.proofs.Meanings.{payments_in_order}
-use Rattle.ftd_rows.specs.Cells.{day_number}
+use Rattle.ftd_sql.specs.declared.TableName.TheVariants.{Payments}
+use Rattle.ftd_sql.proofs.Meanings.{payments_in_order}
+use Rattle.ftd_store.specs.Cells.{day_number}
 use Rattle.ftd_store.proofs.Same.{live_payment_is}
 use Rattle.ftd_store.proofs.Telling.{lists}
 use Rattle.ftd_store.proofs.tx.Tx.payments_for.Goals as goal

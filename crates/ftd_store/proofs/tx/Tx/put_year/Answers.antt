@@ -1,9 +1,9 @@
 use Rattle.std.proofs.Common.{rules}
-use Rattle.ftd_schema.specs.declared.TableName.TheVariants.{Years}
-use Rattle.ftd_schema.specs.declared.texts.TheConstants.{SET_YEAR}
-use Rattle.ftd_schema.proofs.Changing.{sets_year}
-use Rattle.ftd_schema.proofs.Writing.{changing}
-use Rattle.ftd_rows.specs.Rows.{year_row}
+use Rattle.ftd_sql.specs.declared.TableName.TheVariants.{Years}
+use Rattle.ftd_sql.specs.declared.texts.TheConstants.{SET_YEAR}
+use Rattle.ftd_sql.proofs.Changing.{sets_year}
+use Rattle.ftd_sql.proofs.Writing.{changing}
+use Rattle.ftd_store.specs.Rows.{year_row}
 use Rattle.ftd_store.proofs.Putting.{puts_in_place, puts_after}
 use Rattle.ftd_store.proofs.YearRows.{turn_given}
 use Rattle.ftd_store.proofs.tx.Tx.put_year.Goals as goal

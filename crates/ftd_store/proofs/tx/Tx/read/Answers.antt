@@ -1,10 +1,10 @@
 use Rattle.std.proofs.Common.{refl, inl}
 use Rattle.sqlite.specs.Held.{state}
 use Rattle.sqlite.specs.State.{HasCleanDisk}
-use Rattle.ftd_tables.proofs.Commits.{reading_commits_nothing}
-use Rattle.ftd_schema.proofs.Controls.{keeps_left, weaker}
-use Rattle.ftd_schema.proofs.Inside.{reading_stays}
-use Rattle.ftd_schema.proofs.Leaves.{query_leaves}
+use Rattle.ftd_sql.proofs.Commits.{reading_commits_nothing}
+use Rattle.ftd_sql.proofs.Controls.{keeps_left, weaker}
+use Rattle.ftd_sql.proofs.Inside.{reading_stays}
+use Rattle.ftd_sql.proofs.Leaves.{query_leaves}
 use Rattle.ftd_store.proofs.ReadTexts.{is_reading}
 use Rattle.ftd_store.proofs.Telling.{fails_to_query}
 use Rattle.ftd_store.proofs.tx.Tx.read.Goals as goal

@@ -1,9 +1,9 @@
-use Rattle.ftd_schema.specs.declared.TableName.TheVariants.{Obligations}
-use Rattle.ftd_schema.specs.declared.texts.TheConstants.{REMOVE_OBLIGATIONS}
-use Rattle.ftd_schema.proofs.Changing.{removes_obligations}
-use Rattle.ftd_schema.proofs.Meanings.{obligations_removed}
-use Rattle.ftd_schema.proofs.Writing.{removing}
-use Rattle.ftd_rows.specs.Cells.{day_number}
+use Rattle.ftd_sql.specs.declared.TableName.TheVariants.{Obligations}
+use Rattle.ftd_sql.specs.declared.texts.TheConstants.{REMOVE_OBLIGATIONS}
+use Rattle.ftd_sql.proofs.Changing.{removes_obligations}
+use Rattle.ftd_sql.proofs.Meanings.{obligations_removed}
+use Rattle.ftd_sql.proofs.Writing.{removing}
+use Rattle.ftd_store.specs.Cells.{day_number}
 use Rattle.ftd_store.specs.Seen.{shown}
 use Rattle.ftd_store.proofs.Going.{goes_on}
 use Rattle.ftd_store.proofs.tx.Tx.remove_obligations.Goals as goal

@@ -1,9 +1,9 @@
 use Rattle.std.proofs.Common.{List, not, filter, refl, ap, rules, arith}
 use Rattle.ftd_rules.specs.declared.Obligation.{Obligation}
-use Rattle.ftd_schema.specs.declared.TableName.TheVariants.{Obligations}
-use Rattle.ftd_schema.specs.Tests.{is_obligation_between}
-use Rattle.ftd_rows.specs.Cells.{day_number}
-use Rattle.ftd_rows.specs.Rows.{obligation_row}
+use Rattle.ftd_sql.specs.declared.TableName.TheVariants.{Obligations}
+use Rattle.ftd_sql.specs.Tests.{is_obligation_between}
+use Rattle.ftd_store.specs.Cells.{day_number}
+use Rattle.ftd_store.specs.Rows.{obligation_row}
 use Rattle.ftd_store.specs.Changes.{with_obligations}
 use Rattle.ftd_store.proofs.Going.{call_fails_after, then_writes, writes_same}
 use Rattle.ftd_store.proofs.Replaced.{one_more, all_taken}

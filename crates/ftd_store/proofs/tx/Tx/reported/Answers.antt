@@ -1,5 +1,5 @@
 use Rattle.std.proofs.Common.{pos, rules}
-use Rattle.ftd_schema.proofs.Meanings.{shows_reported}
+use Rattle.ftd_sql.proofs.Meanings.{shows_reported}
 use Rattle.ftd_days.specs.Calendar.{quarter_year, quarter_number}
 use Rattle.ftd_store.proofs.Same.{reported_is}
 use Rattle.ftd_store.proofs.Telling.{finds}

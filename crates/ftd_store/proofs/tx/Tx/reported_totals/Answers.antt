@@ -1,7 +1,7 @@
 use Rattle.std.proofs.Common.{rules}
 use Rattle.ftd_store.specs.Kept.{IsQuarterTotal}
-use Rattle.ftd_schema.specs.declared.TableName.TheVariants.{ReportedQuarters}
-use Rattle.ftd_schema.proofs.Meanings.{reported_in_order}
+use Rattle.ftd_sql.specs.declared.TableName.TheVariants.{ReportedQuarters}
+use Rattle.ftd_sql.proofs.Meanings.{reported_in_order}
 use Rattle.ftd_store.proofs.SameKept.{quarter_total_is}
 use Rattle.ftd_store.proofs.Telling.{lists}
 use Rattle.ftd_store.proofs.tx.Tx.reported_totals.Goals as goal

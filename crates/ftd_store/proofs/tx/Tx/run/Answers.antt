@@ -1,5 +1,5 @@
 use Rattle.std.proofs.Common.{pos, rules}
-use Rattle.ftd_schema.proofs.Meanings.{shows_run}
+use Rattle.ftd_sql.proofs.Meanings.{shows_run}
 use Rattle.ftd_store.proofs.Same.{run_is}
 use Rattle.ftd_store.proofs.Telling.{finds}
 use Rattle.ftd_store.proofs.tx.Tx.run.Goals as goal

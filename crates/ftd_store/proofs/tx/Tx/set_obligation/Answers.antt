@@ -1,8 +1,8 @@
 use Rattle.std.proofs.Common.{rules}
-use Rattle.ftd_schema.specs.declared.TableName.TheVariants.{Obligations}
-use Rattle.ftd_schema.proofs.Changing.{sets_obligation}
-use Rattle.ftd_schema.proofs.Writing.{changing}
-use Rattle.ftd_schema.proofs.Meanings.{obligation_set}
+use Rattle.ftd_sql.specs.declared.TableName.TheVariants.{Obligations}
+use Rattle.ftd_sql.proofs.Changing.{sets_obligation}
+use Rattle.ftd_sql.proofs.Writing.{changing}
+use Rattle.ftd_sql.proofs.Meanings.{obligation_set}
 use Rattle.ftd_store.proofs.Telling.{changes_one}
 use Rattle.ftd_store.proofs.tx.Tx.set_obligation.Goals as goal
 

@@ -1,8 +1,8 @@
 use Rattle.std.proofs.Common.{rules}
-use Rattle.ftd_schema.specs.declared.TableName.TheVariants.{Payments}
-use Rattle.ftd_schema.proofs.Changing.{voids_payment}
-use Rattle.ftd_schema.proofs.Writing.{changing}
-use Rattle.ftd_schema.proofs.Meanings.{payment_voided}
+use Rattle.ftd_sql.specs.declared.TableName.TheVariants.{Payments}
+use Rattle.ftd_sql.proofs.Changing.{voids_payment}
+use Rattle.ftd_sql.proofs.Writing.{changing}
+use Rattle.ftd_sql.proofs.Meanings.{payment_voided}
 use Rattle.ftd_store.proofs.Telling.{changes_one}
 use Rattle.ftd_store.proofs.tx.Tx.void_payment.Goals as goal
 

@@ -1,8 +1,8 @@
 use Rattle.std.proofs.Common.{rules}
-use Rattle.ftd_schema.specs.declared.TableName.TheVariants.{Runs}
-use Rattle.ftd_schema.proofs.Changing.{voids_run}
-use Rattle.ftd_schema.proofs.Writing.{changing}
-use Rattle.ftd_schema.proofs.Meanings.{run_voided}
+use Rattle.ftd_sql.specs.declared.TableName.TheVariants.{Runs}
+use Rattle.ftd_sql.proofs.Changing.{voids_run}
+use Rattle.ftd_sql.proofs.Writing.{changing}
+use Rattle.ftd_sql.proofs.Meanings.{run_voided}
 use Rattle.ftd_store.proofs.Telling.{changes_one}
 use Rattle.ftd_store.proofs.tx.Tx.void_run.Goals as goal
 

@@ -1,11 +1,11 @@
 use Rattle.std.proofs.Common.{Ok, sym, subst, rules}
-use Rattle.ftd_schema.specs.declared.TableName.TheVariants.{Years}
-use Rattle.ftd_schema.specs.Orders.{YearsRise}
-use Rattle.ftd_schema.proofs.Meanings.{years_in_order}
+use Rattle.ftd_sql.specs.declared.TableName.TheVariants.{Years}
+use Rattle.ftd_sql.specs.Orders.{YearsRise}
+use Rattle.ftd_sql.proofs.Meanings.{years_in_order}
 use Rattle.ftd_rules.specs.Years.{OnlyFirstCarried}
-use Rattle.ftd_rows.specs.Lists.{Lists}
-use Rattle.ftd_rows.specs.Years.{is_carried, FirstCarriedAs}
-use Rattle.ftd_rows.proofs.OpenYears.{only_first_carried, carried_as}
+use Rattle.ftd_store.specs.Lists.{Lists}
+use Rattle.ftd_store.specs.Years.{is_carried, FirstCarriedAs}
+use Rattle.ftd_store.proofs.OpenYears.{only_first_carried, carried_as}
 use Rattle.ftd_store.specs.Finds.{IsYear}
 use Rattle.ftd_store.proofs.Telling.{lists, then_reads}
 use Rattle.ftd_store.proofs.YearRows.{IsStoredYear, stored_year_is, lines_listed}

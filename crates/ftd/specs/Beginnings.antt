@@ -1,0 +1,55 @@
+-- What becomes of a file that is not there.
+use Rattle.std.specs.Prelude.{Bool, true, false}
+use Rattle.ftd_csv.specs.declared.sheets.Sheet.{Sheet}
+use Rattle.ftd_csv.specs.declared.sheets.Sheet.TheVariants as sheet
+use Rattle.ftd_machine.specs.declared.requests.Question.{Question}
+use Rattle.ftd_machine.specs.declared.requests.Question.TheVariants as question
+use Rattle.ftd_machine.specs.declared.requests.Request.{Request}
+use Rattle.ftd_machine.specs.declared.requests.Request.TheVariants as request
+use Rattle.ftd_cli.specs.declared.tasks.Job.{Job}
+use Rattle.ftd_cli.specs.declared.tasks.Job.TheVariants as job
+use Rattle.ftd.specs.declared.beginning.Beginning.{Beginning}
+use Rattle.ftd.specs.declared.beginning.Beginning.TheVariants.{Makes, Tells, Needs}
+
+-- an import: a desk may begin by accounts, and pay runs keep their answer over a new file
+abbrev pub beginning_of_import : Sheet → Bool → Beginning
+beginning_of_import kind true = Needs
+beginning_of_import sheet.Accounts false = Tells
+beginning_of_import sheet.Runs false = Tells
+beginning_of_import sheet.Totals false = Needs
+beginning_of_import sheet.Payments false = Needs
+
+-- a question: three keep their answer over a new file
+abbrev pub beginning_of_question : Question → Beginning
+beginning_of_question (question.Status name day) = Tells
+beginning_of_question (question.DueList name quarter as_of) = Tells
+beginning_of_question (question.ScheduleB name quarter) = Tells
+beginning_of_question (question.Explain name day) = Needs
+beginning_of_question (question.Agenda from to as_of) = Needs
+beginning_of_question (question.Owed until as_of) = Needs
+beginning_of_question (question.Unapplied until) = Needs
+beginning_of_question (question.Kept things) = Needs
+
+-- a request: a desk begins by two, and six keep their answer over a new file
+abbrev pub beginning_of_request : Request → Beginning
+beginning_of_request (request.Calendar year days) = Makes
+beginning_of_request (request.Enrol name start carried form) = Makes
+beginning_of_request (request.Report name quarter cents) = Tells
+beginning_of_request (request.OpenYear name year) = Tells
+beginning_of_request (request.Post name run payday fit ss medicare) = Tells
+beginning_of_request (request.Void name run) = Tells
+beginning_of_request (request.Pay name payment paid for_day cents) = Tells
+beginning_of_request (request.VoidPay name payment) = Tells
+beginning_of_request (request.AddHoliday day) = Needs
+beginning_of_request (request.ReportYear name year cents) = Needs
+beginning_of_request (request.CorrectReport name quarter number cents) = Needs
+beginning_of_request (request.CorrectReportYear name year number cents) = Needs
+beginning_of_request (request.ChangeHoliday day number is_holiday) = Needs
+beginning_of_request (request.CorrectAccount name number start carried) = Needs
+beginning_of_request (request.Question asked) = beginning_of_question asked
+
+-- a job; a trial of an import makes no file
+abbrev pub beginning_of : Job → Beginning
+beginning_of (job.Import kind file is_trial) = beginning_of_import kind is_trial
+beginning_of (job.Ask format asked) = beginning_of_request asked
+beginning_of (job.AskNext asked) = beginning_of_request asked

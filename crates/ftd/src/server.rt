@@ -1,0 +1,116 @@
+//! The server: connections over the desk of a database file.
+
+use ftd_cli::ServeTask;
+use ftd_desk::Desk;
+use ftd_files::{ProgramFault, closed, desk_of, is_new, opened_with_short_log, tell_made};
+use ftd_ports::Port;
+use ftd_server::{Limits, announce, serve_on};
+use sqlite::{Alter, Connection, FileStore};
+use sqlite_disk::Disk;
+use std::io;
+use std::net::TcpListener;
+
+/// For how many seconds at least a server tries to open its file again.
+const REOPENING: u32 = 10;
+
+/// Serves so many connections of this machine, one after the other. If its store fails, the file
+/// is closed, and opened again for the next connection. `NotClosed` if it can't be closed at the end.
+pub fn serve_file(rt: &HostRuntime, task: &ServeTask) -> Result<u8, ProgramFault> {
+    let Ok(listener) = TcpListener::bind(rt, ("127.0.0.1", task.port)) else {
+        return Err(ProgramFault::Net);
+    };
+    let is_new = is_new(rt, &task.db)?;
+    let conn = opened_with_short_log(rt, &task.db, task.wait)?;
+    let Some(mut taken) = serve_first(rt, task, &listener, conn, is_new)? else {
+        return Ok(3);
+    };
+    // Each turn takes one connection at least.
+    for _ in 0..task.connections {
+        if taken >= task.connections {
+            break;
+        }
+        let conn = opened_with_short_log(rt, &task.db, task.wait.max(REOPENING))?;
+        taken = serve_again(rt, task, &listener, taken, conn)?;
+    }
+    Ok(0)
+}
+
+/// Tells at which port the server listens, and serves connections over the tables in files, which
+/// are closed; how many were taken. None if the port could not be told.
+fn serve_first<D: Disk + Drop>(
+    rt: &HostRuntime,
+    task: &ServeTask,
+    listener: &TcpListener,
+    conn: Connection<FileStore<D>>,
+    is_new: bool,
+) -> Result<Option<u32>, ProgramFault> {
+    let mut desk = desk_of(rt, conn)?;
+    if is_new {
+        tell_made(rt, &task.db);
+    }
+    let mut taken = None;
+    if is_announced(rt, listener) {
+        taken = Some(serve_until(rt, task, listener, 0, &mut desk));
+    }
+    closed_after(desk, taken.is_none_or(|it| it >= task.connections))?;
+    Ok(taken)
+}
+
+/// Serves connections after so many others over the tables in files that were opened again, which
+/// are closed; how many were taken in all.
+fn serve_again<D: Disk + Drop>(
+    rt: &HostRuntime,
+    task: &ServeTask,
+    listener: &TcpListener,
+    taken: u32,
+    conn: Connection<FileStore<D>>,
+) -> Result<u32, ProgramFault> {
+    let mut desk = desk_of(rt, conn)?;
+    let taken = serve_until(rt, task, listener, taken, &mut desk);
+    closed_after(desk, taken >= task.connections)?;
+    Ok(taken)
+}
+
+/// Closes the files of a desk. `NotClosed` if they can't be and are not opened again, by which what
+/// is in the log would be found.
+fn closed_after<D: Disk + Drop>(
+    desk: Desk<FileStore<D>>,
+    is_last: bool,
+) -> Result<(), ProgramFault> {
+    match closed(desk) {
+        Err(fault) if is_last => Err(fault),
+        Ok(()) | Err(_) => Ok(()),
+    }
+}
+
+/// Whether it was told at which port the server listens.
+fn is_announced(rt: &HostRuntime, listener: &TcpListener) -> bool {
+    let (mut out, mut err) = (Port::new(io::writer(rt)), Port::new(rt.stderr()));
+    announce(listener, &mut out, &mut err).is_ok()
+}
+
+/// Serves connections after so many others, until all are served or the desk does not answer any
+/// more, and answers how many were taken in all.
+fn serve_until<S: Alter>(
+    rt: &HostRuntime,
+    task: &ServeTask,
+    listener: &TcpListener,
+    taken: u32,
+    desk: &mut Desk<S>,
+) -> u32 {
+    let limits = Limits {
+        connections: task.connections,
+        idle: task.idle,
+        silence: task.silence,
+        duration: task.duration,
+    };
+    let taken = taken.min(limits.connections);
+    serve_on(
+        rt,
+        listener,
+        limits,
+        taken,
+        desk,
+        &mut Port::new(rt.stderr()),
+    )
+}

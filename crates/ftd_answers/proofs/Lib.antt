@@ -1,0 +1,9 @@
+pub mod LineFacts
+pub mod MonthFacts
+pub mod RowFacts
+pub mod LateFacts
+pub mod AgendaFacts
+pub mod RowFormatFacts
+pub mod CalendarFacts
+mod LineParts
+mod ExplanationParts

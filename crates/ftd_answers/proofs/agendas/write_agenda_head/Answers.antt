@@ -1,0 +1,6 @@
+use Rattle.ftd_answers.proofs.agendas.write_agenda_head.Goals as goal
+
+pub returns : goal.returns
+returns g c =
+    rw (c.day_bytes-from.ensures, c.day_bytes-to.ensures, c.day_bytes-as_of.ensures)
+    at c.write_pieces.ensures

@@ -1,0 +1,11 @@
+use Rattle.std.proofs.Common.{drop}
+use Rattle.std.specs.List.{flat_map}
+use Rattle.ftd_ports.proofs.WritingFacts.{HasWritten}
+use Rattle.ftd_answers.proofs.rows.write_rows.Given as goal
+
+-- what is left to write: the texts of the other rows
+abbrev pub invariant-loop-row : goal.invariant-loop-row
+invariant-loop-row g l =
+    HasWritten (g.W.Target.taken l.fn.target) (g.W.Target.taken l.target)
+    (flat_map (g.F.RowFormat.row_text l.format) l.rows)
+    (flat_map (g.F.RowFormat.row_text l.format) (drop l.row-index l.rows))

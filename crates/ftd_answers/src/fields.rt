@@ -1,0 +1,236 @@
+//! The fields of a row, as CSV and as JSON.
+
+ghost use Rattle.std.specs.Prelude.{◌≡◌, true, map};
+ghost use Rattle.ftd_ports.specs.Writing.{Writes};
+ghost use Rattle.std.specs.Fmt.{decimal};
+ghost use Rattle.ftd_days.specs.Text.{cents_text};
+ghost use Rattle.ftd_answers.specs.Fields.{array_of, json_text, list_of, list_with, member_of};
+ghost use Rattle.ftd_answers.specs.Fields.{object_of, plain_of, plain_text, quoted, record_of};
+ghost use Rattle.ftd_answers.specs.Fields.{true_false, yes_no};
+
+use crate::rows::{RowFormat, write_enclosed, write_joined};
+use crate::{amount_text, day_bytes, form_bytes, quarter_bytes, rule_name, verdict_name};
+use ftd_days::{Cents, Day, Quarter};
+use ftd_ports::{Target, WriteFault, write_all, write_pieces};
+use ftd_rules::{Form, Rule, Verdict};
+use itoa::Buffer;
+
+/// The value of a field.
+#[derive(Clone, Copy, Debug)]
+pub enum Value<'a> {
+    /// A text of which no byte is to be escaped, such as the name of an account.
+    Text(&'a str),
+    /// A whole number.
+    Number(u32),
+    /// An amount in cents.
+    Amount(Cents),
+    /// A sum of amounts in cents.
+    Sum(u128),
+    /// A day.
+    Day(Day),
+    /// A quarter.
+    Quarter(Quarter),
+    /// The form that an account files.
+    Form(Form),
+    /// The rule of an obligation.
+    Rule(Rule),
+    /// How an obligation stands.
+    Verdict(Verdict),
+    /// Yes or no.
+    Flag(bool),
+    /// There is none.
+    Missing,
+}
+
+/// The values of fields as CSV.
+#[derive(Drop)]
+struct Values;
+
+/// The members of an object of JSON.
+#[derive(Drop)]
+struct Members;
+
+/// Yes or no.
+fn yes_no(flag: bool) -> &'static [u8]
+    ensures { result.now ≡ yes_no flag }
+{
+    if flag { b"yes" } else { b"no" }
+}
+
+/// True or false.
+fn true_false(flag: bool) -> &'static [u8]
+    ensures { result.now ≡ true_false flag }
+{
+    if flag { b"true" } else { b"false" }
+}
+
+/// Writes an amount in cents.
+fn write_amount<W: Target>(cents: u128, target: &mut W) -> Result<(), WriteFault>
+    ensures { Writes result (W.taken target.old) (W.taken target.new)
+        (W.failed target.new) (cents_text cents) }
+{
+    let mut dollars = Buffer::new();
+    let amount = amount_text(cents, &mut dollars);
+    write_pieces(target, &[amount.dollars, &amount.cents])
+}
+
+/// Writes a whole number.
+fn write_number<W: Target>(number: u32, target: &mut W) -> Result<(), WriteFault>
+    ensures { Writes result (W.taken target.old) (W.taken target.new)
+        (W.failed target.new) (decimal number) }
+{
+    let mut digits = Buffer::new();
+    write_all(target, digits.format(number).as_bytes())
+}
+
+/// Writes a value as it stands in a record of CSV.
+fn write_plain<W: Target>(value: &Value<'_>, target: &mut W) -> Result<(), WriteFault>
+    ensures { Writes result (W.taken target.old) (W.taken target.new)
+        (W.failed target.new) (plain_text value.now) }
+{
+    match value {
+        Value::Text(text) => write_all(target, text.as_bytes()),
+        Value::Number(number) => write_number(*number, target),
+        Value::Amount(cents) => write_amount(u128::from(cents.0), target),
+        Value::Sum(total) => write_amount(*total, target),
+        Value::Day(day) => write_all(target, &day_bytes(*day)),
+        Value::Quarter(quarter) => write_all(target, &quarter_bytes(*quarter)),
+        Value::Form(form) => write_all(target, &form_bytes(*form)),
+        Value::Rule(rule) => write_all(target, rule_name(*rule)),
+        Value::Verdict(verdict) => write_all(target, verdict_name(*verdict)),
+        Value::Flag(flag) => write_all(target, yes_no(*flag)),
+        Value::Missing => Ok(()),
+    }
+}
+
+/// Writes a value as a text of JSON.
+#[tactic(auto, using(ftd_ports::proofs::WritingFacts::written_in_parts))]
+fn write_quoted<W: Target>(value: &Value<'_>, target: &mut W) -> Result<(), WriteFault>
+    ensures { Writes result (W.taken target.old) (W.taken target.new)
+        (W.failed target.new) (quoted (plain_text value.now)) }
+{
+    write_all(target, b"\"")?;
+    write_plain(value, target)?;
+    write_all(target, b"\"")
+}
+
+/// Writes a value as JSON.
+fn write_json<W: Target>(value: &Value<'_>, target: &mut W) -> Result<(), WriteFault>
+    ensures { Writes result (W.taken target.old) (W.taken target.new)
+        (W.failed target.new) (json_text value.now) }
+{
+    match value {
+        Value::Number(number) => write_number(*number, target),
+        Value::Flag(flag) => write_all(target, true_false(*flag)),
+        Value::Missing => write_all(target, b"null"),
+        Value::Text(_)
+        | Value::Amount(_)
+        | Value::Sum(_)
+        | Value::Day(_)
+        | Value::Quarter(_)
+        | Value::Form(_)
+        | Value::Rule(_)
+        | Value::Verdict(_) => write_quoted(value, target),
+    }
+}
+
+impl<'a, 'b> RowFormat<(&'a str, Value<'b>)> for Values {
+    ghost row_text = { λ values field. plain_of field };
+
+    fn write_row<W: Target>(
+        &self,
+        row: &(&'a str, Value<'b>),
+        target: &mut W,
+    ) -> Result<(), WriteFault> {
+        let (_, value) = row;
+        write_plain(value, target)
+    }
+}
+
+impl<'a, 'b> RowFormat<(&'a str, Value<'b>)> for Members {
+    ghost row_text = { λ members field. member_of field };
+
+    fn write_row<W: Target>(
+        &self,
+        row: &(&'a str, Value<'b>),
+        target: &mut W,
+    ) -> Result<(), WriteFault> {
+        let (name, value) = row;
+        write_pieces(target, &[b"\"", name.as_bytes(), b"\":"])?;
+        write_json(value, target)
+    }
+}
+
+/// Writes the fields of a row as a record of CSV: their values, with one comma between, and the end
+/// of the line. Where the target fails, a prefix of that was written, and it fails nowhere else.
+#[tactic(auto, using(ftd_ports::proofs::WritingFacts::written_in_parts))]
+pub fn write_record<W: Target>(
+    fields: &[(&str, Value<'_>)],
+    target: &mut W,
+) -> Result<(), WriteFault>
+    ensures { Writes result (W.taken target.old) (W.taken target.new)
+        (W.failed target.new) (record_of (map plain_of fields.now)) }
+{
+    write_joined(&Values, fields, target)?;
+    write_all(target, b"\n")
+}
+
+/// Writes the fields of a row as an object of JSON. Where the target fails, a prefix of it was
+/// written, and it fails nowhere else.
+pub fn write_object<W: Target>(
+    fields: &[(&str, Value<'_>)],
+    target: &mut W,
+) -> Result<(), WriteFault>
+    ensures { Writes result (W.taken target.old) (W.taken target.new)
+        (W.failed target.new) (object_of (map member_of fields.now)) }
+{
+    write_enclosed(b"{", &Members, fields, b"}", target)
+}
+
+/// Writes rows as an array of JSON. Where the target fails, a prefix of it was written, and it
+/// fails nowhere else.
+pub fn write_array<T, F: RowFormat<T>, W: Target>(
+    format: &F,
+    rows: &[T],
+    target: &mut W,
+) -> Result<(), WriteFault>
+    ensures { Writes result (W.taken target.old) (W.taken target.new)
+        (W.failed target.new) (array_of (map (F.row_text format.now) rows.now)) }
+{
+    write_enclosed(b"[", format, rows, b"]", target)
+}
+
+/// Writes rows as a list of JSON: an object whose member `rows` is an array of them, and the end of
+/// the line. Where the target fails, a prefix of it was written, and it fails nowhere else.
+#[tactic(auto, using(ftd_ports::proofs::WritingFacts::written_in_parts))]
+pub fn write_list<T, F: RowFormat<T>, W: Target>(
+    format: &F,
+    rows: &[T],
+    target: &mut W,
+) -> Result<(), WriteFault>
+    ensures { Writes result (W.taken target.old) (W.taken target.new)
+        (W.failed target.new) (list_of (map (F.row_text format.now) rows.now)) }
+{
+    write_all(target, b"{\"rows\":")?;
+    write_array(format, rows, target)?;
+    write_all(target, b"}\n")
+}
+
+/// Writes rows as a list of JSON, as `write_list` does, with these members more behind the rows.
+#[tactic(auto, using(ftd_ports::proofs::WritingFacts::written_in_parts))]
+pub fn write_list_with<T, F: RowFormat<T>, W: Target>(
+    format: &F,
+    rows: &[T],
+    fields: &[(&str, Value<'_>)],
+    target: &mut W,
+) -> Result<(), WriteFault>
+    ensures { Writes result (W.taken target.old) (W.taken target.new)
+        (W.failed target.new) (list_with (map (F.row_text format.now) rows.now) (map member_of
+        fields.now)) }
+{
+    write_all(target, b"{\"rows\":")?;
+    write_array(format, rows, target)?;
+    write_all(target, b",")?;
+    write_joined(&Members, fields, target)?;
+    write_all(target, b"}\n")
+}

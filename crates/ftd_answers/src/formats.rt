@@ -1,0 +1,133 @@
+//! The formats in which lists are told.
+
+ghost use Rattle.std.specs.Prelude.{◌≡◌, ◌<◌};
+ghost use Rattle.std.specs.List.{sum_by};
+ghost use Rattle.ftd_ports.specs.Writing.{Writes};
+ghost use Rattle.ftd_rules.specs.Liability.{cents_of};
+ghost use Rattle.ftd_rules.specs.Verdicts.{amount_of};
+ghost use Rattle.ftd_answers.specs.Formats.{agenda_as, b_as, due_as, list_format, owed_as};
+
+use crate::agenda_forms::{write_agenda_csv, write_agenda_json};
+use crate::calendars::write_agenda_calendar;
+use crate::due_list_forms::{write_due_csv, write_due_json};
+use crate::schedule_b_forms::{write_b_csv, write_b_json};
+use crate::{due_list, schedule_b, write_agenda, write_owed};
+use ftd_days::{Day, Quarter};
+use ftd_machine::AgendaRow;
+use ftd_ports::{Target, WriteFault};
+use ftd_rules::{DaySum, DueRow};
+
+/// A format of a list.
+#[derive(Clone, Copy, Debug, PartialEq, Eq)]
+pub enum ListFormat {
+    /// Lines of columns, for people.
+    Text,
+    /// CSV.
+    Csv,
+    /// JSON.
+    Json,
+}
+
+/// A format of what is due over all accounts.
+#[derive(Clone, Copy, Debug, PartialEq, Eq)]
+pub enum Format {
+    /// That of a list.
+    List(ListFormat),
+    /// iCalendar.
+    Calendar,
+}
+
+impl Format {
+    /// The format of a list that is no calendar: text, where a calendar is asked for.
+    pub fn of_list(self) -> ListFormat
+        ensures { result ≡ list_format self }
+    {
+        match self {
+            Format::List(format) => format,
+            Format::Calendar => ListFormat::Text,
+        }
+    }
+}
+
+/// Writes what is due between two days over all accounts, as of a day, in a format. It takes no
+/// memory but what the target takes. Where the target fails, a prefix of the text was written, and
+/// it fails nowhere else.
+pub fn write_agenda_as<W: Target>(
+    format: Format,
+    from: Day,
+    to: Day,
+    as_of: Day,
+    rows: &[AgendaRow],
+    target: &mut W,
+) -> Result<(), WriteFault>
+    ensures { Writes result (W.taken target.old) (W.taken target.new)
+        (W.failed target.new) (agenda_as format from to as_of rows.now) }
+{
+    match format {
+        Format::List(ListFormat::Text) => write_agenda(from, to, as_of, rows, target),
+        Format::List(ListFormat::Csv) => write_agenda_csv(rows, target),
+        Format::List(ListFormat::Json) => write_agenda_json(rows, target),
+        Format::Calendar => write_agenda_calendar(as_of, rows, target),
+    }
+}
+
+/// Writes what is due until a day over all accounts and not paid as of a day, as `write_agenda_as`
+/// does.
+pub fn write_owed_as<W: Target>(
+    format: Format,
+    until: Day,
+    as_of: Day,
+    rows: &[AgendaRow],
+    target: &mut W,
+) -> Result<(), WriteFault>
+    ensures { Writes result (W.taken target.old) (W.taken target.new)
+        (W.failed target.new) (owed_as format until as_of rows.now) }
+{
+    match format {
+        Format::List(ListFormat::Text) => write_owed(until, as_of, rows, target),
+        Format::List(ListFormat::Csv) => write_agenda_csv(rows, target),
+        Format::List(ListFormat::Json) => write_agenda_json(rows, target),
+        Format::Calendar => write_agenda_calendar(as_of, rows, target),
+    }
+}
+
+/// Writes the due list of an account's quarter as of a day, in a format, as `write_agenda_as` does.
+/// The amounts are together below 6,000,000,000,000,000 cents.
+pub fn write_due_as<W: Target>(
+    format: ListFormat,
+    account: &str,
+    quarter: Quarter,
+    as_of: Day,
+    rows: &[DueRow],
+    target: &mut W,
+) -> Result<(), WriteFault>
+    requires amounts { sum_by amount_of rows.now < 6_000_000_000_000_000 }
+    ensures { Writes result (W.taken target.old) (W.taken target.new)
+        (W.failed target.new) (due_as format account.now quarter as_of rows.now) }
+{
+    match format {
+        ListFormat::Text => due_list(account, quarter, as_of, rows, target),
+        ListFormat::Csv => write_due_csv(account, rows, target),
+        ListFormat::Json => write_due_json(account, rows, target),
+    }
+}
+
+/// Writes Schedule B of an account's quarter in a format, as `write_agenda_as` does. The amounts
+/// are together below 6,000,000,000,000,000 cents.
+pub fn write_b_as<W: Target>(
+    format: ListFormat,
+    account: &str,
+    quarter: Quarter,
+    sums: &[DaySum],
+    target: &mut W,
+) -> Result<(), WriteFault>
+    requires amounts { sum_by cents_of sums.now < 6_000_000_000_000_000 }
+    ensures { Writes result (W.taken target.old) (W.taken target.new)
+        (W.failed target.new) (b_as format account.now quarter sums.now) }
+{
+    match format {
+        ListFormat::Text => schedule_b(account, quarter, sums, target),
+        ListFormat::Csv => write_b_csv(account, sums, target),
+        ListFormat::Json => write_b_json(account, sums, target),
+    }
+}

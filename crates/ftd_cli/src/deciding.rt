@@ -1,0 +1,178 @@
+//! What the words of a command line ask.
+
+ghost use Rattle.std.specs.Prelude.{◌≡◌, Err, IfErr, Result, map};
+ghost use Rattle.std.specs.String.{string_bytes};
+ghost use Rattle.clap.specs.Words.{IsAmong, Kinds, kind_of, subcommand_of, subcommand_rows_of};
+ghost use Rattle.ftd_cli.specs.declared.fault.WordFault.TheVariants.{BadWord};
+ghost use Rattle.ftd_cli.specs.Apps.{ftd_app};
+ghost use Rattle.ftd_cli.specs.Values.{bad_value};
+ghost use Rattle.ftd_cli.specs.Asking.{TellsAs, Wanted};
+ghost use Rattle.ftd_cli.specs.Tasks.{Fails, Gives, IsUsage, Refused, ShowsValue, command_named};
+ghost use Rattle.ftd_cli.specs.Tasks.{rows_in, task_of, task_view, value, wanted_in, words};
+
+use crate::asking::task_for;
+use crate::escape::{escaped, escaped_word};
+use crate::fault::WordFault;
+use crate::parse::{ParseFault, parsed};
+use crate::reading::bad_value;
+use crate::tasks::{CliFault, Task};
+use crate::{NAMES, Name, Word};
+use clap::error::ErrorKind;
+use clap::{ArgMatches, Error};
+use std::alloc::Global;
+
+/// What is told of words that name no subcommand.
+const NO_COMMAND: &str = "\
+error: no command is named
+
+For more information, try '--help'.
+";
+
+/// What is said where a word has a hyphen before a digit: `clap` takes it for an option.
+const NO_SIGNS: &str = "hint: amounts and numbers have no sign\n";
+
+/// What is told of a form that there is none of.
+const NO_FORM: &str = "\
+error: invalid value for '--form <FORM>'
+  [possible values: 941, 943]
+
+For more information, try '--help'.
+";
+
+/// The subcommand that is written so.
+#[tactic(auto, unfolding(crate::specs::Tasks::command_named))]
+fn command_named(text: &str) -> Option<Name>
+    ensures { result ≡ command_named text.now }
+{
+    NAMES.iter().copied().find(|name| name.text() == text)
+}
+
+/// What the subcommand of the words asks.
+fn task_in(alloc: Global, matches: &ArgMatches<'_>) -> Result<Task, WordFault>
+    ensures { TellsAs task_view result (wanted_in (subcommand_rows_of matches.now)) }
+{
+    let Some((text, inner)) = matches.subcommand() else {
+        return Err(WordFault::NoCommand);
+    };
+    let Some(name) = command_named(text) else {
+        return Err(WordFault::NoCommand);
+    };
+    task_for(alloc, name, inner)
+}
+
+/// Whether a word has a hyphen before a digit, as a negative amount has.
+fn is_signed(word: &str) -> bool {
+    match word.as_bytes() {
+        [mark, digit, ..] => *mark == b'-' && digit.is_ascii_digit(),
+        _ => false,
+    }
+}
+
+/// What is said of signs below the usage that words of a command line get.
+fn signs_said(given: &[String]) -> &'static str {
+    if given.iter().any(|word| is_signed(word)) {
+        NO_SIGNS
+    } else {
+        ""
+    }
+}
+
+/// How the subcommand that the words name is used. The empty text where they name none.
+fn example_for(given: &[String]) -> &'static str {
+    match given.get(1) {
+        Some(text) => match command_named(text) {
+            Some(name) => name.example(),
+            None => "",
+        },
+        None => "",
+    }
+}
+
+/// What words get that are no command line: the text of `clap`, and below it how the subcommand is
+/// used.
+fn usage_for(alloc: Global, text: &str, given: &[String]) -> CliFault
+    ensures { (said : Result Wanted Refused) → IsUsage said → Fails result said }
+{
+    let (signs, example) = (signs_said(given), example_for(given));
+    let end = if example.is_empty() { "" } else { "\n" };
+    match format!(in alloc; "{text}{signs}{example}{end}") {
+        Ok(whole) => usage(alloc, &whole),
+        Err(_) => CliFault::Memory,
+    }
+}
+
+/// What an error of `clap` tells of these words.
+fn told_error(alloc: Global, error: &Error, given: &[String]) -> CliFault
+    ensures { (kinds : Kinds) → IsAmong (kind_of error.now) kinds
+        → Fails result (Err (words kinds)) }
+{
+    let Ok(text) = error.to_string(alloc) else {
+        return CliFault::Memory;
+    };
+    match error.kind() {
+        ErrorKind::DisplayHelp | ErrorKind::DisplayVersion => CliFault::Help(text),
+        _ => usage_for(alloc, &text, given),
+    }
+}
+
+/// What a fault of the values tells.
+fn told_fault(alloc: Global, matches: &ArgMatches<'_>, fault: WordFault) -> CliFault
+    ensures told { Fails result (Err (value fault)) }
+    ensures value { ShowsValue (rows_in (subcommand_rows_of matches.now)) result }
+{
+    match fault {
+        WordFault::BadWord(word) => bad_argument(alloc, matches, word),
+        WordFault::Memory => CliFault::Memory,
+        WordFault::NoForm => usage(alloc, NO_FORM),
+        WordFault::NoCommand => usage(alloc, NO_COMMAND),
+    }
+}
+
+/// The first value of the word that is none of its kind.
+fn value_in<'a>(matches: &ArgMatches<'a>, word: Word) -> &'a str
+    ensures { result.now ≡ bad_value word (rows_in (subcommand_rows_of matches.now)) }
+{
+    match matches.subcommand() {
+        Some((_, inner)) => bad_value(inner, word),
+        None => "",
+    }
+}
+
+/// The word, and its first value that is none of its kind.
+fn bad_argument(alloc: Global, matches: &ArgMatches<'_>, word: Word) -> CliFault
+    ensures told { Fails result (Err (value (BadWord word))) }
+    ensures value { ShowsValue (rows_in (subcommand_rows_of matches.now)) result }
+{
+    CliFault::BadArgument {
+        word,
+        value: escaped_word(alloc, value_in(matches, word)).ok(),
+    }
+}
+
+/// The text, as what is told of words that are no command line. A word may stand in it.
+fn usage(alloc: Global, text: &str) -> CliFault
+    ensures { (said : Result Wanted Refused) → IsUsage said → Fails result said }
+{
+    match escaped(alloc, text) {
+        Ok(text) => CliFault::Usage(text),
+        Err(_) => CliFault::Memory,
+    }
+}
+
+/// What the words ask, of which the first is the program's name. `BadArgument` names the first word
+/// whose value is none of its kind, and has that value where there is memory for it; `Usage` and
+/// `Help` have the text that is printed.
+pub fn decide(alloc: Global, words: &[String]) -> Result<Task, CliFault>
+    ensures asked { Gives result (task_of (map string_bytes words.now)) }
+    ensures value { IfErr result
+        (ShowsValue (rows_in (subcommand_of ftd_app (map string_bytes words.now)))) }
+{
+    match parsed(alloc, words) {
+        Ok(matches) => match task_in(alloc, &matches) {
+            Ok(task) => Ok(task),
+            Err(fault) => Err(told_fault(alloc, &matches, fault)),
+        },
+        Err(ParseFault::Memory) => Err(CliFault::Memory),
+        Err(ParseFault::Refused(error)) => Err(told_error(alloc, &error, words)),
+    }
+}

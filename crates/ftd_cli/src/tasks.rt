@@ -1,0 +1,95 @@
+//! What words may ask, and why they may ask nothing.
+
+ghost use Rattle.std.specs.Prelude.{◌≤◌};
+
+use crate::Word;
+use ftd_answers::Format;
+use ftd_csv::Sheet;
+use ftd_machine::{AccountName, Days, Request};
+
+/// The deposits of an account in a year, from pay runs on standard input.
+#[derive(Drop)]
+pub struct PlainTask {
+    /// The account's name.
+    pub account: AccountName,
+    /// The year, one of 2001 to 2098.
+    pub year: u32,
+    /// The holidays of the year and the next.
+    pub holidays: Days,
+    pub ghost from: { 2001 ≤ year },
+    pub ghost to: { year ≤ 2098 },
+}
+
+/// What is to be done with the desk in a database.
+#[derive(Drop)]
+pub enum Job {
+    /// The records of this CSV file are entered; `-` is standard input. A trial tells what would be
+    /// answered, and changes nothing.
+    Import {
+        sheet: Sheet,
+        file: String,
+        is_trial: bool,
+    },
+    /// A request. A reply that has several formats, as a list has, is told in this one.
+    Ask {
+        format: Format,
+        request: Request,
+    },
+    /// A correction under the next number: a request under the greatest one, to which the desk
+    /// answers how many corrections there are, unless it refuses it otherwise. It is to be asked
+    /// again under one more than these.
+    AskNext {
+        request: Request,
+    },
+}
+
+/// A job, and the file of the desk's database.
+#[derive(Drop)]
+pub struct LocalTask {
+    /// The database file.
+    pub db: String,
+    /// How many seconds it waits while another program has the file open.
+    pub wait: u32,
+    pub job: Job,
+}
+
+/// HTTP requests are to be answered by the desk in a database.
+#[derive(Drop)]
+pub struct ServeTask {
+    /// The database file.
+    pub db: String,
+    /// How many seconds it waits while another program has the file open.
+    pub wait: u32,
+    /// The port of 127.0.0.1 to listen at; 0 is a free one.
+    pub port: u16,
+    /// How many connections are taken.
+    pub connections: u32,
+    /// How many seconds a client may be idle between two requests.
+    pub idle: u32,
+    /// How many seconds a read or a write waits for the client.
+    pub silence: u32,
+    /// For how many seconds one connection is served at most.
+    pub duration: u32,
+}
+
+/// What words ask.
+#[derive(Drop)]
+pub enum Task {
+    Plain(PlainTask),
+    Serve(ServeTask),
+    Local(LocalTask),
+}
+
+/// Why words ask nothing.
+#[derive(Drop)]
+pub enum CliFault {
+    /// The first word whose value is none of its kind, and that value, its control bytes escaped.
+    /// None where there was no memory for it.
+    BadArgument { word: Word, value: Option<String> },
+    /// They are no command line: this text tells why.
+    Usage(String),
+    /// They ask for help, or for the version: this text.
+    Help(String),
+    /// Out of memory.
+    Memory,
+}

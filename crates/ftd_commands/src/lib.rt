@@ -1,6 +1,0 @@
-//! The commands of the program and their words, as a table.
-#![tactic(auto)]
-
-mod table;
-
-pub use crate::table::{NAMES, Name, Takes, Word};

@@ -1,3 +1,0 @@
-pub mod EndFacts
-pub mod ServeFacts
-pub mod ListeningFacts

@@ -1,6 +1,0 @@
-mod PlainFields
-mod RecordText
-mod PrintedDays
-mod ReadBack
-mod Reread
-mod Imported

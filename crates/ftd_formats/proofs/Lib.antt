@@ -1,2 +1,0 @@
-pub mod RowFacts
-pub mod CalendarFacts

@@ -1,8 +1,0 @@
-use Rattle.std.proofs.Common.{arith}
-use Rattle.ftd_hints.proofs.ShownFacts.{filled}
-use Rattle.ftd_hints.proofs.shown.show.Goals as goal
-
-pub returns : goal.returns
-returns c =
-    filled c.loop-i.buffer c.args.text.now c.min-count.result c.loop-i.invariant.room
-    c.min-count.ensures (λ k h. c.loop-i.invariant.each k (omega arith))

@@ -1,5 +1,0 @@
-pub mod Shown
-pub mod Headers
-pub mod Fields
-pub mod Hints
-pub mod Places

@@ -1,7 +1,0 @@
-mod AddedDay
-mod ChangedDay
-mod DayTurned
-mod DueAgain
-mod MovedOwed
-mod MovedRows
-mod ReadYears

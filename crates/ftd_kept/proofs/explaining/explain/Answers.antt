@@ -1,0 +1,56 @@
+use Rattle.std.proofs.Common.{◌∙◌, Ok, refl, rules, ap, subst}
+use Rattle.ftd_store.proofs.Telling.{then_reads}
+use Rattle.ftd_machine.specs.History.{form_of}
+use Rattle.ftd_machine.specs.declared.facts.Facts.TheVariants.{Explained}
+use Rattle.ftd_machine.specs.declared.replies.Reply.TheVariants.{Told}
+use Rattle.ftd_machine.specs.declared.requests.Question.TheVariants.{Explain}
+use Rattle.ftd_machine.specs.declared.requests.Request.TheVariants.{Question}
+use Rattle.ftd_machine.proofs.Deciding.{decided, passed}
+use Rattle.ftd_entries.specs.Known.{KnowsLines}
+use Rattle.ftd_entries.proofs.Serving.{served_looked}
+use Rattle.ftd_entries.proofs.Settling.{owes}
+use Rattle.ftd_kept.specs.Explained.{KnowsExplained}
+use Rattle.ftd_kept.proofs.Scheduling.{account_and_lines, checks_are}
+use Rattle.ftd_kept.proofs.explaining.explain.Goals as goal
+
+pub returns-in-Some : goal.returns-in-Some
+returns-in-Some g c = record {
+  call = served_looked (Question (Explain c.args.name.now c.args.day)) c.in-Some.answer
+      (account_and_lines c.args.name.now c.in_ok-account.ensures.call c.in_ok-lines.ensures.call)
+      (λ t s stands sound knows. decided _ s c.in-Some.answer _
+      (checks_are c.args.name.now c.args.day _ _ t s stands (knows s stands).0 (knows s stands).1
+      ∙ search rules));
+}
+
+pub returns : goal.returns
+returns g c =
+    let name = c.args.name.now in
+    let day = c.args.day in
+    let lines = c.in_ok-lines.lines.items in
+    let account = c.in_ok-account.account in
+    let form = c.in-Some-account.account.form in
+    let explained = c.in_ok-explained.explained in
+    let answer = Ok (Told (Explained explained)) in
+    record {
+      call = served_looked (Question (Explain name day)) answer (then_reads explained
+          (λ x t. KnowsLines name account lines t × KnowsExplained name form lines day x t)
+          (account_and_lines name c.in_ok-account.ensures.call c.in_ok-lines.ensures.call)
+          c.in_ok-explained.ensures.call (λ t first second. (
+            first,
+            subst (λ xs. KnowsExplained name form xs day explained t) c.deref-2.ensures.value
+                second,
+          )))
+          (λ t s stands sound knows. (let told = knows.0 s stands in
+          passed _ s answer s _
+          (checks_are name day account lines t s stands told.0 told.1 ∙ search rules) (
+            refl,
+            record {
+              owed = (stands.settled name).owed;
+              are_owed = owes (stands.settled name);
+              explained = explained;
+              is_explained = knows.1 s stands sound
+                  (ap form_of (told.0 ∙ c.in-Some-account.is)) told.1;
+              told = refl;
+            },
+          )));
+    }

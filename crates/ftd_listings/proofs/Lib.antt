@@ -1,2 +1,0 @@
-mod LineParts
-mod ExplanationParts

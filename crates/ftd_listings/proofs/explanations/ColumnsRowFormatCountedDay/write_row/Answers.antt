@@ -1,4 +1,0 @@
-use Rattle.ftd_listings.proofs.explanations.ColumnsRowFormatCountedDay.write_row.Goals as goal
-
-pub returns : goal.returns
-returns g c = rw (c.day_bytes-day.ensures, c.day_kind_bytes.ensures) at c.write_pieces.ensures

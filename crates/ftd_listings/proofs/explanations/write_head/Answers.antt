@@ -1,4 +1,0 @@
-use Rattle.ftd_listings.proofs.explanations.write_head.Goals as goal
-
-pub returns : goal.returns
-returns g c = rw (c.as_bytes.ensures.value, c.day_bytes-day.ensures) at c.write_pieces.ensures

@@ -1,4 +1,0 @@
-use Rattle.ftd_listings.proofs.unapplied.write_head.Goals as goal
-
-pub returns : goal.returns
-returns g c = rw c.day_bytes-until.ensures at c.write_pieces.ensures

@@ -1,5 +1,0 @@
-use Rattle.ftd_messages.proofs.CutFacts.{cuts_one}
-use Rattle.ftd_messages.proofs.laws.one_cut_into_messages.Goals as goal
-
-pub returns : goal.returns
-returns c = cuts_one

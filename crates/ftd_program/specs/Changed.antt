@@ -1,0 +1,26 @@
+-- How the records of an import change the obligations of accounts.
+use Rattle.std.specs.Prelude.{ℕ, List, Option, None, Some, Ok, Err}
+use Rattle.ftd_csv.specs.Records.{Entry, a_payment, a_run, a_total, an_account}
+use Rattle.ftd_machine.specs.Checks.{Answer}
+use Rattle.ftd_machine.specs.declared.replies.Difference.{Difference}
+use Rattle.ftd_machine.specs.declared.replies.Reply.TheVariants as reply
+use Rattle.ftd_program.specs.declared.changes.AccountChange.{AccountChange}
+
+-- the account, the obligations that were removed and those that were added
+abbrev pub account_change : List ℕ → Difference → AccountChange
+account_change account d = record { account = account; removed = d.removed; added = d.added }
+
+-- so where the answer to its post tells of a change
+abbrev pub change_by : List ℕ → Answer → Option AccountChange
+change_by account (Ok (reply.Posted difference)) = Some (account_change account difference)
+change_by account (Ok reply.Done) = None
+change_by account (Ok reply.Already) = None
+change_by account (Ok (reply.Told facts)) = None
+change_by account (Err refused) = None
+
+-- how the entry of a record that was answered so changed the obligations of its account
+abbrev pub change_of : Entry → Answer → Option AccountChange
+change_of (a_run run) answer = change_by run.employer answer
+change_of (an_account account) answer = None
+change_of (a_total total) answer = None
+change_of (a_payment payment) answer = None

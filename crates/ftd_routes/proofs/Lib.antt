@@ -1,4 +1,0 @@
-pub mod RouteFacts
-pub mod BodyFacts
-pub mod PathFacts
-pub mod AskFacts

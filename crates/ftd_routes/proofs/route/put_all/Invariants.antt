@@ -1,8 +1,0 @@
-use Rattle.std.proofs.Common.{◌≡◌, drop, map}
-use Rattle.ftd_routes.specs.Routes.{with_routes}
-use Rattle.ftd_routes.proofs.RouteFacts.{seen}
-use Rattle.ftd_routes.proofs.route.put_all.Given as goal
-
-abbrev pub invariant-loop-route : goal.invariant-loop-route
-invariant-loop-route l = with_routes (map seen (drop l.route-index l.routes)) l.router
-    ≡ with_routes (map seen l.routes) l.initial.router

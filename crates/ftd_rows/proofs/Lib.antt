@@ -1,4 +1,0 @@
-pub mod Found
-pub mod Listed
-pub mod DaySums
-pub mod OpenYears

@@ -1,8 +1,0 @@
-use Rattle.std.proofs.Common.{◌≡◌, drop}
-use Rattle.ftd_rows.specs.Corrections.{last_account}
-use Rattle.ftd_rows.proofs.corrections.last_account.Given as goal
-
-abbrev pub invariant-loop-correction : goal.invariant-loop-correction
-invariant-loop-correction l =
-    last_account l.account (drop l.correction-index l.corrections)
-    ≡ last_account l.initial.account l.corrections

@@ -1,0 +1,4 @@
+pub mod EndFacts
+pub mod ServeFacts
+pub mod ListeningFacts
+pub mod TableFacts

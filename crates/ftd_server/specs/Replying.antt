@@ -1,0 +1,47 @@
+-- The response to what is asked.
+use Rattle.std.specs.Prelude.{◌≡◌, ℕ, ◌++◌, List, codes, length, Ok, Err}
+use Rattle.std.specs.Fmt.{decimal}
+use Rattle.ftd_days.specs.Text.{day_text}
+use Rattle.ftd_http.specs.declared.status.Status.TheVariants as status
+use Rattle.ftd_machine.specs.Questions.{question_of}
+use Rattle.ftd_machine.specs.declared.requests.Request.{Request}
+use Rattle.ftd_machine.specs.declared.replies.Difference.{Difference}
+use Rattle.ftd_machine.specs.declared.replies.Reply.{Reply}
+use Rattle.ftd_machine.specs.declared.replies.Reply.TheVariants as reply
+use Rattle.ftd_machine.specs.Checks.{Answer}
+use Rattle.ftd_answers.specs.declared.formats.Format.{Format}
+use Rattle.ftd_server.specs.Facts.{facts_said}
+use Rattle.ftd_server.specs.Responses.{Said, bare, json}
+use Rattle.ftd_server.specs.Responses.{other_method}
+use Rattle.ftd_server.specs.Refusals.{refused}
+use Rattle.ftd_http.specs.declared.ask.Asked.{Asked}
+use Rattle.ftd_http.specs.declared.ask.Asked.TheVariants as asked
+
+-- how many obligations were removed and added, and their days, as JSON
+abbrev pub posted_text : Difference → List ℕ
+posted_text d =
+    codes "{\"added\":" ++ decimal (length d.added)
+    ++ codes ",\"from\":\"" ++ day_text d.from
+    ++ codes "\",\"removed\":" ++ decimal (length d.removed)
+    ++ codes ",\"reply\":\"posted\",\"to\":\"" ++ day_text d.to ++ codes "\"}"
+
+-- the response to a reply, in a format where it has several
+abbrev pub replied : Format → Request → Reply → Said
+replied format request reply.Done = json status.Okay (codes "{\"reply\":\"done\"}")
+replied format request reply.Already = json status.Okay (codes "{\"reply\":\"already\"}")
+replied format request (reply.Posted difference) = json status.Okay (posted_text difference)
+replied format request (reply.Told facts) = facts_said format (question_of request) facts
+
+abbrev pub answered : Format → Request → Answer → Said
+answered format request (Ok reply) = replied format request reply
+answered format request (Err refusal) = refused refusal
+
+-- The response to what is asked of a machine: where nothing is asked of it, it stays as it is.
+-- `goes` has the machine, a request, its answer, and the machine after it.
+module _ {M : Type 0} (goes : M → Request → Answer → M → Type 0) where
+  abbrev pub Responds : M → Asked → Said → M → Type 0
+  Responds now asked.NoRoute said later = (later ≡ now) × (said ≡ bare status.NotFound)
+  Responds now (asked.OtherMethod allow) said later = (later ≡ now) × (said ≡ other_method allow)
+  Responds now asked.BadForm said later = (later ≡ now) × (said ≡ bare status.BadRequest)
+  Responds now (asked.Asks format request) said later =
+      (answer : Answer) × goes now request answer later × (said ≡ answered format request answer)

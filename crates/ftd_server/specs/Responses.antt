@@ -1,0 +1,101 @@
+-- The text of a response.
+use Rattle.std.specs.Prelude.{ℕ, ◌++◌, Bool, true, false, List, [], ◌∷◌, length, codes, Option}
+use Rattle.std.specs.Prelude.{Some, None}
+use Rattle.std.specs.List.{concat}
+use Rattle.std.specs.Fmt.{decimal}
+use Rattle.ftd_http.specs.declared.status.Status.{Status}
+use Rattle.ftd_http.specs.declared.status.Status.TheVariants as status
+use Rattle.ftd_answers.specs.declared.formats.Format.{Format}
+use Rattle.ftd_answers.specs.declared.formats.Format.TheVariants as format
+use Rattle.ftd_answers.specs.declared.formats.ListFormat.{ListFormat}
+use Rattle.ftd_answers.specs.declared.formats.ListFormat.TheVariants.{Text, Csv, Json}
+use Rattle.ftd_http.specs.declared.ask.Method.{Method}
+use Rattle.ftd_http.specs.Asking.{method_text}
+use Rattle.ftd_server.specs.declared.response.Content.{Content}
+use Rattle.ftd_server.specs.declared.response.Content.TheVariants as content
+use Rattle.ftd_server.specs.declared.response.Response.{Response}
+
+-- a response: its status, the method that its route has (if the message has another), what its body
+-- is, and the body
+pub record Said : Type 0 where
+  pub status : Status
+  pub allow : Option Method
+  pub content : Content
+  pub body : List ℕ
+
+abbrev pub said_of : Response → Said
+said_of r = record { status = r.status; allow = r.allow; content = r.content; body = r.body.items }
+
+-- a response without a body
+abbrev pub bare : Status → Said
+bare status = record { status = status; allow = None; content = content.Nothing; body = [] }
+
+-- the response where the route has another method, which it names
+abbrev pub other_method : Method → Said
+other_method method = record (bare status.MethodNotAllowed) { allow = Some method }
+
+-- a response with a JSON body
+abbrev pub json : Status → List ℕ → Said
+json status body = record { status = status; allow = None; content = content.Json; body = body }
+
+-- a response with the text of a report in a format, and one with a list
+abbrev pub list_content : ListFormat → Content
+list_content Text = content.Text
+list_content Csv = content.Csv
+list_content Json = content.Json
+
+abbrev pub content_of : Format → Content
+content_of (format.List of_list) = list_content of_list
+content_of format.Calendar = content.Calendar
+
+abbrev pub formatted : Format → List ℕ → Said
+formatted format body =
+    record { status = status.Okay; allow = None; content = content_of format; body = body }
+
+abbrev pub told : ListFormat → List ℕ → Said
+told of_list body = formatted (format.List of_list) body
+
+-- the end of a line
+abbrev pub line_end : List ℕ
+line_end = 13 ∷ 10 ∷ []
+
+-- a status and its reason
+abbrev pub status_text : Status → List ℕ
+status_text status.Okay = codes "200 OK"
+status_text status.BadRequest = codes "400 Bad Request"
+status_text status.Forbidden = codes "403 Forbidden"
+status_text status.NotFound = codes "404 Not Found"
+status_text status.MethodNotAllowed = codes "405 Method Not Allowed"
+status_text status.Conflict = codes "409 Conflict"
+status_text status.LengthRequired = codes "411 Length Required"
+status_text status.ContentTooLarge = codes "413 Content Too Large"
+status_text status.InternalServerError = codes "500 Internal Server Error"
+status_text status.NotImplemented = codes "501 Not Implemented"
+
+-- the lines that not every response has
+abbrev pub allow_line : Option Method → List ℕ
+allow_line None = []
+allow_line (Some m) = codes "Allow: " ++ method_text m ++ line_end
+
+abbrev pub content_line : Content → List ℕ
+content_line content.Nothing = []
+content_line content.Json = codes "Content-Type: application/json" ++ line_end
+content_line content.Text = codes "Content-Type: text/plain" ++ line_end
+content_line content.Csv = codes "Content-Type: text/csv" ++ line_end
+content_line content.Calendar = codes "Content-Type: text/calendar" ++ line_end
+
+abbrev pub connection_line : Bool → List ℕ
+connection_line false = []
+connection_line true = codes "Connection: close" ++ line_end
+
+-- a response to its empty line; the connection closes after it or not
+unfoldable pub head_text : Said → Bool → List ℕ
+head_text said closes = concat (
+    codes "HTTP/1.1 " ∷ status_text said.status ∷ line_end
+    ∷ allow_line said.allow ∷ content_line said.content
+    ∷ codes "Content-Length: " ∷ decimal (length said.body) ∷ line_end
+    ∷ connection_line closes ∷ line_end ∷ [])
+
+-- the text of a response
+unfoldable pub response_text : Said → Bool → List ℕ
+response_text said closes = head_text said closes ++ said.body

@@ -1,0 +1,27 @@
+-- What serving a connection leaves in the tables of a desk.
+use Rattle.std.specs.Prelude.{ℕ, List, IsTrue}
+use Rattle.sqlite.specs.State.{HasCleanDisk}
+use Rattle.ftd_machine.specs.State.{State}
+use Rattle.ftd_machine.specs.Runs.{Goes}
+use Rattle.ftd_desk.specs.Desks.{Held, Keeps}
+use Rattle.ftd_http.specs.Messages.{Message}
+use Rattle.ftd_server.specs.Serving.{Answered, Broken}
+use Rattle.ftd_server.specs.declared.connection.Cause.{Cause}
+
+-- a desk that stood for a state stands for one that follows from it so while the connection is open
+pub record Follows (old new : Held) (so : State → State → Type 0) : Type 0 where
+  pub honest : HasCleanDisk new.db → HasCleanDisk old.db
+  pub opens : HasCleanDisk new.db → IsTrue new.db.is_open → IsTrue old.db.is_open
+  pub follows : HasCleanDisk new.db → (s : State) → Keeps old s
+      → (end : State) × so s end × (IsTrue new.db.is_open → Keeps new end)
+  -- over a connection that was not open each state follows from itself so
+  pub shut : HasCleanDisk new.db → (IsTrue old.db.is_open → ⊥) → (s : State) → so s s
+
+-- the desk answers these messages as the machine does
+abbrev pub AnsweredBy : Held → Held → List Message → List ℕ → Type 0
+AnsweredBy old new messages text = Follows old new (λ s end. Answered Goes s end messages text)
+
+-- the desk answers these messages as the machine does, and then serving fails in the rest
+abbrev pub BrokenBy : Held → Held → List Message → List ℕ → List ℕ → List ℕ → Cause → Type 0
+BrokenBy old new messages text rest part cause =
+    Follows old new (λ s end. Broken Goes s end messages text rest part cause)

@@ -1,0 +1,33 @@
+//! Connections over anything that answers requests: messages of HTTP and their answers; streams
+//! with limits of time; and what a server tells.
+//! Connections over the desk, and those of a listener, taken one after the other.
+#![tactic(auto)]
+
+mod announcing;
+mod closing;
+mod connection;
+mod facts;
+pub mod laws;
+mod lines;
+mod machine;
+mod office;
+mod outcome;
+mod refusals;
+mod respond;
+mod response;
+mod serving;
+mod stop;
+mod timed;
+mod wire;
+
+pub use crate::announcing::announce;
+pub use crate::closing::end;
+pub use crate::connection::{Cause, End, ServeFault, Served, serve_machine};
+pub use crate::lines::tell_outcome;
+pub use crate::machine::Machine;
+pub use crate::office::serve;
+pub use crate::outcome::{Outcome, Turn};
+pub use crate::serving::{Limits, serve_on};
+pub use crate::stop::Stop;
+pub use crate::timed::{Timed, Timer};
+pub use crate::wire::Wire;

@@ -1,0 +1,253 @@
+//! Responses.
+
+ghost use Rattle.std.specs.Prelude.{◌≡◌, ◌++◌, Some, IfOk, OnOk};
+ghost use Rattle.std.specs.Fmt.{decimal};
+ghost use Rattle.ftd_ports.specs.Writing.{Writes};
+ghost use Rattle.ftd_server.specs.Responses.{said_of, bare, json, formatted, list_content};
+ghost use Rattle.ftd_server.specs.Responses.{told};
+ghost use Rattle.ftd_server.specs.Responses.{content_of, other_method};
+ghost use Rattle.ftd_server.specs.Responses.{status_text, allow_line, content_line};
+ghost use Rattle.ftd_server.specs.Responses.{connection_line, head_text, response_text};
+
+use ftd_answers::{Format, ListFormat};
+use ftd_http::{Method, Status};
+use ftd_ports::{Port, Target, WriteFault, write_all, write_pieces};
+use itoa::Buffer;
+use std::alloc::{AllocError, Global};
+
+/// What a body is.
+#[derive(Clone, Copy, Debug, PartialEq, Eq)]
+pub enum Content {
+    /// There is no body.
+    Nothing,
+    /// A JSON object.
+    Json,
+    /// The text of a report.
+    Text,
+    /// A list as CSV.
+    Csv,
+    /// A calendar.
+    Calendar,
+}
+
+/// A response.
+#[derive(Drop)]
+pub struct Response {
+    /// Its status.
+    pub status: Status,
+    /// The method that the route has, where the message has another.
+    pub allow: Option<Method>,
+    /// What the body is.
+    pub content: Content,
+    /// The bytes of the body.
+    pub body: Vec<u8>,
+}
+
+/// A response without a body.
+pub fn bare(alloc: Global, status: Status) -> Response
+    ensures { said_of result ≡ bare status }
+{
+    Response {
+        status,
+        allow: None,
+        content: Content::Nothing,
+        body: Vec::new(alloc),
+    }
+}
+
+/// The response where the route has another method.
+pub fn other_method(alloc: Global, allow: Method) -> Response
+    ensures { said_of result ≡ other_method allow }
+{
+    Response {
+        status: Status::MethodNotAllowed,
+        allow: Some(allow),
+        content: Content::Nothing,
+        body: Vec::new(alloc),
+    }
+}
+
+/// A response with a JSON body.
+pub fn json(status: Status, body: Vec<u8>) -> Response
+    ensures { said_of result ≡ json status body.items }
+{
+    Response {
+        status,
+        allow: None,
+        content: Content::Json,
+        body,
+    }
+}
+
+/// What the body of a list in a format is.
+fn list_content(format: ListFormat) -> Content
+    ensures { result ≡ list_content format }
+{
+    match format {
+        ListFormat::Text => Content::Text,
+        ListFormat::Csv => Content::Csv,
+        ListFormat::Json => Content::Json,
+    }
+}
+
+/// What a body in a format is.
+fn content_of(format: Format) -> Content
+    ensures { result ≡ content_of format }
+{
+    match format {
+        Format::List(format) => list_content(format),
+        Format::Calendar => Content::Calendar,
+    }
+}
+
+/// A response with the text of a report in a format.
+pub fn formatted(format: Format, body: Vec<u8>) -> Response
+    ensures { said_of result ≡ formatted format body.items }
+{
+    Response {
+        status: Status::Okay,
+        allow: None,
+        content: content_of(format),
+        body,
+    }
+}
+
+/// A response with a list in a format.
+pub fn told(format: ListFormat, body: Vec<u8>) -> Response
+    ensures { said_of result ≡ told format body.items }
+{
+    formatted(Format::List(format), body)
+}
+
+/// Adds a number in digits.
+pub fn add_number(text: &mut Vec<u8>, number: u64) -> Result<(), AllocError>
+    ensures { OnOk result (text.new.items ≡ text.old.items ++ decimal number) }
+{
+    let mut buffer = Buffer::new();
+    text.extend_from_slice(buffer.format(number).as_bytes())
+}
+
+/// Writes a response: with one call of the target, where there is memory for its bytes in a row and
+/// the target takes them all. Where the target fails, a prefix of it was written.
+pub fn write_response<W: Target>(
+    alloc: Global,
+    target: &mut W,
+    response: &Response,
+    closes: bool,
+) -> Result<(), WriteFault>
+    ensures { Writes result (W.taken target.old) (W.taken target.new)
+        (W.failed target.new) (response_text (said_of response.now) closes) }
+{
+    match response_text(alloc, response, closes) {
+        Ok(text) => write_all(target, text.as_slice()),
+        Err(_) => write_parts(target, response, closes),
+    }
+}
+
+/// The bytes of a response in a row.
+fn response_text(alloc: Global, response: &Response, closes: bool) -> Result<Vec<u8>, AllocError>
+    ensures { IfOk result (λ text. text.items ≡ response_text (said_of response.now) closes) }
+{
+    let mut port = Port::new(Vec::new(alloc));
+    match write_parts(&mut port, response, closes) {
+        Ok(()) => Ok(port.into_inner()),
+        Err(_) => Err(AllocError),
+    }
+}
+
+/// Writes a response in its parts.
+#[tactic(auto, unfolding(crate::specs::Responses::response_text))]
+fn write_parts<W: Target>(
+    target: &mut W,
+    response: &Response,
+    closes: bool,
+) -> Result<(), WriteFault>
+    ensures { Writes result (W.taken target.old) (W.taken target.new)
+        (W.failed target.new) (response_text (said_of response.now) closes) }
+{
+    write_head(target, response, closes)?;
+    write_all(target, response.body.as_slice())
+}
+
+/// Writes all of a response but its body.
+#[tactic(auto, unfolding(crate::specs::Responses::head_text))]
+fn write_head<W: Target>(
+    target: &mut W,
+    response: &Response,
+    closes: bool,
+) -> Result<(), WriteFault>
+    ensures { Writes result (W.taken target.old) (W.taken target.new)
+        (W.failed target.new) (head_text (said_of response.now) closes) }
+{
+    let mut length = Buffer::new();
+    write_pieces(
+        target,
+        &[
+            b"HTTP/1.1 ",
+            status_text(response.status),
+            b"\r\n",
+            allow_line(response.allow),
+            content_line(response.content),
+            b"Content-Length: ",
+            length.format(response.body.len() as u64).as_bytes(),
+            b"\r\n",
+            connection_line(closes),
+            b"\r\n",
+        ],
+    )
+}
+
+/// A status and its reason.
+fn status_text(status: Status) -> &'static [u8]
+    ensures { result.now ≡ status_text status }
+{
+    match status {
+        Status::Okay => b"200 OK",
+        Status::BadRequest => b"400 Bad Request",
+        Status::Forbidden => b"403 Forbidden",
+        Status::NotFound => b"404 Not Found",
+        Status::MethodNotAllowed => b"405 Method Not Allowed",
+        Status::Conflict => b"409 Conflict",
+        Status::LengthRequired => b"411 Length Required",
+        Status::ContentTooLarge => b"413 Content Too Large",
+        Status::InternalServerError => b"500 Internal Server Error",
+        Status::NotImplemented => b"501 Not Implemented",
+    }
+}
+
+/// The line with the method of the route.
+fn allow_line(allow: Option<Method>) -> &'static [u8]
+    ensures { result.now ≡ allow_line allow }
+{
+    match allow {
+        None => b"",
+        Some(Method::Get) => b"Allow: GET\r\n",
+        Some(Method::Post) => b"Allow: POST\r\n",
+        Some(Method::Put) => b"Allow: PUT\r\n",
+        Some(Method::Delete) => b"Allow: DELETE\r\n",
+    }
+}
+
+/// The line with the type of the body.
+fn content_line(content: Content) -> &'static [u8]
+    ensures { result.now ≡ content_line content }
+{
+    match content {
+        Content::Nothing => b"",
+        Content::Json => b"Content-Type: application/json\r\n",
+        Content::Text => b"Content-Type: text/plain\r\n",
+        Content::Csv => b"Content-Type: text/csv\r\n",
+        Content::Calendar => b"Content-Type: text/calendar\r\n",
+    }
+}
+
+/// The line of a connection that closes.
+fn connection_line(closes: bool) -> &'static [u8]
+    ensures { result.now ≡ connection_line closes }
+{
+    if closes {
+        b"Connection: close\r\n"
+    } else {
+        b""
+    }
+}

@@ -1,0 +1,16 @@
+pub mod Kept
+pub mod Tables
+pub mod TextKinds
+pub mod Places
+pub mod Order
+pub mod Names
+pub mod Rows
+pub mod Layout
+pub mod Standing
+pub mod States
+pub mod Given
+pub mod Answers
+pub mod Tests
+pub mod Orders
+pub mod Making
+pub mod Beginnings

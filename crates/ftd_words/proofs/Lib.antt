@@ -1,3 +1,0 @@
-pub mod AppFacts
-pub mod Simple
-pub mod TaskFacts
