@@ -6,11 +6,8 @@ use Rattle.std.proofs.lemmas.List.{append_assoc, append-nil}
 use Rattle.std.proofs.lemmas.List.Elements.{filter-append}
 use Rattle.std.proofs.lemmas.List.Folds.{list_any-append}
 use Rattle.ftd_rules.specs.declared.Obligation.{Obligation}
-use Rattle.ftd_program.specs.Added.{added_in, added_then, begins_in, is_of, removes, stays}
-use Rattle.ftd_program.specs.Added.{still_added}
+use Rattle.ftd_program.specs.Added.{added_then, removes, stays, still_added}
 use Rattle.ftd_program.specs.declared.changes.AccountChange.{AccountChange}
-
--- ---- filters
 
 filter_when : {X : Type 0} (a b : Bool) (x : X) (q r : X → Bool) (xs : List X) → r x ≡ b
     → (if a && b then x ∷ filter r (filter q xs) else filter r (filter q xs))
@@ -25,70 +22,37 @@ filter_both p q r e [] = refl
 filter_both p q r e (x ∷ xs) =
     rw (e x, filter_both p q r e xs) (filter_when (q x) (r x) x q r xs refl)
 
-filter_same : {X : Type 0} (p q : X → Bool) → ((x : X) → p x ≡ q x) → (xs : List X)
-    → filter p xs ≡ filter q xs
-filter_same p q e [] = refl
-filter_same p q e (x ∷ xs) = rw (e x, filter_same p q e xs) refl
-
 filter_kept : {X : Type 0} (p : X → Bool) → ((x : X) → p x ≡ true) → (xs : List X)
     → filter p xs ≡ xs
 filter_kept p e [] = refl
 filter_kept p e (x ∷ xs) = rw (e x, filter_kept p e xs) refl
-
--- ---- one change more
 
 not_either : (a b : Bool) → not (a || (b || false)) ≡ (not a && not b)
 not_either true b = refl
 not_either false true = refl
 not_either false false = refl
 
-module _ (account : List ℕ) (change : AccountChange) where
+module _ (change : AccountChange) where
   -- the change does not remove the obligation
   abbrev keeps : Obligation → Bool
-  keeps o = not (removes account o.first change)
+  keeps o = not (removes o.first change)
 
   stays_more : (later : List AccountChange) (o : Obligation)
-      → stays account (later ++ change ∷ []) o ≡ (stays account later o && keeps o)
+      → stays (later ++ change ∷ []) o ≡ (stays later o && keeps o)
   stays_more later o =
-      let removed : AccountChange → Bool = removes account o.first in
+      let removed : AccountChange → Bool = removes o.first in
       ap not (list_any-append removed later (change ∷ []))
       ∙ not_either (list_any removed later) (removed change)
 
-  still_more : (changes : List AccountChange)
-      → still_added account (changes ++ change ∷ [])
-      ≡ filter keeps (still_added account changes) ++ added_in account change
-  still_more [] = append-nil (filter (stays account []) (added_in account change))
-      ∙ filter_kept (stays account []) (λ o. refl) (added_in account change)
+  pub still_more : (changes : List AccountChange)
+      → still_added (changes ++ change ∷ []) ≡ added_then (still_added changes) change
+  still_more [] = append-nil (filter (stays []) change.added)
+      ∙ filter_kept (stays []) (λ o. refl) change.added
   still_more (x ∷ changes) =
       rw (
-        filter_both (stays account (changes ++ change ∷ [])) (stays account changes) keeps
-            (stays_more changes) (added_in account x),
+        filter_both (stays (changes ++ change ∷ [])) (stays changes) keeps
+            (stays_more changes) x.added,
         still_more changes,
-        filter-append keeps (filter (stays account changes) (added_in account x))
-            (still_added account changes),
-      ) (sym (append_assoc
-      (filter keeps (filter (stays account changes) (added_in account x)))
-      (filter keeps (still_added account changes)) (added_in account change)))
-
-  -- a change of the account
-  pub still_changed : (changes : List AccountChange) → is_of account change ≡ true
-      → still_added account (changes ++ change ∷ [])
-      ≡ added_then (still_added account changes) change
-  still_changed changes is =
-      let rows = still_added account changes in
-      still_more changes
-      ∙ ap (λ (os : List Obligation). os ++ added_in account change)
-      (filter_same keeps (λ o. not (begins_in change.removed o.first))
-      (λ o. ap (λ b. not (b && begins_in change.removed o.first)) is) rows)
-      ∙ ap (λ b. filter (λ o. not (begins_in change.removed o.first)) rows
-      ++ (if b then change.added else [])) is
-
-  -- or of another one
-  pub still_same : (changes : List AccountChange) → is_of account change ≡ false
-      → still_added account (changes ++ change ∷ []) ≡ still_added account changes
-  still_same changes is =
-      let rows = still_added account changes in
-      still_more changes
-      ∙ ap (λ (os : List Obligation). os ++ added_in account change)
-      (filter_kept keeps (λ o. ap (λ b. not (b && begins_in change.removed o.first)) is) rows)
-      ∙ ap (λ b. rows ++ (if b then change.added else [])) is ∙ append-nil rows
+        filter-append keeps (filter (stays changes) x.added) (still_added changes),
+      ) (sym (append_assoc (filter keeps (filter (stays changes) x.added))
+      (filter keeps (still_added changes)) change.added))

@@ -2,7 +2,9 @@
 
 ghost use Rattle.std.specs.Prelude.{◌≡◌, IfOk};
 ghost use Rattle.std.specs.List.{list_any};
-ghost use Rattle.ftd_program.specs.Added.{added_by, added_then, begins_in, is_of, still_added};
+ghost use Rattle.ftd_program.specs.Added.{added_by, added_then, begins_in, changes_in, changes_of};
+ghost use Rattle.ftd_program.specs.Added.{is_in, is_of, is_same, names, new_rows, still_added};
+ghost use Rattle.ftd_program.specs.Added.{was_before};
 
 use crate::changes::AccountChange;
 use crate::collection::Collection;
@@ -11,7 +13,8 @@ use ftd_machine::AccountName;
 use ftd_rules::{Obligation, Obligations};
 use std::alloc::{AllocError, Global};
 
-/// The obligations that an import added to an account, and did not remove again.
+/// The obligations that an import added to an account: those that are there now, and were not there
+/// before it.
 #[derive(Drop)]
 pub struct AccountAdded {
     /// The account.
@@ -27,6 +30,27 @@ fn begins_in(rows: &[Obligation], day: Day) -> bool
     rows.iter().any(|row| row.first == day)
 }
 
+/// Whether both are of the same days, rule, amount and due date.
+fn is_same(row: &Obligation, other: &Obligation) -> bool
+    ensures { result ≡ is_same row.now other.now }
+{
+    row == other
+}
+
+/// Whether the obligation is one of the rows.
+fn is_in(rows: &[Obligation], row: &Obligation) -> bool
+    ensures { result ≡ is_in rows.now row.now }
+{
+    rows.iter().any(|it| is_same(row, it))
+}
+
+/// Whether the change removes or adds the obligation.
+fn names(row: &Obligation, change: &AccountChange) -> bool
+    ensures { result ≡ names row.now change.now }
+{
+    is_in(change.removed.as_slice(), row) || is_in(change.added.as_slice(), row)
+}
+
 /// Whether the change is the account's.
 fn is_of(account: &str, change: &AccountChange) -> bool
     ensures { result ≡ is_of account.now change.now }
@@ -39,6 +63,23 @@ fn is_named(account: &str, changes: &[AccountChange]) -> bool
     ensures { result ≡ list_any (is_of account.now) changes.now }
 {
     changes.iter().any(|change| is_of(account, change))
+}
+
+/// The changes of the account.
+fn changes_of<'a>(
+    alloc: Global,
+    account: &str,
+    changes: &'a [AccountChange],
+) -> Result<Vec<&'a AccountChange>, AllocError>
+    ensures { IfOk result (λ own. changes_in own.items ≡ changes_of account.now changes.now) }
+{
+    let mut own = Vec::new(alloc);
+    for change in changes {
+        if is_of(account, change) {
+            own.push(change)?;
+        }
+    }
+    Ok(own)
 }
 
 /// Of the rows those that the change does not remove, and those that it adds.
@@ -59,18 +100,38 @@ fn rows_then(
     Ok(then)
 }
 
-/// The obligations that changes of the account added, and that no later one removed.
-fn still_added(
-    alloc: Global,
-    account: &str,
-    changes: &[AccountChange],
-) -> Result<Vec<Obligation>, AllocError>
-    ensures { IfOk result (λ rows. rows.items ≡ still_added account.now changes.now) }
+/// The obligations that the changes of an account added, and that no later one removed.
+fn still_added(alloc: Global, own: &[&AccountChange]) -> Result<Vec<Obligation>, AllocError>
+    ensures { IfOk result (λ rows. rows.items ≡ still_added (changes_in own.now)) }
 {
     let mut rows = Vec::new(alloc);
-    for change in changes {
-        if is_of(account, change) {
-            rows = rows_then(alloc, &rows, change)?;
+    for change in own {
+        rows = rows_then(alloc, &rows, change)?;
+    }
+    Ok(rows)
+}
+
+/// Whether the account had the obligation before its changes.
+fn was_before(own: &[&AccountChange], row: &Obligation) -> bool
+    ensures { result ≡ was_before (changes_in own.now) row.now }
+{
+    for change in own {
+        if names(row, change) {
+            return is_in(change.removed.as_slice(), row);
+        }
+    }
+    false
+}
+
+/// The obligations that the changes of an account added, that no later one removed, and that were
+/// not there before.
+fn new_rows(alloc: Global, own: &[&AccountChange]) -> Result<Vec<Obligation>, AllocError>
+    ensures { IfOk result (λ rows. rows.items ≡ new_rows (changes_in own.now)) }
+{
+    let mut rows = Vec::new(alloc);
+    for row in &still_added(alloc, own)? {
+        if !was_before(own, row) {
+            rows.push(*row)?;
         }
     }
     Ok(rows)
@@ -83,17 +144,18 @@ fn account_added(
     changes: &[AccountChange],
 ) -> Result<AccountAdded, AllocError>
     ensures { IfOk result (λ added. (added.account ≡ account.now)
-        × (added.rows ≡ still_added account.now changes.now)) }
+        × (added.rows ≡ new_rows (changes_of account.now changes.now))) }
 {
-    let rows = still_added(alloc, account, changes)?;
+    let own = changes_of(alloc, account, changes)?;
+    let rows = new_rows(alloc, &own)?;
     Ok(AccountAdded {
         account: AccountName::from_string(String::from_str(alloc, account)?),
         rows: Obligations::from_vec(rows),
     })
 }
 
-/// The obligations that were added to each account and not removed again, in the order of the last
-/// changes of the accounts. An error if there is no memory; the changes stay as they are.
+/// The obligations that changes added to each account: those that are there after them, and were not
+/// there before. The accounts are in the order of their last changes. An error if there is no memory; the changes stay as they are.
 pub fn added_by(changes: &Collection<AccountChange>) -> Result<Vec<AccountAdded>, AllocError>
     ensures { IfOk result (λ list. list.items ≡ added_by changes.now.entries.items) }
 {
