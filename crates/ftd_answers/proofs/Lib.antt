@@ -1,7 +1,6 @@
 pub mod LineFacts
 pub mod MonthFacts
 pub mod RowFacts
-pub mod LateFacts
 pub mod AgendaFacts
 pub mod RowFormatFacts
 pub mod CalendarFacts

@@ -26,6 +26,7 @@ yes_no false = codes "no"
 abbrev pub plain_text : Value → List ℕ
 plain_text (value.Text text) = text.now
 plain_text (value.Number number) = decimal number
+plain_text (value.Count count) = decimal count
 plain_text (value.Amount cents) = cents_text cents.0
 plain_text (value.Sum total) = cents_text total
 plain_text (value.Day day) = day_text day
@@ -54,6 +55,7 @@ true_false false = codes "false"
 abbrev pub json_text : Value → List ℕ
 json_text (value.Text text) = quoted text.now
 json_text (value.Number number) = decimal number
+json_text (value.Count count) = decimal count
 json_text (value.Amount cents) = quoted (cents_text cents.0)
 json_text (value.Sum total) = quoted (cents_text total)
 json_text (value.Day day) = quoted (day_text day)

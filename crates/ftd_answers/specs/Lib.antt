@@ -2,7 +2,6 @@ pub mod Columns
 pub mod DueLists
 pub mod DueTexts
 pub mod SchedulesB
-pub mod LateTexts
 pub mod Agendas
 pub mod Fields
 pub mod Dues
@@ -13,6 +12,8 @@ pub mod KeptForms
 pub mod Explanations
 pub mod ExplanationForms
 pub mod Unapplied
+pub mod Schedules
+pub mod Facts
 pub use Rattle.ftd_days.specs.Digits
 pub use Rattle.ftd_days.specs.Text
 pub use Rattle.ftd_ports.specs.Writing

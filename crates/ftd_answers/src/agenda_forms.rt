@@ -8,7 +8,8 @@ ghost use Rattle.ftd_answers.specs.Fields.{plain_texts, record_told};
 
 use crate::fields::{Value, write_list_with, write_object, write_record};
 use crate::rows::{RowFormat, write_table};
-use crate::{Left, left_of, total};
+use crate::totals::Left;
+use crate::{left_of, total};
 use ftd_machine::AgendaRow;
 use ftd_ports::{Target, WriteFault};
 

@@ -6,7 +6,8 @@ ghost use Rattle.ftd_answers.specs.Calendars.{agenda_calendar, event_text, event
 ghost use Rattle.ftd_answers.specs.Calendars.{condition_of, event_deposit, plain_day};
 
 use crate::rows::{RowFormat, write_rows};
-use crate::{amount_text, day_bytes, form_bytes, last_digit, left_of, rule_name, verdict_name};
+use crate::values::{last_digit, verdict_name};
+use crate::{amount_text, day_bytes, form_bytes, left_of, rule_name};
 use ftd_days::Day;
 use ftd_machine::AgendaRow;
 use ftd_ports::{Target, WriteFault, write_all, write_pieces};

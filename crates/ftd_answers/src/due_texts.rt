@@ -1,29 +1,34 @@
 //! A due list that is written row by row.
 
-ghost use Rattle.std.specs.Prelude.{◌≡◌, ◌⊎◌, ◌<◌, ◌≤◌, ◌+◌, ◌∷◌, ◌++◌, [], ℕ, List, Option, None};
-ghost use Rattle.std.specs.Prelude.{true, IfOk, IfErr, IfSome, IsErrAnd, OnOk, OnErr};
+ghost use Rattle.std.specs.Prelude.{◌≡◌, ◌⊎◌, ◌<◌, ◌≤◌, ◌+◌, ◌++◌, [], ℕ, List, Option, None, true};
+ghost use Rattle.std.specs.Prelude.{IfOk, IfErr, IfSome, IsErrAnd, OnOk};
 ghost use Rattle.std.specs.Io.KnownBytes.{Appends};
-ghost use Rattle.ftd_ports.specs.Writing.{WritesPrefix};
+ghost use Rattle.ftd_ports.specs.Writing.{Writes, WritesPrefix};
 ghost use Rattle.ftd_rules.specs.declared.verdict.DueRow.{DueRow};
+ghost use Rattle.ftd_answers.specs.DueLists.{due_line, due_text, total_line};
 ghost use Rattle.ftd_rules.specs.Verdicts.{amount_of};
-ghost use Rattle.ftd_answers.specs.DueLists.{due_head, due_text};
-ghost use Rattle.ftd_answers.specs.DueTexts.{HasRows, has_failed, most_total, writer_of};
+ghost use Rattle.ftd_answers.specs.DueTexts.{HasRows, has_failed, most_total, waiting, writer_of};
 
 use crate::due_lists::{write_head, write_row, write_total};
 use ftd_days::{Cents, Day, Quarter};
-use ftd_ports::Target;
+use ftd_ports::{Target, WriteFault};
 use ftd_rules::{DueRow, DueSink, SinkFault};
 
 /// The sum of the amounts that no due list reaches, in cents.
 const MOST_TOTAL: u64 = 6_000_000_000_000_000;
 
 /// A due list that is written row by row, by first day, to a writer that it holds: the same bytes
-/// as those of `due_list`. A `DueText` that failed answers the fault from then on, and writes
-/// nothing more.
+/// as those of `due_list`. Its first line waits for the first row, or for the end, so that nothing
+/// is written where no list comes. A `DueText` that failed answers the fault from then on, and
+/// writes nothing more.
 #[derive(Drop)]
-pub struct DueText<W> {
+pub struct DueText<'a, W> {
+    account: &'a str,
+    quarter: Quarter,
+    as_of: Day,
     writer: W,
     total: u64,
+    begun: bool,
     failed: bool,
 }
 
@@ -34,7 +39,7 @@ pub struct Unwritten<W> {
 }
 
 /// The sum with the amount of the row, where it stays below what no due list reaches.
-pub(crate) fn total_with(total: u64, row: &DueRow) -> Option<u64>
+fn total_with(total: u64, row: &DueRow) -> Option<u64>
     ensures counts { IfSome result
         (λ sum. (sum ≡ total + amount_of row.now) × (sum < most_total)) }
     ensures full { result ≡ None → most_total ≤ total + amount_of row.now }
@@ -47,67 +52,99 @@ pub(crate) fn total_with(total: u64, row: &DueRow) -> Option<u64>
     }
 }
 
-impl<W: Target> DueText<W> {
-    /// Writes the first line of the due list of an account's quarter as of a day.
-    pub fn begin(
-        account: &str,
-        quarter: Quarter,
-        as_of: Day,
-        writer: W,
-    ) -> Result<DueText<W>, Unwritten<W>>
-        ensures begun { IfOk result
-            (λ text. HasRows W.taken (W.taken writer) account.now quarter as_of [] text) }
-        ensures prefix { IfErr result
-            (λ unwritten.
-            WritesPrefix (W.taken writer) (W.taken unwritten.writer)
-            (due_head account.now quarter as_of)) }
-        ensures fault { IfErr result (λ unwritten. W.failed unwritten.writer ≡ true) }
+impl<'a, W: Target> DueText<'a, W> {
+    /// The due list of an account's quarter as of a day, of which nothing is written yet.
+    pub fn begin(account: &'a str, quarter: Quarter, as_of: Day, writer: W) -> DueText<'a, W>
+        ensures writer { writer_of result ≡ writer }
+        ensures rows { HasRows W.taken (W.taken writer) account.now quarter as_of [] result }
     {
-        let mut writer = writer;
-        match write_head(account, quarter, as_of, &mut writer) {
-            Ok(()) => Ok(DueText {
-                writer,
-                total: 0,
-                failed: false,
-            }),
-            Err(_) => Err(Unwritten { writer }),
+        DueText {
+            account,
+            quarter,
+            as_of,
+            writer,
+            total: 0,
+            begun: false,
+            failed: false,
         }
+    }
+
+    /// The writer, which took what is written so far.
+    pub fn into_writer(self) -> W
+        ensures { result ≡ writer_of self.entry }
+    {
+        self.writer
+    }
+
+    /// Writes the first line, where it still waits.
+    fn write_first(&mut self) -> Result<(), WriteFault>
+        ensures writes { Writes result (W.taken (writer_of self.old)) (W.taken (writer_of self.new))
+            (W.failed (writer_of self.new)) (waiting self.old) }
+        ensures begun { OnOk result
+            (self.new ≡ record self.old { writer = self.new.writer; begun = true }) }
+    {
+        if !self.begun {
+            write_head(self.account, self.quarter, self.as_of, &mut self.writer)?;
+            self.begun = true;
+        }
+        Ok(())
+    }
+
+    /// Writes the line of the row, after the first line.
+    fn write(&mut self, row: &DueRow) -> Result<(), WriteFault>
+        ensures writes { Writes result (W.taken (writer_of self.old)) (W.taken (writer_of self.new))
+            (W.failed (writer_of self.new)) (waiting self.old ++ due_line row.now) }
+        ensures begun { OnOk result
+            (self.new ≡ record self.old { writer = self.new.writer; begun = true }) }
+    {
+        self.write_first()?;
+        write_row(row, &mut self.writer)
+    }
+
+    /// Writes the last line, after the first line.
+    fn finish(&mut self) -> Result<(), WriteFault>
+        ensures { Writes result (W.taken (writer_of self.old)) (W.taken (writer_of self.new))
+            (W.failed (writer_of self.new)) (waiting self.old ++ total_line self.old.total) }
+    {
+        let total = Cents(self.total);
+        self.write_first()?;
+        write_total(total, &mut self.writer)
     }
 
     /// Writes the last line, with the total of the amounts, and gives the writer back.
     pub fn end(self) -> Result<W, Unwritten<W>>
         ensures text { (start : Option (List ℕ)) (account : List ℕ) (quarter as_of : ℕ)
             (rows : List DueRow)
-            → HasRows W.taken start account quarter as_of rows self
+            → HasRows W.taken start account quarter as_of rows self.entry
             → IfOk result (λ writer.
             Appends start (W.taken writer) (due_text account quarter as_of rows)) }
         ensures prefix { (start : Option (List ℕ)) (account : List ℕ) (quarter as_of : ℕ)
             (rows : List DueRow)
-            → HasRows W.taken start account quarter as_of rows self
+            → HasRows W.taken start account quarter as_of rows self.entry
             → IfErr result (λ unwritten.
             WritesPrefix start (W.taken unwritten.writer) (due_text account quarter as_of rows)) }
         ensures fault { IfErr result
-            (λ unwritten. (has_failed self ≡ true) ⊎ (W.failed unwritten.writer ≡ true)) }
-        ensures failed { has_failed self ≡ true
-            → IsErrAnd result (λ unwritten. unwritten.writer ≡ writer_of self) }
+            (λ unwritten. (has_failed self.entry ≡ true) ⊎ (W.failed unwritten.writer ≡ true)) }
+        ensures failed { has_failed self.entry ≡ true
+            → IsErrAnd result (λ unwritten. unwritten.writer ≡ writer_of self.entry) }
     {
-        let DueText {
-            mut writer,
-            total,
-            failed,
-        } = self;
-        if failed {
-            return Err(Unwritten { writer });
+        let mut text = self;
+        if text.failed {
+            return Err(Unwritten {
+                writer: text.writer,
+            });
         }
-        match write_total(Cents(total), &mut writer) {
-            Ok(()) => Ok(writer),
-            Err(_) => Err(Unwritten { writer }),
+        match text.finish() {
+            Ok(()) => Ok(text.writer),
+            Err(_) => Err(Unwritten {
+                writer: text.writer,
+            }),
         }
     }
 }
 
-impl<W: Target> DueSink for DueText<W> {
-    ghost use Rattle.ftd_answers.specs.DueTexts.{BreaksAt, HasRows, TakesRow, has_failed};
+impl<'a, W: Target> DueSink for DueText<'a, W> {
+    ghost use Rattle.ftd_answers.specs.DueTexts.{BreaksAt, TakesRow, has_failed};
 
     ghost took = { λ before row after. TakesRow W.taken before row after };
 
@@ -115,24 +152,10 @@ impl<W: Target> DueSink for DueText<W> {
 
     ghost failed = { has_failed };
 
-    /// Writes the line of the row. It fails where the writer fails, and where the row brings the
-    /// sum of the amounts to 6,000,000,000,000,000 cents or more. The rows that were taken since
-    /// `begin` are those whose text is written.
-    fn row(&mut self, row: &DueRow) -> Result<(), SinkFault>
-        ensures took { OnOk result (TakesRow W.taken self.old row.now self.new) }
-        ensures broke { OnErr result (BreaksAt W.taken W.failed self.old row.now self.new) }
-        ensures failed { OnErr result (has_failed self.new ≡ true) }
-        ensures rows { OnOk result
-            ((start : Option (List ℕ)) (account : List ℕ) (quarter as_of : ℕ) (rows : List DueRow)
-            → HasRows W.taken start account quarter as_of rows self.old
-            → HasRows W.taken start account quarter as_of (rows ++ row.now ∷ []) self.new) }
-        ensures prefix { OnErr result
-            ((start : Option (List ℕ)) (account : List ℕ) (quarter as_of : ℕ)
-            (rows others : List DueRow)
-            → HasRows W.taken start account quarter as_of rows self.old
-            → WritesPrefix start (W.taken (writer_of self.new))
-            (due_text account quarter as_of (rows ++ row.now ∷ others))) }
-    {
+    /// Writes the line of the row, and before the first row the first line. It fails where the
+    /// writer fails, and where the row brings the sum of the amounts to 6,000,000,000,000,000 cents
+    /// or more; from then on it answers the fault, and writes nothing more.
+    fn row(&mut self, row: &DueRow) -> Result<(), SinkFault> {
         if self.failed {
             return Err(SinkFault);
         }
@@ -140,7 +163,7 @@ impl<W: Target> DueSink for DueText<W> {
             self.failed = true;
             return Err(SinkFault);
         };
-        match write_row(row, &mut self.writer) {
+        match self.write(row) {
             Ok(()) => {
                 self.total = total;
                 Ok(())

@@ -11,9 +11,10 @@ ghost use Rattle.ftd_answers.specs.ExplanationForms.{explanation_members, obliga
 ghost use Rattle.ftd_answers.specs.ExplanationForms.{payday_fields, return_member, status_fields};
 
 use crate::explanations::{day_kind_name, reason_name, turn_of};
+use crate::fields::write_array;
 use crate::kept_fields::{day_or_missing, kind_name};
 use crate::objects::Objects;
-use crate::{RowFormat, Value, day_bytes, write_array, write_object};
+use crate::{RowFormat, Value, day_bytes, write_object};
 use ftd_days::Day;
 use ftd_machine::{CountedDay, Explanation, Reason, RunningSum};
 use ftd_ports::{Target, WriteFault, write_all, write_pieces};

@@ -12,7 +12,9 @@ ghost use Rattle.ftd_answers.specs.Explanations.{return_line, status_text, turn_
 
 use crate::explanation_objects::write_explanation_json;
 use crate::lines::{Columns, kind_bytes};
-use crate::{Format, ListFormat, RowFormat, amount_column, day_bytes, rule_column, write_table};
+use crate::rows::write_table;
+use crate::values::{amount_column, rule_column};
+use crate::{Format, ListFormat, RowFormat, day_bytes};
 use ftd_days::Day;
 use ftd_machine::{CountedDay, DayKind, Explanation, Reason, RunningSum};
 use ftd_ports::{Target, WriteFault, write_all, write_pieces};

@@ -9,7 +9,8 @@ ghost use Rattle.ftd_answers.specs.Fields.{object_of, plain_of, plain_text, quot
 ghost use Rattle.ftd_answers.specs.Fields.{true_false, yes_no};
 
 use crate::rows::{RowFormat, write_enclosed, write_joined};
-use crate::{amount_text, day_bytes, form_bytes, quarter_bytes, rule_name, verdict_name};
+use crate::values::verdict_name;
+use crate::{amount_text, day_bytes, form_bytes, quarter_bytes, rule_name};
 use ftd_days::{Cents, Day, Quarter};
 use ftd_ports::{Target, WriteFault, write_all, write_pieces};
 use ftd_rules::{Form, Rule, Verdict};
@@ -22,6 +23,8 @@ pub enum Value<'a> {
     Text(&'a str),
     /// A whole number.
     Number(u32),
+    /// How many there are.
+    Count(usize),
     /// An amount in cents.
     Amount(Cents),
     /// A sum of amounts in cents.
@@ -83,6 +86,15 @@ fn write_number<W: Target>(number: u32, target: &mut W) -> Result<(), WriteFault
     write_all(target, digits.format(number).as_bytes())
 }
 
+/// Writes how many there are.
+fn write_count<W: Target>(count: usize, target: &mut W) -> Result<(), WriteFault>
+    ensures { Writes result (W.taken target.old) (W.taken target.new)
+        (W.failed target.new) (decimal count) }
+{
+    let mut digits = Buffer::new();
+    write_all(target, digits.format(count).as_bytes())
+}
+
 /// Writes a value as it stands in a record of CSV.
 fn write_plain<W: Target>(value: &Value<'_>, target: &mut W) -> Result<(), WriteFault>
     ensures { Writes result (W.taken target.old) (W.taken target.new)
@@ -91,6 +103,7 @@ fn write_plain<W: Target>(value: &Value<'_>, target: &mut W) -> Result<(), Write
     match value {
         Value::Text(text) => write_all(target, text.as_bytes()),
         Value::Number(number) => write_number(*number, target),
+        Value::Count(count) => write_count(*count, target),
         Value::Amount(cents) => write_amount(u128::from(cents.0), target),
         Value::Sum(total) => write_amount(*total, target),
         Value::Day(day) => write_all(target, &day_bytes(*day)),
@@ -121,6 +134,7 @@ fn write_json<W: Target>(value: &Value<'_>, target: &mut W) -> Result<(), WriteF
 {
     match value {
         Value::Number(number) => write_number(*number, target),
+        Value::Count(count) => write_count(*count, target),
         Value::Flag(flag) => write_all(target, true_false(*flag)),
         Value::Missing => write_all(target, b"null"),
         Value::Text(_)

@@ -8,10 +8,11 @@ ghost use Rattle.ftd_rules.specs.Verdicts.{amount_of};
 ghost use Rattle.ftd_answers.specs.Formats.{agenda_as, b_as, due_as, list_format, owed_as};
 
 use crate::agenda_forms::{write_agenda_csv, write_agenda_json};
+use crate::agendas::{write_agenda, write_owed};
 use crate::calendars::write_agenda_calendar;
 use crate::due_list_forms::{write_due_csv, write_due_json};
 use crate::schedule_b_forms::{write_b_csv, write_b_json};
-use crate::{due_list, schedule_b, write_agenda, write_owed};
+use crate::{due_list, schedule_b};
 use ftd_days::{Day, Quarter};
 use ftd_machine::AgendaRow;
 use ftd_ports::{Target, WriteFault};

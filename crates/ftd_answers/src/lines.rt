@@ -10,10 +10,10 @@ ghost use Rattle.ftd_answers.specs.Listings.{total_text, total_line, added_text,
 ghost use Rattle.ftd_answers.specs.Listings.{holiday_line, void_end, run_line, held_text};
 ghost use Rattle.ftd_answers.specs.Listings.{payment_line};
 
+use crate::agendas::spaces_after;
 use crate::kept_fields::kind_name;
-use crate::{
-    RowFormat, amount_column, amount_text, day_bytes, form_bytes, quarter_bytes, spaces_after,
-};
+use crate::values::amount_column;
+use crate::{RowFormat, amount_text, day_bytes, form_bytes, quarter_bytes};
 use ftd_days::{Cents, Day};
 use ftd_machine::{Account, KeptAccount, KeptHoliday, KeptPayment, KeptRun, KeptTotal, KeptYear};
 use ftd_ports::{Target, WriteFault, write_all, write_pieces};

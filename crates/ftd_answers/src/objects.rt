@@ -10,8 +10,9 @@ ghost use Rattle.ftd_answers.specs.KeptForms.{holiday_fields, payment_fields, pa
 ghost use Rattle.ftd_answers.specs.KeptForms.{rows_json, run_fields, run_object, total_fields};
 ghost use Rattle.ftd_answers.specs.KeptForms.{total_object, year_fields};
 
+use crate::fields::write_list;
 use crate::kept_fields::{account_fields, day_or_missing, holiday_fields, year_fields};
-use crate::{RowFormat, Value, write_list, write_object};
+use crate::{RowFormat, Value, write_object};
 use ftd_machine::{KeptAccount, KeptHoliday, KeptPayment, KeptRows, KeptRun, KeptTotal, KeptYear};
 use ftd_ports::{Target, WriteFault};
 

@@ -7,10 +7,12 @@ ghost use Rattle.ftd_answers.specs.KeptForms.{live_payment, live_record, payment
 ghost use Rattle.ftd_answers.specs.KeptForms.{rows_csv, run_record};
 ghost use Rattle.ftd_answers.specs.KeptForms.{total_fields, year_fields};
 
+use crate::RowFormat;
+use crate::fields::write_record;
 use crate::kept_fields::{
     account_fields, holiday_fields, payment_fields, run_fields, total_fields, year_fields,
 };
-use crate::{RowFormat, write_record, write_table};
+use crate::rows::write_table;
 use ftd_machine::{KeptAccount, KeptHoliday, KeptPayment, KeptRows, KeptRun, KeptTotal, KeptYear};
 use ftd_ports::{Target, WriteFault};
 

@@ -8,7 +8,8 @@ ghost use Rattle.ftd_answers.specs.Fields.{plain_texts, record_told};
 
 use crate::fields::{Value, write_list_with, write_object, write_record};
 use crate::rows::{RowFormat, write_table};
-use crate::{Amount, total};
+use crate::total;
+use crate::totals::Amount;
 use ftd_ports::{Target, WriteFault};
 use ftd_rules::DaySum;
 

@@ -9,11 +9,11 @@ ghost use Rattle.ftd_answers.specs.Unapplied.{unapplied_as, unapplied_csv, unapp
 ghost use Rattle.ftd_answers.specs.Unapplied.{unapplied_head, unapplied_json, unapplied_line};
 ghost use Rattle.ftd_answers.specs.Unapplied.{unapplied_text, which_text};
 
+use crate::fields::{write_list, write_record};
 use crate::lines::write_name;
-use crate::{
-    ListFormat, RowFormat, Value, amount_column, day_bytes, write_list, write_object, write_record,
-    write_rows, write_table,
-};
+use crate::rows::write_table;
+use crate::values::amount_column;
+use crate::{ListFormat, RowFormat, Value, day_bytes, write_object, write_rows};
 use ftd_days::{Cents, Day};
 use ftd_machine::UnappliedRow;
 use ftd_ports::{Target, WriteFault, write_all, write_pieces};

@@ -69,7 +69,7 @@ query_table =
 
 -- the format in which a route tells the reply to its question
 abbrev pub query_format : Query → Format
-query_format Status = format.List list.Text
+query_format Status = format.List list.Json
 query_format (Explain asked) = format.List asked
 query_format (DueList asked) = format.List asked
 query_format (ScheduleB asked) = format.List asked

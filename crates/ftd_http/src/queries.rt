@@ -208,7 +208,7 @@ pub fn query_format(query: Query) -> Format
     ensures { result ≡ query_format query }
 {
     match query {
-        Query::Status => Format::List(ListFormat::Text),
+        Query::Status => Format::List(ListFormat::Json),
         Query::Agenda(format) | Query::Owed(format) => format,
         Query::Explain(format)
         | Query::DueList(format)

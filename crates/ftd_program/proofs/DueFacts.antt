@@ -1,6 +1,7 @@
 -- A due list that is printed from the desk's rows as they come.
 use Rattle.std.proofs.Common.{◌≡◌, inl, inr, ℕ, ◌+◌, ◌≤◌, Bool, List, [], ◌∷◌, ◌++◌, Option, Result}
-use Rattle.std.proofs.Common.{Ok, Err, sym, ap, ◌∙◌, subst, arith, append_assoc, append-nil}
+use Rattle.std.proofs.Common.{Ok, Err, sym, ap, ◌∙◌, subst, arith, append_assoc, append-nil, ◌⊎◌}
+use Rattle.std.proofs.Common.{true, false}
 use Rattle.std.specs.List.{sum_by}
 use Rattle.std.proofs.lemmas.Bool.{cases_Bool}
 use Rattle.std.proofs.lemmas.List.Sums.{sum_by-append, sum_by-cons}
@@ -8,9 +9,9 @@ use Rattle.ftd_ports.specs.Writing.{WritesPrefix}
 use Rattle.ftd_rules.specs.Verdicts.{amount_of}
 use Rattle.ftd_rules.specs.declared.verdict.DueRow.{DueRow}
 use Rattle.ftd_answers.specs.DueLists.{due_text}
-use Rattle.ftd_answers.specs.LateTexts.{BreaksAt, BreaksIn, HasRows, TakesRow, writer_of}
-use Rattle.ftd_answers.specs.declared.late_due_texts.LateDueText.{LateDueText}
-use Rattle.ftd_answers.proofs.LateFacts.{first_part}
+use Rattle.ftd_answers.specs.DueTexts.{BreaksAt, BreaksIn, HasRows, TakesRow, writer_of}
+use Rattle.ftd_answers.specs.declared.due_texts.DueText.{DueText}
+use Rattle.ftd_answers.proofs.RowFacts.{first_part}
 use Rattle.ftd_machine.specs.Checks.{Answer}
 use Rattle.ftd_machine.specs.Limits.{amounts_end}
 use Rattle.ftd_machine.specs.Runs.{IsFault}
@@ -24,11 +25,11 @@ use Rattle.ftd_questions.specs.declared.faults.DueFault.TheVariants.{Refused, Si
 
 module _ {W : Type 0} (taken : W → Option (List ℕ)) (start : Option (List ℕ)) (account : List ℕ)
     (quarter as_of : ℕ) where
-  abbrev Has : List DueRow → LateDueText W → Type 0
+  abbrev Has : List DueRow → DueText W → Type 0
   Has rows text = HasRows taken start account quarter as_of rows text
 
   -- the rows that the text took go with it
-  has_more : (done rows : List DueRow) (before after : LateDueText W) → Has done before
+  has_more : (done rows : List DueRow) (before after : DueText W) → Has done before
       → HasTaken (TakesRow taken) before rows after → Has (done ++ rows) after
   has_more done [] before after has same = subst (λ t. Has (done ++ []) t) (sym same)
       (subst (λ z. Has z before) (sym (append-nil done)) has)
@@ -37,12 +38,12 @@ module _ {W : Type 0} (taken : W → Option (List ℕ)) (start : Option (List �
       (has_more (done ++ row ∷ []) rows next after (takes start account quarter as_of done has)
       later)
 
-  pub has_taken : (rows : List DueRow) (before after : LateDueText W) → Has [] before
+  pub has_taken : (rows : List DueRow) (before after : DueText W) → Has [] before
       → HasTaken (TakesRow taken) before rows after → Has rows after
   has_taken rows before after has took = has_more [] rows before after has took
 
   -- the first of the rows were written
-  pub has_first : (first rest : List DueRow) (before after : LateDueText W) → Has [] before
+  pub has_first : (first rest : List DueRow) (before after : DueText W) → Has [] before
       → HasTaken (TakesRow taken) before first after
       → WritesPrefix start (taken (writer_of after))
       (due_text account quarter as_of (first ++ rest))
@@ -51,7 +52,7 @@ module _ {W : Type 0} (taken : W → Option (List ℕ)) (start : Option (List �
 
   -- the text failed at a row
   pub has_broken : (failed : W → Bool) (first rest : List DueRow) (row : DueRow)
-      (before mid after : LateDueText W) → Has [] before
+      (before mid after : DueText W) → Has [] before
       → HasTaken (TakesRow taken) before first mid → BreaksAt taken failed mid row after
       → BreaksIn taken failed start account quarter as_of first row rest after
   has_broken failed first rest row before mid after has took broke =
@@ -65,6 +66,12 @@ come_to first rest row over =
     let parts = sum_by-append amount_of first (row ∷ rest) in
     let one = sum_by-cons amount_of row rest in
     omega (arith, over)
+
+-- a text that had not failed failed since its writer did
+pub worked : {Q : Type 0} (fails : Bool) → fails ≡ false → (fails ≡ true) ⊎ Q → Q
+worked true works fault = absurd (cc)
+worked false works (inl fails) = absurd (cc)
+worked false works (inr fact) = fact
 
 -- a fault has status 3
 abbrev status_in : Answer → ℕ

@@ -24,7 +24,7 @@ use crate::numbering::ask_next;
 use crate::record_notes::put_refusals;
 use crate::summaries::{write_bad_header, write_summary};
 use crate::{Progress, StopCause, Stopped, Summary, import, import_trial};
-use ftd_answers::{Format, LateDueText, ListFormat, Unwritten};
+use ftd_answers::{DueText, Format, ListFormat, Unwritten};
 use ftd_cli::Job;
 use ftd_csv::{Sheet, write_record_hints};
 use ftd_days::{Day, Quarter};
@@ -198,7 +198,7 @@ fn list_due<S: Alter, O: Target, E: Target>(
     ensures { PerformsDue O.taken O.failed E.taken E.failed out err result
         (held S.Store desk.old) (held S.Store desk.new) db.now account.now quarter as_of }
 {
-    let mut text = LateDueText::new(account, quarter, as_of, out);
+    let mut text = DueText::begin(account, quarter, as_of, out);
     match desk.due_into(account, quarter, as_of, &mut text) {
         Ok(()) => match text.end() {
             Ok(out) => Performed {

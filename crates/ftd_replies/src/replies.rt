@@ -2,12 +2,12 @@
 
 ghost use Rattle.ftd_ports.specs.Writing.{Writes};
 ghost use Rattle.ftd_machine.specs.Laws.{IsBounded};
-ghost use Rattle.ftd_replies.specs.Replies.{posted_text, reply_text};
+ghost use Rattle.ftd_machine.specs.Questions.{AreBounded, question_of};
+ghost use Rattle.ftd_replies.specs.Replies.{facts_told, posted_text, reply_text};
 
-use crate::questions::write_facts;
-use ftd_answers::{Format, day_bytes};
-use ftd_machine::{Difference, Reply, Request};
-use ftd_ports::{Target, WriteFault, write_pieces};
+use ftd_answers::{Format, day_bytes, write_facts};
+use ftd_machine::{Difference, Facts, Reply, Request};
+use ftd_ports::{Target, WriteFault, write_all, write_pieces};
 use itoa::Buffer;
 
 /// Writes the text of the reply to a request, in a format where it has several.
@@ -25,7 +25,24 @@ pub fn write_reply<W: Target>(
         Reply::Done => write_pieces(target, &[b"done", b"\n"]),
         Reply::Already => write_pieces(target, &[b"already", b"\n"]),
         Reply::Posted(difference) => write_posted(difference, target),
-        Reply::Told(facts) => write_facts(format, request, facts, target),
+        Reply::Told(facts) => write_answer(format, request, facts, target),
+    }
+}
+
+/// Writes what is told of a question, in a format; nothing where the request is none.
+fn write_answer<W: Target>(
+    format: Format,
+    request: &Request,
+    facts: &Facts,
+    target: &mut W,
+) -> Result<(), WriteFault>
+    requires bounded { AreBounded facts.now }
+    ensures { Writes result (W.taken target.old) (W.taken target.new)
+        (W.failed target.new) (facts_told format (question_of request.now) facts.now) }
+{
+    match request.question() {
+        Some(question) => write_facts(format, question, facts, target),
+        None => write_all(target, b""),
     }
 }
 

@@ -1,6 +1,7 @@
 -- The response to a refusal.
-use Rattle.std.specs.Prelude.{ℕ, ◌++◌, List, codes, if◌then◌else◌}
+use Rattle.std.specs.Prelude.{ℕ, ◌++◌, ◌∷◌, [], List, codes, if◌then◌else◌}
 use Rattle.std.specs.Fmt.{decimal}
+use Rattle.ftd_answers.specs.Fields.{Told, members_of, number_field, object_of, text_field}
 use Rattle.ftd_days.specs.Text.{quarter_text}
 use Rattle.ftd_http.specs.declared.status.Status.{Status}
 use Rattle.ftd_http.specs.declared.status.Status.TheVariants as status
@@ -10,32 +11,25 @@ use Rattle.ftd_machine.specs.declared.replies.Named.TheVariants as named
 use Rattle.ftd_machine.specs.declared.replies.Refusal.{Refusal}
 use Rattle.ftd_server.specs.Responses.{Said, json}
 
--- what a refusal begins with: the year or the quarter that it names, or how many corrections there
--- are
-abbrev pub year_detail : ℕ → List ℕ
-year_detail year = codes "{\"detail\":\"" ++ decimal year ++ codes "\","
+-- the year or the quarter that a refusal names, or how many corrections there are
+abbrev pub named_fields : Named → List Told
+named_fields named.Nothing = []
+named_fields (named.Year year) = text_field (codes "detail") (decimal year) ∷ []
+named_fields (named.Quarter quarter) = text_field (codes "detail") (quarter_text quarter) ∷ []
+named_fields (named.Number count) = number_field (codes "count") count ∷ []
 
-abbrev pub quarter_detail : ℕ → List ℕ
-quarter_detail quarter = codes "{\"detail\":\"" ++ quarter_text quarter ++ codes "\","
+-- a name and a number
+abbrev pub name_fields : List ℕ → ℕ → List Told
+name_fields name number =
+    text_field (codes "name") name ∷ number_field (codes "refused") number ∷ []
 
-abbrev pub count_detail : ℕ → List ℕ
-count_detail count = codes "{\"count\":" ++ decimal count ++ codes ","
-
-abbrev pub detail_of : Named → List ℕ
-detail_of named.Nothing = codes "{"
-detail_of (named.Year year) = year_detail year
-detail_of (named.Quarter quarter) = quarter_detail quarter
-detail_of (named.Number count) = count_detail count
-
--- a refusal as JSON
-abbrev pub refusal_text : Refusal → List ℕ
-refusal_text r =
-    detail_of (named_by r) ++ codes "\"name\":\"" ++ name_text r ++ codes "\",\"refused\":"
-    ++ decimal (number_of r) ++ codes "}"
+-- the fields of a refusal
+abbrev pub refusal_fields : Refusal → List Told
+refusal_fields r = named_fields (named_by r) ++ name_fields (name_text r) (number_of r)
 
 -- its status: want of memory and a store that failed are faults of the server
 abbrev pub refusal_status : Refusal → Status
 refusal_status r = if is_failure r then status.InternalServerError else status.Conflict
 
 abbrev pub refused : Refusal → Said
-refused r = json (refusal_status r) (refusal_text r)
+refused r = json (refusal_status r) (object_of (members_of (refusal_fields r)))

@@ -1,6 +1,5 @@
 -- The response to what is asked.
-use Rattle.std.specs.Prelude.{◌≡◌, ℕ, ◌++◌, List, codes, length, Ok, Err}
-use Rattle.std.specs.Fmt.{decimal}
+use Rattle.std.specs.Prelude.{◌≡◌, ℕ, ◌∷◌, [], List, codes, length, Ok, Err}
 use Rattle.ftd_days.specs.Text.{day_text}
 use Rattle.ftd_http.specs.declared.status.Status.TheVariants as status
 use Rattle.ftd_machine.specs.Questions.{question_of}
@@ -9,6 +8,7 @@ use Rattle.ftd_machine.specs.declared.replies.Difference.{Difference}
 use Rattle.ftd_machine.specs.declared.replies.Reply.{Reply}
 use Rattle.ftd_machine.specs.declared.replies.Reply.TheVariants as reply
 use Rattle.ftd_machine.specs.Checks.{Answer}
+use Rattle.ftd_answers.specs.Fields.{Told, members_of, number_field, object_of, text_field}
 use Rattle.ftd_answers.specs.declared.formats.Format.{Format}
 use Rattle.ftd_server.specs.Facts.{facts_said}
 use Rattle.ftd_server.specs.Responses.{Said, bare, json}
@@ -17,19 +17,25 @@ use Rattle.ftd_server.specs.Refusals.{refused}
 use Rattle.ftd_http.specs.declared.ask.Asked.{Asked}
 use Rattle.ftd_http.specs.declared.ask.Asked.TheVariants as asked
 
--- how many obligations were removed and added, and their days, as JSON
-abbrev pub posted_text : Difference → List ℕ
-posted_text d =
-    codes "{\"added\":" ++ decimal (length d.added)
-    ++ codes ",\"from\":\"" ++ day_text d.from
-    ++ codes "\",\"removed\":" ++ decimal (length d.removed)
-    ++ codes ",\"reply\":\"posted\",\"to\":\"" ++ day_text d.to ++ codes "\"}"
+-- the response with the name of a reply alone
+abbrev pub named : List ℕ → Said
+named reply = json status.Okay (object_of (members_of (text_field (codes "reply") reply ∷ [])))
+
+-- how many obligations were removed and added, and their days
+abbrev pub posted_fields : Difference → List Told
+posted_fields d =
+    number_field (codes "added") (length d.added) ∷ text_field (codes "from") (day_text d.from)
+    ∷ number_field (codes "removed") (length d.removed)
+    ∷ text_field (codes "reply") (codes "posted") ∷ text_field (codes "to") (day_text d.to) ∷ []
+
+abbrev pub posted : Difference → Said
+posted d = json status.Okay (object_of (members_of (posted_fields d)))
 
 -- the response to a reply, in a format where it has several
 abbrev pub replied : Format → Request → Reply → Said
-replied format request reply.Done = json status.Okay (codes "{\"reply\":\"done\"}")
-replied format request reply.Already = json status.Okay (codes "{\"reply\":\"already\"}")
-replied format request (reply.Posted difference) = json status.Okay (posted_text difference)
+replied format request reply.Done = named (codes "done")
+replied format request reply.Already = named (codes "already")
+replied format request (reply.Posted difference) = posted difference
 replied format request (reply.Told facts) = facts_said format (question_of request) facts
 
 abbrev pub answered : Format → Request → Answer → Said

@@ -38,7 +38,7 @@ other_method method = record (bare status.MethodNotAllowed) { allow = Some metho
 abbrev pub json : Status → List ℕ → Said
 json status body = record { status = status; allow = None; content = content.Json; body = body }
 
--- a response with the text of a report in a format, and one with a list
+-- a response with the text of a report in a format
 abbrev pub list_content : ListFormat → Content
 list_content Text = content.Text
 list_content Csv = content.Csv
@@ -51,9 +51,6 @@ content_of format.Calendar = content.Calendar
 abbrev pub formatted : Format → List ℕ → Said
 formatted format body =
     record { status = status.Okay; allow = None; content = content_of format; body = body }
-
-abbrev pub told : ListFormat → List ℕ → Said
-told of_list body = formatted (format.List of_list) body
 
 -- the end of a line
 abbrev pub line_end : List ℕ

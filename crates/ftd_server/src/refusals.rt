@@ -1,16 +1,17 @@
 //! The response to a refusal.
 
-ghost use Rattle.std.specs.Prelude.{◌≡◌, IfOk};
+ghost use Rattle.std.specs.Prelude.{◌≡◌, ◌∷◌, IfOk, codes};
+ghost use Rattle.ftd_answers.specs.Fields.{members_of, number_field, object_of, text_field};
+ghost use Rattle.ftd_days.specs.Text.{quarter_text};
 ghost use Rattle.ftd_server.specs.Responses.{said_of};
-ghost use Rattle.ftd_server.specs.Refusals.{refused, refusal_text, refusal_status};
-ghost use Rattle.ftd_server.specs.Refusals.{count_detail, detail_of, year_detail};
-ghost use Rattle.ftd_server.specs.Refusals.{quarter_detail};
+ghost use Rattle.ftd_server.specs.Refusals.{name_fields, refused, refusal_fields, refusal_status};
 
-use crate::response::{Response, add_number, json};
-use ftd_answers::quarter_bytes;
+use crate::response::{Response, json, object_text};
+use ftd_answers::Value;
 use ftd_days::Quarter;
 use ftd_http::Status;
 use ftd_machine::{Named, Refusal};
+use itoa::Buffer;
 use std::alloc::{AllocError, Global};
 
 /// The response to a refusal.
@@ -21,17 +22,91 @@ pub fn refused(alloc: Global, refusal: &Refusal) -> Result<Response, AllocError>
     Ok(json(refusal_status(refusal), text))
 }
 
-/// A refusal as JSON.
+/// A refusal as JSON: the year, the quarter or the number that it names, if it names one, its name
+/// and its number.
 fn refusal_text(alloc: Global, refusal: &Refusal) -> Result<Vec<u8>, AllocError>
-    ensures { IfOk result (λ text. text.items ≡ refusal_text refusal.now) }
+    ensures { IfOk result (λ text. text.items
+        ≡ object_of (members_of (refusal_fields refusal.now))) }
 {
-    let mut text = detail_of(alloc, refusal.named())?;
-    text.extend_from_slice(b"\"name\":\"")?;
-    text.extend_from_slice(refusal.name().as_bytes())?;
-    text.extend_from_slice(b"\",\"refused\":")?;
-    add_number(&mut text, u64::from(refusal.number()))?;
-    text.extend_from_slice(b"}")?;
-    Ok(text)
+    let name = refusal.name();
+    let number = u32::from(refusal.number());
+    match refusal.named() {
+        Named::Nothing => name_text(alloc, name, number),
+        Named::Year(year) => {
+            let mut digits = Buffer::new();
+            year_text(alloc, digits.format(year), name, number)
+        }
+        Named::Quarter(quarter) => quarter_text(alloc, quarter, name, number),
+        Named::Number(count) => count_text(alloc, count, name, number),
+    }
+}
+
+/// The name and the number of a refusal as JSON.
+fn name_text(alloc: Global, name: &str, number: u32) -> Result<Vec<u8>, AllocError>
+    ensures { IfOk result (λ text. text.items ≡ object_of (members_of (name_fields name.now number))) }
+{
+    object_text(
+        alloc,
+        &[
+            ("name", Value::Text(name)),
+            ("refused", Value::Number(number)),
+        ],
+    )
+}
+
+/// The same, with the year that the refusal names before them.
+fn year_text<'a>(
+    alloc: Global,
+    year: &'a str,
+    name: &'a str,
+    number: u32,
+) -> Result<Vec<u8>, AllocError>
+    ensures { IfOk result (λ text. text.items ≡ object_of (members_of
+        (text_field (codes "detail") year.now ∷ name_fields name.now number))) }
+{
+    object_text(
+        alloc,
+        &[
+            ("detail", Value::Text(year)),
+            ("name", Value::Text(name)),
+            ("refused", Value::Number(number)),
+        ],
+    )
+}
+
+/// The same, with the quarter that it names.
+fn quarter_text(
+    alloc: Global,
+    quarter: Quarter,
+    name: &str,
+    number: u32,
+) -> Result<Vec<u8>, AllocError>
+    ensures { IfOk result (λ text. text.items ≡ object_of (members_of
+        (text_field (codes "detail") (quarter_text quarter) ∷ name_fields name.now number))) }
+{
+    object_text(
+        alloc,
+        &[
+            ("detail", Value::Quarter(quarter)),
+            ("name", Value::Text(name)),
+            ("refused", Value::Number(number)),
+        ],
+    )
+}
+
+/// The same, with how many corrections there are.
+fn count_text(alloc: Global, count: u32, name: &str, number: u32) -> Result<Vec<u8>, AllocError>
+    ensures { IfOk result (λ text. text.items ≡ object_of (members_of
+        (number_field (codes "count") count ∷ name_fields name.now number))) }
+{
+    object_text(
+        alloc,
+        &[
+            ("count", Value::Number(count)),
+            ("name", Value::Text(name)),
+            ("refused", Value::Number(number)),
+        ],
+    )
 }
 
 /// The status of a refusal.
@@ -43,46 +118,4 @@ fn refusal_status(refusal: &Refusal) -> Status
     } else {
         Status::Conflict
     }
-}
-
-/// What a refusal begins with: the year, the quarter or the number that it names.
-fn detail_of(alloc: Global, named: Named) -> Result<Vec<u8>, AllocError>
-    ensures { IfOk result (λ text. text.items ≡ detail_of named) }
-{
-    match named {
-        Named::Nothing => Vec::from_slice(alloc, b"{"),
-        Named::Year(year) => year_detail(alloc, year),
-        Named::Quarter(quarter) => quarter_detail(alloc, quarter),
-        Named::Number(count) => count_detail(alloc, count),
-    }
-}
-
-/// What a refusal begins with that names a year.
-fn year_detail(alloc: Global, year: u32) -> Result<Vec<u8>, AllocError>
-    ensures { IfOk result (λ text. text.items ≡ year_detail year) }
-{
-    let mut text = Vec::from_slice(alloc, b"{\"detail\":\"")?;
-    add_number(&mut text, u64::from(year))?;
-    text.extend_from_slice(b"\",")?;
-    Ok(text)
-}
-
-/// What a refusal begins with that names a quarter.
-fn quarter_detail(alloc: Global, quarter: Quarter) -> Result<Vec<u8>, AllocError>
-    ensures { IfOk result (λ text. text.items ≡ quarter_detail quarter) }
-{
-    let mut text = Vec::from_slice(alloc, b"{\"detail\":\"")?;
-    text.extend_from_slice(&quarter_bytes(quarter))?;
-    text.extend_from_slice(b"\",")?;
-    Ok(text)
-}
-
-/// What a refusal begins with that names how many corrections there are.
-fn count_detail(alloc: Global, count: u32) -> Result<Vec<u8>, AllocError>
-    ensures { IfOk result (λ text. text.items ≡ count_detail count) }
-{
-    let mut text = Vec::from_slice(alloc, b"{\"count\":")?;
-    add_number(&mut text, u64::from(count))?;
-    text.extend_from_slice(b",")?;
-    Ok(text)
 }

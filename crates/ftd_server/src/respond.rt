@@ -2,16 +2,16 @@
 
 ghost use Rattle.std.specs.Prelude.{◌≡◌, ◌⊎◌, IfOk, OnErr};
 ghost use Rattle.ftd_server.specs.Refusals.{refused};
-ghost use Rattle.ftd_server.specs.Replying.{Responds, answered, posted_text, replied};
-ghost use Rattle.ftd_server.specs.Responses.{Said, json, said_of};
+ghost use Rattle.ftd_server.specs.Replying.{Responds, answered, named, posted, replied};
+ghost use Rattle.ftd_server.specs.Responses.{Said, said_of};
 
 use crate::facts::facts_said;
 use crate::machine::Machine;
 use crate::refusals::refused;
-use crate::response::{Response, add_number, bare, json, other_method};
-use ftd_answers::{Format, day_bytes};
+use crate::response::{Response, bare, json, object_text, other_method};
+use ftd_answers::{Format, Value};
 use ftd_http::{Asked, Status};
-use ftd_machine::{Answer, Difference, Reply, Request};
+use ftd_machine::{Answer, Difference, Reply, Request, is_bounded};
 use std::alloc::{AllocError, Global};
 
 /// The response to what is asked. Where there is no memory for it, the machine may have answered.
@@ -51,7 +51,8 @@ fn answered(
     }
 }
 
-/// The response to a reply.
+/// The response to a reply. The amounts of one account that a desk answers come to less than
+/// 6,000,000,000,000,000 cents; a list of others has no text.
 fn replied(
     alloc: Global,
     format: Format,
@@ -60,41 +61,35 @@ fn replied(
 ) -> Result<Response, AllocError>
     ensures { IfOk result (λ response. said_of response ≡ replied format request.now reply.now) }
 {
+    if !is_bounded(reply) {
+        return Err(AllocError);
+    }
     match reply {
-        Reply::Done => done(alloc, b"{\"reply\":\"done\"}"),
-        Reply::Already => done(alloc, b"{\"reply\":\"already\"}"),
+        Reply::Done => named(alloc, "done"),
+        Reply::Already => named(alloc, "already"),
         Reply::Posted(difference) => posted(alloc, difference),
         Reply::Told(facts) => facts_said(alloc, format, request, facts),
     }
 }
 
-/// A response with this JSON body.
-fn done(alloc: Global, body: &[u8]) -> Result<Response, AllocError>
-    ensures { IfOk result (λ response. said_of response ≡ json Status.Okay body.now) }
+/// A response with the name of a reply alone.
+fn named(alloc: Global, reply: &str) -> Result<Response, AllocError>
+    ensures { IfOk result (λ response. said_of response ≡ named reply.now) }
 {
-    Ok(json(Status::Okay, Vec::from_slice(alloc, body)?))
+    let text = object_text(alloc, &[("reply", Value::Text(reply))])?;
+    Ok(json(Status::Okay, text))
 }
 
-/// The response with how many obligations were removed and added.
+/// The response with how many obligations were removed and added, and their days.
 fn posted(alloc: Global, difference: &Difference) -> Result<Response, AllocError>
-    ensures { IfOk result
-        (λ response. said_of response ≡ json Status.Okay (posted_text difference.now)) }
+    ensures { IfOk result (λ response. said_of response ≡ posted difference.now) }
 {
-    Ok(json(Status::Okay, posted_text(alloc, difference)?))
-}
-
-/// How many obligations were removed and added, and their days, as JSON.
-fn posted_text(alloc: Global, difference: &Difference) -> Result<Vec<u8>, AllocError>
-    ensures { IfOk result (λ text. text.items ≡ posted_text difference.now) }
-{
-    let mut text = Vec::from_slice(alloc, b"{\"added\":")?;
-    add_number(&mut text, difference.added.as_slice().len() as u64)?;
-    text.extend_from_slice(b",\"from\":\"")?;
-    text.extend_from_slice(&day_bytes(difference.from))?;
-    text.extend_from_slice(b"\",\"removed\":")?;
-    add_number(&mut text, difference.removed.as_slice().len() as u64)?;
-    text.extend_from_slice(b",\"reply\":\"posted\",\"to\":\"")?;
-    text.extend_from_slice(&day_bytes(difference.to))?;
-    text.extend_from_slice(b"\"}")?;
-    Ok(text)
+    let fields = [
+        ("added", Value::Count(difference.added.as_slice().len())),
+        ("from", Value::Day(difference.from)),
+        ("removed", Value::Count(difference.removed.as_slice().len())),
+        ("reply", Value::Text("posted")),
+        ("to", Value::Day(difference.to)),
+    ];
+    Ok(json(Status::Okay, object_text(alloc, &fields)?))
 }

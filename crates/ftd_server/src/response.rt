@@ -1,15 +1,14 @@
 //! Responses.
 
-ghost use Rattle.std.specs.Prelude.{◌≡◌, ◌++◌, Some, IfOk, OnOk};
-ghost use Rattle.std.specs.Fmt.{decimal};
+ghost use Rattle.std.specs.Prelude.{◌≡◌, Some, IfOk, map};
+ghost use Rattle.ftd_answers.specs.Fields.{member_of, object_of};
 ghost use Rattle.ftd_ports.specs.Writing.{Writes};
 ghost use Rattle.ftd_server.specs.Responses.{said_of, bare, json, formatted, list_content};
-ghost use Rattle.ftd_server.specs.Responses.{told};
 ghost use Rattle.ftd_server.specs.Responses.{content_of, other_method};
 ghost use Rattle.ftd_server.specs.Responses.{status_text, allow_line, content_line};
 ghost use Rattle.ftd_server.specs.Responses.{connection_line, head_text, response_text};
 
-use ftd_answers::{Format, ListFormat};
+use ftd_answers::{Format, ListFormat, Value, write_object};
 use ftd_http::{Method, Status};
 use ftd_ports::{Port, Target, WriteFault, write_all, write_pieces};
 use itoa::Buffer;
@@ -112,19 +111,15 @@ pub fn formatted(format: Format, body: Vec<u8>) -> Response
     }
 }
 
-/// A response with a list in a format.
-pub fn told(format: ListFormat, body: Vec<u8>) -> Response
-    ensures { said_of result ≡ told format body.items }
+/// The text of an object of JSON with these fields.
+pub fn object_text(alloc: Global, fields: &[(&str, Value<'_>)]) -> Result<Vec<u8>, AllocError>
+    ensures { IfOk result (λ text. text.items ≡ object_of (map member_of fields.now)) }
 {
-    formatted(Format::List(format), body)
-}
-
-/// Adds a number in digits.
-pub fn add_number(text: &mut Vec<u8>, number: u64) -> Result<(), AllocError>
-    ensures { OnOk result (text.new.items ≡ text.old.items ++ decimal number) }
-{
-    let mut buffer = Buffer::new();
-    text.extend_from_slice(buffer.format(number).as_bytes())
+    let mut port = Port::new(Vec::new(alloc));
+    match write_object(fields, &mut port) {
+        Ok(()) => Ok(port.into_inner()),
+        Err(_) => Err(AllocError),
+    }
 }
 
 /// Writes a response: with one call of the target, where there is memory for its bytes in a row and

@@ -10,12 +10,12 @@ use Rattle.ftd_machine.proofs.Listed.{lists_bounded}
 use Rattle.ftd_desk.specs.Desks.{KeepsIfOpen, held}
 use Rattle.ftd_program.specs.Mending.{KnowsFor}
 use Rattle.ftd_program.proofs.Mended.{known_of, nothing_of, stands_on}
-use Rattle.ftd_answers.specs.LateTexts.{BreaksAt, TakesRow, writer_of}
+use Rattle.ftd_answers.specs.DueTexts.{BreaksAt, TakesRow, writer_of}
 use Rattle.ftd_ports.specs.Writing.{WritesPrefix}
 use Rattle.ftd_answers.specs.DueLists.{due_text}
 use Rattle.ftd_program.specs.Performing.{broken, failed, refused, unbegun, whole}
 use Rattle.ftd_program.proofs.DueFacts.{as_refused, as_sink, come_to, fault_status, has_broken}
-use Rattle.ftd_program.proofs.DueFacts.{has_first, has_taken, some_status}
+use Rattle.ftd_program.proofs.DueFacts.{has_first, has_taken, some_status, worked}
 use Rattle.ftd_program.proofs.performing.list_due.Goals as goal
 
 pub returns-in-Ok-end : goal.returns-in-Ok-end
@@ -25,8 +25,8 @@ returns-in-Ok-end g c =
       prints = λ clean s keeps.
           let told = c.in-Ok.ensures.tells clean s (λ on. keeps) in
           let has = has_taken g.O.Target.taken (g.O.Target.taken c.args.out) c.args.account.now
-          c.args.quarter c.args.as_of told.0 c.new-text.result c.due_into.new.sink
-          c.new-text.ensures.rows told.2 in
+          c.args.quarter c.args.as_of told.0 c.begin-text.result c.due_into.new.sink
+          c.begin-text.ensures.rows told.2 in
           whole told.0 told.1
           (record {
             status_is = refl;
@@ -36,8 +36,8 @@ returns-in-Ok-end g c =
       shows = λ clean zero t stands.
           let shown = c.in-Ok.ensures.shows clean t stands in
           let has = has_taken g.O.Target.taken (g.O.Target.taken c.args.out) c.args.account.now
-          c.args.quarter c.args.as_of shown.0 c.new-text.result c.due_into.new.sink
-          c.new-text.ensures.rows shown.1 in (
+          c.args.quarter c.args.as_of shown.0 c.begin-text.result c.due_into.new.sink
+          c.begin-text.ensures.rows shown.1 in (
             shown.0,
             shown.2,
             record {
@@ -55,15 +55,15 @@ returns-in-Err g c =
       prints = λ clean s keeps.
           let told = c.in-Ok.ensures.tells clean s (λ on. keeps) in
           let has = has_taken g.O.Target.taken (g.O.Target.taken c.args.out) c.args.account.now
-          c.args.quarter c.args.as_of told.0 c.new-text.result c.due_into.new.sink
-          c.new-text.ensures.rows told.2 in
+          c.args.quarter c.args.as_of told.0 c.begin-text.result c.due_into.new.sink
+          c.begin-text.ensures.rows told.2 in
           let out = c.fail_output.ensures.out in
           failed told.0 told.1 (record {
             status_is = c.fail_output.ensures.status;
             part = subst (λ o. WritesPrefix (g.O.Target.taken c.args.out) (g.O.Target.taken o)
                 (due_text c.args.account.now c.args.quarter c.args.as_of told.0)) (sym out)
                 (c.in-Err.ensures.prefix _ _ _ _ told.0 has);
-            reason = ap g.O.Target.failed out ∙ c.in-Err.ensures.fault;
+            reason = ap g.O.Target.failed out ∙ worked _ has.works c.in-Err.ensures.fault;
             line = c.fail_output.ensures.line;
           });
       shows = λ clean zero. absurd (let three = c.fail_output.ensures.status in omega arith);
@@ -88,7 +88,7 @@ returns-in-Err-Refused g c =
           let known = knows clean s (λ on. c.due_into.ensures.stands.stands then on s keeps) in
           (elim (as_refused (TakesRow g.O.Target.taken)
           (BreaksAt g.O.Target.taken g.O.Target.failed) s c.args.account.now c.args.quarter
-          c.args.as_of c.new-text.result c.due_into.new.sink c.due_into.result
+          c.args.as_of c.begin-text.result c.due_into.new.sink c.due_into.result
           c.in-Err-Refused.field-0 c.in-Err-Refused.is refusal
           c.in-Err-Refused.field-0-is (c.due_into.ensures.tells then s (λ on. keeps))) [
             | inl refuses ↦ refused refusal c.known_for.result refuses.0
@@ -97,7 +97,7 @@ returns-in-Err-Refused g c =
                 (record {
                   status_is = printed.status_is;
                   out_is = writer
-                      ∙ (ap writer_of refuses.1 ∙ c.new-text.ensures.writer);
+                      ∙ (ap writer_of refuses.1 ∙ c.begin-text.ensures.writer);
                   line = printed.line;
                 })
             | inr faulted ↦
@@ -109,7 +109,7 @@ returns-in-Err-Refused g c =
                       (record {
                         status_is = bare.status_is;
                         out_is = writer
-                            ∙ (ap writer_of same ∙ c.new-text.ensures.writer);
+                            ∙ (ap writer_of same ∙ c.begin-text.ensures.writer);
                         line = bare.line;
                       })
                   | inr first ↦ broken refusal (first.0 ++ first.1) faulted.0 first.2
@@ -121,7 +121,7 @@ returns-in-Err-Refused g c =
                             (first.0 ++ first.1))) (sym writer)
                             (has_first g.O.Target.taken (g.O.Target.taken c.args.out)
                             c.args.account.now c.args.quarter c.args.as_of first.0 first.1
-                            c.new-text.result c.due_into.new.sink c.new-text.ensures.rows first.3);
+                            c.begin-text.result c.due_into.new.sink c.begin-text.ensures.rows first.3);
                         line = bare.line;
                       })
                 ])
@@ -138,13 +138,13 @@ returns-in-Err-Sink g c =
       prints = λ clean s keeps.
           let told = as_sink (TakesRow g.O.Target.taken)
           (BreaksAt g.O.Target.taken g.O.Target.failed) s c.args.account.now c.args.quarter
-          c.args.as_of c.new-text.result c.due_into.new.sink c.due_into.result c.in-Err-Sink.field-0
+          c.args.as_of c.begin-text.result c.due_into.new.sink c.due_into.result c.in-Err-Sink.field-0
           c.in-Err-Sink.is c.in-Err-Sink.field-0-is
           (c.due_into.ensures.tells clean s (λ on. keeps)) in
           let rows = told.0 ++ told.1 ∷ told.2 in
           let breaks = has_broken g.O.Target.taken (g.O.Target.taken c.args.out) c.args.account.now
-          c.args.quarter c.args.as_of g.O.Target.failed told.0 told.2 told.1 c.new-text.result
-          told.4 c.due_into.new.sink c.new-text.ensures.rows told.5 told.6 in
+          c.args.quarter c.args.as_of g.O.Target.failed told.0 told.2 told.1 c.begin-text.result
+          told.4 c.due_into.new.sink c.begin-text.ensures.rows told.5 told.6 in
           failed rows told.3 (record {
             status_is = c.fail_output-in-Err-Sink.ensures.status;
             part = subst (λ o. WritesPrefix (g.O.Target.taken c.args.out) (g.O.Target.taken o)

@@ -1,27 +1,40 @@
-use Rattle.std.proofs.Common.{[], refl}
+use Rattle.std.proofs.Common.{[], ◌∷◌, ◌++◌, true, refl, sym, subst, inl, inr, arith}
 use Rattle.std.proofs.KnownBytes.{Appends-nil}
-use Rattle.ftd_answers.proofs.RowFacts.{row_broken, rows_more}
+use Rattle.ftd_ports.proofs.WritingFacts.{breaks_off, prefix_more}
+use Rattle.ftd_answers.specs.DueTexts.{HasRows}
+use Rattle.ftd_answers.proofs.RowFacts.{one_more, more_left}
 use Rattle.ftd_answers.proofs.due_texts.DueTextDueSink.row.Goals as goal
 
-pub returns-in_default-clause-prefix : goal.returns-in_default-clause-prefix
-returns-in_default-clause-prefix g c = λ start account quarter as_of rows others has.
-    row_broken g.W.Target.taken start _ account quarter as_of rows others c.args.row.now
-    c.args.self.now has
-    (record { written = []; unwritten = _; parts = refl; appends = Appends-nil _ })
-
-pub returns-in-Ok-clause-rows : goal.returns-in-Ok-clause-rows
-returns-in-Ok-clause-rows g c = λ start account quarter as_of rows has.
-    rows_more g.W.Target.taken start account quarter as_of rows c.args.row.now c.args.self.now _
-    (let sum = c.in-Some.ensures.counts in
+pub returns-in_default-clause-broke : goal.returns-in_default-clause-broke
+returns-in_default-clause-broke g c = λ start account quarter as_of rows others has.
     record {
-      worked = c.if-self.false;
-      works = c.if-self.false;
-      writes = c.in-Ok.ensures.ok;
-      counts = sum.0;
-      below = sum.1;
-    }) has
+      part = breaks_off (more_left g.W.Target.taken start account quarter as_of rows
+          c.args.self.now has c.args.row.now others)
+          (record { written = []; unwritten = _; parts = refl; appends = Appends-nil _ });
+      reason = let over = c.in_default.ensures.full refl in let before = has.total in
+          inr (omega arith);
+    }
 
-pub returns-in-Err-clause-prefix : goal.returns-in-Err-clause-prefix
-returns-in-Err-clause-prefix g c = λ start account quarter as_of rows others has.
-    row_broken g.W.Target.taken start _ account quarter as_of rows others c.args.row.now
-    c.args.self.now has c.in-Err.ensures.err
+pub returns-in-Err-clause-broke : goal.returns-in-Err-clause-broke
+returns-in-Err-clause-broke g c = λ start account quarter as_of rows others has.
+    record {
+      part = breaks_off (more_left g.W.Target.taken start account quarter as_of rows
+          c.args.self.now has c.args.row.now others)
+          (prefix_more _ refl c.in-Err.ensures.writes.err);
+      reason = inl c.in-Err.ensures.writes.fault;
+    }
+
+pub returns-in-Ok-clause-took : goal.returns-in-Ok-clause-took
+returns-in-Ok-clause-took g c = λ start account quarter as_of rows has.
+    let sum = c.in-Some.ensures.counts in
+    let made = one_more g.W.Target.taken start account quarter as_of rows c.args.self.now has
+    c.args.row.now _ c.in-Ok.ensures.writes.ok in
+    subst (λ text. HasRows g.W.Target.taken start account quarter as_of
+    (rows ++ c.args.row.now ∷ []) (record text { total = c.in-Some.total }))
+    (sym c.in-Ok.ensures.begun)
+    (subst (λ total. HasRows g.W.Target.taken start account quarter as_of
+    (rows ++ c.args.row.now ∷ []) (record c.args.self.now {
+      writer = c.write.new.self.writer;
+      begun = true;
+      total = total;
+    })) (sym sum.0) made)

@@ -1,9 +1,0 @@
-use Rattle.ftd_ports.proofs.WritingFacts.{then_writes, stops_in}
-use Rattle.ftd_answers.proofs.late_due_texts.LateDueText.write.Goals as goal
-
-pub returns-in_err-begin-clause-writes : goal.returns-in_err-begin-clause-writes
-returns-in_err-begin-clause-writes g c =
-    stops_in _ c.from_residual.ensures.0 c.in_err-begin.ensures.writes
-
-pub returns-clause-writes : goal.returns-clause-writes
-returns-clause-writes g c = then_writes c.in_ok-begin.ensures.writes c.write_row.ensures
