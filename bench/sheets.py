@@ -176,7 +176,8 @@ def try_sheet(folder, db, sheet, accounts, chosen, told):
     said = ftd(sheet, "--db", db, text)
     told["texts"] += 1
     told["records"] += len(records)
-    told["wrong"] += (tried[:2] != wanted) + (said[:2] != wanted) + (tried != said) + (not same) + (tables(db) != tables(other))
+    # Standard error may differ: a trial does not say how a record differs from another one of the same text.
+    told["wrong"] += (tried[:2] != wanted) + (said[:2] != wanted) + (not same) + (tables(db) != tables(other))
     if told["wrong"]:
         print(sheet, wanted, tried, said, same, sep="\n")
         sys.exit(1)
