@@ -2,7 +2,7 @@
 # What the program says of files that it can't use, each beside what it has to say: a directory, a folder that is not there, a text,
 # somebody else's database, one of a later version, one cut short, one with a byte that flipped, one that sqlite3 wrote to, one that
 # may not be read, one that another program holds, a disk that is full, a log that can't be copied; and that a trial leaves a file of an older version.
-# It needs sqlite3. Usage: examples/files.sh PATH-OF-FTD [PORT]
+# A server that reads its file twice before it listens is told by strace. It needs sqlite3, curl and strace. Usage: examples/files.sh PATH-OF-FTD [PORT]
 set -u
 ftd=$(realpath "${1:?the path of ftd}")
 port=${2:-8080}
@@ -12,7 +12,7 @@ cd "$folder" || exit 1
 failed=0
 count=0
 
-# what a command prints on both outputs, but its hint, and its exit status, is to be so
+# what a command prints on both outputs, but its hints and notes, and its exit status, is to be so
 says() {
     wanted=$1
     shift
@@ -20,7 +20,7 @@ says() {
     said=$("$@" 2>&1)
     status=$?
     hint=$(grep '^hint: ' <<< "$said")
-    said="$(grep -v '^hint: ' <<< "$said") $status"
+    said="$(grep -v '^hint: \|^note: ' <<< "$said") $status"
     if [ "$said" != "$wanted" ]; then
         echo "differs: $*: $said"
         failed=1
@@ -109,6 +109,17 @@ says $'posted 400 already 0 refused 0 malformed 0\nfailed File 3' \
 hints 'grown.db: the last commands are in grown.db-wal: keep both files, and run a command when the disk has room'
 says 'posted 0 already 400 refused 0 malformed 0 0' "$ftd" import more.csv --db grown.db
 rm runs.csv more.csv
+# so a server, which says so at its end: what it answered is in the log
+in_so_many_blocks 500 "$ftd" serve --db grown.db --port "$port" --connections 1 > out 2> err &
+server=$!
+until grep -qs '^listening ' out; do sleep 0.1; done
+says '{"added":1,"from":"2024-05-01","removed":1,"reply":"posted","to":"2024-05-31"} 0' \
+    curl -s -X DELETE "http://127.0.0.1:$port/accounts/ash/runs/7900"
+wait "$server"
+says '3 0' echo $?
+says $'failed File\nkept in the log 0' sed 's/^hint: grown.db: the last commands are in grown.db-wal: .*/kept in the log/' err
+says 'already 0' "$ftd" void ash 7900 --db grown.db
+rm out err
 # a trial over a file of version 2, and over one of version 1, answers as the import would, and leaves its bytes
 printf 'employer,first_day,carried,form\nelm,2024-01-01,no,941\n' > accounts.csv
 later='corrected corrected_year changed_holiday corrected_account'
@@ -139,6 +150,19 @@ says '{"day":"2024-01-05","kind":"monthly","reason":"lookback"} 0' \
     curl -s "http://127.0.0.1:$port/accounts/ash/status/2024-01-05"
 wait "$server"
 says '2024-01-05 monthly lookback 0' "$ftd" "${ask[@]}" office.db
+# it reads its file once before it listens: each page as often as a command that reads it and ends
+strace -e trace=pread64 -o read "$ftd" "${ask[@]}" office.db > told
+strace -e trace=pread64,write -o served "$ftd" serve --db office.db --port "$port" --connections 1 > out 2> err &
+server=$!
+until grep -qs '^listening ' out; do sleep 0.1; done
+says '{"day":"2024-01-05","kind":"monthly","reason":"lookback"} 0' \
+    curl -s "http://127.0.0.1:$port/accounts/ash/status/2024-01-05"
+wait "$server"
+# how often the page at this place is read
+reads() { grep -c "^pread64.* 4096, $1)" "$2"; }
+sed '/^write(1, "listening/q' served > began
+says "$(reads 98304 read) 0" reads 98304 began
+rm out err told read served began
 cp office.db copy.db
 says '2024-01-05 monthly lookback 0' "$ftd" "${ask[@]}" copy.db
 [ "$failed" = 0 ] && echo "all $count commands say what they have to"
