@@ -6,6 +6,8 @@ use Rattle.ftd_machine.specs.declared.requests.Question.{Question}
 use Rattle.ftd_machine.specs.declared.requests.Question.TheVariants as question
 use Rattle.ftd_machine.specs.declared.requests.Request.{Request}
 use Rattle.ftd_machine.specs.declared.requests.Request.TheVariants as request
+use Rattle.ftd_machine.specs.declared.requests.Entry.TheVariants as entry
+use Rattle.ftd_machine.specs.declared.entries.ReturnPeriod.TheVariants.{Quarter, Year}
 use Rattle.ftd_cli.specs.declared.tasks.Job.{Job}
 use Rattle.ftd_cli.specs.declared.tasks.Job.TheVariants as job
 use Rattle.ftd.specs.declared.beginning.Beginning.{Beginning}
@@ -32,20 +34,17 @@ beginning_of_question (question.Kept things) = Needs
 
 -- a request: a desk begins by two, and six keep their answer over a new file
 abbrev pub beginning_of_request : Request → Beginning
-beginning_of_request (request.Calendar year days) = Makes
-beginning_of_request (request.Enrol name start carried form) = Makes
-beginning_of_request (request.Report name quarter cents) = Tells
-beginning_of_request (request.OpenYear name year) = Tells
-beginning_of_request (request.Post name run payday fit ss medicare) = Tells
-beginning_of_request (request.Void name run) = Tells
-beginning_of_request (request.Pay name payment paid for_day cents) = Tells
-beginning_of_request (request.VoidPay name payment) = Tells
-beginning_of_request (request.AddHoliday day) = Needs
-beginning_of_request (request.ReportYear name year cents) = Needs
-beginning_of_request (request.CorrectReport name quarter number cents) = Needs
-beginning_of_request (request.CorrectReportYear name year number cents) = Needs
-beginning_of_request (request.ChangeHoliday day number is_holiday) = Needs
-beginning_of_request (request.CorrectAccount name number start carried) = Needs
+beginning_of_request (request.Enter (entry.Calendar year days)) = Makes
+beginning_of_request (request.Enter (entry.Account name account)) = Makes
+beginning_of_request (request.Enter (entry.Total name (Quarter quarter) cents)) = Tells
+beginning_of_request (request.Enter (entry.Total name (Year year) cents)) = Needs
+beginning_of_request (request.Enter (entry.Holiday day)) = Needs
+beginning_of_request (request.Enter (entry.Year name year)) = Tells
+beginning_of_request (request.Post name number run) = Tells
+beginning_of_request (request.Void name number) = Tells
+beginning_of_request (request.Pay name number payment) = Tells
+beginning_of_request (request.VoidPay name number) = Tells
+beginning_of_request (request.Correct number correction) = Needs
 beginning_of_request (request.Question asked) = beginning_of_question asked
 
 -- a job; a trial of an import makes no file

@@ -6,7 +6,7 @@ ghost use Rattle.ftd.specs.Beginnings.{beginning_of_question, beginning_of_reque
 
 use ftd_cli::Job;
 use ftd_csv::Sheet;
-use ftd_machine::{Question, Request};
+use ftd_machine::{Entry, Question, Request, ReturnPeriod};
 
 /// What a job does about a file that is not there.
 #[derive(Clone, Copy, Debug, PartialEq, Eq)]
@@ -53,19 +53,20 @@ fn of_request(request: &Request) -> Beginning
     ensures { result ≡ beginning_of_request request.now }
 {
     match request {
-        Request::Calendar { .. } | Request::Enrol { .. } => Beginning::Makes,
-        Request::Report { .. }
-        | Request::OpenYear { .. }
+        Request::Enter(Entry::Calendar { .. } | Entry::Account { .. }) => Beginning::Makes,
+        Request::Enter(
+            Entry::Holiday { .. }
+            | Entry::Total {
+                period: ReturnPeriod::Year(_),
+                ..
+            },
+        )
+        | Request::Correct { .. } => Beginning::Needs,
+        Request::Enter(Entry::Total { .. } | Entry::Year { .. })
         | Request::Post { .. }
         | Request::Void { .. }
         | Request::Pay { .. }
         | Request::VoidPay { .. } => Beginning::Tells,
-        Request::AddHoliday { .. }
-        | Request::ReportYear { .. }
-        | Request::CorrectReport { .. }
-        | Request::CorrectReportYear { .. }
-        | Request::ChangeHoliday { .. }
-        | Request::CorrectAccount { .. } => Beginning::Needs,
         Request::Question(question) => of_question(question),
     }
 }

@@ -13,8 +13,6 @@ use Rattle.ftd_machine.specs.declared.kept.KeptTotal.TheVariants.{OfQuarter, OfY
 use Rattle.ftd_machine.specs.declared.kept.KeptYear.{KeptYear}
 use Rattle.ftd_machine.specs.declared.kept.KeptRows.{KeptRows}
 use Rattle.ftd_machine.specs.declared.kept.KeptRows.TheVariants as rows
-use Rattle.ftd_machine.specs.declared.requests.Kept.{Kept}
-use Rattle.ftd_machine.specs.declared.requests.Kept.TheVariants as kept
 use Rattle.ftd_answers.specs.Agendas.{form_number}
 use Rattle.ftd_answers.specs.Fields.{Told, flag_field, list_of, number_field, object_told, quoted}
 use Rattle.ftd_answers.specs.Fields.{record_told, text_field}
@@ -123,18 +121,27 @@ live_payment account x = if x.voided then [] else record_told (payment_fields ac
 unfoldable pub runs_csv : List ℕ → List KeptRun → List ℕ
 runs_csv account listed = records_head ++ flat_map (live_record account) listed
 
+-- the account of which it is kept; all accounts and holidays are of none
+abbrev pub account_of : KeptRows → List ℕ
+account_of (rows.Accounts listed) = []
+account_of (rows.Years account listed) = account
+account_of (rows.Reported account listed) = account
+account_of (rows.Holidays year listed) = []
+account_of (rows.Runs account quarter listed) = account
+account_of (rows.Payments account quarter listed) = account
+
 -- what is kept of an account
-unfoldable pub rows_csv : List ℕ → KeptRows → List ℕ
-rows_csv account (rows.Accounts listed) =
+unfoldable pub rows_csv : KeptRows → List ℕ
+rows_csv (rows.Accounts listed) =
     accounts_head ++ flat_map (λ x. record_told (account_fields x)) listed
-rows_csv account (rows.Years listed) =
+rows_csv (rows.Years account listed) =
     years_head ++ flat_map (λ x. record_told (year_fields account x)) listed
-rows_csv account (rows.Reported listed) =
+rows_csv (rows.Reported account listed) =
     totals_head ++ flat_map (λ x. record_told (total_fields account x)) listed
-rows_csv account (rows.Holidays listed) =
+rows_csv (rows.Holidays year listed) =
     holidays_head ++ flat_map (λ x. record_told (holiday_fields x)) listed
-rows_csv account (rows.Runs listed) = runs_csv account listed
-rows_csv account (rows.Payments listed) =
+rows_csv (rows.Runs account quarter listed) = runs_csv account listed
+rows_csv (rows.Payments account quarter listed) =
     payments_head ++ flat_map (live_payment account) listed
 
 -- ---- JSON: a list of objects, also of what was voided
@@ -159,29 +166,19 @@ payment_object account x =
     object_told (payment_fields account x ++ (day_field (codes "obligation") x.obligation
     ∷ flag_field (codes "void") x.voided ∷ []))
 
-unfoldable pub rows_json : List ℕ → KeptRows → List ℕ
-rows_json account (rows.Accounts listed) =
-    list_of (map (λ x. object_told (account_fields x)) listed)
-rows_json account (rows.Years listed) =
+unfoldable pub rows_json : KeptRows → List ℕ
+rows_json (rows.Accounts listed) = list_of (map (λ x. object_told (account_fields x)) listed)
+rows_json (rows.Years account listed) =
     list_of (map (λ x. object_told (year_fields account x)) listed)
-rows_json account (rows.Reported listed) = list_of (map (total_object account) listed)
-rows_json account (rows.Holidays listed) =
+rows_json (rows.Reported account listed) = list_of (map (total_object account) listed)
+rows_json (rows.Holidays year listed) =
     list_of (map (λ x. object_told (holiday_fields x)) listed)
-rows_json account (rows.Runs listed) = list_of (map (run_object account) listed)
-rows_json account (rows.Payments listed) = list_of (map (payment_object account) listed)
+rows_json (rows.Runs account quarter listed) = list_of (map (run_object account) listed)
+rows_json (rows.Payments account quarter listed) = list_of (map (payment_object account) listed)
 
 -- ---- in a format
 
--- the account of which a list was asked; all accounts and holidays are of none
-abbrev pub account_of : Kept → List ℕ
-account_of kept.Accounts = []
-account_of (kept.Years account) = account
-account_of (kept.Reported account) = account
-account_of (kept.Holidays year) = []
-account_of (kept.Runs account quarter) = account
-account_of (kept.Payments account quarter) = account
-
-abbrev pub kept_as : ListFormat → Kept → KeptRows → List ℕ
-kept_as Text asked told = kept_text asked told
-kept_as Csv asked told = rows_csv (account_of asked) told
-kept_as Json asked told = rows_json (account_of asked) told
+abbrev pub kept_as : ListFormat → KeptRows → List ℕ
+kept_as Text told = kept_text told
+kept_as Csv told = rows_csv told
+kept_as Json told = rows_json told

@@ -17,8 +17,6 @@ use Rattle.ftd_machine.specs.declared.kept.KeptTotal.TheVariants.{OfQuarter, OfY
 use Rattle.ftd_machine.specs.declared.kept.KeptYear.{KeptYear}
 use Rattle.ftd_machine.specs.declared.kept.KeptRows.{KeptRows}
 use Rattle.ftd_machine.specs.declared.kept.KeptRows.TheVariants as rows
-use Rattle.ftd_machine.specs.declared.requests.Kept.{Kept}
-use Rattle.ftd_machine.specs.declared.requests.Kept.TheVariants as kept
 use Rattle.ftd_answers.specs.Agendas.{form_number}
 use Rattle.ftd_answers.specs.Columns.{space, line_end, left_in, amount_in}
 
@@ -31,13 +29,15 @@ abbrev pub of_quarter : List ℕ → List ℕ → ℕ → List ℕ
 of_quarter what account quarter =
     concat (what ∷ account ∷ (space ∷ []) ∷ quarter_text quarter ∷ (line_end ∷ []) ∷ [])
 
-abbrev pub head_text : Kept → List ℕ
-head_text kept.Accounts = codes "ACCOUNTS\n"
-head_text (kept.Years account) = of_account (codes "YEARS ") account
-head_text (kept.Reported account) = of_account (codes "REPORTED ") account
-head_text (kept.Holidays year) = concat (codes "HOLIDAYS " ∷ decimal year ∷ (line_end ∷ []) ∷ [])
-head_text (kept.Runs account quarter) = of_quarter (codes "RUNS ") account quarter
-head_text (kept.Payments account quarter) = of_quarter (codes "PAYMENTS ") account quarter
+abbrev pub head_text : KeptRows → List ℕ
+head_text (rows.Accounts listed) = codes "ACCOUNTS\n"
+head_text (rows.Years account listed) = of_account (codes "YEARS ") account
+head_text (rows.Reported account listed) = of_account (codes "REPORTED ") account
+head_text (rows.Holidays year listed) =
+    concat (codes "HOLIDAYS " ∷ decimal year ∷ (line_end ∷ []) ∷ [])
+head_text (rows.Runs account quarter listed) = of_quarter (codes "RUNS ") account quarter
+head_text (rows.Payments account quarter listed) =
+    of_quarter (codes "PAYMENTS ") account quarter
 
 -- ---- a line of each: its columns, with one space between, and then what marks it
 
@@ -138,12 +138,12 @@ payment_line x =
 
 unfoldable pub rows_text : KeptRows → List ℕ
 rows_text (rows.Accounts listed) = flat_map account_line listed
-rows_text (rows.Years listed) = flat_map year_line listed
-rows_text (rows.Reported listed) = flat_map total_line listed
-rows_text (rows.Holidays listed) = flat_map holiday_line listed
-rows_text (rows.Runs listed) = flat_map run_line listed
-rows_text (rows.Payments listed) = flat_map payment_line listed
+rows_text (rows.Years account listed) = flat_map year_line listed
+rows_text (rows.Reported account listed) = flat_map total_line listed
+rows_text (rows.Holidays year listed) = flat_map holiday_line listed
+rows_text (rows.Runs account quarter listed) = flat_map run_line listed
+rows_text (rows.Payments account quarter listed) = flat_map payment_line listed
 
 -- the first line, and a line for each row
-unfoldable pub kept_text : Kept → KeptRows → List ℕ
-kept_text asked told = head_text asked ++ rows_text told
+unfoldable pub kept_text : KeptRows → List ℕ
+kept_text told = head_text told ++ rows_text told

@@ -3,6 +3,7 @@ use Rattle.std.specs.Prelude.{ℕ, ◌-◌, List, [], ◌∷◌, ◌++◌, codes
 use Rattle.std.specs.Fmt.{decimal}
 use Rattle.std.specs.List.{concat, flat_map, join_with_byte}
 use Rattle.ftd_days.specs.Text.{cents_text, day_text}
+use Rattle.ftd_machine.specs.declared.facts.Unapplied.{Unapplied}
 use Rattle.ftd_machine.specs.declared.lists.UnappliedRow.{UnappliedRow}
 use Rattle.ftd_answers.specs.Columns.{space, line_end, amount_in}
 use Rattle.ftd_answers.specs.Fields.{Told, list_of, object_told, record_told, text_field}
@@ -76,7 +77,7 @@ unapplied_json rows = list_of (map (λ x. object_told (unapplied_fields x)) rows
 
 -- ---- in a format
 
-abbrev pub unapplied_as : ListFormat → ℕ → List UnappliedRow → List ℕ
-unapplied_as Text until rows = unapplied_text until rows
-unapplied_as Csv until rows = unapplied_csv rows
-unapplied_as Json until rows = unapplied_json rows
+abbrev pub unapplied_as : ListFormat → Unapplied → List ℕ
+unapplied_as Text x = unapplied_text x.until x.rows
+unapplied_as Csv x = unapplied_csv x.rows
+unapplied_as Json x = unapplied_json x.rows

@@ -9,7 +9,7 @@ ghost use Rattle.ftd_answers.specs.DueLists.{due_head, due_line, total_line, due
 use crate::values::{amount_column, day_bytes, quarter_bytes, rule_column, verdict_name};
 use ftd_days::{Cents, Day, Quarter};
 use ftd_ports::{Target, WriteFault, write_pieces};
-use ftd_rules::{DueRow, Obligation};
+use ftd_rules::{AMOUNTS_END, DueRow, Obligation};
 use itoa::Buffer;
 
 /// Writes the due list of an account's quarter as of a day: a first line, a line for each row, and
@@ -23,7 +23,7 @@ pub fn due_list<W: Target>(
     rows: &[DueRow],
     target: &mut W,
 ) -> Result<(), WriteFault>
-    requires amounts { sum_by amount_of rows.now < 6_000_000_000_000_000 }
+    requires amounts { sum_by amount_of rows.now < AMOUNTS_END }
     ensures { Writes result (W.taken target.old) (W.taken target.new)
         (W.failed target.new) (due_text account.now quarter as_of rows.now) }
 {

@@ -7,15 +7,12 @@ ghost use Rattle.ftd_ports.specs.Writing.{Writes, WritesPrefix};
 ghost use Rattle.ftd_rules.specs.declared.verdict.DueRow.{DueRow};
 ghost use Rattle.ftd_answers.specs.DueLists.{due_line, due_text, total_line};
 ghost use Rattle.ftd_rules.specs.Verdicts.{amount_of};
-ghost use Rattle.ftd_answers.specs.DueTexts.{HasRows, has_failed, most_total, waiting, writer_of};
+ghost use Rattle.ftd_answers.specs.DueTexts.{HasRows, has_failed, waiting, writer_of};
 
 use crate::due_lists::{write_head, write_row, write_total};
 use ftd_days::{Cents, Day, Quarter};
 use ftd_ports::{Target, WriteFault};
-use ftd_rules::{DueRow, DueSink, SinkFault};
-
-/// The sum of the amounts that no due list reaches, in cents.
-const MOST_TOTAL: u64 = 6_000_000_000_000_000;
+use ftd_rules::{AMOUNTS_END, DueRow, DueSink, SinkFault};
 
 /// A due list that is written row by row, by first day, to a writer that it holds: the same bytes
 /// as those of `due_list`. Its first line waits for the first row, or for the end, so that nothing
@@ -41,11 +38,11 @@ pub struct Unwritten<W> {
 /// The sum with the amount of the row, where it stays below what no due list reaches.
 fn total_with(total: u64, row: &DueRow) -> Option<u64>
     ensures counts { IfSome result
-        (λ sum. (sum ≡ total + amount_of row.now) × (sum < most_total)) }
-    ensures full { result ≡ None → most_total ≤ total + amount_of row.now }
+        (λ sum. (sum ≡ total + amount_of row.now) × (sum < AMOUNTS_END)) }
+    ensures full { result ≡ None → AMOUNTS_END ≤ total + amount_of row.now }
 {
     let total = total.saturating_add(row.obligation.cents.0);
-    if total < MOST_TOTAL {
+    if total < AMOUNTS_END {
         Some(total)
     } else {
         None

@@ -16,7 +16,7 @@ use crate::rows::write_table;
 use crate::values::{amount_column, rule_column};
 use crate::{Format, ListFormat, RowFormat, day_bytes};
 use ftd_days::Day;
-use ftd_machine::{CountedDay, DayKind, Explanation, Reason, RunningSum};
+use ftd_machine::{CountedDay, DayKind, Explained, Explanation, Reason, RunningSum};
 use ftd_ports::{Target, WriteFault, write_all, write_pieces};
 use ftd_rules::{Kind, Obligation};
 use itoa::Buffer;
@@ -249,17 +249,21 @@ pub fn write_explanation<W: Target>(
 /// nowhere else.
 pub fn write_explanation_as<W: Target>(
     format: Format,
-    account: &str,
-    day: Day,
-    found: &Option<Explanation>,
+    explained: &Explained,
     target: &mut W,
 ) -> Result<(), WriteFault>
     ensures { Writes result (W.taken target.old) (W.taken target.new)
-        (W.failed target.new) (explanation_as format account.now day found.now) }
+        (W.failed target.new) (explanation_as format explained.now) }
 {
+    let account = explained.account.as_str();
+    let day = explained.day;
     match format {
-        Format::List(ListFormat::Text) => write_explanation(account, day, found, target),
-        Format::List(ListFormat::Json) => write_explanation_json(account, day, found, target),
+        Format::List(ListFormat::Text) => {
+            write_explanation(account, day, &explained.found, target)
+        }
+        Format::List(ListFormat::Json) => {
+            write_explanation_json(account, day, &explained.found, target)
+        }
         Format::List(ListFormat::Csv) | Format::Calendar => write_all(target, b""),
     }
 }

@@ -13,10 +13,9 @@ use crate::calendars::write_agenda_calendar;
 use crate::due_list_forms::{write_due_csv, write_due_json};
 use crate::schedule_b_forms::{write_b_csv, write_b_json};
 use crate::{due_list, schedule_b};
-use ftd_days::{Day, Quarter};
-use ftd_machine::AgendaRow;
+use ftd_machine::{Agenda, DueList, LiabilityByDay, Owed};
 use ftd_ports::{Target, WriteFault};
-use ftd_rules::{DaySum, DueRow};
+use ftd_rules::AMOUNTS_END;
 
 /// A format of a list.
 #[derive(Clone, Copy, Debug, PartialEq, Eq)]
@@ -50,84 +49,81 @@ impl Format {
     }
 }
 
-/// Writes what is due between two days over all accounts, as of a day, in a format. It takes no
-/// memory but what the target takes. Where the target fails, a prefix of the text was written, and
-/// it fails nowhere else.
+/// Writes what is due between two days over all accounts, in a format. It takes no memory but what
+/// the target takes. Where the target fails, a prefix of the text was written, and it fails nowhere
+/// else.
 pub fn write_agenda_as<W: Target>(
     format: Format,
-    from: Day,
-    to: Day,
-    as_of: Day,
-    rows: &[AgendaRow],
+    agenda: &Agenda,
     target: &mut W,
 ) -> Result<(), WriteFault>
     ensures { Writes result (W.taken target.old) (W.taken target.new)
-        (W.failed target.new) (agenda_as format from to as_of rows.now) }
+        (W.failed target.new) (agenda_as format agenda.now) }
 {
+    let rows = agenda.rows.as_slice();
     match format {
-        Format::List(ListFormat::Text) => write_agenda(from, to, as_of, rows, target),
+        Format::List(ListFormat::Text) => {
+            write_agenda(agenda.from, agenda.to, agenda.as_of, rows, target)
+        }
         Format::List(ListFormat::Csv) => write_agenda_csv(rows, target),
         Format::List(ListFormat::Json) => write_agenda_json(rows, target),
-        Format::Calendar => write_agenda_calendar(as_of, rows, target),
+        Format::Calendar => write_agenda_calendar(agenda.as_of, rows, target),
     }
 }
 
-/// Writes what is due until a day over all accounts and not paid as of a day, as `write_agenda_as`
-/// does.
+/// Writes what is due until a day over all accounts and not paid, as `write_agenda_as` does.
 pub fn write_owed_as<W: Target>(
     format: Format,
-    until: Day,
-    as_of: Day,
-    rows: &[AgendaRow],
+    owed: &Owed,
     target: &mut W,
 ) -> Result<(), WriteFault>
     ensures { Writes result (W.taken target.old) (W.taken target.new)
-        (W.failed target.new) (owed_as format until as_of rows.now) }
+        (W.failed target.new) (owed_as format owed.now) }
 {
+    let rows = owed.rows.as_slice();
     match format {
-        Format::List(ListFormat::Text) => write_owed(until, as_of, rows, target),
+        Format::List(ListFormat::Text) => write_owed(owed.until, owed.as_of, rows, target),
         Format::List(ListFormat::Csv) => write_agenda_csv(rows, target),
         Format::List(ListFormat::Json) => write_agenda_json(rows, target),
-        Format::Calendar => write_agenda_calendar(as_of, rows, target),
+        Format::Calendar => write_agenda_calendar(owed.as_of, rows, target),
     }
 }
 
-/// Writes the due list of an account's quarter as of a day, in a format, as `write_agenda_as` does.
-/// The amounts are together below 6,000,000,000,000,000 cents.
+/// Writes a due list in a format, as `write_agenda_as` does. The amounts are together below
+/// 6,000,000,000,000,000 cents.
 pub fn write_due_as<W: Target>(
     format: ListFormat,
-    account: &str,
-    quarter: Quarter,
-    as_of: Day,
-    rows: &[DueRow],
+    list: &DueList,
     target: &mut W,
 ) -> Result<(), WriteFault>
-    requires amounts { sum_by amount_of rows.now < 6_000_000_000_000_000 }
+    requires amounts { sum_by amount_of list.now.rows < AMOUNTS_END }
     ensures { Writes result (W.taken target.old) (W.taken target.new)
-        (W.failed target.new) (due_as format account.now quarter as_of rows.now) }
+        (W.failed target.new) (due_as format list.now) }
 {
+    let account = list.account.as_str();
+    let rows = list.rows.as_slice();
     match format {
-        ListFormat::Text => due_list(account, quarter, as_of, rows, target),
+        ListFormat::Text => due_list(account, list.quarter, list.as_of, rows, target),
         ListFormat::Csv => write_due_csv(account, rows, target),
         ListFormat::Json => write_due_json(account, rows, target),
     }
 }
 
-/// Writes Schedule B of an account's quarter in a format, as `write_agenda_as` does. The amounts
-/// are together below 6,000,000,000,000,000 cents.
+/// Writes Schedule B in a format, as `write_agenda_as` does. The amounts are together below
+/// 6,000,000,000,000,000 cents.
 pub fn write_b_as<W: Target>(
     format: ListFormat,
-    account: &str,
-    quarter: Quarter,
-    sums: &[DaySum],
+    list: &LiabilityByDay,
     target: &mut W,
 ) -> Result<(), WriteFault>
-    requires amounts { sum_by cents_of sums.now < 6_000_000_000_000_000 }
+    requires amounts { sum_by cents_of list.now.sums < AMOUNTS_END }
     ensures { Writes result (W.taken target.old) (W.taken target.new)
-        (W.failed target.new) (b_as format account.now quarter sums.now) }
+        (W.failed target.new) (b_as format list.now) }
 {
+    let account = list.account.as_str();
+    let sums = list.sums.as_slice();
     match format {
-        ListFormat::Text => schedule_b(account, quarter, sums, target),
+        ListFormat::Text => schedule_b(account, list.quarter, sums, target),
         ListFormat::Csv => write_b_csv(account, sums, target),
         ListFormat::Json => write_b_json(account, sums, target),
     }

@@ -3,14 +3,14 @@
 ghost use Rattle.std.specs.Prelude.{◌≡◌, map};
 ghost use Rattle.ftd_answers.specs.Fields.{json_text, member_of, members_of, plain_of};
 ghost use Rattle.ftd_answers.specs.Fields.{plain_text, plain_texts};
-ghost use Rattle.ftd_answers.specs.KeptForms.{account_fields, day_json, day_plain};
+ghost use Rattle.ftd_answers.specs.KeptForms.{account_fields, account_of, day_json, day_plain};
 ghost use Rattle.ftd_answers.specs.KeptForms.{holiday_fields, payment_fields, run_fields};
 ghost use Rattle.ftd_answers.specs.KeptForms.{total_fields, year_fields};
 ghost use Rattle.ftd_answers.specs.Listings.{kind_name};
 
 use crate::Value;
 use ftd_days::Day;
-use ftd_machine::{KeptAccount, KeptHoliday, KeptPayment, KeptRun, KeptTotal, KeptYear};
+use ftd_machine::{KeptAccount, KeptHoliday, KeptPayment, KeptRows, KeptRun, KeptTotal, KeptYear};
 use ftd_rules::Kind;
 
 /// A day, or none.
@@ -31,6 +31,19 @@ pub fn kind_name<'a>(kind: Kind) -> &'a str
     match kind {
         Kind::Monthly => "monthly",
         Kind::Semiweekly => "semiweekly",
+    }
+}
+
+/// The account of which it is kept; empty where it is of none.
+pub fn account_of(rows: &KeptRows) -> &str
+    ensures { result.now ≡ account_of rows.now }
+{
+    match rows {
+        KeptRows::Accounts { .. } | KeptRows::Holidays { .. } => "",
+        KeptRows::Years { account, .. }
+        | KeptRows::Reported { account, .. }
+        | KeptRows::Runs { account, .. }
+        | KeptRows::Payments { account, .. } => account.as_str(),
     }
 }
 

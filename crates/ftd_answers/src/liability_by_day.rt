@@ -9,7 +9,7 @@ ghost use Rattle.ftd_answers.specs.SchedulesB.{b_head, b_line, b_text, day_line,
 use crate::values::{amount_column, day_bytes, label_column, month_bytes, quarter_bytes};
 use ftd_days::{Cents, Quarter};
 use ftd_ports::{Target, WriteFault, write_pieces};
-use ftd_rules::DaySum;
+use ftd_rules::{AMOUNTS_END, DaySum};
 use itoa::Buffer;
 
 /// Writes Schedule B of an account's quarter: for each month of the quarter a line for each of its
@@ -24,7 +24,7 @@ pub fn schedule_b<W: Target>(
     sums: &[DaySum],
     target: &mut W,
 ) -> Result<(), WriteFault>
-    requires amounts { sum_by cents_of sums.now < 6_000_000_000_000_000 }
+    requires amounts { sum_by cents_of sums.now < AMOUNTS_END }
     ensures { Writes result (W.taken target.old) (W.taken target.new)
         (W.failed target.new) (b_text account.now quarter sums.now) }
 {
@@ -38,7 +38,7 @@ pub fn schedule_b<W: Target>(
 
 /// The amounts of the sums together.
 fn total_of(sums: &[DaySum]) -> Cents
-    requires { sum_by cents_of sums.now < 6_000_000_000_000_000 }
+    requires { sum_by cents_of sums.now < AMOUNTS_END }
     ensures { result.0 ≡ sum_by cents_of sums.now }
 {
     Cents(sums.iter().map(|sum| sum.cents.0).sum())
@@ -59,7 +59,7 @@ fn write_head<W: Target>(account: &str, quarter: Quarter, target: &mut W) -> Res
 /// Writes the lines of a month, which goes by its number of months after January 1900.
 fn write_month<W: Target>(month: u32, sums: &[DaySum], target: &mut W) -> Result<(), WriteFault>
     requires month { month < 3600 }
-    requires amounts { sum_by cents_of sums.now < 6_000_000_000_000_000 }
+    requires amounts { sum_by cents_of sums.now < AMOUNTS_END }
     ensures { Writes result (W.taken target.old) (W.taken target.new)
         (W.failed target.new) (month_lines sums.now month) }
 {

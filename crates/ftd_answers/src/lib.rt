@@ -30,7 +30,7 @@ mod values;
 pub use crate::agendas::form_bytes;
 pub use crate::due_lists::due_list;
 pub use crate::due_texts::{DueText, Unwritten};
-pub use crate::facts::{fits, write_facts};
+pub use crate::facts::write_facts;
 pub use crate::fields::{Value, write_object};
 pub use crate::formats::{Format, ListFormat};
 pub use crate::liability_by_day::schedule_b;

@@ -1,8 +1,7 @@
 //! Lists of what is kept.
 
-ghost use Rattle.std.specs.Prelude.{◌≡◌};
 ghost use Rattle.ftd_ports.specs.Writing.{Writes};
-ghost use Rattle.ftd_answers.specs.KeptForms.{account_of, kept_as};
+ghost use Rattle.ftd_answers.specs.KeptForms.{kept_as};
 ghost use Rattle.ftd_answers.specs.Listings.{head_text, kept_text, of_account, of_quarter};
 ghost use Rattle.ftd_answers.specs.Listings.{rows_text};
 
@@ -11,78 +10,64 @@ use crate::objects::write_kept_json;
 use crate::records::write_kept_csv;
 use crate::{ListFormat, quarter_bytes, write_rows};
 use ftd_days::Quarter;
-use ftd_machine::{Kept, KeptRows};
+use ftd_machine::KeptRows;
 use ftd_ports::{Target, WriteFault, write_all, write_pieces};
 use itoa::Buffer;
 
-/// Writes what is kept, as far as it was asked for, in a format: as CSV without what was voided, so
-/// that another desk takes it over. It takes no memory but what the target takes. Where the target
-/// fails, a prefix of the text was written, and it fails nowhere else.
+/// Writes what is kept, in a format: as CSV without what was voided, so that another desk takes it
+/// over. It takes no memory but what the target takes. Where the target fails, a prefix of the text
+/// was written, and it fails nowhere else.
 pub fn write_kept_as<W: Target>(
     format: ListFormat,
-    asked: &Kept,
     rows: &KeptRows,
     target: &mut W,
 ) -> Result<(), WriteFault>
     ensures { Writes result (W.taken target.old) (W.taken target.new)
-        (W.failed target.new) (kept_as format asked.now rows.now) }
+        (W.failed target.new) (kept_as format rows.now) }
 {
     match format {
-        ListFormat::Text => write_kept(asked, rows, target),
-        ListFormat::Csv => write_kept_csv(account_of(asked), rows, target),
-        ListFormat::Json => write_kept_json(account_of(asked), rows, target),
+        ListFormat::Text => write_kept(rows, target),
+        ListFormat::Csv => write_kept_csv(rows, target),
+        ListFormat::Json => write_kept_json(rows, target),
     }
 }
 
-/// The account of which a list was asked; empty where it is of none.
-fn account_of(asked: &Kept) -> &str
-    ensures { result.now ≡ account_of asked.now }
-{
-    match asked {
-        Kept::Accounts | Kept::Holidays { .. } => "",
-        Kept::Years { account }
-        | Kept::Reported { account }
-        | Kept::Runs { account, .. }
-        | Kept::Payments { account, .. } => account.as_str(),
-    }
-}
-
-/// Writes what is kept, as far as it was asked for, as text: a first line that says what it is, and
-/// a line for each row. Where the target fails, a prefix of the text was written, and it fails
-/// nowhere else.
+/// Writes what is kept as text: a first line that says what it is, and a line for each row.
 #[tactic(auto, using(ftd_ports::proofs::WritingFacts::written_in_parts), unfolding(crate::specs::Listings::kept_text))]
-pub fn write_kept<W: Target>(
-    asked: &Kept,
-    rows: &KeptRows,
-    target: &mut W,
-) -> Result<(), WriteFault>
+fn write_kept<W: Target>(rows: &KeptRows, target: &mut W) -> Result<(), WriteFault>
     ensures { Writes result (W.taken target.old) (W.taken target.new)
-        (W.failed target.new) (kept_text asked.now rows.now) }
+        (W.failed target.new) (kept_text rows.now) }
 {
-    write_head(asked, target)?;
+    write_head(rows, target)?;
     write_lines(rows, target)
 }
 
 /// Writes the first line.
-fn write_head<W: Target>(asked: &Kept, target: &mut W) -> Result<(), WriteFault>
+fn write_head<W: Target>(rows: &KeptRows, target: &mut W) -> Result<(), WriteFault>
     ensures { Writes result (W.taken target.old) (W.taken target.new)
-        (W.failed target.new) (head_text asked.now) }
+        (W.failed target.new) (head_text rows.now) }
 {
-    match asked {
-        Kept::Accounts => write_all(target, b"ACCOUNTS\n"),
-        Kept::Years { account } => write_of_account(b"YEARS ", account.as_str(), target),
-        Kept::Reported { account } => write_of_account(b"REPORTED ", account.as_str(), target),
-        Kept::Holidays { year } => {
+    match rows {
+        KeptRows::Accounts { .. } => write_all(target, b"ACCOUNTS\n"),
+        KeptRows::Years { account, .. } => write_of_account(b"YEARS ", account.as_str(), target),
+        KeptRows::Reported { account, .. } => {
+            write_of_account(b"REPORTED ", account.as_str(), target)
+        }
+        KeptRows::Holidays { year, .. } => {
             let mut digits = Buffer::new();
             let year = digits.format(*year).as_bytes();
             write_pieces(target, &[b"HOLIDAYS ", year, b"\n"])
         }
-        Kept::Runs { account, quarter } => {
-            write_of_quarter(b"RUNS ", account.as_str(), *quarter, target)
-        }
-        Kept::Payments { account, quarter } => {
-            write_of_quarter(b"PAYMENTS ", account.as_str(), *quarter, target)
-        }
+        KeptRows::Runs {
+            account,
+            quarter,
+            ..
+        } => write_of_quarter(b"RUNS ", account.as_str(), *quarter, target),
+        KeptRows::Payments {
+            account,
+            quarter,
+            ..
+        } => write_of_quarter(b"PAYMENTS ", account.as_str(), *quarter, target),
     }
 }
 
@@ -116,11 +101,11 @@ fn write_lines<W: Target>(rows: &KeptRows, target: &mut W) -> Result<(), WriteFa
         (W.failed target.new) (rows_text rows.now) }
 {
     match rows {
-        KeptRows::Accounts(accounts) => write_rows(&Columns, accounts.as_slice(), target),
-        KeptRows::Years(years) => write_rows(&Columns, years.as_slice(), target),
-        KeptRows::Reported(totals) => write_rows(&Columns, totals.as_slice(), target),
-        KeptRows::Holidays(holidays) => write_rows(&Columns, holidays.as_slice(), target),
-        KeptRows::Runs(runs) => write_rows(&Columns, runs.as_slice(), target),
-        KeptRows::Payments(payments) => write_rows(&Columns, payments.as_slice(), target),
+        KeptRows::Accounts { rows, .. } => write_rows(&Columns, rows.as_slice(), target),
+        KeptRows::Years { rows, .. } => write_rows(&Columns, rows.as_slice(), target),
+        KeptRows::Reported { rows, .. } => write_rows(&Columns, rows.as_slice(), target),
+        KeptRows::Holidays { rows, .. } => write_rows(&Columns, rows.as_slice(), target),
+        KeptRows::Runs { rows, .. } => write_rows(&Columns, rows.as_slice(), target),
+        KeptRows::Payments { rows, .. } => write_rows(&Columns, rows.as_slice(), target),
     }
 }

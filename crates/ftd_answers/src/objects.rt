@@ -11,7 +11,7 @@ ghost use Rattle.ftd_answers.specs.KeptForms.{rows_json, run_fields, run_object,
 ghost use Rattle.ftd_answers.specs.KeptForms.{total_object, year_fields};
 
 use crate::fields::write_list;
-use crate::kept_fields::{account_fields, day_or_missing, holiday_fields, year_fields};
+use crate::kept_fields::{account_fields, account_of, day_or_missing, holiday_fields, year_fields};
 use crate::{RowFormat, Value, write_object};
 use ftd_machine::{KeptAccount, KeptHoliday, KeptPayment, KeptRows, KeptRun, KeptTotal, KeptYear};
 use ftd_ports::{Target, WriteFault};
@@ -140,21 +140,19 @@ impl<'a> RowFormat<KeptPayment> for Objects<'a> {
 /// memory but what the target takes. Where the target fails, a prefix of the text was written, and
 /// it fails nowhere else.
 #[tactic(auto, using(ftd_ports::proofs::WritingFacts::written_in_parts), unfolding(crate::specs::KeptForms::rows_json))]
-pub fn write_kept_json<W: Target>(
-    account: &str,
-    rows: &KeptRows,
-    target: &mut W,
-) -> Result<(), WriteFault>
+pub fn write_kept_json<W: Target>(rows: &KeptRows, target: &mut W) -> Result<(), WriteFault>
     ensures { Writes result (W.taken target.old) (W.taken target.new)
-        (W.failed target.new) (rows_json account.now rows.now) }
+        (W.failed target.new) (rows_json rows.now) }
 {
-    let objects = Objects { account };
+    let objects = Objects {
+        account: account_of(rows),
+    };
     match rows {
-        KeptRows::Accounts(accounts) => write_list(&objects, accounts.as_slice(), target),
-        KeptRows::Years(years) => write_list(&objects, years.as_slice(), target),
-        KeptRows::Reported(totals) => write_list(&objects, totals.as_slice(), target),
-        KeptRows::Holidays(holidays) => write_list(&objects, holidays.as_slice(), target),
-        KeptRows::Runs(runs) => write_list(&objects, runs.as_slice(), target),
-        KeptRows::Payments(payments) => write_list(&objects, payments.as_slice(), target),
+        KeptRows::Accounts { rows, .. } => write_list(&objects, rows.as_slice(), target),
+        KeptRows::Years { rows, .. } => write_list(&objects, rows.as_slice(), target),
+        KeptRows::Reported { rows, .. } => write_list(&objects, rows.as_slice(), target),
+        KeptRows::Holidays { rows, .. } => write_list(&objects, rows.as_slice(), target),
+        KeptRows::Runs { rows, .. } => write_list(&objects, rows.as_slice(), target),
+        KeptRows::Payments { rows, .. } => write_list(&objects, rows.as_slice(), target),
     }
 }

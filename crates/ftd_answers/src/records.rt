@@ -10,11 +10,25 @@ ghost use Rattle.ftd_answers.specs.KeptForms.{total_fields, year_fields};
 use crate::RowFormat;
 use crate::fields::write_record;
 use crate::kept_fields::{
-    account_fields, holiday_fields, payment_fields, run_fields, total_fields, year_fields,
+    account_fields, account_of, holiday_fields, payment_fields, run_fields, total_fields,
+    year_fields,
 };
 use crate::rows::write_table;
 use ftd_machine::{KeptAccount, KeptHoliday, KeptPayment, KeptRows, KeptRun, KeptTotal, KeptYear};
 use ftd_ports::{Target, WriteFault};
+
+// The first lines of the lists: the names of the fields.
+const ACCOUNTS_HEAD: &[u8] = b"employer,first_day,carried,form\n";
+
+const YEARS_HEAD: &[u8] = b"employer,year,lookback,opening,carried,turned,first_lookback\n";
+
+const TOTALS_HEAD: &[u8] = b"employer,period,amount\n";
+
+const HOLIDAYS_HEAD: &[u8] = b"day,added,holiday\n";
+
+const RUNS_HEAD: &[u8] = b"employer,run,payday,fit,ss,medicare\n";
+
+const PAYMENTS_HEAD: &[u8] = b"employer,payment,paid,for,amount\n";
 
 /// Records of an account.
 #[derive(Drop)]
@@ -125,50 +139,38 @@ impl<'a> RowFormat<KeptPayment> for Records<'a> {
 /// record for each row that was not voided. It takes no memory but what the target takes. Where the
 /// target fails, a prefix of the text was written, and it fails nowhere else.
 #[tactic(auto, using(ftd_ports::proofs::WritingFacts::written_in_parts), unfolding(crate::specs::KeptForms::rows_csv, crate::specs::KeptForms::runs_csv))]
-pub fn write_kept_csv<W: Target>(
-    account: &str,
-    rows: &KeptRows,
-    target: &mut W,
-) -> Result<(), WriteFault>
+pub fn write_kept_csv<W: Target>(rows: &KeptRows, target: &mut W) -> Result<(), WriteFault>
     ensures { Writes result (W.taken target.old) (W.taken target.new)
-        (W.failed target.new) (rows_csv account.now rows.now) }
+        (W.failed target.new) (rows_csv rows.now) }
 {
-    let records = Records { account };
+    let records = Records {
+        account: account_of(rows),
+    };
     match rows {
-        KeptRows::Accounts(accounts) => write_table(
-            b"employer,first_day,carried,form\n",
+        KeptRows::Accounts { rows, .. } => write_table(
+            ACCOUNTS_HEAD,
             &records,
-            accounts.as_slice(),
+            rows.as_slice(),
             target,
         ),
-        KeptRows::Years(years) => write_table(
-            b"employer,year,lookback,opening,carried,turned,first_lookback\n",
+        KeptRows::Years { rows, .. } => write_table(YEARS_HEAD, &records, rows.as_slice(), target),
+        KeptRows::Reported { rows, .. } => write_table(
+            TOTALS_HEAD,
             &records,
-            years.as_slice(),
+            rows.as_slice(),
             target,
         ),
-        KeptRows::Reported(totals) => write_table(
-            b"employer,period,amount\n",
+        KeptRows::Holidays { rows, .. } => write_table(
+            HOLIDAYS_HEAD,
             &records,
-            totals.as_slice(),
+            rows.as_slice(),
             target,
         ),
-        KeptRows::Holidays(holidays) => write_table(
-            b"day,added,holiday\n",
+        KeptRows::Runs { rows, .. } => write_table(RUNS_HEAD, &records, rows.as_slice(), target),
+        KeptRows::Payments { rows, .. } => write_table(
+            PAYMENTS_HEAD,
             &records,
-            holidays.as_slice(),
-            target,
-        ),
-        KeptRows::Runs(runs) => write_table(
-            b"employer,run,payday,fit,ss,medicare\n",
-            &records,
-            runs.as_slice(),
-            target,
-        ),
-        KeptRows::Payments(payments) => write_table(
-            b"employer,payment,paid,for,amount\n",
-            &records,
-            payments.as_slice(),
+            rows.as_slice(),
             target,
         ),
     }

@@ -9,31 +9,30 @@ use crate::explanations::{reason_name, turn_of, write_schedule};
 use crate::kept_fields::kind_name;
 use crate::{Format, ListFormat, Value, write_object};
 use ftd_days::Day;
-use ftd_machine::Reason;
+use ftd_machine::DaySchedule;
 use ftd_ports::{Target, WriteFault, write_all};
-use ftd_rules::Kind;
 
 /// The day, its deposit schedule, and why.
-fn schedule_members<'a>(day: Day, kind: Kind, reason: &Reason) -> [(&'a str, Value<'a>); 3]
-    ensures { map member_of result ≡ members_of (reason_fields day kind reason.now) }
+fn schedule_members<'a>(schedule: &DaySchedule) -> [(&'a str, Value<'a>); 3]
+    ensures { map member_of result ≡ members_of (reason_fields schedule.now) }
 {
-    let why = reason_name(reason);
+    let why = reason_name(&schedule.reason);
     [
-        ("day", Value::Day(day)),
-        ("kind", Value::Text(kind_name(kind))),
+        ("day", Value::Day(schedule.day)),
+        ("kind", Value::Text(kind_name(schedule.kind))),
         ("reason", Value::Text(why)),
     ]
 }
 
 /// The same, and the day on which 100,000.00 was reached.
-fn turn_members<'a>(day: Day, kind: Kind, reason: &Reason, turn: Day) -> [(&'a str, Value<'a>); 4]
+fn turn_members<'a>(schedule: &DaySchedule, turn: Day) -> [(&'a str, Value<'a>); 4]
     ensures { map member_of result ≡ members_of
-        (reason_fields day kind reason.now ++ turn_field (Some turn)) }
+        (reason_fields schedule.now ++ turn_field (Some turn)) }
 {
-    let why = reason_name(reason);
+    let why = reason_name(&schedule.reason);
     [
-        ("day", Value::Day(day)),
-        ("kind", Value::Text(kind_name(kind))),
+        ("day", Value::Day(schedule.day)),
+        ("kind", Value::Text(kind_name(schedule.kind))),
         ("reason", Value::Text(why)),
         ("turn", Value::Day(turn)),
     ]
@@ -43,18 +42,16 @@ fn turn_members<'a>(day: Day, kind: Kind, reason: &Reason, turn: Day) -> [(&'a s
 /// was reached, if that is why, as an object of JSON.
 #[tactic(auto, unfolding(crate::specs::Fields::object_told))]
 fn write_object_of<W: Target>(
-    day: Day,
-    kind: Kind,
-    reason: &Reason,
+    schedule: &DaySchedule,
     turn: Option<Day>,
     target: &mut W,
 ) -> Result<(), WriteFault>
     ensures { Writes result (W.taken target.old) (W.taken target.new) (W.failed target.new)
-        (object_told (reason_fields day kind reason.now ++ turn_field turn)) }
+        (object_told (reason_fields schedule.now ++ turn_field turn)) }
 {
     match turn {
-        None => write_object(&schedule_members(day, kind, reason), target),
-        Some(turn) => write_object(&turn_members(day, kind, reason, turn), target),
+        None => write_object(&schedule_members(schedule), target),
+        Some(turn) => write_object(&turn_members(schedule, turn), target),
     }
 }
 
@@ -63,18 +60,18 @@ fn write_object_of<W: Target>(
 /// the text was written, and it fails nowhere else.
 pub fn write_schedule_as<W: Target>(
     format: Format,
-    day: Day,
-    kind: Kind,
-    reason: Reason,
+    schedule: &DaySchedule,
     target: &mut W,
 ) -> Result<(), WriteFault>
     ensures { Writes result (W.taken target.old) (W.taken target.new)
-        (W.failed target.new) (schedule_as format day kind reason) }
+        (W.failed target.new) (schedule_as format schedule.now) }
 {
     match format {
-        Format::List(ListFormat::Text) => write_schedule(day, kind, reason, target),
+        Format::List(ListFormat::Text) => {
+            write_schedule(schedule.day, schedule.kind, schedule.reason, target)
+        }
         Format::List(ListFormat::Json) => {
-            write_object_of(day, kind, &reason, turn_of(&reason), target)
+            write_object_of(schedule, turn_of(&schedule.reason), target)
         }
         Format::List(ListFormat::Csv) | Format::Calendar => write_all(target, b""),
     }

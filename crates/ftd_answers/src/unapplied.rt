@@ -15,7 +15,7 @@ use crate::rows::write_table;
 use crate::values::amount_column;
 use crate::{ListFormat, RowFormat, Value, day_bytes, write_object, write_rows};
 use ftd_days::{Cents, Day};
-use ftd_machine::UnappliedRow;
+use ftd_machine::{Unapplied, UnappliedRow};
 use ftd_ports::{Target, WriteFault, write_all, write_pieces};
 use itoa::Buffer;
 
@@ -188,15 +188,15 @@ fn write_json<W: Target>(rows: &[UnappliedRow], target: &mut W) -> Result<(), Wr
 /// nowhere else.
 pub fn write_unapplied_as<W: Target>(
     format: ListFormat,
-    until: Day,
-    rows: &[UnappliedRow],
+    unapplied: &Unapplied,
     target: &mut W,
 ) -> Result<(), WriteFault>
     ensures { Writes result (W.taken target.old) (W.taken target.new)
-        (W.failed target.new) (unapplied_as format until rows.now) }
+        (W.failed target.new) (unapplied_as format unapplied.now) }
 {
+    let rows = unapplied.rows.as_slice();
     match format {
-        ListFormat::Text => write_text(until, rows, target),
+        ListFormat::Text => write_text(unapplied.until, rows, target),
         ListFormat::Csv => write_csv(rows, target),
         ListFormat::Json => write_json(rows, target),
     }

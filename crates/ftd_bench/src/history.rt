@@ -8,13 +8,10 @@ ghost use Rattle.ftd_rules.specs.Years.{YearsFrom, OnlyFirstCarried};
 
 use anyhow::{Context, Result, bail};
 use ftd_days::{Cents, Day, Holidays};
-use ftd_rules::{Assessment, DaySum, Form, Kind, YearLine, assess};
+use ftd_rules::{AMOUNTS_END, Assessment, DaySum, Form, Kind, YearLine, assess};
 use rand_core::utils::NextWord;
 use rand_pcg::Pcg32;
 use std::alloc::{AllocError, Global};
-
-/// The sums of a history stay below this amount.
-pub const LIMIT: u64 = 6_000_000_000_000_000;
 
 /// An account: its form, its open years from `first` on with their lookback totals, whether it is
 /// carried into the first, and the amount of each day.
@@ -157,13 +154,13 @@ fn in_years(first: u32, end: u32, sums: &[DaySum]) -> bool
 /// What the sums are together. None where that is no amount of a history.
 pub fn total_of(sums: &[DaySum]) -> Option<u64>
     ensures { IfSome result
-        (λ total. (sum_by cents_of sums.now ≡ total) × (total < 6_000_000_000_000_000)) }
+        (λ total. (sum_by cents_of sums.now ≡ total) × (total < AMOUNTS_END)) }
 {
     match sums {
         [] => Some(0),
         [sum, later @ ..] => {
             let rest = total_of(later)?;
-            if sum.cents.0 >= LIMIT - rest {
+            if sum.cents.0 >= AMOUNTS_END - rest {
                 return None;
             }
             Some(rest + sum.cents.0)

@@ -3,11 +3,11 @@
 ghost use Rattle.std.specs.Prelude.{◌≡◌, ◌≤◌};
 ghost use Rattle.ftd_buckets.specs.Standing.{amount_held};
 
-use crate::history::{Account, LIMIT, day_at, sums_between, total_of};
+use crate::history::{Account, day_at, sums_between, total_of};
 use anyhow::{Context, Result, bail, ensure};
 use ftd_buckets::{Next, Patch, Repair, Window, may_begin};
 use ftd_days::{Day, Holidays};
-use ftd_rules::{Assessment, DaySum, Obligation, YearLine};
+use ftd_rules::{AMOUNTS_END, Assessment, DaySum, Obligation, YearLine};
 use std::alloc::Global;
 
 /// The sums of the days of the window.
@@ -55,7 +55,7 @@ fn fed(
     let sums = window_sums(alloc, account, window)?;
     ensure!(window.has_rising(&sums), "rising days");
     let total = total_of(&sums).context("amounts of a history")?;
-    ensure!(before < LIMIT - total, "amounts of a history");
+    ensure!(before < AMOUNTS_END - total, "amounts of a history");
     match repair.feed(&sums)? {
         Next::Need(repair, window) => fed(
             alloc,

@@ -27,7 +27,7 @@ use ftd_days::Day;
 use ftd_rules::period::period_of;
 use ftd_rules::schedule::opening;
 use ftd_rules::year::{add_year, days_within, first_day, first_semiweekly_day, last_day};
-use ftd_rules::{DaySum, Kind, Obligations, YearLine, YearLines};
+use ftd_rules::{AMOUNTS_END, DaySum, Kind, Obligations, YearLine, YearLines};
 use std::alloc::AllocError;
 
 impl<'a> Settled<'a> {
@@ -35,7 +35,7 @@ impl<'a> Settled<'a> {
     pub fn feed_period(mut self, sums: &[DaySum]) -> Result<Next<'a>, AllocError>
         requires ready { IsReady (repairing self stage.Period) }
         requires rise { SumsRise self.asked.from self.asked.to sums.now }
-        requires small { sum_by cents_of sums.now < 6_000_000_000_000_000 }
+        requires small { sum_by cents_of sums.now < AMOUNTS_END }
         ensures { IfOk result (Answers (repairing self.entry stage.Period) sums.now) }
     {
         let line = self.lines[0];
@@ -72,7 +72,7 @@ impl<'a> Settled<'a> {
         requires within { (line : YearLine) (later : List YearLine) → self.lines.now ≡ line ∷ later
             → IsWithin line self.asked.from self.asked.to (now.Changed turn) }
         requires rise { SumsRise self.asked.from self.asked.to sums.now }
-        requires small { sum_by cents_of sums.now < 6_000_000_000_000_000 }
+        requires small { sum_by cents_of sums.now < AMOUNTS_END }
         requires last { (line : YearLine) (later : List YearLine) → self.lines.now ≡ line ∷ later
             → self.asked.to ≡ year_last line.year }
         ensures holds { IfOk result
@@ -108,7 +108,7 @@ impl<'a> Settled<'a> {
         requires within { (line : YearLine) (later : List YearLine) → self.lines.now ≡ line ∷ later
             → IsWithin line self.asked.from self.asked.to (now.Changed turn) }
         requires rise { SumsRise self.asked.from self.asked.to sums.now }
-        requires small { sum_by cents_of sums.now < 6_000_000_000_000_000 }
+        requires small { sum_by cents_of sums.now < AMOUNTS_END }
         requires goes_on { (line : YearLine) (later : List YearLine) → self.lines.now ≡ line ∷ later
             → self.asked.to < year_last line.year }
         ensures holds { IfOk result
@@ -158,7 +158,7 @@ impl<'a> Settled<'a> {
         requires rise { SumsRise self.asked.from self.asked.to sums.now }
         requires small { amount_held (repairing self (stage.Rest first turn))
             + sum_by cents_of sums.now
-            < 6_000_000_000_000_000 }
+            < AMOUNTS_END }
         ensures { IfOk result (Answers (repairing self.entry (stage.Rest first turn)) sums.now) }
     {
         self.holidays.end_before_2100();
@@ -185,7 +185,7 @@ impl<'a> Settled<'a> {
     pub fn feed_year(mut self, turned: bool, sums: &[DaySum]) -> Result<Next<'a>, AllocError>
         requires ready { IsReady (repairing self (stage.Year turned)) }
         requires rise { SumsRise self.asked.from self.asked.to sums.now }
-        requires small { sum_by cents_of sums.now < 6_000_000_000_000_000 }
+        requires small { sum_by cents_of sums.now < AMOUNTS_END }
         ensures { IfOk result (Answers (repairing self.entry (stage.Year turned)) sums.now) }
     {
         self.holidays.end_before_2100();

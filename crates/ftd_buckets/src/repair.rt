@@ -16,7 +16,7 @@ use crate::state::{Next, Repair, Settled, Stage};
 use ftd_days::{Day, Holidays};
 use ftd_rules::period::period_of;
 use ftd_rules::year::first_semiweekly_day;
-use ftd_rules::{DaySum, Form, YearLine};
+use ftd_rules::{AMOUNTS_END, DaySum, Form, YearLine};
 use std::alloc::{AllocError, Global};
 
 impl<'a> Repair<'a> {
@@ -70,7 +70,7 @@ impl<'a> Repair<'a> {
     /// days rise and lie in it. `Err` says that memory ran out.
     pub fn feed(self, sums: &[DaySum]) -> Result<Next<'a>, AllocError>
         requires rise { SumsRise self.asked.from self.asked.to sums.now }
-        requires small { amount_held self + sum_by cents_of sums.now < 6_000_000_000_000_000 }
+        requires small { amount_held self + sum_by cents_of sums.now < AMOUNTS_END }
         ensures form { IfOk result
             (λ next. IfNeed next (λ repair window. repair.form ≡ self.entry.form)) }
         ensures asked { IfOk result (λ next. IfNeed next (λ repair window. repair.asked ≡ window)) }

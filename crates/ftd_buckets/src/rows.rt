@@ -13,7 +13,7 @@ ghost use Rattle.ftd_buckets.specs.Private.Ready.{IsWhole};
 
 use ftd_days::{Day, Holidays};
 use ftd_rules::year::{add_days, first_semiweekly_day};
-use ftd_rules::{DaySum, Form, Obligation, YearLine};
+use ftd_rules::{AMOUNTS_END, DaySum, Form, Obligation, YearLine};
 use std::alloc::AllocError;
 
 /// Adds the obligations of the days from `first` to `last`, whole deposit periods of the year.
@@ -31,7 +31,7 @@ pub fn add_rows(
     requires turn { TurnsWithin line.now }
     requires whole { IsWhole form line.now first last }
     requires rise { SumsRise first last sums.now }
-    requires small { sum_by cents_of sums.now < 6_000_000_000_000_000 }
+    requires small { sum_by cents_of sums.now < AMOUNTS_END }
     ensures rows { OnOk result
         ((added : List Obligation) × (rows.new.items ≡ rows.old.items ++ added)
         × AreOwed (due_date (holidays_of holidays.now)) (liability sums.now)

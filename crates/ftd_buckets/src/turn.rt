@@ -16,7 +16,7 @@ use crate::Window;
 use ftd_days::Day;
 use ftd_rules::schedule::turn_of;
 use ftd_rules::year::first_semiweekly_day;
-use ftd_rules::{DaySum, YearLine};
+use ftd_rules::{AMOUNTS_END, DaySum, YearLine};
 
 /// The turn of a year after a change of one day's runs, as far as the day's deposit period tells
 /// it.
@@ -36,7 +36,7 @@ pub fn turn_now(line: &YearLine, period: Window, sums: &[DaySum]) -> TurnNow
     requires turn { TurnsWithin line.now }
     requires period { (form : Form) × IsPeriod form line.now period.from period.to }
     requires rise { SumsRise period.from period.to sums.now }
-    requires small { sum_by cents_of sums.now < 6_000_000_000_000_000 }
+    requires small { sum_by cents_of sums.now < AMOUNTS_END }
     ensures within { IsWithin line.now period.from period.to result }
     ensures now { (before after : ℕ → ℕ → ℕ) (day : ℕ) (new : YearLine)
         → IsYearChange before after day line.now new
@@ -71,7 +71,7 @@ pub fn turn_from(turn: Option<Day>, first: Day, last: Day, sums: &[DaySum]) -> O
     requires begins { MatchOption turn (IsMonthStart first) (λ t. ⊤) }
     requires ends { last ≤ last_day }
     requires rise { SumsRise first last sums.now }
-    requires small { sum_by cents_of sums.now < 6_000_000_000_000_000 }
+    requires small { sum_by cents_of sums.now < AMOUNTS_END }
     ensures { MatchOption turn (IsTurnOf (liability sums.now) first last result)
         (λ t. result ≡ Some t) }
 {

@@ -5,10 +5,7 @@ ghost use Rattle.ftd_c.specs.Verdicts.{IsVerdictBy, MayBeJudged, case_of};
 
 use crate::codes::{CallFault, day_of};
 use ftd_days::Cents;
-use ftd_rules::{Case, Verdict};
-
-/// What the amount of a deposit stays below, in cents.
-const AMOUNTS_END: u64 = 6_000_000_000_000_000;
+use ftd_rules::{AMOUNTS_END, Case, Verdict};
 
 /// What the verdict on a deposit depends on: amounts in cents, days as numbers.
 #[repr(C)]

@@ -72,7 +72,6 @@ parsed_task given o none e =
 pub value_told : (f : WordFault) (r : CliFault) (said : Result Wanted WordFault)
     → TellsAs task_view (Err f) said → Fails r (Err (value f)) → Fails r (by_value said)
 value_told (values.BadWord word) r said e h = rw e h
-value_told values.NoForm r said e h = rw e h
 value_told values.NoCommand r said e h = rw e h
 value_told values.Memory (fault.BadArgument word text) said e h = cc h
 value_told values.Memory (fault.Usage text) said e h = absurd h.0
@@ -95,7 +94,7 @@ refused_task given k r among h = refused_among (fault_of ftd_app given) k r
 -- ---- what shows no value
 pub usage_shows : (rows : List Row) (r : CliFault)
     → ((said : Result Wanted Refused) → IsUsage said → Fails r said) → ShowsValue rows r
-usage_shows rows (fault.BadArgument word text) h = cc (h (Err (value values.NoForm)) tt)
+usage_shows rows (fault.BadArgument word text) h = cc (h (Err (value values.NoCommand)) tt)
 usage_shows rows (fault.Usage text) h = tt
 usage_shows rows (fault.Help text) h = tt
 usage_shows rows fault.Memory h = tt

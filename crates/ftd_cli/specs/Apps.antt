@@ -6,9 +6,12 @@ use Rattle.clap.specs.declared.builder.ArgAction.TheVariants.{Append, SetTrue}
 use Rattle.clap.specs.declared.builder.value_parser.ValueParser.TheVariants as parser
 use Rattle.ftd_cli.specs.declared.table.Name.{Name}
 use Rattle.ftd_cli.specs.declared.table.Word.{Word}
+use Rattle.ftd_cli.specs.declared.table.Word.TheVariants as word
 use Rattle.ftd_cli.specs.declared.table.Takes.{Takes}
 use Rattle.ftd_cli.specs.declared.table.Takes.TheVariants as takes
-use Rattle.ftd_cli.specs.Table.{all_names, is_option, name_text, takes_of, word_text, words_of}
+use Rattle.ftd_cli.specs.Table.{all_names, fields_in, is_option, name_text, takes_of, word_text}
+use Rattle.ftd_cli.specs.Table.{words_of}
+use Rattle.ftd_verbs.specs.declared.field.Field.{Field}
 
 -- a whole number of seconds, from so many to 3,600; so many if none is given
 abbrev pub seconds_or : ℤ → Text → Rule → Rule
@@ -47,9 +50,14 @@ abbrev pub with_words : App → List Word → App
 with_words app [] = app
 with_words app (word ∷ words) = with_words (with_rule app (rule_for word)) words
 
+-- a command with the words of fields more
+abbrev pub with_fields : App → List Field → App
+with_fields app [] = app
+with_fields app (at ∷ fields) = with_fields (with_rule app (rule_for (word.Field at))) fields
+
 -- the subcommand
 abbrev pub app_for : Name → App
-app_for name = with_words (new_app (name_text name)) (words_of name)
+app_for name = with_fields (with_words (new_app (name_text name)) (words_of name)) (fields_in name)
 
 -- a command with subcommands more
 unfoldable pub with_names : App → List Name → App

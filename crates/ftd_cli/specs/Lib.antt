@@ -2,6 +2,7 @@ pub mod Table
 pub mod Apps
 pub mod Parses
 pub mod Values
+pub mod Words
 pub mod Asking
 pub mod Escapes
 pub mod Tasks

@@ -1,12 +1,13 @@
 -- What the words of a command line ask.
 use Rattle.std.specs.Prelude.{◌≡◌, ◌⊎◌, ℕ, List, [], ◌∷◌, Option, Some, None, Result, Ok, Err, ⊤}
-use Rattle.std.specs.Prelude.{IfSome}
+use Rattle.std.specs.Prelude.{Bool, true, false, IfSome, IsTrue}
 use Rattle.std.specs.List.{find}
 use Rattle.std.specs.Str.{bytes_eq}
 use Rattle.std.specs.String.{string_bytes}
 use Rattle.clap.specs.Words.{IsAmong, Kinds, Row, Text, fault_of, subcommand_of}
 use Rattle.clap.specs.declared.error.ErrorKind.{ErrorKind}
 use Rattle.clap.specs.declared.error.ErrorKind.TheVariants as kind
+use Rattle.ftd_verbs.specs.declared.field.Field.TheVariants as field
 use Rattle.ftd_cli.specs.Apps.{ftd_app}
 use Rattle.ftd_cli.specs.Asking.{Wanted, ask, ask_next, import, plain, serve, then_with}
 use Rattle.ftd_cli.specs.Asking.{wanted_of}
@@ -16,6 +17,7 @@ use Rattle.ftd_cli.specs.Values.{bad_value, text_in, whole_in}
 use Rattle.ftd_cli.specs.declared.fault.WordFault.{WordFault}
 use Rattle.ftd_cli.specs.declared.fault.WordFault.TheVariants as values
 use Rattle.ftd_cli.specs.declared.table.Name.{Name}
+use Rattle.ftd_cli.specs.declared.table.Word.{Word}
 use Rattle.ftd_cli.specs.declared.table.Word.TheVariants as word
 use Rattle.ftd_cli.specs.declared.tasks.CliFault.{CliFault}
 use Rattle.ftd_cli.specs.declared.tasks.CliFault.TheVariants as fault
@@ -80,6 +82,11 @@ task_view (task.Local local) = job_view (string_bytes local.db) local.wait local
 abbrev pub AsksHelp : ErrorKind → Type 0
 AsksHelp k = (k ≡ kind.DisplayHelp) ⊎ (k ≡ kind.DisplayVersion)
 
+-- the word of a form: what is told of a form that there is none of is a text of its own
+abbrev pub is_form : Word → Bool
+is_form (word.Field field.Form) = true
+is_form _ = false
+
 -- the words ask for help; or they are no command line: one of the faults is another, a form is
 -- none, or no subcommand is named
 abbrev pub IsHelp : Result Wanted Refused → Type 0
@@ -90,9 +97,8 @@ IsHelp (Err (value f)) = ⊥
 abbrev pub IsUsage : Result Wanted Refused → Type 0
 IsUsage (Ok wanted) = ⊥
 IsUsage (Err (words kinds)) = (k : ErrorKind) × IsAmong k kinds × ¬ AsksHelp k
-IsUsage (Err (value values.NoForm)) = ⊤
 IsUsage (Err (value values.NoCommand)) = ⊤
-IsUsage (Err (value (values.BadWord word))) = ⊥
+IsUsage (Err (value (values.BadWord word))) = IsTrue (is_form word)
 IsUsage (Err (value values.Memory)) = ⊥
 
 -- no byte of the text can steer a terminal: its control bytes are escaped

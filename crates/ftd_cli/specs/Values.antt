@@ -1,18 +1,17 @@
 -- The values that the words of a subcommand were given.
 use Rattle.std.specs.Prelude.{ℕ, ◌^◌, nat_lt, List, [], Option, Some, None, option_and_then}
-use Rattle.std.specs.Prelude.{option_map, Bool, true, false, codes, if◌then◌else◌, Result, Ok, Err}
+use Rattle.std.specs.Prelude.{Bool, false, codes, if◌then◌else◌, Result, Ok, Err}
 use Rattle.std.specs.Str.{bytes_eq}
 use Rattle.std.specs.List.{find}
-use Rattle.std.specs.Option.{is_none, is_some, option_map_or, unwrap_or}
+use Rattle.std.specs.Option.{is_none, option_map_or, unwrap_or}
 use Rattle.clap.specs.Words.{Row, Text, all_of, first_of}
-use Rattle.ftd_days.specs.Spelling.{cents_of, day_of, days_of, spelled_quarter, whole_number}
-use Rattle.ftd_days.specs.declared.cents.Cents.{Cents}
-use Rattle.ftd_rules.specs.declared.Form.{Form}
-use Rattle.ftd_rules.specs.declared.Form.TheVariants.{F941, F943}
+use Rattle.ftd_days.specs.Spelling.{day_of, days_of, whole_number}
 use Rattle.ftd_answers.specs.declared.formats.Format.{Format}
 use Rattle.ftd_answers.specs.declared.formats.Format.TheVariants as format
-use Rattle.ftd_answers.specs.declared.formats.ListFormat.{ListFormat}
-use Rattle.ftd_answers.specs.declared.formats.ListFormat.TheVariants.{Text as Lines, Csv, Json}
+use Rattle.ftd_answers.specs.declared.formats.ListFormat.TheVariants.{Text as Lines}
+use Rattle.ftd_verbs.specs.Formats.{named}
+use Rattle.ftd_verbs.specs.declared.formats.Formats.{Formats}
+use Rattle.ftd_verbs.specs.declared.formats.Formats.TheVariants as formats
 use Rattle.ftd_cli.specs.declared.fault.WordFault.{WordFault}
 use Rattle.ftd_cli.specs.declared.fault.WordFault.TheVariants as fault
 use Rattle.ftd_cli.specs.declared.table.Word.{Word}
@@ -29,56 +28,15 @@ abbrev pub needed : {X : Type 0} → Word → Option X → Result X WordFault
 needed word None = Err (fault.BadWord word)
 needed word (Some value) = Ok value
 
--- the value of a word: its text, and the day, the quarter, the amount or the number that the text
--- spells
+-- the value of a word: its text, and the number that the text spells
 abbrev pub text_in : Word → List Row → Result Text WordFault
 text_in word rows = needed word (first_of (word_text word) rows)
 
 abbrev pub spelled_in : {X : Type 0} → (Text → Option X) → Word → List Row → Result X WordFault
 spelled_in value word rows = needed word (option_and_then value (first_of (word_text word) rows))
 
-abbrev pub day_in : Word → List Row → Result ℕ WordFault
-day_in word rows = spelled_in day_of word rows
-
--- the day that the value of a word spells, or this one where the word is left out
-abbrev pub day_or : ℕ → Word → List Row → Result ℕ WordFault
-day_or default word rows =
-    option_map_or (λ text. needed word (day_of text)) (first_of (word_text word) rows) (Ok default)
-
-abbrev pub quarter_in : Word → List Row → Result ℕ WordFault
-quarter_in word rows = spelled_in spelled_quarter word rows
-
-abbrev pub in_cents : ℕ → Cents
-in_cents amount = record { 0 = amount }
-
-abbrev pub cents_in : Word → List Row → Result Cents WordFault
-cents_in word rows = spelled_in (λ text. option_map in_cents (cents_of text)) word rows
-
 abbrev pub whole_in : Word → List Row → Result ℕ WordFault
 whole_in word rows = spelled_in whole_number word rows
-
--- whether a number is given, and which: the one that is spelled, or the greatest where it is left
--- out
-abbrev pub is_numbered : List Row → Bool
-is_numbered rows = is_some (first_of (word_text word.Number) rows)
-
-abbrev pub greatest_number : ℕ
-greatest_number = 999999999
-
-abbrev pub number_in : List Row → Result ℕ WordFault
-number_in rows =
-    option_map_or (λ text. needed word.Number (whole_number text))
-    (first_of (word_text word.Number) rows) (Ok greatest_number)
-
--- yes or no
-abbrev pub answer_of : Text → Option Bool
-answer_of text =
-    if bytes_eq text (codes "yes") then Some true
-    else if bytes_eq text (codes "no") then Some false
-    else None
-
-abbrev pub holiday_in : List Row → Result Bool WordFault
-holiday_in rows = spelled_in answer_of word.IsHoliday rows
 
 -- a port: a number below 65,536
 abbrev pub port_of : Text → Option ℕ
@@ -89,13 +47,17 @@ port_of text =
 abbrev pub port_in : Word → List Row → Result ℕ WordFault
 port_in word rows = spelled_in port_of word rows
 
--- the days that the values of a word spell, of which there may be none
+-- the values of a word that takes any number of them, of which there may be none
 abbrev pub texts_of : Option (List Text) → List Text
 texts_of None = []
 texts_of (Some texts) = texts
 
+abbrev pub texts_in : Word → List Row → List Text
+texts_in word rows = texts_of (all_of (word_text word) rows)
+
+-- the days that the values of a word spell
 abbrev pub days_in : Word → List Row → Result (List ℕ) WordFault
-days_in word rows = needed word (days_of (texts_of (all_of (word_text word) rows)))
+days_in word rows = needed word (days_of (texts_in word rows))
 
 -- the first of the texts that spells no day
 abbrev pub first_no_day : List Text → Option Text
@@ -107,45 +69,16 @@ first_no_day texts = find (λ text. is_none (day_of text)) texts
 abbrev pub bad_value : Word → List Row → Text
 bad_value word rows =
     unwrap_or
-    (if takes_many (takes_of word) then first_no_day (texts_of (all_of (word_text word) rows))
+    (if takes_many (takes_of word) then first_no_day (texts_in word rows)
     else first_of (word_text word) rows) []
 
--- the format of a list that is named so
-abbrev pub list_format_of : Text → Option ListFormat
-list_format_of text =
-    if bytes_eq text (codes "text") then Some Lines
-    else if bytes_eq text (codes "csv") then Some Csv
-    else if bytes_eq text (codes "json") then Some Json
-    else None
+-- the one of these formats that is asked for
+abbrev pub chosen_format : Formats → List Row → Result Format WordFault
+chosen_format formats rows = spelled_in (named formats) (word.Format formats) rows
 
-abbrev pub list_format_in : List Row → Result ListFormat WordFault
-list_format_in rows = spelled_in list_format_of word.ListFormat rows
-
--- the format of why an obligation is so, which is no list: text or JSON
-abbrev pub explanation_format_of : Text → Option Format
-explanation_format_of text =
-    if bytes_eq text (codes "text") then Some (format.List Lines)
-    else if bytes_eq text (codes "json") then Some (format.List Json)
-    else None
-
-abbrev pub explanation_format_in : List Row → Result Format WordFault
-explanation_format_in rows = spelled_in explanation_format_of word.ExplanationFormat rows
-
--- the format of what is due over all accounts: a calendar too
-abbrev pub format_of : Text → Option Format
-format_of text =
-    if bytes_eq text (codes "ics") then Some format.Calendar
-    else option_map (λ of_list. format.List of_list) (list_format_of text)
-
-abbrev pub format_in : List Row → Result Format WordFault
-format_in rows = spelled_in format_of word.Format rows
-
--- the form of an account
-abbrev pub form_of : Option Text → Result Form WordFault
-form_of None = Err fault.NoForm
-form_of (Some text) =
-    if bytes_eq text (codes "941") then Ok F941 else if bytes_eq text (codes "943") then Ok F943
-    else Err fault.NoForm
-
-abbrev pub form_in : List Row → Result Form WordFault
-form_in rows = form_of (first_of (word_text word.Form) rows)
+-- the format of an answer that is asked for: text, where it is told in one way
+abbrev pub format_in : Formats → List Row → Result Format WordFault
+format_in formats.Fixed rows = Ok (format.List Lines)
+format_in formats.Explanation rows = chosen_format formats.Explanation rows
+format_in formats.List rows = chosen_format formats.List rows
+format_in formats.Calendar rows = chosen_format formats.Calendar rows

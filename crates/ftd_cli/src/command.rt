@@ -3,11 +3,13 @@
 ghost use Rattle.std.specs.Prelude.{◌≡◌, IfOk, false};
 ghost use Rattle.clap.specs.Words.{app_of, rule_of, shape_of, with_rule, with_subcommand};
 ghost use Rattle.clap.specs.declared.builder.command.Command.TheViews.{out-Command};
-ghost use Rattle.ftd_cli.specs.Apps.{app_for, ftd_app, program, rule_for, seconds_or, with_names};
+ghost use Rattle.ftd_cli.specs.Apps.{app_for, ftd_app, program, rule_for, seconds_or};
+ghost use Rattle.ftd_cli.specs.Apps.{with_fields, with_names, with_words};
 
 use crate::{NAMES, Name, Takes, Word};
 use clap::builder::ValueParser;
 use clap::{Arg, ArgAction, Command};
+use ftd_verbs::Field;
 use std::alloc::{AllocError, Global};
 
 /// What the desk is for, and how its commands are told. The whole help has 44 lines.
@@ -78,18 +80,50 @@ fn with_command<'a>(command: Command<'a>, sub: Command<'a>) -> Result<Command<'a
     command.subcommand(sub)
 }
 
+/// A command with these words more.
+fn with_words<'a>(
+    alloc: Global,
+    command: Command<'a>,
+    words: &[Word],
+) -> Result<Command<'a>, AllocError>
+    requires local { (out-Command command).has_globals ≡ false }
+    ensures app { IfOk result (λ c. app_of c ≡ with_words (app_of command.entry) words.now) }
+    ensures local { IfOk result (λ c. (out-Command c).has_globals ≡ false) }
+{
+    let mut command = command;
+    for word in words {
+        command = with_arg(command, arg_of(alloc, *word))?;
+    }
+    Ok(command)
+}
+
+/// A command with the words of these fields more.
+fn with_fields<'a>(
+    alloc: Global,
+    command: Command<'a>,
+    fields: &[Field],
+) -> Result<Command<'a>, AllocError>
+    requires local { (out-Command command).has_globals ≡ false }
+    ensures app { IfOk result (λ c. app_of c ≡ with_fields (app_of command.entry) fields.now) }
+    ensures local { IfOk result (λ c. (out-Command c).has_globals ≡ false) }
+{
+    let mut command = command;
+    for field in fields {
+        command = with_arg(command, arg_of(alloc, Word::Field(*field)))?;
+    }
+    Ok(command)
+}
+
 /// A subcommand.
 fn command_of<'a>(alloc: Global, name: Name) -> Result<Command<'a>, AllocError>
     ensures app { IfOk result (λ c. app_of c ≡ app_for name) }
     ensures local { IfOk result (λ c. (out-Command c).has_globals ≡ false) }
 {
-    let mut command = Command::new(alloc, name.text())
+    let command = Command::new(alloc, name.text())
         .about(name.about())
         .after_help(name.example());
-    for word in name.words() {
-        command = with_arg(command, arg_of(alloc, *word))?;
-    }
-    Ok(command)
+    let command = with_words(alloc, command, name.words())?;
+    with_fields(alloc, command, name.fields())
 }
 
 /// The program with no subcommand yet.

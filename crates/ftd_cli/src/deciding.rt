@@ -19,6 +19,7 @@ use crate::tasks::{CliFault, Task};
 use crate::{NAMES, Name, Word};
 use clap::error::ErrorKind;
 use clap::{ArgMatches, Error};
+use ftd_verbs::Field;
 use std::alloc::Global;
 
 /// What is told of words that name no subcommand.
@@ -121,9 +122,9 @@ fn told_fault(alloc: Global, matches: &ArgMatches<'_>, fault: WordFault) -> CliF
     ensures value { ShowsValue (rows_in (subcommand_rows_of matches.now)) result }
 {
     match fault {
+        WordFault::BadWord(Word::Field(Field::Form)) => usage(alloc, NO_FORM),
         WordFault::BadWord(word) => bad_argument(alloc, matches, word),
         WordFault::Memory => CliFault::Memory,
-        WordFault::NoForm => usage(alloc, NO_FORM),
         WordFault::NoCommand => usage(alloc, NO_COMMAND),
     }
 }

@@ -1,6 +1,7 @@
 //! Why the values of a subcommand ask nothing.
 
 use crate::Word;
+use ftd_verbs::FieldFault;
 use std::alloc::{AllocError, AllocFailed};
 
 /// Why the values of a subcommand ask nothing.
@@ -8,8 +9,6 @@ use std::alloc::{AllocError, AllocFailed};
 pub enum WordFault {
     /// The first word whose value is none of its kind.
     BadWord(Word),
-    /// The form is neither 941 nor 943.
-    NoForm,
     /// The words name no subcommand. `clap` refuses such words before.
     NoCommand,
     /// Out of memory.
@@ -35,5 +34,19 @@ impl<T: Drop> From<AllocFailed<T>> for WordFault {
 
     fn from(_: AllocFailed<T>) -> WordFault {
         WordFault::Memory
+    }
+}
+
+impl From<FieldFault> for WordFault {
+    ghost use Rattle.std.specs.Prelude.{◌≡◌};
+    ghost use Rattle.ftd_cli.specs.Words.{word_fault};
+
+    ghost from_gives = { λ fault e. e ≡ word_fault fault };
+
+    fn from(fault: FieldFault) -> WordFault {
+        match fault {
+            FieldFault::Bad(field) => WordFault::BadWord(Word::Field(field)),
+            FieldFault::Memory => WordFault::Memory,
+        }
     }
 }

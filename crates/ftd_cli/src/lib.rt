@@ -7,14 +7,14 @@ mod command;
 mod deciding;
 mod escape;
 mod fault;
+mod help;
 mod parse;
 mod reading;
 mod table;
 mod tasks;
+mod words;
 
-pub use crate::asking::last_asked;
 pub use crate::deciding::decide;
 pub use crate::escape::{escaped, escaped_word};
-pub use crate::reading::GREATEST_NUMBER;
 pub use crate::table::{NAMES, Name, Takes, Word};
 pub use crate::tasks::{CliFault, Job, LocalTask, PlainTask, ServeTask, Task};

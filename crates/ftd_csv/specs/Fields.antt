@@ -8,8 +8,8 @@ use Rattle.ftd_days.specs.Spelling.{spelled_quarter}
 use Rattle.ftd_rules.specs.Accounts.{is_account_name}
 use Rattle.ftd_rules.specs.declared.Form.{Form}
 use Rattle.ftd_rules.specs.declared.Form.TheVariants.{F941, F943}
-use Rattle.ftd_csv.specs.declared.entries.Period.{Period}
-use Rattle.ftd_csv.specs.declared.entries.Period.TheVariants as period
+use Rattle.ftd_machine.specs.declared.entries.ReturnPeriod.{ReturnPeriod}
+use Rattle.ftd_machine.specs.declared.entries.ReturnPeriod.TheVariants as period
 
 -- the field of a number, which counts from 1
 abbrev pub numbered_field : List (List ℕ) → ℕ → Option (List ℕ)
@@ -48,9 +48,9 @@ year_of text =
     if (length text == 4) && all_ascii_digits text then Some (number_of text) else None
 
 -- a period: a quarter, or a year where the text spells no quarter
-abbrev pub quarter_or : Option ℕ → Option ℕ → Option Period
+abbrev pub quarter_or : Option ℕ → Option ℕ → Option ReturnPeriod
 quarter_or (Some quarter) year = Some (period.Quarter quarter)
 quarter_or None year = option_map (λ number. period.Year number) year
 
-unfoldable pub period_of : List ℕ → Option Period
+unfoldable pub period_of : List ℕ → Option ReturnPeriod
 period_of text = quarter_or (spelled_quarter text) (year_of text)

@@ -8,7 +8,7 @@ use Rattle.ftd_rules.specs.declared.Form.{Form}
 use Rattle.ftd_csv.specs.Fields.{flag_of, form_of, name_of, numbered_field, period_of}
 use Rattle.ftd_csv.specs.Fields.{run_number_of}
 use Rattle.ftd_csv.specs.Sheets.{header_row, width_of}
-use Rattle.ftd_csv.specs.declared.entries.Period.{Period}
+use Rattle.ftd_machine.specs.declared.entries.ReturnPeriod.{ReturnPeriod}
 use Rattle.ftd_csv.specs.declared.sheets.Sheet.{Sheet}
 use Rattle.ftd_csv.specs.declared.sheets.Sheet.TheVariants as sheet
 
@@ -34,7 +34,7 @@ pub record Account : Type 0 where
 -- a reported total: its employer's account name, its quarter or year, and the amount
 pub record Total : Type 0 where
   pub employer : List ℕ
-  pub period : Period
+  pub period : ReturnPeriod
   pub amount : ℕ
 
 -- a payment: its employer's account name, its number, the day on which it was paid, the day that it

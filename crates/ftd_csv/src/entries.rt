@@ -10,7 +10,8 @@ ghost use Rattle.ftd_csv.specs.Sheets.{width_of};
 use crate::fields::{cents_at, day_at, flag_at, form_at, name_at, number_at, period_at};
 use crate::sheets::Sheet;
 use csv::ByteRecord;
-use ftd_days::{Cents, Day, Quarter};
+use ftd_days::{Cents, Day};
+use ftd_machine::ReturnPeriod;
 use ftd_rules::{Form, PayRun, Payment};
 
 /// A pay run of an employer, as its record says it.
@@ -37,19 +38,13 @@ pub struct EmployerAccount<'a> {
     pub form: Form,
 }
 
-/// The period of a reported total: of a quarter's Form 941, or of a year's Form 943.
-#[derive(Clone, Copy, Debug, PartialEq, Eq)]
-pub enum Period {
-    Quarter(Quarter),
-    Year(u32),
-}
-
 /// A total that an employer reported, as its record says it.
 #[derive(Clone, Copy, Debug)]
 pub struct EmployerTotal<'a> {
     /// The name of its account.
     pub employer: &'a str,
-    pub period: Period,
+    /// The quarter or the year that it is for.
+    pub period: ReturnPeriod,
     pub amount: Cents,
 }
 

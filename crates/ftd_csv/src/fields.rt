@@ -6,10 +6,10 @@ ghost use Rattle.ftd_days.specs.Spelling.{cents_of, day_of};
 ghost use Rattle.ftd_csv.specs.Fields.{flag_of, form_of, name_of, period_of, run_number_of};
 ghost use Rattle.ftd_csv.specs.Fields.{year_of};
 
-use crate::entries::Period;
 use csv::ByteRecord;
 use ftd_days::digits::number;
 use ftd_days::{Cents, Day, Quarter};
+use ftd_machine::ReturnPeriod;
 use ftd_rules::{Form, is_account_name};
 
 /// The text as the name of an account, if it is one.
@@ -79,14 +79,14 @@ fn year(text: &[u8]) -> Option<u32>
 
 /// The quarter, or the year, that the text spells.
 #[tactic(auto, unfolding(crate::specs::Fields::period_of))]
-fn period(text: &[u8]) -> Option<Period>
+fn period(text: &[u8]) -> Option<ReturnPeriod>
     ensures { result ≡ period_of text.now }
 {
     if let Some(quarter) = Quarter::read(text) {
-        return Some(Period::Quarter(quarter));
+        return Some(ReturnPeriod::Quarter(quarter));
     }
     let year = year(text)?;
-    Some(Period::Year(year))
+    Some(ReturnPeriod::Year(year))
 }
 
 /// The name of an account in the field at a place, which counts from 0.
@@ -134,7 +134,7 @@ pub fn form_at(row: &ByteRecord, place: usize) -> Option<Form>
 }
 
 /// The quarter or the year in the field at a place.
-pub fn period_at(row: &ByteRecord, place: usize) -> Option<Period>
+pub fn period_at(row: &ByteRecord, place: usize) -> Option<ReturnPeriod>
     ensures { result ≡ option_and_then period_of (field_at (fields_of row.now) place) }
 {
     period(row.get(place)?)

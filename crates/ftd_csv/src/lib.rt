@@ -13,7 +13,7 @@ mod sheets;
 mod shown;
 
 pub use crate::entries::{
-    Content, EmployerAccount, EmployerPayment, EmployerRun, EmployerTotal, Period, SheetEntry,
+    Content, EmployerAccount, EmployerPayment, EmployerRun, EmployerTotal, SheetEntry,
 };
 pub use crate::headers::write_header_hint;
 pub use crate::reading::{MOST_BYTES, RecordFault, Records};

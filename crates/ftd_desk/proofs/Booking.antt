@@ -66,7 +66,7 @@ module _ (s next : State) (account : List ℕ) (book : Book) where
 
 -- a run that is posted
 module _ (s : State) (answer : Answer) (next : State) (name : List ℕ) (number : ℕ) (run : PayRun)
-    (step : Step s (Post name number run.payday run.fit run.ss run.medicare) answer next) where
+    (step : Step s (Post name number run) answer next) where
   -- leaves the holidays
   posted_holidays : holidays next ≡ holidays s
   posted_holidays = post_stays (λ x. holidays x) s answer next _ _ _ _ _ _ step refl
@@ -77,7 +77,7 @@ module _ (s : State) (answer : Answer) (next : State) (name : List ℕ) (number 
   posted_books old new now takes own =
       right_after (kept_of old) (kept_of new) name now (IsBook s) (IsBook next) takes own
       (λ other apart book was. book_still s next other book
-      (others s (Post name number run.payday run.fit run.ss run.medicare) answer next other step
+      (others s (Post name number run) answer next other step
       apart) posted_holidays was)
 
 -- the books that are kept past a request
@@ -122,10 +122,10 @@ module _ {S : Type 0} (g : store.Ghosts S) where
       → Calls g mid new (Ok answer) (λ told before after t. CountsRuns name count t
       → PostsBy name number run was now told before after t)
       → Calls {A = Answered} g old new (Ok (record { answer = answer; known = later }))
-      (ServesKnown known (Post name number run.payday run.fit run.ss run.medicare))
+      (ServesKnown known (Post name number run))
   serves_post_at old mid new count answer known later name number run was now payments takes found
       taken knows c =
-      let request = Post name number run.payday run.fit run.ss run.medicare in
+      let request = Post name number run in
       known_then g old mid (kept_of known.counts.runs name) (CountsRuns name) new count answer
       (record { answer = answer; known = later })
       (λ told after t. CountsRuns name count t → PostsBy name number run was now told after after t)

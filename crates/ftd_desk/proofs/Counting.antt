@@ -74,12 +74,12 @@ module _ (count_of : List ℕ → State → ℕ) where
 -- a run is posted
 pub posted_counted : (counts : Counts) (runs : Kept ℕ) (name : List ℕ) (number : ℕ) (run : PayRun)
     (count : ℕ) (s : State) (answer : Answer) (next : State)
-    → Step s (Post name number run.payday run.fit run.ss run.medicare) answer next
+    → Step s (Post name number run) answer next
     → runs_of name s ≡ count → Takes (kept_of counts.runs) (kept_of runs) name
     (if is_change answer then count + 1 else count)
     → AreCounted counts s → AreCounted (record { runs = runs; payments = counts.payments }) next
 posted_counted counts runs name number run count s answer next step is takes counted =
-    let request = Post name number run.payday run.fit run.ss run.medicare in
+    let request = Post name number run in
     record {
       runs = counts_after runs_of counts.runs runs name _ s next takes
           (one_more runs_of name count (is_change answer) s next is
@@ -93,12 +93,12 @@ posted_counted counts runs name number run count s answer next step is takes cou
 -- a payment is taken
 pub paid_counted : (counts : Counts) (payments : Kept ℕ) (name : List ℕ) (number : ℕ)
     (payment : Payment) (count : ℕ) (s : State) (answer : Answer) (next : State)
-    → Step s (Pay name number payment.paid payment.for_day payment.cents) answer next
+    → Step s (Pay name number payment) answer next
     → payments_of name s ≡ count → Takes (kept_of counts.payments) (kept_of payments) name
     (if is_change answer then count + 1 else count)
     → AreCounted counts s → AreCounted (record { runs = counts.runs; payments = payments }) next
 paid_counted counts payments name number payment count s answer next step is takes counted =
-    let request = Pay name number payment.paid payment.for_day payment.cents in
+    let request = Pay name number payment in
     record {
       runs = counts_still runs_of counts.runs s next
           (paid_runs s answer next name number payment step) counted.runs;
@@ -235,12 +235,12 @@ module _ {S : Type 0} (g : store.Ghosts S) where
       (kept_of counts.runs name) (CountsRuns name)
       → Calls g mid new (Ok answer)
       (ServesWhere (CountsRuns name count)
-      (Post name number run.payday run.fit run.ss run.medicare))
+      (Post name number run))
       → Calls g old new
       (Ok (record { answer = answer; counts = record { runs = runs; payments = counts.payments } }))
-      (ServesCounted counts (Post name number run.payday run.fit run.ss run.medicare))
+      (ServesCounted counts (Post name number run))
   post_counts old mid new count answer counts runs name number run takes knows c =
-      let request = Post name number run.payday run.fit run.ss run.medicare in
+      let request = Post name number run in
       known_then old mid (kept_of counts.runs name) (CountsRuns name) new count answer
       (record { answer = answer; counts = record { runs = runs; payments = counts.payments } })
       (λ told after. ServesWhere (CountsRuns name count) request told after after)
@@ -263,12 +263,12 @@ module _ {S : Type 0} (g : store.Ghosts S) where
       (if is_change answer then count + 1 else count) → Knows g old mid (Ok count)
       (kept_of counts.payments name) (CountsPayments name)
       → Calls g mid new (Ok answer) (ServesWhere (CountsPayments name count)
-      (Pay name number payment.paid payment.for_day payment.cents))
+      (Pay name number payment))
       → Calls g old new
       (Ok (record { answer = answer; counts = record { runs = counts.runs; payments = payments } }))
-      (ServesCounted counts (Pay name number payment.paid payment.for_day payment.cents))
+      (ServesCounted counts (Pay name number payment))
   pay_counts old mid new count answer counts payments name number payment takes knows c =
-      let request = Pay name number payment.paid payment.for_day payment.cents in
+      let request = Pay name number payment in
       known_then old mid (kept_of counts.payments name) (CountsPayments name) new count answer
       (record { answer = answer; counts = record { runs = counts.runs; payments = payments } })
       (λ told after. ServesWhere (CountsPayments name count) request told after after)

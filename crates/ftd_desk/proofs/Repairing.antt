@@ -2,11 +2,11 @@
 use Rattle.std.proofs.Common.{◌≡◌, ◌⊎◌, Bool, true, false, refl, sym, ap, subst, arith, ℕ, List, Option}
 use Rattle.std.proofs.Common.{Result, Ok, Err, inl, inr}
 use Rattle.std.proofs.lemmas.Bool.{true≢false}
+use Rattle.std.specs.Prelude.{⊤}
 use Rattle.sqlite.specs.Effect.{Database}
 use Rattle.sqlite.specs.Store as store
 use Rattle.sqlite.specs.State as database
 use Rattle.sqlite.specs.State.{HasCleanDisk, Survives, Shows}
-use Rattle.ftd_days.specs.declared.cents.Cents.{Cents}
 use Rattle.ftd_rules.specs.declared.run.PayRun.{PayRun}
 use Rattle.ftd_store.specs.declared.faults.StoreFault.{StoreFault}
 use Rattle.ftd_sql.specs.Standing.{Tables, Stands}
@@ -16,136 +16,36 @@ use Rattle.ftd_store.specs.Ends.{Begins}
 use Rattle.ftd_store.specs.Frame.{Calls, Reads}
 use Rattle.ftd_store.proofs.Going.{goes_on, then_call}
 use Rattle.ftd_machine.specs.Checks.{Answer}
-use Rattle.ftd_rules.specs.declared.Form.{Form}
 use Rattle.ftd_machine.specs.Laws.{adds_entry, is_on_run}
-use Rattle.ftd_machine.specs.declared.requests.Question.{Question as Questions}
 use Rattle.ftd_machine.specs.declared.requests.Request.{Request}
-use Rattle.ftd_machine.specs.declared.requests.Request.TheVariants.{Enrol, Calendar, AddHoliday}
-use Rattle.ftd_machine.specs.declared.requests.Request.TheVariants.{Report, ReportYear, OpenYear}
-use Rattle.ftd_machine.specs.declared.requests.Request.TheVariants.{Post, Void, Pay, VoidPay}
-use Rattle.ftd_machine.specs.declared.requests.Request.TheVariants.{CorrectReport}
-use Rattle.ftd_machine.specs.declared.requests.Request.TheVariants.{CorrectReportYear}
-use Rattle.ftd_machine.specs.declared.requests.Request.TheVariants.{ChangeHoliday, CorrectAccount}
-use Rattle.ftd_machine.specs.declared.requests.Request.TheVariants.{Question}
+use Rattle.ftd_machine.specs.declared.requests.Request.TheVariants.{Enter, Post, Void, Pay, VoidPay}
+use Rattle.ftd_machine.specs.declared.requests.Request.TheVariants.{Correct, Question}
+use Rattle.ftd_machine.specs.declared.requests.Correction.TheVariants as correction
 use Rattle.ftd_posting.specs.Repaired.{PostsRun, Becoming, Repairs}
 use Rattle.ftd_desk.specs.Counted.{Knows}
-use Rattle.ftd_desk.specs.Private.Reports.{is_report}
 use Rattle.ftd_desk.specs.Words.{RepairsRows}
 use Rattle.ftd_desk.specs.declared.listed.Answered.{Answered}
 use Rattle.ftd_desk.specs.declared.requests.Served.{Served}
-
--- the request is on no run, and adds no payment
-abbrev pub Others : Request → Type 0
-Others request =
-    ((name : List ℕ) × (start : ℕ) × (carried : Bool) × (form : Form)
-    × (request ≡ Enrol name start carried form))
-    ⊎ (((year : ℕ) × (days : List ℕ) × (request ≡ Calendar year days))
-    ⊎ (((day : ℕ) × (request ≡ AddHoliday day))
-    ⊎ (((name : List ℕ) × (quarter : ℕ) × (cents : Cents) × (request ≡ Report name quarter cents))
-    ⊎ (((name : List ℕ) × (year : ℕ) × (cents : Cents) × (request ≡ ReportYear name year cents))
-    ⊎ (((name : List ℕ) × (year : ℕ) × (request ≡ OpenYear name year))
-    ⊎ (((name : List ℕ) × (number : ℕ) × (request ≡ VoidPay name number))
-    ⊎ (((day : ℕ) × (number : ℕ) × (is_holiday : Bool)
-    × (request ≡ ChangeHoliday day number is_holiday))
-    ⊎ (((name : List ℕ) × (number : ℕ) × (start : ℕ) × (carried : Bool)
-    × (request ≡ CorrectAccount name number start carried))
-    ⊎ ((question : Questions) × (request ≡ Question question))))))))))
 
 -- what holds of what was asked holds of the request
 asked : (Holds : Request → Type 0) {request other : Request} → request ≡ other → Holds other
     → Holds request
 asked Holds is holds = subst Holds (sym is) holds
 
--- the request adds none, and is on no run
-abbrev pub IsPlain : Request → Type 0
-IsPlain request = (adds_entry request ≡ false) × (is_on_run request ≡ false)
-
-pub others_plain : (request : Request) → Others request → IsPlain request
-unfolding adds_entry is_on_run
-others_plain request (inl is) = asked IsPlain is.4 (refl, refl)
-others_plain request (inr (inl is)) = asked IsPlain is.2 (refl, refl)
-others_plain request (inr (inr (inl is))) = asked IsPlain is.1 (refl, refl)
-others_plain request (inr (inr (inr (inl is)))) = asked IsPlain is.3 (refl, refl)
-others_plain request (inr (inr (inr (inr (inl is))))) = asked IsPlain is.3 (refl, refl)
-others_plain request (inr (inr (inr (inr (inr (inl is)))))) = asked IsPlain is.2 (refl, refl)
-others_plain request (inr (inr (inr (inr (inr (inr (inl is))))))) = asked IsPlain is.2 (refl, refl)
-others_plain request (inr (inr (inr (inr (inr (inr (inr (inl is)))))))) =
-    asked IsPlain is.3 (refl, refl)
-others_plain request (inr (inr (inr (inr (inr (inr (inr (inr (inl is))))))))) =
-    asked IsPlain is.4 (refl, refl)
-others_plain request (inr (inr (inr (inr (inr (inr (inr (inr (inr is))))))))) =
-    asked IsPlain is.1 (refl, refl)
-
--- the request adds a run or a payment
-abbrev pub AddsOne : Request → Type 0
-AddsOne request =
-    ((name : List ℕ) × (number payday : ℕ) × (fit ss medicare : Cents)
-    × (request ≡ Post name number payday fit ss medicare))
-    ⊎ ((name : List ℕ) × (number paid for_day : ℕ) × (cents : Cents)
-    × (request ≡ Pay name number paid for_day cents))
-
-pub one_is_added : (request : Request) → AddsOne request → adds_entry request ≡ true
-unfolding adds_entry
-one_is_added request (inl is) = ap adds_entry is.6
-one_is_added request (inr is) = ap adds_entry is.5
-
--- the request is that a total is kept which was reported
-abbrev pub KeepsTotal : Request → Type 0
-KeepsTotal request =
-    ((name : List ℕ) × (quarter : ℕ) × (cents : Cents) × (request ≡ Report name quarter cents))
-    ⊎ ((name : List ℕ) × (year : ℕ) × (cents : Cents) × (request ≡ ReportYear name year cents))
-
-pub total_is_kept : (request : Request) → KeepsTotal request → is_report request ≡ true
-unfolding is_report
-total_is_kept request (inl is) = ap is_report is.3
-total_is_kept request (inr is) = ap is_report is.3
-
--- the request repairs rows, and adds no run
-abbrev pub RepairsOnly : Request → Type 0
-RepairsOnly request =
-    ((name : List ℕ) × (number : ℕ) × (request ≡ Void name number))
-    ⊎ (((name : List ℕ) × (quarter : ℕ) × (number : ℕ) × (cents : Cents)
-    × (request ≡ CorrectReport name quarter number cents))
-    ⊎ ((name : List ℕ) × (year : ℕ) × (number : ℕ) × (cents : Cents)
-    × (request ≡ CorrectReportYear name year number cents)))
-
--- the request adds none, and is on runs
-abbrev pub IsRepair : Request → Type 0
-IsRepair request = (adds_entry request ≡ false) × (is_on_run request ≡ true)
-
-pub repairs_only : (request : Request) → RepairsOnly request → IsRepair request
-unfolding adds_entry is_on_run
-repairs_only request (inl is) = asked IsRepair is.2 (refl, refl)
-repairs_only request (inr (inl is)) = asked IsRepair is.4 (refl, refl)
-repairs_only request (inr (inr is)) = asked IsRepair is.4 (refl, refl)
-
 -- nothing is said of a request that is on no run
 pub repairs_none : (request : Request) (answer : Answer) (before after : Database) (t : Tables)
     → is_on_run request ≡ false → Repairs request answer before after t
 unfolding is_on_run Repairs
-repairs_none (Enrol name start carried form) answer before after t other = tt
-repairs_none (Calendar year days) answer before after t other = tt
-repairs_none (AddHoliday day) answer before after t other = tt
-repairs_none (Report name quarter cents) answer before after t other = tt
-repairs_none (ReportYear name year cents) answer before after t other = tt
-repairs_none (OpenYear name year) answer before after t other = tt
-repairs_none (Post name number payday fit ss medicare) answer before after t other =
-    absurd (true≢false other)
+repairs_none (Enter entered) answer before after t other = tt
+repairs_none (Post name number run) answer before after t other = absurd (true≢false other)
 repairs_none (Void name number) answer before after t other = absurd (true≢false other)
-repairs_none (Pay name number paid for_day cents) answer before after t other = tt
+repairs_none (Pay name number payment) answer before after t other = tt
 repairs_none (VoidPay name number) answer before after t other = tt
-repairs_none (CorrectReport name quarter number cents) answer before after t other =
+repairs_none (Correct number (correction.Total name period cents)) answer before after t other =
     absurd (true≢false other)
-repairs_none (CorrectReportYear name year number cents) answer before after t other =
-    absurd (true≢false other)
-repairs_none (ChangeHoliday day number is_holiday) answer before after t other = tt
-repairs_none (CorrectAccount name number start carried) answer before after t other = tt
+repairs_none (Correct number (correction.Holiday day is_holiday)) answer before after t other = tt
+repairs_none (Correct number (correction.Account name beginning)) answer before after t other = tt
 repairs_none (Question question) answer before after t other = tt
-
-pub pays_no_run : (request : Request) (name : List ℕ) (number paid for_day : ℕ) (cents : Cents)
-    → request ≡ Pay name number paid for_day cents → is_on_run request ≡ false
-unfolding is_on_run
-pays_no_run request name number paid for_day cents is = ap is_on_run is
 
 -- what a call does to the rows of which its answer tells
 abbrev pub Told : (Answer → Database → Database → Tables → Type 0) → Served → database.State
@@ -182,8 +82,7 @@ module _ {S : Type 0} (g : store.Ghosts S) where
 
   -- of a call that posts a run, and of one on what the request asks
   pub post_repairs : (old new : Tx S) (result : Result Served StoreFault) (request : Request)
-      (name : List ℕ) (number : ℕ) (run : PayRun) → request ≡ Post name number run.payday run.fit
-      run.ss run.medicare
+      (name : List ℕ) (number : ℕ) (run : PayRun) → request ≡ Post name number run
       → Calls g old new result (Told (Becoming (PostsRun name number run)))
       → Calls g old new result (Told (Repairs request))
   unfolding Repairs
@@ -205,6 +104,15 @@ module _ {S : Type 0} (g : store.Ghosts S) where
     frame = goes_on g old new answer served c.frame;
     does = λ clean t stands. subst (λ x. Does x (shown g old).now (shown g new).now t) (sym same)
         (c.does clean t stands);
+  }
+
+  -- of a call of which no more is told
+  pub told_quietly : {P : Answer → database.State → database.State → Tables → Type 0}
+      (old new : Tx S) (answer : Answer) (served : Served) → Calls g old new (Ok answer) P
+      → Calls g old new (Ok served) (λ x before after t. ⊤)
+  told_quietly old new answer served c = record {
+    frame = goes_on g old new answer served c.frame;
+    does = λ clean t stands. tt;
   }
 
   -- rows that were read before are the same

@@ -7,7 +7,6 @@ pub mod Words
 pub mod Telling
 pub mod Shown
 pub mod Books
-pub mod Private
 pub use Rattle.ftd_days.specs.Calendar
 pub use Rattle.ftd_machine.specs.Laws
 pub use Rattle.ftd_machine.specs.Limits

@@ -131,7 +131,7 @@ fn serve_post_by<S: Alter>(
     run: PayRun,
 ) -> Result<Answered, StoreFault>
     ensures { Calls S.Store tx.old tx.new result (ServesKnown known
-        (Post name.now number run.payday run.fit run.ss run.medicare)) }
+        (Post name.now number run)) }
 {
     let year = run.payday.year();
     if let Some(place) = known.books.ready(name, year) {
@@ -158,7 +158,7 @@ fn post_read<S: Alter>(
     run: PayRun,
 ) -> Result<Answered, StoreFault>
     ensures { Calls S.Store tx.old tx.new result (ServesKnown known
-        (Post name.now number run.payday run.fit run.ss run.medicare)) }
+        (Post name.now number run)) }
 {
     if let Some(place) = known.books.ready(name, run.payday.year()) {
         return post_at(tx, alloc, known, place, name, number, run);
@@ -179,7 +179,7 @@ fn post_at<S: Alter>(
 ) -> Result<Answered, StoreFault>
     requires ready { IsReady known.books name.now (year_of run.payday) place }
     ensures { Calls S.Store tx.old tx.new result (ServesKnown known
-        (Post name.now number run.payday run.fit run.ss run.medicare)) }
+        (Post name.now number run)) }
 {
     let count = count_runs(tx, &known.counts.runs, name)?;
     let book = &mut known.books.entries[place].content;

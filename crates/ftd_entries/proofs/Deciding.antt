@@ -18,7 +18,8 @@ use Rattle.ftd_machine.specs.Sound.{IsSound}
 use Rattle.ftd_machine.specs.Checks.{Answer, first_of, needs}
 use Rattle.ftd_machine.specs.Requests.{open_year_checks}
 use Rattle.ftd_machine.specs.Step.{Step}
-use Rattle.ftd_machine.specs.declared.requests.Request.TheVariants.{OpenYear}
+use Rattle.ftd_machine.specs.declared.requests.Request.TheVariants.{Enter}
+use Rattle.ftd_machine.specs.declared.requests.Entry.TheVariants as entry
 use Rattle.ftd_machine.specs.declared.replies.Reply.TheVariants.{Done}
 use Rattle.ftd_machine.specs.declared.replies.Refusal.{Refusal}
 use Rattle.ftd_machine.specs.declared.replies.Refusal.TheVariants.{YearNotOpen}
@@ -47,7 +48,7 @@ module _ (name : List ℕ) (year : ℕ) (known : KnownYear) (there : Bool)
   -- a check decides
   pub year_decided : (answer : Answer) → checks ≡ Some answer → (t : Tables) (s : State)
       → StandsFor t s → IsSound s → KnowsToOpen name year known t
-      → Step s (OpenYear name year) answer s
+      → Step s (Enter (entry.Year name year)) answer s
   year_decided answer is t s stands sound knows = open_decided name year known.account there
       known.given known.next s (keeps t s stands sound knows) answer is
 
@@ -62,8 +63,8 @@ module _ (name : List ℕ) (year : ℕ) (known : KnownYear) (there : Bool)
       account_is knows = (keeps t s stands sound knows).account_is ∙ found
 
       -- a figure is missing
-      pub year_lacks : (refusal : Refusal) → Knows (Err refusal) t → Step s (OpenYear name year)
-          (Err refusal) s
+      pub year_lacks : (refusal : Refusal) → Knows (Err refusal) t
+          → Step s (Enter (entry.Year name year)) (Err refusal) s
       year_lacks refusal knows =
           open_lacks name year known.account there known.given known.next s
           (keeps t s stands sound knows.0) all_passed refusal
@@ -87,7 +88,7 @@ module _ (name : List ℕ) (year : ℕ) (known : KnownYear) (there : Bool)
       pub year_waits : (total : Cents)
           → ((length known.lines.items == 0) || list_any (is_line_of (year - 1)) known.lines.items)
           ≡ false → Knows (Ok total) t
-          → Step s (OpenYear name year) (Err (YearNotOpen (year - 1))) s
+          → Step s (Enter (entry.Year name year)) (Err (YearNotOpen (year - 1))) s
       year_waits total may_not knows =
           open_waits name year known.account there known.given known.next s
           (keeps t s stands sound knows.0) all_passed total (Err (YearNotOpen (year - 1)))
@@ -98,7 +99,7 @@ module _ (name : List ℕ) (year : ℕ) (known : KnownYear) (there : Bool)
           → ((length known.lines.items == 0) || list_any (is_line_of (year - 1)) known.lines.items)
           ≡ true
           → IsNextLine account.carried known.lines.items year total line → Knows (Ok total) t
-          → (next : State) × Step s (OpenYear name year) (Ok Done) next
+          → (next : State) × Step s (Enter (entry.Year name year)) (Ok Done) next
           × StandsFor (with_year name line t) next
       year_done total line may is_next knows =
           open_done name year known.account there known.given known.next s
@@ -129,9 +130,9 @@ module _ (name : List ℕ) (year : ℕ) (known : KnownYear) (there : Bool)
   pub served_lacking : {total : Result Cents Refusal} {refusal : Refusal} → total ≡ Err refusal
       → Reads g old mid (Ok known) (KnowsToOpen name year)
       → Reads g mid new (Ok total) (KnowsTotal name account year)
-      → Calls g old new (Ok (Err refusal)) (Serves (OpenYear name year))
+      → Calls g old new (Ok (Err refusal)) (Serves (Enter (entry.Year name year)))
   served_lacking {refusal = refusal} same p q =
-      served_looked (OpenYear name year) (Err refusal) (total_read same p q)
+      served_looked (Enter (entry.Year name year)) (Err refusal) (total_read same p q)
       (λ t s stands sound knows. year_lacks name year known there is_there account found passed t s
       stands sound refusal knows)
 
@@ -141,9 +142,10 @@ module _ (name : List ℕ) (year : ℕ) (known : KnownYear) (there : Bool)
       → list_any (is_line_of (year - 1)) known.lines.items ≡ false
       → Reads g old mid (Ok known) (KnowsToOpen name year)
       → Reads g mid new (Ok total) (KnowsTotal name account year)
-      → Calls g old new (Ok (Err (YearNotOpen (year - 1)))) (Serves (OpenYear name year))
+      → Calls g old new (Ok (Err (YearNotOpen (year - 1)))) (Serves (Enter (entry.Year name year)))
   served_waiting {cents = cents} same some none p q =
-      served_looked (OpenYear name year) (Err (YearNotOpen (year - 1))) (total_read same p q)
+      served_looked (Enter (entry.Year name year)) (Err (YearNotOpen (year - 1))) (total_read same
+      p q)
       (λ t s stands sound knows. year_waits name year known there is_there account found passed t s
       stands sound cents (rw (some, none) refl) knows)
 
@@ -155,8 +157,8 @@ module _ (name : List ℕ) (year : ℕ) (known : KnownYear) (there : Bool)
       → Reads g old mid (Ok known) (KnowsToOpen name year)
       → Reads g mid new (Ok total) (KnowsTotal name account year)
       → Writes g new end (Ok y) (with_year name line)
-      → Calls g old end (Ok (Ok Done)) (Serves (OpenYear name year))
+      → Calls g old end (Ok (Ok Done)) (Serves (Enter (entry.Year name year)))
   served_opened {cents = cents} {line = line} same may next p q w =
-      served_changed (OpenYear name year) (Ok Done) (total_read same p q) w
+      served_changed (Enter (entry.Year name year)) (Ok Done) (total_read same p q) w
       (λ t s stands sound knows. year_done name year known there is_there account found passed t s
       stands sound cents line may next knows)

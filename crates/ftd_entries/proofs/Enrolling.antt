@@ -11,7 +11,8 @@ use Rattle.ftd_sql.specs.declared.TableName.TheVariants.{Forms}
 use Rattle.ftd_sql.specs.Standing.{Tables}
 use Rattle.ftd_machine.specs.declared.entries.Account.{Account}
 use Rattle.ftd_machine.specs.declared.requests.Request.{Request}
-use Rattle.ftd_machine.specs.declared.requests.Request.TheVariants.{Enrol}
+use Rattle.ftd_machine.specs.declared.requests.Request.TheVariants.{Enter}
+use Rattle.ftd_machine.specs.declared.requests.Entry.TheVariants as entry
 use Rattle.ftd_machine.specs.declared.replies.Reply.TheVariants.{Done}
 use Rattle.ftd_machine.specs.State.{State, Enrolled, Entry, entries_of, is_of, moves_in}
 use Rattle.ftd_machine.specs.State.{account_in_force, enrolled_in}
@@ -46,7 +47,7 @@ no_entry name s sound none = go (filter (is_of name) s.open_years) refl
 
 module _ (name : List ℕ) (account : Account) where
   abbrev Asked : Request
-  Asked = Enrol name account.start account.carried account.form
+  Asked = Enter (entry.Account name account)
 
   checks_are : (known : Option Account) (t : Tables) (s : State) → StandsFor t s
       → KnowsEnrolled name known t → first_of (enrol_checks name account (enrolled_in s name))

@@ -24,7 +24,8 @@ use Rattle.ftd_store.specs.Rows.{holiday_row}
 use Rattle.ftd_store.specs.Changes.{with_calendar}
 use Rattle.ftd_machine.proofs.Few.{few_in_force}
 use Rattle.ftd_machine.specs.declared.requests.Request.{Request}
-use Rattle.ftd_machine.specs.declared.requests.Request.TheVariants.{Calendar}
+use Rattle.ftd_machine.specs.declared.requests.Request.TheVariants.{Enter}
+use Rattle.ftd_machine.specs.declared.requests.Entry.TheVariants as entry
 use Rattle.ftd_machine.specs.declared.replies.Reply.TheVariants.{Done}
 use Rattle.ftd_machine.specs.Limits.{is_calendar, are_rising}
 use Rattle.ftd_machine.specs.State.{State, entries_of, is_of, is_given, calendar_at, holidays}
@@ -84,7 +85,7 @@ of_either a b c false = rw (none ((a || b) || c), none (a || c), none b) refl
 
 module _ (year : ℕ) (days : List ℕ) where
   abbrev Asked : Request
-  Asked = Calendar year days
+  Asked = Enter (entry.Calendar year days)
 
   abbrev Given : YearDays
   Given = record { year = year; days = days }

@@ -48,7 +48,8 @@ use Rattle.ftd_machine.specs.Requests.{open_year_checks}
 use Rattle.ftd_machine.specs.Step.{Step, OpensNext, may_open, with_entry}
 use Rattle.ftd_machine.specs.declared.entries.Account.{Account}
 use Rattle.ftd_machine.specs.declared.requests.Request.{Request}
-use Rattle.ftd_machine.specs.declared.requests.Request.TheVariants.{OpenYear}
+use Rattle.ftd_machine.specs.declared.requests.Request.TheVariants.{Enter}
+use Rattle.ftd_machine.specs.declared.requests.Entry.TheVariants as entry
 use Rattle.ftd_machine.specs.declared.replies.Reply.TheVariants.{Done}
 use Rattle.ftd_machine.specs.declared.replies.Refusal.{Refusal}
 use Rattle.ftd_machine.proofs.Deciding.{decided, passed}
@@ -327,7 +328,7 @@ lookback_still F943 own opened year total has = has
 
 module _ (name : List ℕ) (year : ℕ) where
   abbrev Asked : Request
-  Asked = OpenYear name year
+  Asked = Enter (entry.Year name year)
 
   abbrev Next : State → State
   Next s = record s { open_years = with_entry s.open_years name year tt }

@@ -100,7 +100,7 @@ module _ (name : List ℕ) (number : ℕ) (payment : Payment) (count : ℕ) wher
   -- a check decides
   pub pay_decided : (known : KnownForPay) (answer : Answer) → checks known ≡ Some answer
       → (t : Tables) (s : State) → StandsFor t s → IsSound s → CountsPayments name count t
-      → KnowsAll known t → Step s (Pay name number payment.paid payment.for_day payment.cents)
+      → KnowsAll known t → Step s (Pay name number payment)
       answer s
   pay_decided known answer is t s stands sound counted knows = decided _ s answer _
       (checks_are known t s stands counted knows ∙ is)
@@ -109,7 +109,7 @@ module _ (name : List ℕ) (number : ℕ) (payment : Payment) (count : ℕ) wher
   pub pay_done : (known : KnownForPay) → checks known ≡ None
       → (t : Tables) (s : State) → StandsFor t s → IsSound s → CountsPayments name count t
       → KnowsAll known t
-      → (next : State) × Step s (Pay name number payment.paid payment.for_day payment.cents)
+      → (next : State) × Step s (Pay name number payment)
       (Ok Done) next × StandsFor (with_payment name number payment t) next
   pay_done known is t s stands sound counted knows = (
     Next s,

@@ -15,7 +15,8 @@ use Rattle.ftd_store.specs.Changes.{with_account_correction}
 use Rattle.ftd_machine.specs.declared.entries.Account.{Account}
 use Rattle.ftd_machine.specs.declared.entries.Beginning.{Beginning}
 use Rattle.ftd_machine.specs.declared.requests.Request.{Request}
-use Rattle.ftd_machine.specs.declared.requests.Request.TheVariants.{CorrectAccount}
+use Rattle.ftd_machine.specs.declared.requests.Request.TheVariants.{Correct}
+use Rattle.ftd_machine.specs.declared.requests.Correction.TheVariants as correction
 use Rattle.ftd_machine.specs.declared.replies.Reply.TheVariants.{Done}
 use Rattle.ftd_machine.specs.State.{State, Move, entries_of, is_of, moves_in, moves_of, numbered}
 use Rattle.ftd_machine.specs.Checks.{Answer, first_of}
@@ -136,7 +137,7 @@ put_right_facts name number beginning account known unused count is =
 
 module _ (name : List ℕ) (number : ℕ) (beginning : Beginning) where
   abbrev Asked : Request
-  Asked = CorrectAccount name number beginning.start beginning.carried
+  Asked = Correct number (correction.Account name beginning)
 
   abbrev Next : State → State
   Next s = record s { moved = with_move s.moved name beginning }

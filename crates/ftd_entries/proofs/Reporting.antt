@@ -6,7 +6,9 @@ use Rattle.ftd_sql.specs.Standing.{Tables}
 use Rattle.ftd_store.specs.Changes.{with_reported, with_reported_year}
 use Rattle.ftd_store.specs.Finds.{FindsReported, FindsReportedYear}
 use Rattle.ftd_machine.specs.declared.entries.Account.{Account}
-use Rattle.ftd_machine.specs.declared.requests.Request.TheVariants.{Report, ReportYear}
+use Rattle.ftd_machine.specs.declared.requests.Request.TheVariants.{Enter}
+use Rattle.ftd_machine.specs.declared.requests.Entry.TheVariants as entry
+use Rattle.ftd_machine.specs.declared.entries.ReturnPeriod.TheVariants.{Quarter, Year}
 use Rattle.ftd_machine.specs.declared.replies.Reply.TheVariants.{Done}
 use Rattle.ftd_machine.specs.State.{State, Entry, entries_of, is_of, kept_at}
 use Rattle.ftd_machine.specs.Checks.{Answer, first_of}
@@ -66,7 +68,7 @@ module _ (name : List ℕ) (quarter : ℕ) (cents : Cents) where
   pub report_decided : (known : Option Account × Option Cents) (answer : Answer)
       → first_of (report_checks name quarter cents known.0 known.1) ≡ Some answer
       → (t : Tables) (s : State) → StandsFor t s → IsSound s → Knows known t
-      → Step s (Report name quarter cents) answer s
+      → Step s (Enter (entry.Total name (Quarter quarter) cents)) answer s
   report_decided known answer is t s stands sound knows = decided _ s answer _
       (checks_are known t s stands knows ∙ is)
 
@@ -74,7 +76,7 @@ module _ (name : List ℕ) (quarter : ℕ) (cents : Cents) where
   pub report_done : (known : Option Account × Option Cents)
       → first_of (report_checks name quarter cents known.0 known.1) ≡ None
       → (t : Tables) (s : State) → StandsFor t s → IsSound s → Knows known t
-      → (next : State) × Step s (Report name quarter cents) (Ok Done) next
+      → (next : State) × Step s (Enter (entry.Total name (Quarter quarter) cents)) (Ok Done) next
       × StandsFor (with_reported name quarter cents t) next
   report_done known is t s stands sound knows = (
     Next s,
@@ -127,14 +129,14 @@ module _ (name : List ℕ) (year : ℕ) (cents : Cents) where
   pub report_year_decided : (known : Option Account × Option Cents) (answer : Answer)
       → first_of (report_year_checks name year cents known.0 known.1) ≡ Some answer
       → (t : Tables) (s : State) → StandsFor t s → IsSound s → KnowsYears known t
-      → Step s (ReportYear name year cents) answer s
+      → Step s (Enter (entry.Total name (Year year) cents)) answer s
   report_year_decided known answer is t s stands sound knows = decided _ s answer _
       (year_checks_are known t s stands knows ∙ is)
 
   pub report_year_done : (known : Option Account × Option Cents)
       → first_of (report_year_checks name year cents known.0 known.1) ≡ None
       → (t : Tables) (s : State) → StandsFor t s → IsSound s → KnowsYears known t
-      → (next : State) × Step s (ReportYear name year cents) (Ok Done) next
+      → (next : State) × Step s (Enter (entry.Total name (Year year) cents)) (Ok Done) next
       × StandsFor (with_reported_year name year cents t) next
   report_year_done known is t s stands sound knows = (
     NextYear s,

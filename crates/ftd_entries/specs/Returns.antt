@@ -11,7 +11,7 @@ use Rattle.ftd_machine.specs.State.{State, entries_of}
 use Rattle.ftd_machine.specs.History.{live_sums, live_payments}
 use Rattle.ftd_machine.specs.Asking.{return_period, preceding}
 use Rattle.ftd_entries.specs.Standing.{StandsFor}
-use Rattle.ftd_entries.specs.declared.return_periods.ReturnPeriod.{ReturnPeriod}
+use Rattle.ftd_entries.specs.declared.return_periods.ReturnFacts.{ReturnFacts}
 
 -- the amount is the account's liability of the days, in each state for which the tables stand
 abbrev pub KnowsLiability : List ℕ → ℕ → ℕ → Cents → Tables → Type 0
@@ -32,7 +32,7 @@ KnowsPreceding name form quarter found t =
     (s : State) → StandsFor t s → preceding form (entries_of s name) quarter ≡ found
 
 -- the days of the quarter's return period, and what the account has of them
-pub record KnowsPeriod (name : List ℕ) (form : Form) (quarter : ℕ) (period : ReturnPeriod)
+pub record KnowsPeriod (name : List ℕ) (form : Form) (quarter : ℕ) (period : ReturnFacts)
     (t : Tables) : Type 0 where
   pub first : period.first ≡ return_period_first form (return_period form quarter)
   pub last : period.last ≡ return_period_last form (return_period form quarter)

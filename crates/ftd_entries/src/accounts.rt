@@ -5,7 +5,8 @@ ghost use Rattle.ftd_store.specs.Seen.{shown};
 ghost use Rattle.ftd_store.specs.Frame.{Calls, Reads, Writes};
 ghost use Rattle.ftd_entries.specs.Known.{KnowsAccount, KnowsEnrolled, HasForm, joined};
 ghost use Rattle.ftd_entries.specs.Known.{with_enrolled};
-ghost use Rattle.ftd_machine.specs.declared.requests.Request.TheVariants.{Enrol};
+ghost use Rattle.ftd_machine.specs.declared.requests.Request.TheVariants.{Enter};
+ghost use Rattle.ftd_machine.specs.declared.requests.Entry.TheVariants as entry;
 ghost use Rattle.ftd_entries.specs.Words.{Serves};
 
 use ftd_days::Day;
@@ -59,7 +60,7 @@ pub fn enrol<S: Alter>(
     account: Account,
 ) -> Result<Answer, StoreFault>
     ensures call { Calls S.Store tx.old tx.new result
-        (Serves (Enrol name.now account.start account.carried account.form)) }
+        (Serves (Enter (entry.Account name.now account))) }
 {
     let known = enrolled(tx, name)?;
     if let Some(answer) = enrol_check(name, &account, known) {

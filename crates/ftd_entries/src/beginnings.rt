@@ -3,7 +3,8 @@
 ghost use Rattle.std.specs.Prelude.{◌≡◌, ◌==◌, ◌&&◌, length};
 ghost use Rattle.ftd_store.specs.Frame.{Calls, Reads};
 ghost use Rattle.ftd_machine.specs.State.{numbered};
-ghost use Rattle.ftd_machine.specs.declared.requests.Request.TheVariants.{CorrectAccount};
+ghost use Rattle.ftd_machine.specs.declared.requests.Request.TheVariants.{Correct};
+ghost use Rattle.ftd_machine.specs.declared.requests.Correction.TheVariants as correction;
 ghost use Rattle.ftd_entries.specs.Correcting.{KnowsForCorrection, KnowsUnused, correction_of};
 ghost use Rattle.ftd_entries.specs.Known.{beginnings_of};
 ghost use Rattle.ftd_entries.specs.Words.{Serves};
@@ -108,7 +109,7 @@ pub fn correct_account<S: Alter>(
     beginning: Beginning,
 ) -> Result<Answer, StoreFault>
     ensures call { Calls S.Store tx.old tx.new result
-        (Serves (CorrectAccount name.now number beginning.start beginning.carried)) }
+        (Serves (Correct number (correction.Account name.now beginning))) }
 {
     let before = known_for_correction(tx, alloc, name, number)?;
     let checked = correct_account_check(

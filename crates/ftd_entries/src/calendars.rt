@@ -1,7 +1,8 @@
 //! Calendars are given.
 
 ghost use Rattle.ftd_store.specs.Frame.{Calls};
-ghost use Rattle.ftd_machine.specs.declared.requests.Request.TheVariants.{Calendar};
+ghost use Rattle.ftd_machine.specs.declared.requests.Request.TheVariants.{Enter};
+ghost use Rattle.ftd_machine.specs.declared.requests.Entry.TheVariants as entry;
 ghost use Rattle.ftd_entries.specs.Words.{Serves};
 
 use ftd_days::Day;
@@ -17,7 +18,8 @@ pub fn take_calendar<S: Alter>(
     year: u32,
     days: &[Day],
 ) -> Result<Answer, StoreFault>
-    ensures call { Calls S.Store tx.old tx.new result (Serves (Calendar year days.now)) }
+    ensures call { Calls S.Store tx.old tx.new result
+        (Serves (Enter (entry.Calendar year days.now))) }
 {
     let known = tx.calendar(alloc, year)?;
     if let Some(answer) = calendar_check(year, days, known.as_deref()) {

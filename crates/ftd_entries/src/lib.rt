@@ -27,5 +27,5 @@ pub use crate::lookbacks::lookback_total;
 pub use crate::open_years::open_year;
 pub use crate::payments::{pay, void_payment};
 pub use crate::reported::{report, report_year};
-pub use crate::return_periods::{AMOUNTS_END, ReturnPeriod, payments_of, return_period};
+pub use crate::return_periods::{ReturnFacts, payments_of, return_period};
 pub use crate::years::{has_year, is_open};

@@ -3,7 +3,8 @@
 ghost use Rattle.std.specs.Prelude.{◌≡◌};
 ghost use Rattle.std.specs.List.{list_any};
 ghost use Rattle.ftd_store.specs.Frame.{Calls, Reads};
-ghost use Rattle.ftd_machine.specs.declared.requests.Request.TheVariants.{OpenYear};
+ghost use Rattle.ftd_machine.specs.declared.requests.Request.TheVariants.{Enter};
+ghost use Rattle.ftd_machine.specs.declared.requests.Entry.TheVariants as entry;
 ghost use Rattle.ftd_entries.specs.Opening.{IsNextLine, KnowsToOpen, turns_into};
 ghost use Rattle.ftd_entries.specs.Words.{Serves};
 
@@ -12,13 +13,10 @@ use crate::lookbacks::lookback_total;
 use crate::years::has_year;
 use ftd_days::Cents;
 use ftd_machine::{Account, Answer, Refusal, Reply, open_year_check};
-use ftd_rules::{YearLine, opening};
+use ftd_rules::{AMOUNTS_END, YearLine, opening};
 use ftd_store::{StoreFault, Tx};
 use sqlite::Alter;
 use std::alloc::Global;
-
-/// All amounts of an account together are less than so many cents.
-const AMOUNTS_END: u64 = 6_000_000_000_000_000;
 
 /// What is kept of an account and of a year before the year is opened.
 #[derive(Drop)]
@@ -84,7 +82,7 @@ pub fn open_year<S: Alter>(
     name: &str,
     year: u32,
 ) -> Result<Answer, StoreFault>
-    ensures call { Calls S.Store tx.old tx.new result (Serves (OpenYear name.now year)) }
+    ensures call { Calls S.Store tx.old tx.new result (Serves (Enter (entry.Year name.now year))) }
 {
     let known = known_year(tx, alloc, name, year)?;
     let there = has_year(&known.lines, year);

@@ -60,7 +60,7 @@ pub fn pay<S: Alter>(
 ) -> Result<Answer, StoreFault>
     ensures call { Calls S.Store tx.old tx.new result (λ answer before after t.
         CountsPayments name.now count t
-        → Serves (Pay name.now number payment.paid payment.for_day payment.cents)
+        → Serves (Pay name.now number payment)
         answer before after t) }
 {
     let before = known_for_pay(tx, alloc, name, number, payment.for_day)?;

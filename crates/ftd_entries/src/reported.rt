@@ -1,7 +1,9 @@
 //! The totals that the accounts reported are taken.
 
 ghost use Rattle.ftd_store.specs.Frame.{Calls};
-ghost use Rattle.ftd_machine.specs.declared.requests.Request.TheVariants.{Report, ReportYear};
+ghost use Rattle.ftd_machine.specs.declared.requests.Request.TheVariants.{Enter};
+ghost use Rattle.ftd_machine.specs.declared.requests.Entry.TheVariants as entry;
+ghost use Rattle.ftd_machine.specs.declared.entries.ReturnPeriod.TheVariants as periods;
 ghost use Rattle.ftd_entries.specs.Words.{Serves};
 
 use crate::accounts::known;
@@ -19,7 +21,8 @@ pub fn report<S: Alter>(
     quarter: Quarter,
     cents: Cents,
 ) -> Result<Answer, StoreFault>
-    ensures call { Calls S.Store tx.old tx.new result (Serves (Report name.now quarter cents)) }
+    ensures call { Calls S.Store tx.old tx.new result
+        (Serves (Enter (entry.Total name.now (periods.Quarter quarter) cents))) }
 {
     let account = known(tx, alloc, name)?;
     let reported = tx.reported(name, quarter)?;
@@ -38,7 +41,8 @@ pub fn report_year<S: Alter>(
     year: u32,
     cents: Cents,
 ) -> Result<Answer, StoreFault>
-    ensures call { Calls S.Store tx.old tx.new result (Serves (ReportYear name.now year cents)) }
+    ensures call { Calls S.Store tx.old tx.new result
+        (Serves (Enter (entry.Total name.now (periods.Year year) cents))) }
 {
     let account = known(tx, alloc, name)?;
     let reported = tx.reported_year(name, year)?;

@@ -11,17 +11,14 @@ ghost use Rattle.ftd_entries.specs.Returns.{KnowsPeriod};
 
 use crate::figure;
 use ftd_days::{Cents, Day, Quarter};
-use ftd_rules::{DaySum, Form, Payment, period};
+use ftd_rules::{AMOUNTS_END, DaySum, Form, Payment, period};
 use ftd_store::{StoreFault, Tx};
 use sqlite::Alter;
 use std::alloc::Global;
 
-/// All amounts of an account together are less than so many cents.
-pub const AMOUNTS_END: u64 = 6_000_000_000_000_000;
-
 /// What is known of the return period of a quarter.
 #[derive(Drop)]
-pub struct ReturnPeriod {
+pub struct ReturnFacts {
     /// Its first day.
     pub first: Day,
     /// Its last day.
@@ -50,7 +47,7 @@ fn total_of_sums(sums: &[DaySum]) -> Option<Cents>
 
 /// Whether the payments are together less than 60,000,000,000,000.00.
 fn are_below_end(payments: &[Payment]) -> bool
-    ensures { IsTrue result → sum_by payment_cents payments.now < 6_000_000_000_000_000 }
+    ensures { IsTrue result → sum_by payment_cents payments.now < AMOUNTS_END }
 {
     let mut total = 0;
     for payment in payments {
@@ -91,7 +88,7 @@ pub fn payments_of<S: Alter>(
     ensures call { Reads S.Store tx.old tx.new result
         (λ payments. KnowsPayments name.now first last payments.items) }
     ensures small { IfOk result (λ payments.
-        sum_by payment_cents payments.items < 6_000_000_000_000_000) }
+        sum_by payment_cents payments.items < AMOUNTS_END) }
 {
     let payments = tx.payments_for(alloc, name, first, last)?;
     if !are_below_end(&payments) {
@@ -125,17 +122,17 @@ pub fn return_period<S: Alter>(
     name: &str,
     form: Form,
     quarter: Quarter,
-) -> Result<ReturnPeriod, StoreFault>
+) -> Result<ReturnFacts, StoreFault>
     requires { 2001 ≤ quarter_year quarter }
     ensures call { Reads S.Store tx.old tx.new result (KnowsPeriod name.now form quarter) }
     ensures small { IfOk result (λ period.
-        sum_by payment_cents period.payments.items < 6_000_000_000_000_000) }
+        sum_by payment_cents period.payments.items < AMOUNTS_END) }
 {
     let (first, last) = period::return_period(form, quarter.first());
     let payments = payments_of(tx, alloc, name, first, last)?;
     let total = liability_of(tx, alloc, name, first, last)?;
     let preceding = preceding(tx, alloc, name, form, quarter)?;
-    Ok(ReturnPeriod {
+    Ok(ReturnFacts {
         first,
         last,
         payments,

@@ -8,6 +8,7 @@ use anyhow::Result;
 use ftd_days::Cents;
 use ftd_desk::Desk;
 use ftd_machine::{Facts, Question, Reply, Request};
+use ftd_rules::PayRun;
 use sqlite::Connection;
 
 fn main(rt: HostRuntime) -> Result<()> {
@@ -20,17 +21,19 @@ fn main(rt: HostRuntime) -> Result<()> {
     desk.handle(&open_year(alloc, "ash", 2024)?)?;
     desk.handle(&Request::Post {
         account: account(alloc, "ash")?,
-        run: 1,
-        payday: day("2024-01-05")?,
-        fit: Cents(500_000),
-        ss: Cents(310_000),
-        medicare: Cents(72_500),
+        number: 1,
+        run: PayRun {
+            payday: day("2024-01-05")?,
+            fit: Cents(500_000),
+            ss: Cents(310_000),
+            medicare: Cents(72_500),
+        },
     })?;
     let (until, as_of) = (day("2024-02-29")?, day("2024-02-01")?);
     let question = Request::Question(Question::Owed { until, as_of });
-    if let Reply::Told(Facts::Agenda(rows)) = desk.handle(&question)? {
-        for owed in rows.as_slice() {
-            println!(rt; "pay {} by {}", owed.row.obligation.cents, owed.pay_by)?;
+    if let Reply::Told(Facts::Owed(owed)) = desk.handle(&question)? {
+        for due in owed.rows.as_slice() {
+            println!(rt; "pay {} by {}", due.row.obligation.cents, due.pay_by)?;
         }
     }
     Ok(())

@@ -2,7 +2,7 @@
 
 use anyhow::{Context, Result, bail};
 use ftd_days::Day;
-use ftd_machine::{AccountName, Days, Request};
+use ftd_machine::{Account, AccountName, Days, Entry, Request};
 use ftd_rules::Form;
 use std::alloc::Global;
 
@@ -36,21 +36,23 @@ pub fn calendar(alloc: Global, year: u32) -> Result<Request> {
         days.push(day(text)?)?;
     }
     let days = Days::from_vec(days);
-    Ok(Request::Calendar { year, days })
+    Ok(Request::Enter(Entry::Calendar { year, days }))
 }
 
 /// An employer enrolled on Form 941 from its first day on.
 pub fn enrol(alloc: Global, name: &str, start: &str) -> Result<Request> {
-    Ok(Request::Enrol {
-        account: account(alloc, name)?,
-        start: day(start)?,
-        carried: false,
-        form: Form::F941,
-    })
+    Ok(Request::Enter(Entry::Account {
+        name: account(alloc, name)?,
+        account: Account {
+            start: day(start)?,
+            carried: false,
+            form: Form::F941,
+        },
+    }))
 }
 
 /// A year of an account opened, so that its pay runs can be posted.
 pub fn open_year(alloc: Global, name: &str, year: u32) -> Result<Request> {
     let account = account(alloc, name)?;
-    Ok(Request::OpenYear { account, year })
+    Ok(Request::Enter(Entry::Year { account, year }))
 }

@@ -7,8 +7,8 @@ use Rattle.std.proofs.lemmas.Str.{IsUtf8-from_is_utf8, is_utf8-from_IsUtf8}
 use Rattle.ftd_machine.specs.declared.requests.Request.{Request}
 use Rattle.ftd_http.specs.Routes.{route_of}
 use Rattle.ftd_http.specs.Requests.{request_of}
-use Rattle.ftd_http.specs.Asking.{method_text, method_of, format_of, formed, routed, asked_of}
-use Rattle.ftd_http.specs.declared.route.Ask.{Ask}
+use Rattle.ftd_http.specs.Asking.{method_text, method_of, formed, routed, asked_of}
+use Rattle.ftd_http.specs.declared.route.Route.{Route}
 use Rattle.ftd_http.specs.declared.ask.Asked.TheVariants as asked
 
 -- by the test for UTF-8
@@ -23,28 +23,28 @@ no_text m t b none = elim (cases_Bool (is_utf8 t)) [
   | inr e ↦ sym (by_text m t b false e)
 ]
 
-pub by_route : (m t b : List ℕ) (route : Option Ask) → IsUtf8 t → route ≡ route_of t
+pub by_route : (m t b : List ℕ) (route : Option Route) → IsUtf8 t → route ≡ route_of t
     → routed m t b route ≡ asked_of m t b
 by_route m t b route utf8 e = ap (routed m t b) e
     ∙ sym (by_text m t b true (is_utf8-from_IsUtf8 t utf8))
 
 -- by the test for the method
-by_method : (m t b : List ℕ) (route : Ask) (right : Bool)
+by_method : (m t b : List ℕ) (route : Route) (right : Bool)
     → bytes_eq m (method_text (method_of route)) ≡ right
-    → routed m t b (Some route) ≡ cond right (formed (format_of route) (request_of route t b))
+    → routed m t b (Some route) ≡ cond right (formed route.format (request_of route.verb t b))
     (asked.OtherMethod (method_of route))
 by_method m t b route right e =
-    ap (λ z. cond z (formed (format_of route) (request_of route t b))
+    ap (λ z. cond z (formed route.format (request_of route.verb t b))
     (asked.OtherMethod (method_of route))) e
 
-pub wrong_method : (m t b : List ℕ) (route : Ask) → IsUtf8 t → Some route ≡ route_of t
+pub wrong_method : (m t b : List ℕ) (route : Route) → IsUtf8 t → Some route ≡ route_of t
     → bytes_eq m (method_text (method_of route)) ≡ false
     → asked.OtherMethod (method_of route) ≡ asked_of m t b
 wrong_method m t b route utf8 found wrong = sym (by_method m t b route false wrong)
     ∙ by_route m t b (Some route) utf8 found
 
-pub right_method : (m t b : List ℕ) (route : Ask) (request : Option Request) → IsUtf8 t
+pub right_method : (m t b : List ℕ) (route : Route) (request : Option Request) → IsUtf8 t
     → Some route ≡ route_of t → bytes_eq m (method_text (method_of route)) ≡ true
-    → request ≡ request_of route t b → formed (format_of route) request ≡ asked_of m t b
-right_method m t b route request utf8 found right is = ap (formed (format_of route)) is
+    → request ≡ request_of route.verb t b → formed route.format request ≡ asked_of m t b
+right_method m t b route request utf8 found right is = ap (formed route.format) is
     ∙ (sym (by_method m t b route true right) ∙ by_route m t b (Some route) utf8 found)

@@ -4,6 +4,7 @@ pub mod LengthFacts
 pub mod ListFacts
 pub mod LookFacts
 pub mod ReadingFacts
+pub mod RequestFacts
 pub mod RouteFacts
 pub mod BodyFacts
 pub mod PathFacts

@@ -5,11 +5,10 @@ use Rattle.std.specs.Str.{is_utf8}
 use Rattle.serde_json.specs.Data.{Data, Items, no_items, item}
 use Rattle.serde_json.specs.Read.{read}
 use Rattle.serde_json.specs.Find.{as_array, as_bool, as_number, as_str, as_u64, get}
-use Rattle.ftd_days.specs.declared.cents.Cents.{Cents}
-use Rattle.ftd_days.specs.Spelling.{day_of, spelled_quarter}
+use Rattle.ftd_days.specs.Spelling.{day_of}
 use Rattle.ftd_rules.specs.declared.Form.{Form}
 use Rattle.ftd_rules.specs.declared.Form.TheVariants.{F941}
-use Rattle.ftd_http.specs.Values.{small, amount_of, form_of}
+use Rattle.ftd_http.specs.Values.{small, form_of}
 
 -- a body as JSON
 unfoldable pub json_of : List ℕ → Option Data
@@ -32,16 +31,6 @@ flag_or_false (Some d) = as_bool d
 -- the truth value at a member, which has to be there
 abbrev pub flag_at : List ℕ → Data → Option Bool
 flag_at key d = option_and_then as_bool (get key d)
-
--- the values of a member's text
-abbrev pub day_at : List ℕ → Data → Option ℕ
-day_at key d = option_and_then day_of (text_at key d)
-
-abbrev pub quarter_at : List ℕ → Data → Option ℕ
-quarter_at key d = option_and_then spelled_quarter (text_at key d)
-
-abbrev pub amount_at : List ℕ → Data → Option Cents
-amount_at key d = option_and_then amount_of (text_at key d)
 
 -- the days that the items of an array spell, if each of them is a text that spells one
 abbrev pub days_in : Items → Option (List ℕ)

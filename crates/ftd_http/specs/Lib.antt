@@ -8,6 +8,5 @@ pub mod Routes
 pub mod Paths
 pub mod Values
 pub mod Bodies
-pub mod Queries
 pub mod Requests
 pub mod Asking

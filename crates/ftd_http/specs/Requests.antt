@@ -1,137 +1,71 @@
--- The requests of the routes, by the parts of the target and the members of the body.
-use Rattle.std.specs.Prelude.{ℕ, List, Option, Some, codes}
+-- What a verb asks by the path and the body of a message.
+use Rattle.std.specs.Prelude.{ℕ, ◌+◌, List, Bool, false, Option, Some, None, option_and_then}
+use Rattle.std.specs.Prelude.{option_map, Result, Ok, Err}
+use Rattle.std.specs.List.{position}
+use Rattle.std.specs.Option.{is_none}
+use Rattle.std.specs.Str.{bytes_eq}
+use Rattle.serde_json.specs.Data.{Data}
 use Rattle.serde_json.specs.Find.{get}
 use Rattle.ftd_days.specs.Spelling.{day_of, spelled_quarter}
 use Rattle.ftd_machine.specs.declared.requests.Request.{Request}
-use Rattle.ftd_machine.specs.declared.requests.Request.TheVariants as request
-use Rattle.ftd_http.specs.Paths.{◌>>=◌, part, account_in}
-use Rattle.ftd_http.specs.Values.{path_number}
-use Rattle.ftd_http.specs.Queries.{question_in}
-use Rattle.ftd_http.specs.Bodies.{json_of, text_at, whole_at, flag_or_false, form_or_941, days_at}
-use Rattle.ftd_http.specs.Bodies.{day_at, quarter_at, amount_at, flag_at}
-use Rattle.ftd_http.specs.declared.route.Ask.{Ask}
-use Rattle.ftd_http.specs.declared.route.Ask.TheVariants as ask
+use Rattle.ftd_verbs.specs.Asked.{asked}
+use Rattle.ftd_verbs.specs.FieldRows.{key_of}
+use Rattle.ftd_verbs.specs.Fields.{Said}
+use Rattle.ftd_verbs.specs.Rows.{PathPart, of, row_of, text}
+use Rattle.ftd_verbs.specs.declared.field.Field.{Field}
+use Rattle.ftd_verbs.specs.declared.rows.Verb.{Verb}
+use Rattle.ftd_http.specs.Bodies.{days_at, flag_at, flag_or_false, form_or_941, json_of, text_at}
+use Rattle.ftd_http.specs.Bodies.{whole_at}
+use Rattle.ftd_http.specs.Paths.{part}
+use Rattle.ftd_http.specs.Values.{amount_of, path_number}
 
--- the requests with a body
-unfoldable pub enrol_in : List ℕ → Option Request
-enrol_in body = do
-  d ← json_of body
-  account ← text_at (codes "account") d
-  start ← day_at (codes "start") d
-  carried ← flag_or_false (get (codes "carried") d)
-  form ← form_or_941 (get (codes "form") d)
-  Some (request.Enrol account start carried form)
+-- a part of a path gives the field that has its name
+abbrev pub gives : Field → PathPart → Bool
+gives at (text word) = false
+gives at (of given) = bytes_eq (key_of given) (key_of at)
 
-unfoldable pub calendar_in : List ℕ → Option Request
-calendar_in body = do
-  d ← json_of body
-  year ← whole_at (codes "year") d
-  days ← days_at (codes "days") d
-  Some (request.Calendar year days)
+-- the number of the part of a verb's path that gives a field, if one does: the part before the
+-- first slash has the number 0
+abbrev pub part_of : Verb → Field → Option ℕ
+part_of verb at = option_map (λ place. place + 1) (position (gives at) (row_of verb).path)
 
-unfoldable pub add_holiday_in : List ℕ → Option Request
-add_holiday_in body = do
-  d ← json_of body
-  day ← day_at (codes "day") d
-  Some (request.AddHoliday day)
+-- by a part of the path, or by the body
+abbrev pub by_part : {X : Type 0} → Option ℕ → (ℕ → X) → X → X
+by_part None of_part of_body = of_body
+by_part (Some number) of_part of_body = of_part number
 
-unfoldable pub report_in : List ℕ → List ℕ → Option Request
-report_in target body = do
-  d ← json_of body
-  quarter ← quarter_at (codes "quarter") d
-  cents ← amount_at (codes "amount") d
-  Some (request.Report (account_in target) quarter cents)
+abbrev pub text_said : Verb → List ℕ → Option Data → Field → Option (List ℕ)
+text_said verb target body at =
+    by_part (part_of verb at) (λ number. Some (part number target))
+    (option_and_then (text_at (key_of at)) body)
 
-unfoldable pub report_year_in : List ℕ → List ℕ → Option Request
-report_year_in target body = do
-  d ← json_of body
-  year ← whole_at (codes "year") d
-  cents ← amount_at (codes "amount") d
-  Some (request.ReportYear (account_in target) year cents)
+-- the member of the body that has the field's name
+abbrev pub member : Option Data → Field → Option Data
+member body at = option_and_then (get (key_of at)) body
 
-unfoldable pub open_year_in : List ℕ → List ℕ → Option Request
-open_year_in target body = do
-  d ← json_of body
-  year ← whole_at (codes "year") d
-  Some (request.OpenYear (account_in target) year)
+-- what a message says: a part of the path for each field that the path gives, and a member of the
+-- body for each other. A body that is no JSON says nothing; in one that is JSON, a mark that is not
+-- there says no, and a form that is not there is Form 941.
+abbrev pub message_said : Verb → List ℕ → Option Data → Said
+message_said verb target body = record {
+  is_left_out = λ at. by_part (part_of verb at) (λ number. false) (is_none (member body at));
+  text = λ at. text_said verb target body at;
+  whole = λ at. by_part (part_of verb at) (λ number. path_number (part number target))
+      (option_and_then (whole_at (key_of at)) body);
+  day = λ at. option_and_then day_of (text_said verb target body at);
+  quarter = λ at. option_and_then spelled_quarter (text_said verb target body at);
+  amount = λ at. option_and_then amount_of (text_said verb target body at);
+  mark = λ at. option_and_then (λ d. flag_or_false (get (key_of at) d)) body;
+  answer = λ at. option_and_then (flag_at (key_of at)) body;
+  form = λ at. option_and_then (λ d. form_or_941 (get (key_of at) d)) body;
+  days = λ at. option_and_then (days_at (key_of at)) body;
+}
 
-unfoldable pub post_in : List ℕ → List ℕ → Option Request
-post_in target body = do
-  d ← json_of body
-  run ← whole_at (codes "run") d
-  payday ← day_at (codes "payday") d
-  fit ← amount_at (codes "fit") d
-  ss ← amount_at (codes "ss") d
-  medicare ← amount_at (codes "medicare") d
-  Some (request.Post (account_in target) run payday fit ss medicare)
+-- any field that has no value of its kind is a bad form
+abbrev pub in_form : {X : Type 0} → Result X Field → Option X
+in_form (Ok value) = Some value
+in_form (Err at) = None
 
-unfoldable pub pay_in : List ℕ → List ℕ → Option Request
-pay_in target body = do
-  d ← json_of body
-  payment ← whole_at (codes "payment") d
-  paid ← day_at (codes "paid") d
-  for_day ← day_at (codes "for") d
-  cents ← amount_at (codes "amount") d
-  Some (request.Pay (account_in target) payment paid for_day cents)
-
--- the requests of a path alone
-unfoldable pub void_in : List ℕ → Option Request
-void_in target = do
-  run ← path_number (part 4 target)
-  Some (request.Void (account_in target) run)
-
-unfoldable pub void_payment_in : List ℕ → Option Request
-void_payment_in target = do
-  payment ← path_number (part 4 target)
-  Some (request.VoidPay (account_in target) payment)
-
--- the requests of a path, with what is right in the body
-unfoldable pub correct_report_in : List ℕ → List ℕ → Option Request
-correct_report_in target body = do
-  quarter ← spelled_quarter (part 4 target)
-  number ← path_number (part 6 target)
-  d ← json_of body
-  cents ← amount_at (codes "amount") d
-  Some (request.CorrectReport (account_in target) quarter number cents)
-
-unfoldable pub correct_report_year_in : List ℕ → List ℕ → Option Request
-correct_report_year_in target body = do
-  year ← path_number (part 4 target)
-  number ← path_number (part 6 target)
-  d ← json_of body
-  cents ← amount_at (codes "amount") d
-  Some (request.CorrectReportYear (account_in target) year number cents)
-
-unfoldable pub change_holiday_in : List ℕ → List ℕ → Option Request
-change_holiday_in target body = do
-  day ← day_of (part 2 target)
-  number ← path_number (part 4 target)
-  d ← json_of body
-  is_holiday ← flag_at (codes "holiday") d
-  Some (request.ChangeHoliday day number is_holiday)
-
-unfoldable pub correct_account_in : List ℕ → List ℕ → Option Request
-correct_account_in target body = do
-  number ← path_number (part 4 target)
-  d ← json_of body
-  start ← day_at (codes "start") d
-  carried ← flag_or_false (get (codes "carried") d)
-  Some (request.CorrectAccount (account_in target) number start carried)
-
--- the request of a route
-abbrev pub request_of : Ask → List ℕ → List ℕ → Option Request
-request_of ask.Enrol target body = enrol_in body
-request_of ask.Calendar target body = calendar_in body
-request_of ask.AddHoliday target body = add_holiday_in body
-request_of ask.Report target body = report_in target body
-request_of ask.ReportYear target body = report_year_in target body
-request_of ask.OpenYear target body = open_year_in target body
-request_of ask.Post target body = post_in target body
-request_of ask.Void target body = void_in target
-request_of ask.Pay target body = pay_in target body
-request_of ask.VoidPay target body = void_payment_in target
-request_of ask.CorrectReport target body = correct_report_in target body
-request_of ask.CorrectReportYear target body = correct_report_year_in target body
-request_of ask.ChangeHoliday target body = change_holiday_in target body
-request_of ask.CorrectAccount target body = correct_account_in target body
-request_of (ask.Query query) target body = question_in query target
+-- what a verb asks by a message of this target and this body
+abbrev pub request_of : Verb → List ℕ → List ℕ → Option Request
+request_of verb target body = in_form (asked verb (message_said verb target (json_of body)))

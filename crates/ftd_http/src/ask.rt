@@ -3,28 +3,15 @@
 ghost use Rattle.std.specs.Prelude.{◌≡◌, IfOk};
 ghost use Rattle.std.specs.Str.{bytes_eq};
 ghost use Rattle.ftd_http.specs.Routes.{all_routes};
-ghost use Rattle.ftd_http.specs.Asking.{method_text, method_of, format_of, formed, asked_of};
+ghost use Rattle.ftd_http.specs.Asking.{asked_of, formed, method_text};
 
-use crate::queries::query_format;
-use crate::request::make_request;
-use crate::route::{Ask, look_up};
-use ftd_answers::{Format, ListFormat};
+use crate::message_fields::make_request;
+use crate::route::look_up;
+use ftd_answers::Format;
 use ftd_machine::Request;
+use ftd_verbs::{Method, Verb};
 use matchit::Router;
 use std::alloc::{AllocError, Global};
-
-/// The method of a route.
-#[derive(Clone, Copy, Debug, PartialEq, Eq)]
-pub enum Method {
-    /// It asks a question.
-    Get,
-    /// It enters something.
-    Post,
-    /// It corrects something, under a number of its own.
-    Put,
-    /// It voids something.
-    Delete,
-}
 
 /// What a message asks.
 #[derive(Drop)]
@@ -51,54 +38,11 @@ pub fn method_bytes(method: Method) -> &'static [u8]
     }
 }
 
-/// The method of a route.
-fn method_of(route: Ask) -> Method
-    ensures { result ≡ method_of route }
-{
-    match route {
-        Ask::Void | Ask::VoidPay => Method::Delete,
-        Ask::CorrectReport | Ask::CorrectReportYear | Ask::ChangeHoliday | Ask::CorrectAccount =>
-            Method::Put,
-        Ask::Query(_) => Method::Get,
-        Ask::Enrol
-        | Ask::Calendar
-        | Ask::AddHoliday
-        | Ask::Report
-        | Ask::ReportYear
-        | Ask::OpenYear
-        | Ask::Post
-        | Ask::Pay => Method::Post,
-    }
-}
-
-/// The format in which a route tells a reply that has several.
-fn format_of(route: Ask) -> Format
-    ensures { result ≡ format_of route }
-{
-    match route {
-        Ask::Query(query) => query_format(query),
-        Ask::Enrol
-        | Ask::Calendar
-        | Ask::AddHoliday
-        | Ask::Report
-        | Ask::ReportYear
-        | Ask::OpenYear
-        | Ask::Post
-        | Ask::Void
-        | Ask::Pay
-        | Ask::VoidPay
-        | Ask::CorrectReport
-        | Ask::CorrectReportYear
-        | Ask::ChangeHoliday
-        | Ask::CorrectAccount => Format::List(ListFormat::Text),
-    }
-}
-
 /// What a message of this method, this target and this body asks. An error says that there was no
 /// memory.
 pub fn what_is_asked(
     alloc: Global,
-    router: &Router<Ask>,
+    router: &Router<Verb>,
     method: &[u8],
     target: &[u8],
     body: &[u8],
@@ -112,11 +56,12 @@ pub fn what_is_asked(
     let Some(route) = look_up(router, target) else {
         return Ok(Asked::NoRoute);
     };
-    if !is_method(method, method_of(route)) {
-        return Ok(Asked::OtherMethod(method_of(route)));
+    let wanted = route.verb.row().method;
+    if !is_method(method, wanted) {
+        return Ok(Asked::OtherMethod(wanted));
     }
-    let request = make_request(alloc, route, target, body)?;
-    Ok(formed(format_of(route), request))
+    let request = make_request(alloc, route.verb, target, body)?;
+    Ok(formed(route.format, request))
 }
 
 /// Whether the text is this method.

@@ -4,11 +4,10 @@ ghost use Rattle.std.specs.Prelude.{◌≡◌, IfOk, option_map};
 ghost use Rattle.serde_json.specs.Find.{get};
 ghost use Rattle.serde_json.specs.View.{view, items_view};
 ghost use Rattle.ftd_http.specs.Bodies.{json_of, text_at, whole_at, flag_or_false, form_or_941};
-ghost use Rattle.ftd_http.specs.Bodies.{day_at, days_at, days_in, quarter_at, amount_at};
-ghost use Rattle.ftd_http.specs.Bodies.{flag_at};
+ghost use Rattle.ftd_http.specs.Bodies.{days_at, days_in, flag_at};
 ghost use Rattle.ftd_http.specs.Values.{form_of};
 
-use ftd_days::{Cents, Day, Quarter};
+use ftd_days::Day;
 use ftd_rules::Form;
 use serde_json::{Category, Value};
 use std::alloc::{AllocError, Global};
@@ -77,30 +76,6 @@ fn form_in(text: &str) -> Option<Form>
         "943" => Some(Form::F943),
         _ => None,
     }
-}
-
-/// The day at a member.
-pub fn day_at(value: &Value, key: &str) -> Option<Day>
-    ensures { result ≡ day_at key.now (view value.now) }
-{
-    let text = text_at(value, key)?;
-    Day::read(text.as_bytes())
-}
-
-/// The quarter at a member.
-pub fn quarter_at(value: &Value, key: &str) -> Option<Quarter>
-    ensures { result ≡ quarter_at key.now (view value.now) }
-{
-    let text = text_at(value, key)?;
-    Quarter::read(text.as_bytes())
-}
-
-/// The amount at a member.
-pub fn amount_at(value: &Value, key: &str) -> Option<Cents>
-    ensures { result ≡ amount_at key.now (view value.now) }
-{
-    let text = text_at(value, key)?;
-    Cents::read(text.as_bytes())
 }
 
 /// The days of the array at a member.

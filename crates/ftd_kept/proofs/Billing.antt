@@ -10,8 +10,7 @@ use Rattle.ftd_store.specs.Finds.{ListsLiability}
 use Rattle.ftd_machine.specs.declared.entries.Account.{Account}
 use Rattle.ftd_machine.specs.declared.requests.Question.TheVariants.{ScheduleB}
 use Rattle.ftd_machine.specs.declared.requests.Request.TheVariants.{Question}
-use Rattle.ftd_machine.specs.declared.facts.Facts.TheVariants.{Days}
-use Rattle.ftd_machine.specs.declared.replies.Reply.TheVariants.{Told}
+use Rattle.ftd_machine.specs.Told.{days_answer}
 use Rattle.ftd_machine.specs.Checks.{Answer, first_of}
 use Rattle.ftd_machine.specs.Limits.{is_between}
 use Rattle.ftd_machine.specs.Requests.{schedule_b_checks}
@@ -52,7 +51,7 @@ module _ (name : List ℕ) (quarter : ℕ) where
         (quarter + 1) → checks ≡ None
         → (t : Tables) (s : State) → StandsFor t s → IsSound s → Knows known t × ListsLiability name
         (quarter_start quarter) last sums t
-        → Step s (Question (ScheduleB name quarter)) (Ok (Told (Days sums.items))) s
+        → Step s (Question (ScheduleB name quarter)) (days_answer name quarter sums.items) s
     days_told last sums is_last is t s stands sound knows =
         let within : Gives (schedule_b_checks name quarter known.0 known.1)
         (is_between 2001 2098 (quarter_year quarter) ≡ true) =
@@ -60,7 +59,7 @@ module _ (name : List ℕ) (quarter : ℕ) where
         let early = leb-true (quarter_year quarter) 2098
         (and_parts (nat_le 2001 (quarter_year quarter))
         (nat_le (quarter_year quarter) 2098) (within.fact is)).1 in
-        passed _ s (Ok (Told (Days sums.items))) s _ (checks_are t s stands knows.0 ∙ is) (
+        passed _ s (days_answer name quarter sums.items) s _ (checks_are t s stands knows.0 ∙ is) (
           refl,
           record {
             listed = sums.items;

@@ -36,8 +36,7 @@ use Rattle.ftd_machine.specs.State.{State, Entries, entries_of, holidays}
 use Rattle.ftd_machine.specs.declared.explained.Explanation.{Explanation}
 use Rattle.ftd_machine.specs.declared.explained.RunningSum.{RunningSum}
 use Rattle.ftd_machine.specs.declared.kept.KeptPayment.{KeptPayment}
-use Rattle.ftd_machine.specs.declared.facts.Facts.TheVariants.{Status}
-use Rattle.ftd_machine.specs.declared.replies.Reply.TheVariants.{Told}
+use Rattle.ftd_machine.specs.Told.{status_answer}
 use Rattle.ftd_machine.proofs.Dated.{IsDated, dated}
 use Rattle.ftd_machine.proofs.Members.{has_filtered}
 use Rattle.ftd_entries.specs.Opening.{is_line_of}
@@ -136,7 +135,7 @@ module _ (name : List ℕ) (form : Form) (lines : List YearLine) (read : List �
 
   -- ---- the schedule
 
-  schedule : IsStatus own o.first (Ok (Told (Status e.kind e.reason)))
+  schedule : IsStatus own o.first (status_answer o.first e.kind e.reason)
   schedule =
       let there : list_any (is_line_of (year_of o.first)) lines ≡ true =
       any_has (is_line_of (year_of o.first)) lines its.line

@@ -35,8 +35,7 @@ use Rattle.ftd_machine.specs.Step.{Step}
 use Rattle.ftd_machine.specs.Unapplied.{all_paid, IsUnappliedOf, IsUnappliedRow, IsUnappliedBefore}
 use Rattle.ftd_machine.specs.declared.kept.KeptAccount.{KeptAccount}
 use Rattle.ftd_machine.specs.declared.lists.UnappliedRow.{UnappliedRow}
-use Rattle.ftd_machine.specs.declared.facts.Facts.TheVariants.{Unapplied}
-use Rattle.ftd_machine.specs.declared.replies.Reply.TheVariants.{Told}
+use Rattle.ftd_machine.specs.Told.{unapplied_answer}
 use Rattle.ftd_machine.specs.declared.requests.Question.TheVariants as asked
 use Rattle.ftd_machine.specs.declared.requests.Request.TheVariants.{Question}
 use Rattle.ftd_machine.proofs.Deciding.{decided, passed}
@@ -320,9 +319,9 @@ all_known until accounts i rows t over so_far s stands sound =
 pub unapplied_answered : (until : ℕ) (rows : List UnappliedRow) (t : Tables) (s : State)
     → StandsFor t s → IsSound s → KnowsUnapplied until rows t
     → first_of (unapplied_checks until) ≡ None → EachToLater IsUnappliedBefore rows
-    → Step s (Question (asked.Unapplied until)) (Ok (Told (Unapplied rows))) s
+    → Step s (Question (asked.Unapplied until)) (unapplied_answer until rows) s
 unapplied_answered until rows t s stands sound knows passes order =
-    passed _ s (Ok (Told (Unapplied rows))) s _ passes (
+    passed _ s (unapplied_answer until rows) s _ passes (
       refl,
       record {
         listed = rows;

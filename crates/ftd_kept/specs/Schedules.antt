@@ -1,11 +1,10 @@
 -- The deposit schedule of a day, by the lines of an account's open years.
-use Rattle.std.specs.Prelude.{◌≡◌, ℕ, List, Ok}
+use Rattle.std.specs.Prelude.{◌≡◌, ℕ, List}
 use Rattle.ftd_days.specs.Calendar.{year_of}
 use Rattle.ftd_rules.specs.declared.YearLine.{YearLine}
 use Rattle.ftd_rules.specs.Lists.{Has}
 use Rattle.ftd_rules.specs.Years.{HasSchedule, HasStatusOn}
-use Rattle.ftd_machine.specs.declared.facts.Facts.TheVariants.{Status}
-use Rattle.ftd_machine.specs.declared.replies.Reply.TheVariants.{Told}
+use Rattle.ftd_machine.specs.Told.{status_answer}
 use Rattle.ftd_machine.specs.Asking.{IsReason}
 use Rattle.ftd_machine.specs.Checks.{Answer}
 use Rattle.ftd_kept.specs.declared.schedules.Schedule.{Schedule}
@@ -28,4 +27,4 @@ pub record IsScheduleBy (lines : List YearLine) (day : ℕ) (schedule : Schedule
 pub record IsStatusBy (lines : List YearLine) (day : ℕ) (answer : Answer) : Type 0 where
   pub schedule : Schedule
   pub is_schedule : IsScheduleBy lines day schedule
-  pub told : answer ≡ Ok (Told (Status schedule.kind schedule.reason))
+  pub told : answer ≡ status_answer day schedule.kind schedule.reason

@@ -16,12 +16,12 @@ ghost use Rattle.ftd_rules.specs.Laws.{IsFirstCounted};
 use crate::paid::obligation_payments;
 use crate::schedules::schedule_on;
 use ftd_days::{Cents, Day, Holidays};
-use ftd_entries::{AMOUNTS_END, has_year, known};
+use ftd_entries::{has_year, known};
 use ftd_machine::{
-    Answer, CountedDay, CountedDays, DayKind, Explanation, Facts, KeptPayment, KeptPayments,
-    Refusal, Reply, RunningSum, RunningSums, status_check,
+    AccountName, Answer, CountedDay, CountedDays, DayKind, Explained, Explanation, Facts,
+    KeptPayment, KeptPayments, Refusal, Reply, RunningSum, RunningSums, status_check,
 };
-use ftd_rules::{DaySum, Form, Obligation, Rule, YearLine, return_due};
+use ftd_rules::{AMOUNTS_END, DaySum, Form, Obligation, Rule, YearLine, return_due};
 use ftd_store::{StoreFault, Tx};
 use sqlite::Alter;
 use std::alloc::{AllocError, Global};
@@ -35,6 +35,9 @@ pub fn explain<S: Alter>(
 ) -> Result<Answer, StoreFault>
     ensures call { Calls S.Store tx.old tx.new result (Serves (Question (Explain name.now day))) }
 {
+    let Ok(owner) = AccountName::copied(alloc, name) else {
+        return tx.give_up(StoreFault::Memory);
+    };
     let account = known(tx, alloc, name)?;
     let lines = tx.years(alloc, name)?;
     let there = has_year(&lines, day.year());
@@ -44,8 +47,12 @@ pub fn explain<S: Alter>(
     let Some(account) = &account else {
         return Ok(Err(Refusal::UnknownAccount));
     };
-    let explained = explained(tx, alloc, name, account.form, &lines, day)?;
-    Ok(Ok(Reply::Told(Facts::Explained(explained))))
+    let found = explained(tx, alloc, name, account.form, &lines, day)?;
+    Ok(Ok(Reply::Told(Facts::Explained(Explained {
+        account: owner,
+        day,
+        found,
+    }))))
 }
 
 /// Why the obligation is so whose deposit period holds the day, if one's does, by the account's

@@ -7,7 +7,7 @@ ghost use Rattle.ftd_entries.specs.Words.{Serves};
 
 use ftd_days::Quarter;
 use ftd_entries::{is_open, known};
-use ftd_machine::{Answer, DaySums, Facts, Reply, schedule_b_check};
+use ftd_machine::{AccountName, Answer, DaySums, Facts, LiabilityByDay, Reply, schedule_b_check};
 use ftd_store::{StoreFault, Tx};
 use sqlite::Alter;
 use std::alloc::Global;
@@ -22,11 +22,18 @@ pub fn schedule_b<S: Alter>(
     ensures call { Calls S.Store tx.old tx.new result
         (Serves (Question (ScheduleB name.now quarter))) }
 {
+    let Ok(owner) = AccountName::copied(alloc, name) else {
+        return tx.give_up(StoreFault::Memory);
+    };
     let account = known(tx, alloc, name)?;
     let there = is_open(tx, alloc, name, quarter.year())?;
     if let Some(answer) = schedule_b_check(name, quarter, account, there) {
         return Ok(answer);
     }
     let sums = tx.day_sums(alloc, name, quarter.first(), quarter.last())?;
-    Ok(Ok(Reply::Told(Facts::Days(DaySums::from_vec(sums)))))
+    Ok(Ok(Reply::Told(Facts::Days(LiabilityByDay {
+        account: owner,
+        quarter,
+        sums: DaySums::from_vec(sums),
+    }))))
 }

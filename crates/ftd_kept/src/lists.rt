@@ -13,8 +13,8 @@ use crate::year_rows::open_years;
 use ftd_days::Quarter;
 use ftd_entries::{all_accounts, figure, known, year_figure};
 use ftd_machine::{
-    Answer, Facts, KeptAccounts, KeptHolidays, KeptRows, KeptRuns, KeptTotal, KeptTotals,
-    KeptYears, Refusal, Reply, holidays_check, kept_in_quarter_check, kept_of_check,
+    AccountName, Answer, Facts, KeptAccounts, KeptHolidays, KeptRows, KeptRuns, KeptTotal,
+    KeptTotals, KeptYears, Refusal, Reply, holidays_check, kept_in_quarter_check, kept_of_check,
 };
 use ftd_rules::Form;
 use ftd_store::{StoreFault, Tx};
@@ -27,7 +27,9 @@ pub fn accounts<S: Alter>(tx: &mut Tx<'_, S>, alloc: Global) -> Result<Answer, S
         (Serves (Question (questions.Kept kept.Accounts))) }
 {
     let rows = all_accounts(tx, alloc)?;
-    Ok(Ok(Reply::Told(Facts::Kept(KeptRows::Accounts(KeptAccounts::from_vec(rows))))))
+    Ok(Ok(Reply::Told(Facts::Kept(KeptRows::Accounts {
+        rows: KeptAccounts::from_vec(rows),
+    }))))
 }
 
 /// Tells the open years of an account, by year.
@@ -35,6 +37,9 @@ pub fn years<S: Alter>(tx: &mut Tx<'_, S>, alloc: Global, name: &str) -> Result<
     ensures call { Calls S.Store tx.old tx.new result
         (Serves (Question (questions.Kept (kept.Years name.now)))) }
 {
+    let Ok(owner) = AccountName::copied(alloc, name) else {
+        return tx.give_up(StoreFault::Memory);
+    };
     let found = known(tx, alloc, name)?;
     if let Some(answer) = kept_of_check(name, found) {
         return Ok(answer);
@@ -43,7 +48,10 @@ pub fn years<S: Alter>(tx: &mut Tx<'_, S>, alloc: Global, name: &str) -> Result<
         return Ok(Err(Refusal::UnknownAccount));
     };
     let rows = open_years(tx, alloc, name, account)?;
-    Ok(Ok(Reply::Told(Facts::Kept(KeptRows::Years(KeptYears::from_vec(rows))))))
+    Ok(Ok(Reply::Told(Facts::Kept(KeptRows::Years {
+        account: owner,
+        rows: KeptYears::from_vec(rows),
+    }))))
 }
 
 /// The totals that an account on this form reported, as they were first given. `Failed` also where
@@ -130,6 +138,9 @@ pub fn reported<S: Alter>(
     ensures call { Calls S.Store tx.old tx.new result
         (Serves (Question (questions.Kept (kept.Reported name.now)))) }
 {
+    let Ok(owner) = AccountName::copied(alloc, name) else {
+        return tx.give_up(StoreFault::Memory);
+    };
     let found = known(tx, alloc, name)?;
     if let Some(answer) = kept_of_check(name, found) {
         return Ok(answer);
@@ -138,7 +149,10 @@ pub fn reported<S: Alter>(
         return Ok(Err(Refusal::UnknownAccount));
     };
     let rows = totals(tx, alloc, name, account.form)?;
-    Ok(Ok(Reply::Told(Facts::Kept(KeptRows::Reported(KeptTotals::from_vec(rows))))))
+    Ok(Ok(Reply::Told(Facts::Kept(KeptRows::Reported {
+        account: owner,
+        rows: KeptTotals::from_vec(rows),
+    }))))
 }
 
 /// Tells the days of a year that were given or added as holidays: those that its calendar was given
@@ -159,7 +173,10 @@ pub fn holidays<S: Alter>(
         return Ok(Err(Refusal::CalendarMissing(year)));
     };
     let rows = all_holidays(tx, alloc, year, &days)?;
-    Ok(Ok(Reply::Told(Facts::Kept(KeptRows::Holidays(KeptHolidays::from_vec(rows))))))
+    Ok(Ok(Reply::Told(Facts::Kept(KeptRows::Holidays {
+        year,
+        rows: KeptHolidays::from_vec(rows),
+    }))))
 }
 
 /// Tells the runs of an account with a payday in the quarter. `Failed` also where they do not go on
@@ -173,13 +190,20 @@ pub fn runs<S: Alter>(
     ensures call { Calls S.Store tx.old tx.new result
         (Serves (Question (questions.Kept (kept.Runs name.now quarter)))) }
 {
+    let Ok(owner) = AccountName::copied(alloc, name) else {
+        return tx.give_up(StoreFault::Memory);
+    };
     let account = known(tx, alloc, name)?;
     let found = tx.kept_runs(alloc, name, quarter.first(), quarter.last())?;
     if let Some(answer) = kept_in_quarter_check(name, quarter, account) {
         return Ok(answer);
     }
     match told_runs(alloc, &found) {
-        Ok(rows) => Ok(Ok(Reply::Told(Facts::Kept(KeptRows::Runs(KeptRuns::from_vec(rows)))))),
+        Ok(rows) => Ok(Ok(Reply::Told(Facts::Kept(KeptRows::Runs {
+            account: owner,
+            quarter,
+            rows: KeptRuns::from_vec(rows),
+        })))),
         Err(fault) => tx.give_up(fault),
     }
 }

@@ -11,7 +11,7 @@ use crate::payment_rows::{told_for, told_payments};
 use ftd_days::{Day, Quarter};
 use ftd_entries::known;
 use ftd_machine::{
-    Answer, Facts, KeptPayment, KeptPayments, KeptRows, Reply, kept_in_quarter_check,
+    AccountName, Answer, Facts, KeptPayment, KeptPayments, KeptRows, Reply, kept_in_quarter_check,
 };
 use ftd_rules::Obligation;
 use ftd_store::{StoreFault, Tx};
@@ -29,6 +29,9 @@ pub fn payments<S: Alter>(
     ensures call { Calls S.Store tx.old tx.new result
         (Serves (Question (questions.Kept (kept.Payments name.now quarter)))) }
 {
+    let Ok(owner) = AccountName::copied(alloc, name) else {
+        return tx.give_up(StoreFault::Memory);
+    };
     let account = known(tx, alloc, name)?;
     let found = tx.kept_payments(alloc, name, quarter.first(), quarter.last())?;
     let owed = tx.obligations(alloc, name, Day::first_of_month(0), quarter.last())?;
@@ -36,9 +39,11 @@ pub fn payments<S: Alter>(
         return Ok(answer);
     }
     match told_payments(alloc, &found, &owed) {
-        Ok(rows) => Ok(Ok(Reply::Told(Facts::Kept(KeptRows::Payments(KeptPayments::from_vec(
-            rows,
-        )))))),
+        Ok(rows) => Ok(Ok(Reply::Told(Facts::Kept(KeptRows::Payments {
+            account: owner,
+            quarter,
+            rows: KeptPayments::from_vec(rows),
+        })))),
         Err(fault) => tx.give_up(fault),
     }
 }

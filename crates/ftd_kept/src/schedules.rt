@@ -15,7 +15,7 @@ ghost use Rattle.ftd_kept.specs.Schedules.{AreScheduled, IsScheduleBy, IsStatusB
 
 use ftd_days::Day;
 use ftd_entries::{has_year, known};
-use ftd_machine::{Answer, Facts, Reason, Refusal, Reply, status_check};
+use ftd_machine::{Answer, DaySchedule, Facts, Reason, Refusal, Reply, status_check};
 use ftd_rules::{Kind, YearLine};
 use ftd_store::{StoreFault, Tx};
 use sqlite::Alter;
@@ -55,7 +55,9 @@ fn status_by(lines: &[YearLine], day: Day) -> Answer
         → IsStatusBy lines.now day result }
 {
     match schedule_on(lines, day) {
-        Some(Schedule { kind, reason }) => Ok(Reply::Told(Facts::Status { kind, reason })),
+        Some(Schedule { kind, reason }) => {
+            Ok(Reply::Told(Facts::Status(DaySchedule { day, kind, reason })))
+        }
         None => Err(Refusal::YearNotOpen(day.year())),
     }
 }

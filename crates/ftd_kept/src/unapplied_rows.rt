@@ -7,7 +7,7 @@ ghost use Rattle.ftd_rules.specs.Lists.{Has, are_in_order};
 ghost use Rattle.ftd_rules.specs.Payments.{payment_cents};
 ghost use Rattle.ftd_store.specs.Frame.{Calls, Reads};
 ghost use Rattle.ftd_machine.specs.declared.lists.UnappliedRow.{UnappliedRow as UnappliedRowValue};
-ghost use Rattle.ftd_machine.specs.declared.requests.Question.TheVariants.{Unapplied};
+ghost use Rattle.ftd_machine.specs.declared.requests.Question.TheVariants as questions;
 ghost use Rattle.ftd_machine.specs.declared.requests.Request.TheVariants.{Question};
 ghost use Rattle.ftd_entries.specs.Words.{Serves};
 ghost use Rattle.ftd_kept.specs.Unapplied.{Adds, IsOfOne, IsOverpaidRow, IsStrayRow};
@@ -20,9 +20,9 @@ use crate::payment_rows::held_by;
 use ftd_days::{Cents, Day};
 use ftd_entries::{all_accounts, payments_of};
 use ftd_machine::{
-    AccountName, Answer, Facts, Reply, UnappliedRow, UnappliedRows, unapplied_check,
+    AccountName, Answer, Facts, Reply, Unapplied, UnappliedRow, UnappliedRows, unapplied_check,
 };
-use ftd_rules::{Obligation, Payment, paid_by};
+use ftd_rules::{AMOUNTS_END, Obligation, Payment, paid_by};
 use ftd_store::{NumberedPayment, StoreFault, Tx};
 use sqlite::Alter;
 use std::alloc::Global;
@@ -31,7 +31,7 @@ use std::alloc::Global;
 
 /// All that the payments count for the obligation.
 fn paid_for(obligation: &Obligation, payments: &[Payment]) -> Cents
-    requires { sum_by payment_cents payments.now < 6_000_000_000_000_000 }
+    requires { sum_by payment_cents payments.now < AMOUNTS_END }
     ensures { result.0 ≡ paid_for payments.now obligation.now }
 {
     let end = Day::last_of_month(3599);
@@ -71,7 +71,7 @@ fn add_if_overpaid(
     payments: &[Payment],
     rows: &mut Vec<UnappliedRow>,
 ) -> Result<(), StoreFault>
-    requires { sum_by payment_cents payments.now < 6_000_000_000_000_000 }
+    requires { sum_by payment_cents payments.now < AMOUNTS_END }
     ensures { OnOk result (Adds (IsOverpaidRow name.now payments.now obligation.now)
         rows.old.items rows.new.items) }
 {
@@ -92,7 +92,7 @@ fn add_overpaid(
     payments: &[Payment],
     rows: &mut Vec<UnappliedRow>,
 ) -> Result<(), StoreFault>
-    requires { sum_by payment_cents payments.now < 6_000_000_000_000_000 }
+    requires { sum_by payment_cents payments.now < AMOUNTS_END }
     ensures { OnOk result (Adds (IsOfOne (IsOverpaidRow name.now payments.now) owed.now)
         rows.old.items rows.new.items) }
 {
@@ -173,7 +173,7 @@ fn own_rows(
     payments: &[Payment],
     found: &[NumberedPayment],
 ) -> Result<Vec<UnappliedRow>, StoreFault>
-    requires { sum_by payment_cents payments.now < 6_000_000_000_000_000 }
+    requires { sum_by payment_cents payments.now < AMOUNTS_END }
     ensures { IfOk result (λ rows. (x : UnappliedRowValue) → Has rows.items x
         ↔ (IsOfOne (IsOverpaidRow name.now payments.now) owed.now x
         ⊎ IsOfOne (IsStrayRow name.now owed.now) found.now x)) }
@@ -280,7 +280,7 @@ pub fn unapplied<S: Alter>(
     alloc: Global,
     until: Day,
 ) -> Result<Answer, StoreFault>
-    ensures call { Calls S.Store tx.old tx.new result (Serves (Question (Unapplied until))) }
+    ensures call { Calls S.Store tx.old tx.new result (Serves (Question (questions.Unapplied until))) }
 {
     let rows = all_unapplied(tx, alloc, until)?;
     if let Some(answer) = unapplied_check(until) {
@@ -289,5 +289,8 @@ pub fn unapplied<S: Alter>(
     if !are_unapplied_in_order(&rows) {
         return tx.give_up(StoreFault::Failed);
     }
-    Ok(Ok(Reply::Told(Facts::Unapplied(UnappliedRows::from_vec(rows)))))
+    Ok(Ok(Reply::Told(Facts::Unapplied(Unapplied {
+        until,
+        rows: UnappliedRows::from_vec(rows),
+    }))))
 }

@@ -10,13 +10,11 @@ use Rattle.ftd_machine.specs.Checks.{Answer}
 use Rattle.ftd_machine.specs.Step.{Step, taken, with_entry, with_voided, voided_if}
 use Rattle.ftd_machine.specs.Laws.{is_change, adds_entry, runs_of, payments_of}
 use Rattle.ftd_machine.specs.declared.requests.Request.{Request}
-use Rattle.ftd_machine.specs.declared.requests.Request.TheVariants.{Enrol, Calendar, AddHoliday}
-use Rattle.ftd_machine.specs.declared.requests.Request.TheVariants.{Report, ReportYear, OpenYear}
-use Rattle.ftd_machine.specs.declared.requests.Request.TheVariants.{Post, Void, Pay, VoidPay}
-use Rattle.ftd_machine.specs.declared.requests.Request.TheVariants.{CorrectReport}
-use Rattle.ftd_machine.specs.declared.requests.Request.TheVariants.{CorrectReportYear}
-use Rattle.ftd_machine.specs.declared.requests.Request.TheVariants.{ChangeHoliday, CorrectAccount}
-use Rattle.ftd_machine.specs.declared.requests.Request.TheVariants.{Question}
+use Rattle.ftd_machine.specs.declared.requests.Request.TheVariants.{Enter, Post, Void, Pay, VoidPay}
+use Rattle.ftd_machine.specs.declared.requests.Request.TheVariants.{Correct, Question}
+use Rattle.ftd_machine.specs.declared.requests.Entry.TheVariants as entry
+use Rattle.ftd_machine.specs.declared.requests.Correction.TheVariants as correction
+use Rattle.ftd_machine.specs.declared.entries.ReturnPeriod.TheVariants.{Quarter, Year}
 use Rattle.ftd_machine.proofs.Adding.{entry_own}
 use Rattle.ftd_machine.proofs.Again.{turning, run_same, payment_same}
 use Rattle.ftd_machine.proofs.Keeping.{kept_own}
@@ -57,35 +55,37 @@ counts_stay : (s : State) (request : Request) (answer : Answer) (next : State) (
     → adds_entry request ≡ false
     → Step s request answer next → counts_of account next ≡ counts_of account s
 unfolding adds_entry
-counts_stay s (Enrol name start carried form) answer next account other step =
+counts_stay s (Enter (entry.Account name enrolled)) answer next account other step =
     done_stays (counts_of account) s answer next _ _ step refl
-counts_stay s (Calendar year days) answer next account other step =
+counts_stay s (Enter (entry.Calendar year days)) answer next account other step =
     done_stays (counts_of account) s answer next _ _ step refl
-counts_stay s (AddHoliday day) answer next account other step =
+counts_stay s (Enter (entry.Holiday day)) answer next account other step =
     done_stays (counts_of account) s answer next _ _ step refl
-counts_stay s (Report name quarter cents) answer next account other step =
+counts_stay s (Enter (entry.Total name (Quarter quarter) cents)) answer next account other step =
     done_stays (counts_of account) s answer next _ _ step refl
-counts_stay s (ReportYear name year cents) answer next account other step =
+counts_stay s (Enter (entry.Total name (Year year) cents)) answer next account other step =
     done_stays (counts_of account) s answer next _ _ step refl
-counts_stay s (OpenYear name year) answer next account other step =
+counts_stay s (Enter (entry.Year name year)) answer next account other step =
     open_stays (counts_of account) s answer next _ name year step refl
-counts_stay s (Post name number payday fit ss medicare) answer next account other step =
+counts_stay s (Post name number run) answer next account other step =
     absurd (true≢false other)
 counts_stay s (Void name number) answer next account other step =
     void_stays (counts_of account) s answer next _ _ _ _ _ _ step
     (ap (λ n. (n, payments_of account s)) (voided_count s.runs name number account))
-counts_stay s (Pay name number paid for_day cents) answer next account other step =
+counts_stay s (Pay name number payment) answer next account other step =
     absurd (true≢false other)
 counts_stay s (VoidPay name number) answer next account other step =
     done_stays (counts_of account) s answer next _ _ step
     (ap (λ n. (runs_of account s, n)) (voided_count s.payments name number account))
-counts_stay s (CorrectReport name quarter number cents) answer next account other step =
+counts_stay s (Correct number (correction.Total name (Quarter quarter) cents)) answer next account
+    other step =
     post_stays (counts_of account) s answer next _ _ _ _ _ _ step refl
-counts_stay s (CorrectReportYear name year number cents) answer next account other step =
+counts_stay s (Correct number (correction.Total name (Year year) cents)) answer next account other
+    step =
     post_stays (counts_of account) s answer next _ _ _ _ _ _ step refl
-counts_stay s (ChangeHoliday day number is_holiday) answer next account other step =
+counts_stay s (Correct number (correction.Holiday day is_holiday)) answer next account other step =
     done_stays (counts_of account) s answer next _ _ step refl
-counts_stay s (CorrectAccount name number start carried) answer next account other step =
+counts_stay s (Correct number (correction.Account name beginning)) answer next account other step =
     done_stays (counts_of account) s answer next _ _ step refl
 counts_stay s (Question question) answer next account other step = ap (counts_of account)
     (asked_leaves _ s answer next _ step)
@@ -100,12 +100,12 @@ same_counts s request answer next account other step =
 
 module _ (s : State) (answer : Answer) (next : State) (name : List ℕ) (number : ℕ) where
   -- a run that is posted is one more, and no payment
-  module _ (run : PayRun) (step : Step s (Post name number run.payday run.fit run.ss run.medicare)
+  module _ (run : PayRun) (step : Step s (Post name number run)
       answer next) where
     pub posted_more : is_change answer ≡ true → runs_of name next ≡ runs_of name s + 1
     posted_more changes =
         let after : State = record s { runs = with_entry s.runs name number (taken run) } in
-        let request = Post name number run.payday run.fit run.ss run.medicare in
+        let request = Post name number run in
         let done = does s answer next (checks_of s request) (checks_of after request) _
         (search (turning, kept_own s.runs name number (taken run), run_same run false) depth 12)
         step changes in
@@ -116,12 +116,12 @@ module _ (s : State) (answer : Answer) (next : State) (name : List ℕ) (number 
 
   -- a payment that is taken is one more, and no run
   module _ (payment : Payment)
-      (step : Step s (Pay name number payment.paid payment.for_day payment.cents) answer next) where
+      (step : Step s (Pay name number payment) answer next) where
     pub paid_more : is_change answer ≡ true → payments_of name next ≡ payments_of name s + 1
     paid_more changes =
         let after : State =
         record s { payments = with_entry s.payments name number (taken payment) } in
-        let request = Pay name number payment.paid payment.for_day payment.cents in
+        let request = Pay name number payment in
         let done = does s answer next (checks_of s request) (checks_of after request) _
         (search (
           turning,

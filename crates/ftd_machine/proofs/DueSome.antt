@@ -33,8 +33,7 @@ use Rattle.ftd_machine.specs.Checks.{Answer}
 use Rattle.ftd_machine.specs.Asking.{return_period, return_total, has_next_day, preceding, IsSmall}
 use Rattle.ftd_machine.specs.Asking.{IsReturnPaid, paid_for_return, paid_for, IsCaseOf, IsDueRow}
 use Rattle.ftd_machine.specs.Asking.{first_of_row, IsDueList}
-use Rattle.ftd_machine.specs.declared.facts.Facts.TheVariants.{Due}
-use Rattle.ftd_machine.specs.declared.replies.Reply.TheVariants.{Told}
+use Rattle.ftd_machine.specs.Told.{due_answer}
 use Rattle.ftd_machine.proofs.Lined.{owed_some}
 use Rattle.ftd_machine.proofs.Counting.{neither}
 
@@ -381,13 +380,14 @@ rows_some holidays own rows (o ∷ some) quarter as_of sub rise =
           )
     ]
 
-pub due_list_some : (holidays : List ℕ) (own : Entries) (lines : List YearLine) (quarter as_of : ℕ)
-    → AreLinesOf own lines → (answer : Answer) × IsDueList holidays own quarter as_of answer
-due_list_some holidays own lines quarter as_of h =
+pub due_list_some : (holidays : List ℕ) (own : Entries) (name : List ℕ) (lines : List YearLine)
+    (quarter as_of : ℕ)
+    → AreLinesOf own lines → (answer : Answer) × IsDueList holidays own name quarter as_of answer
+due_list_some holidays own name lines quarter as_of h =
     let rows = owed_some holidays own lines h in
     let listed = rows_some holidays own rows.0 rows.0 quarter as_of
     (λ o k. k) rows.1.2.by_first_day in (
-      Ok (Told (Due listed.0)),
+      due_answer name quarter as_of listed.0,
       record {
         rows = _;
         owed = rows.1;

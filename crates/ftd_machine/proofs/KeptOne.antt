@@ -12,7 +12,8 @@ use Rattle.ftd_rules.specs.declared.run.PayRun.{PayRun}
 use Rattle.ftd_rules.specs.declared.run.Voidable.{Voidable}
 use Rattle.ftd_machine.specs.Checks.{Answer}
 use Rattle.ftd_machine.specs.Agenda.{EachToLater}
-use Rattle.ftd_machine.specs.Kept.{told_rows, IsAccountBefore, AreAccounts, AreYears, IsTotalBefore}
+use Rattle.ftd_machine.specs.Told.{kept_answer}
+use Rattle.ftd_machine.specs.Kept.{IsAccountBefore, AreAccounts, AreYears, IsTotalBefore}
 use Rattle.ftd_machine.specs.Kept.{AreTotals, IsDayBefore, AreHolidays, IsRunBefore, AreRuns}
 use Rattle.ftd_machine.specs.Kept.{as_first_reported, line_of, kept_days}
 use Rattle.ftd_machine.specs.History.{form_of, HasLookback}
@@ -159,22 +160,24 @@ kept_years_one own (x ∷ xs) (y ∷ ys) once same f g =
 
 accounts_one : (s : State) (a b : Answer) → AreAccounts s a → AreAccounts s b → a ≡ b
 accounts_one s a b g h =
-    g.told ∙ ap (λ xs. told_rows (rows.Accounts xs))
+    g.told ∙ ap (λ xs. kept_answer (rows.Accounts xs))
     (listed_one IsAccountBefore (λ x y. names_once x.name y.name) _ g.listed h.listed g.by_name
     h.by_name g.all h.all) ∙ sym h.told
 
-years_one : (own : Entries) (a b : Answer) → IsOnce own → AreYears own a → AreYears own b → a ≡ b
-years_one own a b once g h =
+years_one : (own : Entries) (name : List ℕ) (a b : Answer) → IsOnce own → AreYears own name a
+    → AreYears own name b → a ≡ b
+years_one own name a b once g h =
     let lines : map line_of g.listed ≡ map line_of h.listed =
     lines_of_one own (map line_of g.listed) (map line_of h.listed) once g.are_lines h.are_lines in
-    g.told ∙ ap (λ xs. told_rows (rows.Years xs))
+    g.told ∙ ap (λ xs. kept_answer (rows.Years name xs))
     (kept_years_one (as_first_reported own) g.listed h.listed
     (record { quarters = once.quarters; years = once.years }) lines g.first_lookbacks
     h.first_lookbacks) ∙ sym h.told
 
-totals_one : (own : Entries) (a b : Answer) → AreTotals own a → AreTotals own b → a ≡ b
-totals_one own a b g h =
-    g.told ∙ ap (λ xs. told_rows (rows.Reported xs))
+totals_one : (own : Entries) (name : List ℕ) (a b : Answer) → AreTotals own name a
+    → AreTotals own name b → a ≡ b
+totals_one own name a b g h =
+    g.told ∙ ap (λ xs. kept_answer (rows.Reported name xs))
     (listed_one IsTotalBefore (λ x y k l. omega arith) _ g.listed h.listed g.by_period h.by_period
     g.all h.all) ∙ sym h.told
 
@@ -184,23 +187,24 @@ holidays_one s year a b g h =
     let given : g.given ≡ h.given = same_Some g.given h.given (sym g.is_given ∙ h.is_given) in
     let added : g.added ≡ h.added = listed_one IsDayBefore (λ x y k l. omega arith) _ g.added
     h.added g.rising h.rising g.all h.all in
-    g.told ∙ (ap (λ xs. told_rows (rows.Holidays (kept_days s xs g.added))) given
-    ∙ (ap (λ xs. told_rows (rows.Holidays (kept_days s h.given xs))) added ∙ sym h.told))
+    g.told ∙ (ap (λ xs. kept_answer (rows.Holidays year (kept_days s xs g.added))) given
+    ∙ (ap (λ xs. kept_answer (rows.Holidays year (kept_days s h.given xs))) added ∙ sym h.told))
 
-runs_one : (own : Entries) (quarter : ℕ) (a b : Answer) → AreRuns own quarter a
-    → AreRuns own quarter b → a ≡ b
-runs_one own quarter a b g h =
-    g.told ∙ ap (λ xs. told_rows (rows.Runs xs))
+runs_one : (own : Entries) (name : List ℕ) (quarter : ℕ) (a b : Answer)
+    → AreRuns own name quarter a → AreRuns own name quarter b → a ≡ b
+runs_one own name quarter a b g h =
+    g.told ∙ ap (λ xs. kept_answer (rows.Runs name quarter xs))
     (listed_one IsRunBefore (two_once payday_of run_number) _ g.listed h.listed g.in_order
     h.in_order g.all h.all) ∙ sym h.told
 
-payments_one : (hs : List ℕ) (own : Entries) (quarter : ℕ) (a b : Answer) → IsOnce own
-    → ArePayments hs own quarter a → ArePayments hs own quarter b → a ≡ b
-payments_one hs own quarter a b once g h =
+payments_one : (hs : List ℕ) (own : Entries) (name : List ℕ) (quarter : ℕ) (a b : Answer)
+    → IsOnce own
+    → ArePayments hs own name quarter a → ArePayments hs own name quarter b → a ≡ b
+payments_one hs own name quarter a b once g h =
     let owed : h.owed ≡ g.owed = owed_one hs own h.owed g.owed once h.are_owed g.are_owed in
     let also : (x : KeptPayment) → Has h.listed x ↔ IsPaymentIn g.owed own quarter x =
     subst (λ os. (x : KeptPayment) → Has h.listed x ↔ IsPaymentIn os own quarter x) owed h.all in
-    g.told ∙ ap (λ xs. told_rows (rows.Payments xs))
+    g.told ∙ ap (λ xs. kept_answer (rows.Payments name quarter xs))
     (listed_one IsPaymentBefore (two_once day_paid_for payment_number) _ g.listed h.listed
     g.in_order h.in_order g.all also) ∙ sym h.told
 
@@ -208,9 +212,9 @@ pub kept_one : (s : State) (kept : Kept) (a b : Answer)
     → ((name : List ℕ) → IsOnce (entries_of s name))
     → TellsKept s kept a → TellsKept s kept b → a ≡ b
 kept_one s Accounts a b once g h = accounts_one s a b g h
-kept_one s (Years name) a b once g h = years_one (entries_of s name) a b (once name) g h
-kept_one s (Reported name) a b once g h = totals_one (entries_of s name) a b g h
+kept_one s (Years name) a b once g h = years_one (entries_of s name) name a b (once name) g h
+kept_one s (Reported name) a b once g h = totals_one (entries_of s name) name a b g h
 kept_one s (Holidays year) a b once g h = holidays_one s year a b g h
-kept_one s (Runs name quarter) a b once g h = runs_one (entries_of s name) quarter a b g h
+kept_one s (Runs name quarter) a b once g h = runs_one (entries_of s name) name quarter a b g h
 kept_one s (Payments name quarter) a b once g h =
-    payments_one (holidays s) (entries_of s name) quarter a b (once name) g h
+    payments_one (holidays s) (entries_of s name) name quarter a b (once name) g h

@@ -10,13 +10,11 @@ use Rattle.ftd_rules.specs.declared.run.PayRun.{PayRun}
 use Rattle.ftd_rules.specs.declared.run.Voidable.{Voidable}
 use Rattle.ftd_machine.specs.declared.replies.Reply.TheVariants.{Done}
 use Rattle.ftd_machine.specs.declared.requests.Request.{Request}
-use Rattle.ftd_machine.specs.declared.requests.Request.TheVariants.{Enrol, Calendar, AddHoliday}
-use Rattle.ftd_machine.specs.declared.requests.Request.TheVariants.{Report, ReportYear, OpenYear}
-use Rattle.ftd_machine.specs.declared.requests.Request.TheVariants.{Post, Void, Pay, VoidPay}
-use Rattle.ftd_machine.specs.declared.requests.Request.TheVariants.{CorrectReport}
-use Rattle.ftd_machine.specs.declared.requests.Request.TheVariants.{CorrectReportYear}
-use Rattle.ftd_machine.specs.declared.requests.Request.TheVariants.{ChangeHoliday, CorrectAccount}
-use Rattle.ftd_machine.specs.declared.requests.Request.TheVariants.{Question}
+use Rattle.ftd_machine.specs.declared.requests.Request.TheVariants.{Enter, Post, Void, Pay, VoidPay}
+use Rattle.ftd_machine.specs.declared.requests.Request.TheVariants.{Correct, Question}
+use Rattle.ftd_machine.specs.declared.requests.Entry.TheVariants as entry
+use Rattle.ftd_machine.specs.declared.requests.Correction.TheVariants as correction
+use Rattle.ftd_machine.specs.declared.entries.ReturnPeriod.TheVariants.{Quarter, Year}
 use Rattle.ftd_machine.proofs.Deciding.{either}
 
 -- a request that is done has changed the state
@@ -68,29 +66,32 @@ void_leaves None s answer new after holidays own then known step stays =
 
 pub leaves : (s : State) (request : Request) (answer : Answer) (next : State)
     → Step s request answer next → is_change answer ≡ false → next ≡ s
-leaves s (Enrol name start carried form) answer next step stays =
+leaves s (Enter (entry.Account name account)) answer next step stays =
     done_leaves _ s answer next _ step stays
-leaves s (Calendar year days) answer next step stays = done_leaves _ s answer next _ step stays
-leaves s (AddHoliday day) answer next step stays = done_leaves _ s answer next _ step stays
-leaves s (Report name quarter cents) answer next step stays =
+leaves s (Enter (entry.Calendar year days)) answer next step stays =
     done_leaves _ s answer next _ step stays
-leaves s (ReportYear name year cents) answer next step stays =
+leaves s (Enter (entry.Holiday day)) answer next step stays =
     done_leaves _ s answer next _ step stays
-leaves s (OpenYear name year) answer next step stays = open_leaves _ s answer next name year step
+leaves s (Enter (entry.Total name (Quarter quarter) cents)) answer next step stays =
+    done_leaves _ s answer next _ step stays
+leaves s (Enter (entry.Total name (Year year) cents)) answer next step stays =
+    done_leaves _ s answer next _ step stays
+leaves s (Enter (entry.Year name year)) answer next step stays =
+    open_leaves _ s answer next name year step
     stays
-leaves s (Post name number payday fit ss medicare) answer next step stays =
+leaves s (Post name number run) answer next step stays =
     post_leaves _ s answer next _ _ _ _ _ step stays
 leaves s (Void name number) answer next step stays =
     void_leaves _ s answer next _ _ _ _ _ step stays
-leaves s (Pay name number paid for_day cents) answer next step stays =
+leaves s (Pay name number payment) answer next step stays =
     done_leaves _ s answer next _ step stays
 leaves s (VoidPay name number) answer next step stays = done_leaves _ s answer next _ step stays
-leaves s (CorrectReport name quarter number cents) answer next step stays =
+leaves s (Correct number (correction.Total name (Quarter quarter) cents)) answer next step stays =
     post_leaves _ s answer next _ _ _ _ _ step stays
-leaves s (CorrectReportYear name year number cents) answer next step stays =
+leaves s (Correct number (correction.Total name (Year year) cents)) answer next step stays =
     post_leaves _ s answer next _ _ _ _ _ step stays
-leaves s (ChangeHoliday day number is_holiday) answer next step stays =
+leaves s (Correct number (correction.Holiday day is_holiday)) answer next step stays =
     done_leaves _ s answer next _ step stays
-leaves s (CorrectAccount name number start carried) answer next step stays =
+leaves s (Correct number (correction.Account name beginning)) answer next step stays =
     done_leaves _ s answer next _ step stays
 leaves s (Question question) answer next step stays = asked_leaves _ s answer next _ step

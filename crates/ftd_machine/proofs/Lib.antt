@@ -34,3 +34,19 @@ pub mod Entered
 pub mod InYear
 pub mod Refusing
 pub mod Those
+pub mod Own
+pub mod Answered
+pub mod Alike
+pub mod PostedSome
+pub mod Choosing
+pub mod KeptSome
+mod ExplainOne
+mod ExplainSome
+pub mod SameAnswers
+pub mod AgendaSome
+pub mod UnappliedSome
+pub mod Agendas
+pub mod AnswerSome
+pub mod Examples
+pub mod Deposit
+pub mod PaidInTime

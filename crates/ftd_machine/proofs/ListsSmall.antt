@@ -26,7 +26,7 @@ last_of_row row = row.obligation.last
 module _ (s : State) (name : List ℕ) (sound : IsSound s) where
   -- the obligations of a due list lie apart, each with its liability
   pub due_list_small : (quarter as_of : ℕ) (answer : Answer)
-      → (h : IsDueList (holidays s) (entries_of s name) quarter as_of answer)
+      → (h : IsDueList (holidays s) (entries_of s name) name quarter as_of answer)
       → sum_by amount_of h.listed < amounts_end
   due_list_small quarter as_of answer h =
       let own = entries_of s name in
@@ -61,7 +61,7 @@ module _ (s : State) (name : List ℕ) (sound : IsSound s) where
 
   -- the days of Schedule B differ, each with its liability
   pub days_small : (quarter : ℕ) (answer : Answer)
-      → (h : IsScheduleB (entries_of s name) quarter answer)
+      → (h : IsScheduleB (entries_of s name) name quarter answer)
       → sum_by cents_of h.listed < amounts_end
   days_small quarter answer h =
       let sums = live_sums (entries_of s name) in

@@ -9,13 +9,11 @@ use Rattle.ftd_rules.specs.declared.run.PayRun.{PayRun}
 use Rattle.ftd_rules.specs.declared.run.Voidable.{Voidable}
 use Rattle.ftd_machine.specs.declared.replies.Reply.TheVariants.{Done}
 use Rattle.ftd_machine.specs.declared.requests.Request.{Request}
-use Rattle.ftd_machine.specs.declared.requests.Request.TheVariants.{Enrol, Calendar, AddHoliday}
-use Rattle.ftd_machine.specs.declared.requests.Request.TheVariants.{Report, ReportYear, OpenYear}
-use Rattle.ftd_machine.specs.declared.requests.Request.TheVariants.{Post, Void, Pay, VoidPay}
-use Rattle.ftd_machine.specs.declared.requests.Request.TheVariants.{CorrectReport}
-use Rattle.ftd_machine.specs.declared.requests.Request.TheVariants.{CorrectReportYear}
-use Rattle.ftd_machine.specs.declared.requests.Request.TheVariants.{ChangeHoliday, CorrectAccount}
-use Rattle.ftd_machine.specs.declared.requests.Request.TheVariants.{Question}
+use Rattle.ftd_machine.specs.declared.requests.Request.TheVariants.{Enter, Post, Void, Pay, VoidPay}
+use Rattle.ftd_machine.specs.declared.requests.Request.TheVariants.{Correct, Question}
+use Rattle.ftd_machine.specs.declared.requests.Entry.TheVariants as entry
+use Rattle.ftd_machine.specs.declared.requests.Correction.TheVariants as correction
+use Rattle.ftd_machine.specs.declared.entries.ReturnPeriod.TheVariants.{Quarter, Year}
 use Rattle.ftd_machine.proofs.Adding.{account_other, entry_other, voided_other, moved_other}
 use Rattle.ftd_machine.proofs.Leaving.{asked_leaves}
 
@@ -62,48 +60,49 @@ module _ {X : Type 0} (told : State → X) (s : State) (answer : Answer) (new : 
 pub others : (s : State) (request : Request) (answer : Answer) (next : State) (account : List ℕ)
     → Step s request answer next → (Names request account → ⊥)
     → entries_of next account ≡ entries_of s account
-others s (Enrol name start carried form) answer next account step other =
+others s (Enter (entry.Account name enrolled)) answer next account step other =
     done_stays (λ x. entries_of x account) s answer next _ _ step
-    (rw (account_other s.accounts name (record { start = start; carried = carried; form = form })
+    (rw (account_other s.accounts name enrolled
     account other) refl)
-others s (Calendar year days) answer next account step other =
+others s (Enter (entry.Calendar year days)) answer next account step other =
     done_stays (λ x. entries_of x account) s answer next _ _ step refl
-others s (AddHoliday day) answer next account step other =
+others s (Enter (entry.Holiday day)) answer next account step other =
     done_stays (λ x. entries_of x account) s answer next _ _ step refl
-others s (Report name quarter cents) answer next account step other =
+others s (Enter (entry.Total name (Quarter quarter) cents)) answer next account step other =
     done_stays (λ x. entries_of x account) s answer next _ _ step
     (rw (entry_other s.reported name quarter cents account other) refl)
-others s (ReportYear name year cents) answer next account step other =
+others s (Enter (entry.Total name (Year year) cents)) answer next account step other =
     done_stays (λ x. entries_of x account) s answer next _ _ step
     (rw (entry_other s.reported_years name year cents account other) refl)
-others s (OpenYear name year) answer next account step other =
+others s (Enter (entry.Year name year)) answer next account step other =
     open_stays (λ x. entries_of x account) s answer next _ name year step
     (rw (entry_other s.open_years name year tt account other) refl)
-others s (Post name number payday fit ss medicare) answer next account step other =
+others s (Post name number run) answer next account step other =
     post_stays (λ x. entries_of x account) s answer next _ _ _ _ _ _ step
     (rw (entry_other s.runs name number
-    (taken (record { payday = payday; fit = fit; ss = ss; medicare = medicare })) account other)
+    (taken run) account other)
     refl)
 others s (Void name number) answer next account step other =
     void_stays (λ x. entries_of x account) s answer next _ _ _ _ _ _ step
     (rw (voided_other s.runs name number account other) refl)
-others s (Pay name number paid for_day cents) answer next account step other =
+others s (Pay name number payment) answer next account step other =
     done_stays (λ x. entries_of x account) s answer next _ _ step
     (rw (entry_other s.payments name number
-    (taken (record { paid = paid; for_day = for_day; cents = cents })) account other) refl)
+    (taken payment) account other) refl)
 others s (VoidPay name number) answer next account step other =
     done_stays (λ x. entries_of x account) s answer next _ _ step
     (rw (voided_other s.payments name number account other) refl)
-others s (CorrectReport name quarter number cents) answer next account step other =
+others s (Correct number (correction.Total name (Quarter quarter) cents)) answer next account step
+    other =
     post_stays (λ x. entries_of x account) s answer next _ _ _ _ _ _ step
     (rw (entry_other s.corrected name quarter cents account other) refl)
-others s (CorrectReportYear name year number cents) answer next account step other =
+others s (Correct number (correction.Total name (Year year) cents)) answer next account step other =
     post_stays (λ x. entries_of x account) s answer next _ _ _ _ _ _ step
     (rw (entry_other s.corrected_years name year cents account other) refl)
-others s (ChangeHoliday day number is_holiday) answer next account step other =
+others s (Correct number (correction.Holiday day is_holiday)) answer next account step other =
     done_stays (λ x. entries_of x account) s answer next _ _ step refl
-others s (CorrectAccount name number start carried) answer next account step other =
+others s (Correct number (correction.Account name beginning)) answer next account step other =
     done_stays (λ x. entries_of x account) s answer next _ _ step
-    (rw (moved_other s.moved name (record { start = start; carried = carried }) account other) refl)
+    (rw (moved_other s.moved name beginning account other) refl)
 others s (Question question) answer next account step other = ap (λ x. entries_of x account)
     (asked_leaves _ s answer next _ step)

@@ -38,13 +38,11 @@ use Rattle.ftd_machine.specs.declared.replies.Reply.TheVariants.{Done, Already}
 use Rattle.ftd_machine.specs.declared.replies.Refusal.TheVariants.{CorrectionDiffers}
 use Rattle.ftd_machine.specs.declared.replies.Refusal.TheVariants.{UnknownPayment}
 use Rattle.ftd_machine.specs.declared.requests.Request.{Request}
-use Rattle.ftd_machine.specs.declared.requests.Request.TheVariants.{Enrol, Calendar, AddHoliday}
-use Rattle.ftd_machine.specs.declared.requests.Request.TheVariants.{Report, ReportYear, OpenYear}
-use Rattle.ftd_machine.specs.declared.requests.Request.TheVariants.{Post, Void, Pay, VoidPay}
-use Rattle.ftd_machine.specs.declared.requests.Request.TheVariants.{CorrectReport}
-use Rattle.ftd_machine.specs.declared.requests.Request.TheVariants.{CorrectReportYear}
-use Rattle.ftd_machine.specs.declared.requests.Request.TheVariants.{ChangeHoliday, CorrectAccount}
-use Rattle.ftd_machine.specs.declared.requests.Request.TheVariants.{Question}
+use Rattle.ftd_machine.specs.declared.requests.Request.TheVariants.{Enter, Post, Void, Pay, VoidPay}
+use Rattle.ftd_machine.specs.declared.requests.Request.TheVariants.{Correct, Question}
+use Rattle.ftd_machine.specs.declared.requests.Entry.TheVariants as entry
+use Rattle.ftd_machine.specs.declared.requests.Correction.TheVariants as correction
+use Rattle.ftd_machine.specs.declared.entries.ReturnPeriod.TheVariants.{Quarter, Year}
 use Rattle.ftd_machine.proofs.Deciding.{either}
 use Rattle.ftd_machine.proofs.Leaving.{asked_leaves}
 use Rattle.ftd_machine.proofs.Adding.{own_name, moved_own, was_enrolled}
@@ -66,44 +64,43 @@ use Rattle.ftd_machine.proofs.InYear.{more_last}
 
 -- the checks of a request in a state
 abbrev pub checks_of : State → Request → List (Option Answer)
-checks_of s (Enrol name start carried form) =
-    enrol_checks name (record { start = start; carried = carried; form = form })
-    (entries_of s name).enrolled
-checks_of s (Calendar year days) = calendar_checks year days (calendar_at s year)
-checks_of s (AddHoliday day) = add_holiday_checks day (calendar_at s (year_of day))
+checks_of s (Enter (entry.Account name account)) =
+    enrol_checks name account (entries_of s name).enrolled
+checks_of s (Enter (entry.Calendar year days)) = calendar_checks year days (calendar_at s year)
+checks_of s (Enter (entry.Holiday day)) = add_holiday_checks day (calendar_at s (year_of day))
     (added_in s (year_of day))
-checks_of s (Report name quarter cents) = report_checks name quarter cents
+checks_of s (Enter (entry.Total name (Quarter quarter) cents)) = report_checks name quarter cents
     (entries_of s name).account (kept_at quarter (entries_of s name).reported)
-checks_of s (ReportYear name year cents) = report_year_checks name year cents
+checks_of s (Enter (entry.Total name (Year year) cents)) = report_year_checks name year cents
     (entries_of s name).account (kept_at year (entries_of s name).reported_years)
-checks_of s (OpenYear name year) = open_year_checks name year (entries_of s name).account
+checks_of s (Enter (entry.Year name year)) = open_year_checks name year (entries_of s name).account
     (is_open (entries_of s name) year) (is_given s year) (is_given s (year + 1))
-checks_of s (Post name number payday fit ss medicare) =
-    post_checks name number (record { payday = payday; fit = fit; ss = ss; medicare = medicare })
+checks_of s (Post name number run) =
+    post_checks name number run
     (entries_of s name).account (kept_at number (entries_of s name).runs)
-    (is_open (entries_of s name) (year_of payday)) (length (entries_of s name).runs)
+    (is_open (entries_of s name) (year_of run.payday)) (length (entries_of s name).runs)
 checks_of s (Void name number) = void_checks name number (entries_of s name).account
     (kept_at number (entries_of s name).runs)
-checks_of s (Pay name number paid for_day cents) =
-    pay_checks name number (record { paid = paid; for_day = for_day; cents = cents })
+checks_of s (Pay name number payment) =
+    pay_checks name number payment
     (entries_of s name).account (kept_at number (entries_of s name).payments)
-    (is_open (entries_of s name) (year_of for_day)) (length (entries_of s name).payments)
+    (is_open (entries_of s name) (year_of payment.for_day)) (length (entries_of s name).payments)
 checks_of s (VoidPay name number) = void_payment_checks name number (entries_of s name).account
     (kept_at number (entries_of s name).payments)
-checks_of s (CorrectReport name quarter number cents) =
+checks_of s (Correct number (correction.Total name (Quarter quarter) cents)) =
     let known = all_at quarter (entries_of s name).corrected in
     correct_report_checks name quarter number cents (entries_of s name).account
     (kept_at quarter (entries_of s name).reported) (numbered number known) (length known)
-checks_of s (CorrectReportYear name year number cents) =
+checks_of s (Correct number (correction.Total name (Year year) cents)) =
     let known = all_at year (entries_of s name).corrected_years in
     correct_report_year_checks name year number cents (entries_of s name).account
     (kept_at year (entries_of s name).reported_years) (numbered number known) (length known)
-checks_of s (ChangeHoliday day number is_holiday) =
+checks_of s (Correct number (correction.Holiday day is_holiday)) =
     let known = changes_of day s.changed_days in
     change_holiday_checks day number is_holiday (calendar_at s (year_of day))
     (added_in s (year_of day)) (numbered number known) (length known)
-checks_of s (CorrectAccount name number start carried) =
-    correct_account_checks name number (record { start = start; carried = carried })
+checks_of s (Correct number (correction.Account name beginning)) =
+    correct_account_checks name number beginning
     (entries_of s name).account
     (numbered number (entries_of s name).moves) (is_unused (entries_of s name))
     (length (entries_of s name).moves)
@@ -296,46 +293,44 @@ never s t request firm was = absurd (firm.never was.told)
 -- so what was done before stays so
 pub still_done : (s t : State) (request : Request) → Extends s t → WasDone s request
     → WasDone t request
-still_done s t (Enrol name start carried form) more =
+still_done s t (Enter (entry.Account name account)) more =
     through s t _ (search (staying, more.enrolled name) depth 12)
-still_done s t (Calendar year days) more =
+still_done s t (Enter (entry.Calendar year days)) more =
     through s t _ (search (staying, more.calendars year) depth 12)
-still_done s t (AddHoliday day) more =
+still_done s t (Enter (entry.Holiday day)) more =
     through s t _ (search (staying, more.holidays day) depth 12)
-still_done s t (Report name quarter cents) more =
+still_done s t (Enter (entry.Total name (Quarter quarter) cents)) more =
     let form = on_still F941 _ _ (more.accounts name) in
     through s t _ (search (staying, more.accounts, more.reported) depth 12)
-still_done s t (ReportYear name year cents) more =
+still_done s t (Enter (entry.Total name (Year year) cents)) more =
     let form = on_still F943 _ _ (more.accounts name) in
     through s t _ (search (staying, more.accounts, more.reported_years) depth 12)
-still_done s t (OpenYear name year) more =
+still_done s t (Enter (entry.Year name year)) more =
     let there = some_still (kept_at year (entries_of s name).open_years)
     (kept_at year (entries_of t name).open_years) (more.open_years name year) in
     through s t _ (search (staying, more.accounts) depth 12)
-still_done s t (Post name number payday fit ss medicare) more =
-    let run : PayRun = record { payday = payday; fit = fit; ss = ss; medicare = medicare } in
+still_done s t (Post name number run) more =
     let still = same_still _ _ (λ x. same_run run (taken x)) (more.runs name number) in
     through s t _ (search (staying, stays_new, more.accounts) depth 12)
 still_done s t (Void name number) more =
     let still = voided_still _ _ (more.runs name number) in
     through s t _ (search (staying, more.accounts) depth 12)
-still_done s t (Pay name number paid for_day cents) more =
-    let payment : Payment = record { paid = paid; for_day = for_day; cents = cents } in
+still_done s t (Pay name number payment) more =
     let still = same_still _ _ (λ x. same_payment payment (taken x)) (more.payments name number) in
     through s t _ (search (staying, stays_new, more.accounts) depth 12)
 still_done s t (VoidPay name number) more =
     let still = voided_still _ _ (more.payments name number) in
     through s t _ (search (staying, more.accounts) depth 12)
-still_done s t (CorrectReport name quarter number cents) more =
+still_done s t (Correct number (correction.Total name (Quarter quarter) cents)) more =
     let form = on_still F941 _ _ (more.accounts name) in
     through s t _ (search (staying, more.accounts, more.reported, more.corrected) depth 12)
-still_done s t (CorrectReportYear name year number cents) more =
+still_done s t (Correct number (correction.Total name (Year year) cents)) more =
     let form = on_still F943 _ _ (more.accounts name) in
     through s t _
     (search (staying, more.accounts, more.reported_years, more.corrected_years) depth 12)
-still_done s t (ChangeHoliday day number is_holiday) more =
+still_done s t (Correct number (correction.Holiday day is_holiday)) more =
     through s t _ (search (staying, more.calendars, more.holidays, more.changes) depth 12)
-still_done s t (CorrectAccount name number start carried) more =
+still_done s t (Correct number (correction.Account name beginning)) more =
     through s t _ (search (staying, more.accounts, more.moves) depth 12)
 still_done s t (Question question) more = never s t (Question question) (question_firm s question)
 
@@ -403,16 +398,17 @@ next_after s answer new name year (inr found) changes =
     ]
 
 open_after : (s : State) (answer : Answer) (new : State) (name : List ℕ) (year : ℕ)
-    → Decides (first_of (checks_of s (OpenYear name year))) s answer new
+    → Decides (first_of (checks_of s (Enter (entry.Year name year)))) s answer new
     (OpensNext s answer new name year) → is_change answer ≡ true
-    → WasDone new (OpenYear name year)
+    → WasDone new (Enter (entry.Year name year))
 open_after s answer new name year step changes =
     let after : State = record s { open_years = with_entry s.open_years name year tt } in
-    let turns : Turns (checks_of s (OpenYear name year)) (checks_of after (OpenYear name year)) =
+    let turns : Turns (checks_of s (Enter (entry.Year name year)))
+    (checks_of after (Enter (entry.Year name year))) =
     search (turning, kept_some s.open_years name year tt) depth 12 in
-    let done = does s answer new (checks_of s (OpenYear name year))
-    (checks_of after (OpenYear name year)) _ turns step changes in
-    subst (λ x. WasDone x (OpenYear name year))
+    let done = does s answer new (checks_of s (Enter (entry.Year name year)))
+    (checks_of after (Enter (entry.Year name year))) _ turns step changes in
+    subst (λ x. WasDone x (Enter (entry.Year name year)))
     (sym (next_after s answer new name year done.0 changes)) (record { told = done.1 })
 
 added_last : (s : State) (day : ℕ)
@@ -431,13 +427,12 @@ added_last s day =
 -- what a step has changed is done from then on
 pub step_done : (s : State) (request : Request) (answer : Answer) (next : State)
     → Step s request answer next → is_change answer ≡ true → WasDone next request
-step_done s (Enrol name start carried form) answer next step changes =
-    let account : Account = record { start = start; carried = carried; form = form } in
+step_done s (Enter (entry.Account name account)) answer next step changes =
     let there = found_last account_of (is_named name) s.accounts
     (record { name = name; account = account }) (own_name name) in
     done_after s answer next (record s { accounts = with_account s.accounts name account }) _
     (search (turning, account_same account) depth 12) step changes
-step_done s (Calendar year days) answer next step changes =
+step_done s (Enter (entry.Calendar year days)) answer next step changes =
     let given : YearDays = record { year = year; days = days } in
     done_after s answer next (record s { calendars = s.calendars ++ given ∷ [] }) _
     (search (
@@ -445,22 +440,21 @@ step_done s (Calendar year days) answer next step changes =
       found_last days_of (is_year year) s.calendars given (same_key year),
       own_name days,
     ) depth 12) step changes
-step_done s (AddHoliday day) answer next step changes =
+step_done s (Enter (entry.Holiday day)) answer next step changes =
     done_after s answer next (record s { added_days = s.added_days ++ day ∷ [] }) _
     (search (turning, added_last s day) depth 12) step changes
-step_done s (Report name quarter cents) answer next step changes =
+step_done s (Enter (entry.Total name (Quarter quarter) cents)) answer next step changes =
     done_after s answer next (record s { reported = with_entry s.reported name quarter cents }) _
     (search (turning, kept_own s.reported name quarter cents, amount_same cents) depth 12) step
     changes
-step_done s (ReportYear name year cents) answer next step changes =
+step_done s (Enter (entry.Total name (Year year) cents)) answer next step changes =
     done_after s answer next
     (record s { reported_years = with_entry s.reported_years name year cents }) _
     (search (turning, kept_own s.reported_years name year cents, amount_same cents) depth 12) step
     changes
-step_done s (OpenYear name year) answer next step changes =
+step_done s (Enter (entry.Year name year)) answer next step changes =
     open_after s answer next name year step changes
-step_done s (Post name number payday fit ss medicare) answer next step changes =
-    let run : PayRun = record { payday = payday; fit = fit; ss = ss; medicare = medicare } in
+step_done s (Post name number run) answer next step changes =
     post_after s answer next (record s { runs = with_entry s.runs name number (taken run) }) _ _
     (search (turning, kept_own s.runs name number (taken run), run_same run false) depth 12) step
     changes
@@ -468,8 +462,7 @@ step_done s (Void name number) answer next step changes =
     void_after s answer next (record s { runs = with_voided s.runs name number })
     (Void name number) _ _ _
     (void_turns name number _ _ _ (voided_kept s.runs name number)) step changes
-step_done s (Pay name number paid for_day cents) answer next step changes =
-    let payment : Payment = record { paid = paid; for_day = for_day; cents = cents } in
+step_done s (Pay name number payment) answer next step changes =
     done_after s answer next
     (record s { payments = with_entry s.payments name number (taken payment) }) _
     (search (turning, kept_own s.payments name number (taken payment), payment_same payment false)
@@ -478,31 +471,31 @@ step_done s (VoidPay name number) answer next step changes =
     let after = voided_after _ _ UnknownPayment (voided_kept s.payments name number) in
     done_after s answer next (record s { payments = with_voided s.payments name number }) _
     (search turning depth 12) step changes
-step_done s (CorrectReport name quarter number cents) answer next step changes =
+step_done s (Correct number (correction.Total name (Quarter quarter) cents)) answer next step
+    changes =
     let next_one = turns_next number _ _ cents (same_amount cents) CorrectionDiffers
     (all_own s.corrected name quarter cents) (amount_same cents) in
     post_after s answer next (record s { corrected = with_entry s.corrected name quarter cents })
     _ _ (search turning depth 12) step changes
-step_done s (CorrectReportYear name year number cents) answer next step changes =
+step_done s (Correct number (correction.Total name (Year year) cents)) answer next step changes =
     let next_one = turns_next number _ _ cents (same_amount cents) CorrectionDiffers
     (all_own s.corrected_years name year cents) (amount_same cents) in
     post_after s answer next
     (record s { corrected_years = with_entry s.corrected_years name year cents }) _ _
     (search turning depth 12) step changes
-step_done s (ChangeHoliday day number is_holiday) answer next step changes =
+step_done s (Correct number (correction.Holiday day is_holiday)) answer next step changes =
     let change : DayChange = record { day = day; is_holiday = is_holiday } in
     let next_one = turns_next number _ _ is_holiday (same_flag is_holiday) CorrectionDiffers
     (changes_own day s.changed_days is_holiday) (flag_same is_holiday) in
     done_after s answer next (record s { changed_days = s.changed_days ++ change ∷ [] }) _
     (search turning depth 12) step changes
-step_done s (CorrectAccount name number start carried) answer next step changes =
-    let new : Beginning = record { start = start; carried = carried } in
-    let after : State = record s { moved = with_move s.moved name new } in
+step_done s (Correct number (correction.Account name beginning)) answer next step changes =
+    let after : State = record s { moved = with_move s.moved name beginning } in
     let here = entries_of s name in
     let there = entries_of after name in
-    done_after s answer next after (CorrectAccount name number start carried)
-    (correct_account_turns name number new (is_unused here) (is_unused there) here.moves
-    there.moves (moved_own s.moved name new) here.account there.account
+    done_after s answer next after (Correct number (correction.Account name beginning))
+    (correct_account_turns name number beginning (is_unused here) (is_unused there) here.moves
+    there.moves (moved_own s.moved name beginning) here.account there.account
     (λ a is. (let b = moved_there here.enrolled here.moves there.moves a is in (b.0, b.1))))
     step changes
 step_done s (Question question) answer next step changes =
@@ -550,48 +543,52 @@ open_extends None s answer new name year step = next_extends s answer new name y
 
 pub step_extends : (s : State) (request : Request) (answer : Answer) (next : State)
     → Step s request answer next → Extends s next
-step_extends s (Enrol name start carried form) answer next step =
+step_extends s (Enter (entry.Account name account)) answer next step =
     done_extends _ s answer next _ step
-    (extends_account s name (record { start = start; carried = carried; form = form }))
-step_extends s (Calendar year days) answer next step = done_extends _ s answer next _ step
+    (extends_account s name account)
+step_extends s (Enter (entry.Calendar year days)) answer next step =
+    done_extends _ s answer next _ step
     (extends_calendar s year days)
-step_extends s (AddHoliday day) answer next step = done_extends _ s answer next _ step
+step_extends s (Enter (entry.Holiday day)) answer next step = done_extends _ s answer next _ step
     (extends_added s day)
-step_extends s (Report name quarter cents) answer next step = done_extends _ s answer next _ step
+step_extends s (Enter (entry.Total name (Quarter quarter) cents)) answer next step =
+    done_extends _ s answer next _ step
     (assumption (extends_same s, keeps_entry s.reported name quarter cents))
-step_extends s (ReportYear name year cents) answer next step = done_extends _ s answer next _ step
+step_extends s (Enter (entry.Total name (Year year) cents)) answer next step =
+    done_extends _ s answer next _ step
     (assumption (extends_same s, keeps_entry s.reported_years name year cents))
-step_extends s (OpenYear name year) answer next step = open_extends _ s answer next name year step
-step_extends s (Post name number payday fit ss medicare) answer next step =
+step_extends s (Enter (entry.Year name year)) answer next step =
+    open_extends _ s answer next name year step
+step_extends s (Post name number run) answer next step =
     post_extends _ s answer next _ _ step
     (assumption (
       extends_same s,
       keeps_more s.runs name number
-          (taken (record { payday = payday; fit = fit; ss = ss; medicare = medicare })),
+          (taken run),
     ))
 step_extends s (Void name number) answer next step = void_extends _ s answer next _ _ _ step
     (assumption (extends_same s, keeps_voided s.runs name number))
-step_extends s (Pay name number paid for_day cents) answer next step =
+step_extends s (Pay name number payment) answer next step =
     done_extends _ s answer next _ step
     (assumption (
       extends_same s,
       keeps_more s.payments name number
-          (taken (record { paid = paid; for_day = for_day; cents = cents })),
+          (taken payment),
     ))
 step_extends s (VoidPay name number) answer next step = done_extends _ s answer next _ step
     (assumption (extends_same s, keeps_voided s.payments name number))
-step_extends s (CorrectReport name quarter number cents) answer next step =
+step_extends s (Correct number (correction.Total name (Quarter quarter) cents)) answer next step =
     post_extends _ s answer next _ _ step
     (assumption (extends_same s, keeps_numbers s.corrected name quarter cents))
-step_extends s (CorrectReportYear name year number cents) answer next step =
+step_extends s (Correct number (correction.Total name (Year year) cents)) answer next step =
     post_extends _ s answer next _ _ step
     (assumption (extends_same s, keeps_numbers s.corrected_years name year cents))
-step_extends s (ChangeHoliday day number is_holiday) answer next step =
+step_extends s (Correct number (correction.Holiday day is_holiday)) answer next step =
     done_extends _ s answer next _ step
     (extends_changed s (record { day = day; is_holiday = is_holiday }))
-step_extends s (CorrectAccount name number start carried) answer next step =
+step_extends s (Correct number (correction.Account name beginning)) answer next step =
     done_extends _ s answer next _ step (extends_moved s name
-    (record { start = start; carried = carried }))
+    beginning)
 step_extends s (Question question) answer next step =
     subst (Extends s) (sym (asked_leaves _ s answer next _ step)) (extends_same s)
 
@@ -609,7 +606,9 @@ again_told None s answer new Else e step = absurd cc
 pub step_again : (s : State) (request : Request) (answer : Answer) (next : State)
     → WasDone s request → Step s request answer next
     → (answer ≡ Ok Already) × (next ≡ s)
-step_again s (Enrol name start carried form) answer next was step =
+step_again s (Enter (entry.Total name (Quarter quarter) cents)) answer next was step =
+    again_told _ s answer next _ was.told step
+step_again s (Correct number (correction.Total name (Quarter quarter) cents)) answer next was step =
     again_told _ s answer next _ was.told step
 step_again s request answer next was step = again_told _ s answer next _ was.told step
 

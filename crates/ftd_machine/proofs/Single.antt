@@ -31,9 +31,9 @@ use Rattle.ftd_machine.specs.Asking.{IsTurnBefore, HasNoTurnBefore, IsReason, Is
 use Rattle.ftd_machine.specs.Asking.{first_of_row, IsDueList, day_of_sum, IsScheduleB}
 use Rattle.ftd_machine.specs.declared.replies.Reason.{Reason}
 use Rattle.ftd_machine.specs.declared.replies.Reason.TheVariants as reason
-use Rattle.ftd_machine.specs.declared.facts.Facts.TheVariants.{Status, Due, Days}
+use Rattle.ftd_machine.specs.Told.{days_answer, due_answer, status_answer}
 use Rattle.ftd_machine.specs.declared.replies.Difference.{Difference}
-use Rattle.ftd_machine.specs.declared.replies.Reply.TheVariants.{Told, Posted}
+use Rattle.ftd_machine.specs.declared.replies.Reply.TheVariants.{Posted}
 use Rattle.ftd_machine.specs.declared.replies.Refusal.{Refusal}
 use Rattle.ftd_machine.specs.declared.replies.Refusal.TheVariants.{QuarterMissing, YearMissing}
 use Rattle.ftd_machine.proofs.Counting.{neither}
@@ -198,10 +198,11 @@ posted_one holidays own after payday a b once once_after g h =
 
 -- ---- what is asked
 
-pub due_list_one : (holidays : List ℕ) (own : Entries) (quarter as_of : ℕ) (a b : Answer)
-    → IsOnce own
-    → IsDueList holidays own quarter as_of a → IsDueList holidays own quarter as_of b → a ≡ b
-due_list_one holidays own quarter as_of a b once g h =
+pub due_list_one : (holidays : List ℕ) (own : Entries) (name : List ℕ) (quarter as_of : ℕ)
+    (a b : Answer) → IsOnce own
+    → IsDueList holidays own name quarter as_of a → IsDueList holidays own name quarter as_of b
+    → a ≡ b
+due_list_one holidays own name quarter as_of a b once g h =
     let rows : g.rows ≡ h.rows = owed_one holidays own g.rows h.rows once g.owed h.owed in
     let to : (row : DueRow) → IsDueRow holidays own g.rows quarter as_of row
     → IsDueRow holidays own h.rows quarter as_of row =
@@ -213,14 +214,14 @@ due_list_one holidays own quarter as_of a b once g h =
     h.by_first_day
     (λ row k. (h.all row).1 (to row ((g.all row).0 k)))
     (λ row k. (g.all row).1 (back row ((h.all row).0 k))) in
-    g.told ∙ ap (λ xs. Ok (Told (Due xs))) listed ∙ sym h.told
+    g.told ∙ ap (due_answer name quarter as_of) listed ∙ sym h.told
 
-pub schedule_one : (own : Entries) (quarter : ℕ) (a b : Answer) → IsScheduleB own quarter a
-    → IsScheduleB own quarter b → a ≡ b
-schedule_one own quarter a b g h =
+pub schedule_one : (own : Entries) (name : List ℕ) (quarter : ℕ) (a b : Answer)
+    → IsScheduleB own name quarter a → IsScheduleB own name quarter b → a ≡ b
+schedule_one own name quarter a b g h =
     let listed : g.listed ≡ h.listed = members_one day_of_sum g.listed h.listed g.by_day h.by_day
     (λ x k. (h.all x).1 ((g.all x).0 k)) (λ x k. (g.all x).1 ((h.all x).0 k)) in
-    g.told ∙ ap (λ xs. Ok (Told (Days xs))) listed ∙ sym h.told
+    g.told ∙ ap (days_answer name quarter) listed ∙ sym h.told
 
 before_one : (year : ℕ) (lines : List YearLine) (line : YearLine) (turn other : ℕ)
     → YearsFrom year lines
@@ -289,6 +290,6 @@ status_one own day a b once g h =
     (subst (λ xs. IsReason xs h.line h.status h.why) lines h.is_why)) in
     let reasons : h.why ≡ g.why = reason_one from.0 g.lines g.line g.status h.why g.why from.2 why
     g.is_why in
-    let told : Told (Status g.status g.why) ≡ Told (Status h.status h.why) =
+    let told : status_answer day g.status g.why ≡ status_answer day h.status h.why =
     rw (same, reasons) refl in
-    g.told ∙ ap Ok told ∙ sym h.told
+    g.told ∙ told ∙ sym h.told

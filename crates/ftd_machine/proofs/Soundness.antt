@@ -36,13 +36,11 @@ use Rattle.ftd_machine.specs.Sound.{Follow, IsSound}
 use Rattle.ftd_machine.specs.Runs.{Goes, IsRun, IsReached}
 use Rattle.ftd_machine.specs.declared.replies.Reply.TheVariants.{Done}
 use Rattle.ftd_machine.specs.declared.requests.Request.{Request}
-use Rattle.ftd_machine.specs.declared.requests.Request.TheVariants.{Enrol, Calendar, AddHoliday}
-use Rattle.ftd_machine.specs.declared.requests.Request.TheVariants.{Report, ReportYear, OpenYear}
-use Rattle.ftd_machine.specs.declared.requests.Request.TheVariants.{Post, Void, Pay, VoidPay}
-use Rattle.ftd_machine.specs.declared.requests.Request.TheVariants.{CorrectReport}
-use Rattle.ftd_machine.specs.declared.requests.Request.TheVariants.{CorrectReportYear}
-use Rattle.ftd_machine.specs.declared.requests.Request.TheVariants.{ChangeHoliday, CorrectAccount}
-use Rattle.ftd_machine.specs.declared.requests.Request.TheVariants.{Question}
+use Rattle.ftd_machine.specs.declared.requests.Request.TheVariants.{Enter, Post, Void, Pay, VoidPay}
+use Rattle.ftd_machine.specs.declared.requests.Request.TheVariants.{Correct, Question}
+use Rattle.ftd_machine.specs.declared.requests.Entry.TheVariants as entry
+use Rattle.ftd_machine.specs.declared.requests.Correction.TheVariants as correction
+use Rattle.ftd_machine.specs.declared.entries.ReturnPeriod.TheVariants.{Quarter, Year}
 use Rattle.ftd_machine.proofs.Deciding.{either}
 use Rattle.ftd_machine.proofs.InYear.{filed_of, in_year, still_given, still_added}
 use Rattle.ftd_machine.proofs.Members.{has_filtered, found_none}
@@ -579,37 +577,36 @@ module _ (s : State) (answer : Answer) (new : State) (sound : IsSound s) where
 
 pub step_sound : (s : State) (request : Request) (answer : Answer) (next : State)
     → Step s request answer next → IsSound s → IsSound next
-step_sound s (Enrol name start carried form) answer next step sound =
-    let account : Account = record { start = start; carried = carried; form = form } in
-    let none : Gives (checks_of s (Enrol name start carried form))
+step_sound s (Enter (entry.Account name account)) answer next step sound =
+    let none : Gives (checks_of s (Enter (entry.Account name account)))
     (enrolled_in s name ≡ None) = search heads depth 12 in
-    done_sound s answer next sound (checks_of s (Enrol name start carried form)) _ step
+    done_sound s answer next sound (checks_of s (Enter (entry.Account name account))) _ step
     (λ e. sound_account s name account (none.fact e) sound)
-step_sound s (Calendar year days) answer next step sound =
-    let P = checks_of s (Calendar year days) in
+step_sound s (Enter (entry.Calendar year days)) answer next step sound =
+    let P = checks_of s (Enter (entry.Calendar year days)) in
     let between : Gives P (is_between 2001 2099 year ≡ true) = search heads depth 12 in
     let fits : Gives P (is_calendar year days ≡ true) = search heads depth 12 in
     let none : Gives P (calendar_at s year ≡ None) = search heads depth 12 in
     done_sound s answer next sound P _ step (λ e. sound_calendar s year days (none.fact e)
     (between.fact e) (fits.fact e) sound)
-step_sound s (AddHoliday day) answer next step sound =
-    let P = checks_of s (AddHoliday day) in
+step_sound s (Enter (entry.Holiday day)) answer next step sound =
+    let P = checks_of s (Enter (entry.Holiday day)) in
     let given : Gives P (is_given s (year_of day) ≡ true) = search heads depth 12 in
     let room : Gives P
     (nat_lt (length (days_of_year (calendar_at s (year_of day)) (added_in s (year_of day)))) 60
     ≡ true) = search heads depth 12 in
     done_sound s answer next sound P _ step
     (λ e. sound_added s day (given.fact e) (room.fact e) sound)
-step_sound s (Report name quarter cents) answer next step sound =
-    let P = checks_of s (Report name quarter cents) in
+step_sound s (Enter (entry.Total name (Quarter quarter) cents)) answer next step sound =
+    let P = checks_of s (Enter (entry.Total name (Quarter quarter) cents)) in
     done_sound s answer next sound P _ step (λ e. sound_reported F941 s name quarter cents P
     (search heads depth 12) (search heads depth 12) e sound)
-step_sound s (ReportYear name year cents) answer next step sound =
-    let P = checks_of s (ReportYear name year cents) in
+step_sound s (Enter (entry.Total name (Year year) cents)) answer next step sound =
+    let P = checks_of s (Enter (entry.Total name (Year year) cents)) in
     done_sound s answer next sound P _ step (λ e. sound_reported F943 s name year cents P
     (search heads depth 12) (search heads depth 12) e sound)
-step_sound s (OpenYear name year) answer next step sound =
-    let P = checks_of s (OpenYear name year) in
+step_sound s (Enter (entry.Year name year)) answer next step sound =
+    let P = checks_of s (Enter (entry.Year name year)) in
     let between : Gives P (is_between 2001 2098 year ≡ true) = search heads depth 12 in
     let fresh : Gives P (is_open (entries_of s name) year ≡ false) = search heads depth 12 in
     let there : Gives P (is_some (entries_of s name).account ≡ true) = search heads depth 12 in
@@ -618,11 +615,10 @@ step_sound s (OpenYear name year) answer next step sound =
     open_sound s answer next sound P name year step
     (λ e first total. sound_open s name year (there.fact e) (between.fact e) (given.fact e)
     (next_given.fact e) first (fresh.fact e) total sound)
-step_sound s (Post name number payday fit ss medicare) answer next step sound =
-    let run : PayRun = record { payday = payday; fit = fit; ss = ss; medicare = medicare } in
-    let P = checks_of s (Post name number payday fit ss medicare) in
+step_sound s (Post name number run) answer next step sound =
+    let P = checks_of s (Post name number run) in
     let none : Gives P (kept_at number (entries_of s name).runs ≡ None) = search heads depth 12 in
-    let there : Gives P (is_open (entries_of s name) (year_of payday) ≡ true) =
+    let there : Gives P (is_open (entries_of s name) (year_of run.payday) ≡ true) =
     search heads depth 12 in
     let fits : Gives P (are_amounts run ≡ true) = search heads depth 12 in
     let numbered : Gives P (is_number number ≡ true) = search heads depth 12 in
@@ -633,14 +629,14 @@ step_sound s (Post name number payday fit ss medicare) answer next step sound =
 step_sound s (Void name number) answer next step sound =
     void_sound s answer next sound (checks_of s (Void name number)) _ _ _ step
     (sound_void_run s name number sound)
-step_sound s (Pay name number paid for_day cents) answer next step sound =
-    let payment : Payment = record { paid = paid; for_day = for_day; cents = cents } in
-    let P = checks_of s (Pay name number paid for_day cents) in
+step_sound s (Pay name number payment) answer next step sound =
+    let P = checks_of s (Pay name number payment) in
     let none : Gives P (kept_at number (entries_of s name).payments ≡ None) =
     search heads depth 12 in
-    let there : Gives P (is_open (entries_of s name) (year_of for_day) ≡ true) =
+    let there : Gives P (is_open (entries_of s name) (year_of payment.for_day) ≡ true) =
     search heads depth 12 in
-    let fits : Gives P (nat_le 1 cents.0 && is_amount cents ≡ true) = search heads depth 12 in
+    let fits : Gives P (nat_le 1 payment.cents.0 && is_amount payment.cents ≡ true) = search heads
+    depth 12 in
     let room : Gives P (nat_lt (length (entries_of s name).payments) most_entries ≡ true) =
     search heads depth 12 in
     done_sound s answer next sound P _ step (λ e. sound_payment s name number payment (none.fact e)
@@ -648,25 +644,26 @@ step_sound s (Pay name number paid for_day cents) answer next step sound =
 step_sound s (VoidPay name number) answer next step sound =
     done_sound s answer next sound (checks_of s (VoidPay name number)) _ step
     (λ e. sound_void_payment s name number sound)
-step_sound s (CorrectReport name quarter number cents) answer next step sound =
-    let P = checks_of s (CorrectReport name quarter number cents) in
+step_sound s (Correct number (correction.Total name (Quarter quarter) cents)) answer next step
+    sound =
+    let P = checks_of s (Correct number (correction.Total name (Quarter quarter) cents)) in
     let fits : Gives P (is_amount cents ≡ true) = search heads depth 12 in
     post_sound s answer next sound P _ _ step
     (λ e. sound_corrected s name quarter cents (fits.fact e) sound)
-step_sound s (CorrectReportYear name year number cents) answer next step sound =
-    let P = checks_of s (CorrectReportYear name year number cents) in
+step_sound s (Correct number (correction.Total name (Year year) cents)) answer next step sound =
+    let P = checks_of s (Correct number (correction.Total name (Year year) cents)) in
     let fits : Gives P (is_amount cents ≡ true) = search heads depth 12 in
     post_sound s answer next sound P _ _ step
     (λ e. sound_corrected_year s name year cents (fits.fact e) sound)
-step_sound s (ChangeHoliday day number is_one) answer next step sound =
-    let P = checks_of s (ChangeHoliday day number is_one) in
+step_sound s (Correct number (correction.Holiday day is_one)) answer next step sound =
+    let P = checks_of s (Correct number (correction.Holiday day is_one)) in
     let there : Gives P (is_holiday (days_of_year (calendar_at s (year_of day))
     (added_in s (year_of day))) day ≡ true) = search heads depth 12 in
     done_sound s answer next sound P _ step
     (λ e. sound_changed s (record { day = day; is_holiday = is_one })
     (in_year s sound.calendars (filed_of s sound) sound.added_days day ∙ there.fact e) sound)
-step_sound s (CorrectAccount name number start carried) answer next step sound =
-    let P = checks_of s (CorrectAccount name number start carried) in
+step_sound s (Correct number (correction.Account name beginning)) answer next step sound =
+    let P = checks_of s (Correct number (correction.Account name beginning)) in
     let own = entries_of s name in
     let unused : Gives P (is_unused own ≡ true) = search heads depth 12 in
     done_sound s answer next sound P _ step (λ e.
@@ -674,7 +671,7 @@ step_sound s (CorrectAccount name number start carried) answer next step sound =
     (and_parts (length own.reported_years == 0) (length own.open_years == 0)
     (and_parts (length own.reported == 0)
     ((length own.reported_years == 0) && (length own.open_years == 0)) (unused.fact e)).1).1 in
-    sound_moved s name (record { start = start; carried = carried })
+    sound_moved s name beginning
     (empty_of own.open_years opened) sound))
 step_sound s (Question question) answer next step sound =
     subst IsSound (sym (asked_leaves _ s answer next _ step)) sound

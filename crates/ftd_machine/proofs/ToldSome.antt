@@ -33,8 +33,7 @@ use Rattle.ftd_machine.specs.Asking.{IsTurnBefore, HasNoTurnBefore, IsReason, Is
 use Rattle.ftd_machine.specs.Asking.{IsScheduleB}
 use Rattle.ftd_machine.specs.declared.replies.Reason.{Reason}
 use Rattle.ftd_machine.specs.declared.replies.Reason.TheVariants as reason
-use Rattle.ftd_machine.specs.declared.facts.Facts.TheVariants.{Status, Days}
-use Rattle.ftd_machine.specs.declared.replies.Reply.TheVariants.{Told}
+use Rattle.ftd_machine.specs.Told.{days_answer, status_answer}
 use Rattle.ftd_machine.specs.declared.replies.Refusal.{Refusal}
 use Rattle.ftd_machine.specs.declared.replies.Refusal.TheVariants.{QuarterMissing, YearMissing}
 use Rattle.ftd_machine.proofs.Totals.{total_of}
@@ -272,7 +271,7 @@ status_on_line own lines line day h has of_day =
       | inr not ↦ (kind.Monthly, not)
     ] in
     let why = reason_some own lines line day status.0 h has status.1 in (
-      Ok (Told (Status status.0 why.0)),
+      status_answer day status.0 why.0,
       search rules,
     )
 
@@ -366,12 +365,12 @@ none_after (s ∷ sums) day l =
     let share = share_before s day day (omega arith) in
     rw (share, rest) refl
 
-pub schedule_some : (own : Entries) (quarter : ℕ) → (answer : Answer)
-    × IsScheduleB own quarter answer
-schedule_some own quarter =
+pub schedule_some : (own : Entries) (name : List ℕ) (quarter : ℕ) → (answer : Answer)
+    × IsScheduleB own name quarter answer
+schedule_some own name quarter =
     let sums = live_sums own in
     let found = days_below sums quarter (top sums) in (
-      Ok (Told (Days found.0)),
+      days_answer name quarter found.0,
       record {
         listed = found.0;
         by_day = found.1;

@@ -1,5 +1,5 @@
 -- What the desk answers to the questions what is due over all accounts, and what of it is not paid.
-use Rattle.std.specs.Prelude.{◌≡◌, ◌⊎◌, ◌≤◌, ◌<◌, ◌-◌, ◌↔◌, ℕ, List, [], ◌∷◌, Some, Ok}
+use Rattle.std.specs.Prelude.{◌≡◌, ◌⊎◌, ◌≤◌, ◌<◌, ◌-◌, ◌↔◌, ℕ, List, [], ◌∷◌, Some}
 use Rattle.std.specs.Prelude.{◌==◌, ◌&&◌, Bool, true, false}
 use Rattle.std.specs.Ordering.{nat_cmp}
 use Rattle.std.specs.declared.cmp.Ordering.TheVariants.{Less}
@@ -20,8 +20,6 @@ use Rattle.ftd_machine.specs.Asking.{IsDueRow}
 use Rattle.ftd_machine.specs.Checks.{Answer}
 use Rattle.ftd_machine.specs.declared.entries.Account.{Account}
 use Rattle.ftd_machine.specs.declared.lists.AgendaRow.{AgendaRow}
-use Rattle.ftd_machine.specs.declared.facts.Facts.TheVariants.{Agenda}
-use Rattle.ftd_machine.specs.declared.replies.Reply.TheVariants.{Told}
 
 -- ---- a row
 
@@ -121,12 +119,12 @@ abbrev pub IsLeftBy : ℕ → AgendaRow → Type 0
 IsLeftBy until x = (due_date_of x ≤ until) × (0 < left_of x.row)
 
 -- the answer is all such rows as of a day, in their order
-pub record IsAgenda (s : State) (IsAsked : AgendaRow → Type 0) (as_of : ℕ) (answer : Answer)
-    : Type 0 where
+pub record IsAgenda (s : State) (IsAsked : AgendaRow → Type 0) (as_of : ℕ)
+    (as_answer : List AgendaRow → Answer) (answer : Answer) : Type 0 where
   pub listed : List AgendaRow
   pub in_order : EachToLater ComesBefore listed
   pub all : (x : AgendaRow) → Has listed x ↔ (IsAgendaRow s as_of x × IsAsked x)
-  pub told : answer ≡ Ok (Told (Agenda listed))
+  pub told : answer ≡ as_answer listed
 
 -- ---- beside due lists
 

@@ -1,7 +1,7 @@
 -- What the desk answers to a question: the deposit schedule of a day, what must be deposited for a
 -- quarter, its liability by day.
 use Rattle.std.specs.Prelude.{◌≡◌, ◌⊎◌, ◌≤◌, ◌<◌, ◌↔◌, ◌&&◌, ℕ, ◌-◌, ◌+◌, ◌==◌, Bool, true, false}
-use Rattle.std.specs.Prelude.{List, Option, None, Some, IsTrue, Ok, ⊤}
+use Rattle.std.specs.Prelude.{List, Option, None, Some, IsTrue, ⊤}
 use Rattle.std.specs.List.{list_any}
 use Rattle.ftd_days.specs.Calendar.{year_of, quarter_of, quarter_start}
 use Rattle.ftd_days.specs.declared.cents.Cents.{Cents}
@@ -28,8 +28,7 @@ use Rattle.ftd_machine.specs.History.{form_of, live_sums, live_payments, AreLine
 use Rattle.ftd_machine.specs.Checks.{Answer}
 use Rattle.ftd_machine.specs.declared.replies.Reason.{Reason}
 use Rattle.ftd_machine.specs.declared.replies.Reason.TheVariants as reason
-use Rattle.ftd_machine.specs.declared.facts.Facts.TheVariants.{Status, Due, Days}
-use Rattle.ftd_machine.specs.declared.replies.Reply.TheVariants.{Told}
+use Rattle.ftd_machine.specs.Told.{status_answer, due_answer, days_answer}
 
 -- ---- the deposit schedule of a day
 
@@ -69,7 +68,7 @@ pub record IsStatus (own : Entries) (day : ℕ) (answer : Answer) : Type 0 where
   pub has_status : HasStatusOn line day status
   pub why : Reason
   pub is_why : IsReason lines line status why
-  pub told : answer ≡ Ok (Told (Status status why))
+  pub told : answer ≡ status_answer day status why
 
 -- ---- the due list of a quarter
 
@@ -153,14 +152,14 @@ abbrev pub first_of_row : DueRow → ℕ
 first_of_row row = row.obligation.first
 
 -- the answer is all such rows, by first day
-pub record IsDueList (holidays : List ℕ) (own : Entries) (quarter as_of : ℕ) (answer : Answer)
-    : Type 0 where
+pub record IsDueList (holidays : List ℕ) (own : Entries) (name : List ℕ) (quarter as_of : ℕ)
+    (answer : Answer) : Type 0 where
   pub rows : List Obligation
   pub owed : AreOwed holidays own rows
   pub listed : List DueRow
   pub by_first_day : KeysRise first_of_row listed
   pub all : (row : DueRow) → Has listed row ↔ IsDueRow holidays own rows quarter as_of row
-  pub told : answer ≡ Ok (Told (Due listed))
+  pub told : answer ≡ due_answer name quarter as_of listed
 
 -- ---- the liability of a quarter by day
 
@@ -174,8 +173,9 @@ abbrev pub day_of_sum : DaySum → ℕ
 day_of_sum x = x.day
 
 -- the answer is all such days, by day
-pub record IsScheduleB (own : Entries) (quarter : ℕ) (answer : Answer) : Type 0 where
+pub record IsScheduleB (own : Entries) (name : List ℕ) (quarter : ℕ) (answer : Answer)
+    : Type 0 where
   pub listed : List DaySum
   pub by_day : KeysRise day_of_sum listed
   pub all : (x : DaySum) → Has listed x ↔ IsLiableDay own quarter x
-  pub told : answer ≡ Ok (Told (Days listed))
+  pub told : answer ≡ days_answer name quarter listed

@@ -1,6 +1,6 @@
 -- What the desk answers to the question why an obligation is so.
 use Rattle.std.specs.Prelude.{◌≡◌, ◌≤◌, ◌<◌, ◌↔◌, ℕ, true, false, List, Option}
-use Rattle.std.specs.Prelude.{None, Some, Ok}
+use Rattle.std.specs.Prelude.{None, Some}
 use Rattle.ftd_days.specs.Calendar.{quarter_of, weekday_of}
 use Rattle.ftd_days.specs.Business.{is_business, is_holiday}
 use Rattle.ftd_rules.specs.declared.Obligation.{Obligation}
@@ -21,8 +21,7 @@ use Rattle.ftd_machine.specs.declared.explained.DayKind.TheVariants.{Holiday}
 use Rattle.ftd_machine.specs.declared.explained.Explanation.{Explanation}
 use Rattle.ftd_machine.specs.declared.explained.RunningSum.{RunningSum}
 use Rattle.ftd_machine.specs.declared.kept.KeptPayment.{KeptPayment}
-use Rattle.ftd_machine.specs.declared.facts.Facts.TheVariants.{Status, Explained}
-use Rattle.ftd_machine.specs.declared.replies.Reply.TheVariants.{Told}
+use Rattle.ftd_machine.specs.Told.{status_answer, explained_answer}
 
 -- ---- its paydays
 
@@ -71,7 +70,7 @@ IsPaymentOf own o x =
 pub record Explains (holidays : List ℕ) (own : Entries) (owed : List Obligation) (e : Explanation)
     : Type 0 where
   pub is_owed : Has owed e.obligation
-  pub schedule : IsStatus own e.obligation.first (Ok (Told (Status e.kind e.reason)))
+  pub schedule : IsStatus own e.obligation.first (status_answer e.obligation.first e.kind e.reason)
   pub paydays_rise : KeysRise day_of_payday e.paydays
   pub paydays : (x : RunningSum) → Has e.paydays x ↔ IsPaydayOf own e.obligation x
   pub days_rise : KeysRise day_counted e.days
@@ -88,10 +87,10 @@ IsExplained holidays own owed day (Some e) =
     Explains holidays own owed e × Covers e.obligation day
 
 -- the answer is that explanation
-pub record IsExplanation (holidays : List ℕ) (own : Entries) (day : ℕ) (answer : Answer)
-    : Type 0 where
+pub record IsExplanation (holidays : List ℕ) (own : Entries) (name : List ℕ) (day : ℕ)
+    (answer : Answer) : Type 0 where
   pub owed : List Obligation
   pub are_owed : AreOwed holidays own owed
   pub explained : Option Explanation
   pub is_explained : IsExplained holidays own owed day explained
-  pub told : answer ≡ Ok (Told (Explained explained))
+  pub told : answer ≡ explained_answer name day explained

@@ -1,5 +1,5 @@
 -- What the desk answers to the question what is kept.
-use Rattle.std.specs.Prelude.{◌≡◌, ◌⊎◌, ◌≤◌, ◌<◌, ◌↔◌, ◌++◌, ℕ, List, [], Option, None, Some, Ok}
+use Rattle.std.specs.Prelude.{◌≡◌, ◌⊎◌, ◌≤◌, ◌<◌, ◌↔◌, ◌++◌, ℕ, List, [], Option, None, Some}
 use Rattle.std.specs.Prelude.{Bool, true, false, map}
 use Rattle.ftd_days.specs.Calendar.{year_of, quarter_of}
 use Rattle.ftd_rules.specs.declared.Form.{Form}
@@ -21,16 +21,11 @@ use Rattle.ftd_machine.specs.declared.kept.KeptRun.{KeptRun}
 use Rattle.ftd_machine.specs.declared.kept.KeptTotal.{KeptTotal}
 use Rattle.ftd_machine.specs.declared.kept.KeptTotal.TheVariants.{OfQuarter, OfYear}
 use Rattle.ftd_machine.specs.declared.kept.KeptYear.{KeptYear}
-use Rattle.ftd_machine.specs.declared.kept.KeptRows.{KeptRows}
 use Rattle.ftd_machine.specs.declared.kept.KeptRows.TheVariants as rows
-use Rattle.ftd_machine.specs.declared.facts.Facts.TheVariants as facts
-use Rattle.ftd_machine.specs.declared.replies.Reply.TheVariants as reply
+use Rattle.ftd_machine.specs.Told.{kept_answer}
 use Rattle.ftd_machine.specs.declared.requests.Kept.{Kept}
 use Rattle.ftd_machine.specs.declared.requests.Kept.TheVariants.{Accounts, Years, Reported}
 use Rattle.ftd_machine.specs.declared.requests.Kept.TheVariants.{Holidays, Runs, Payments}
-
-abbrev pub told_rows : KeptRows → Answer
-told_rows kept = Ok (reply.Told (facts.Kept kept))
 
 -- ---- accounts
 
@@ -46,7 +41,7 @@ pub record AreAccounts (s : State) (answer : Answer) : Type 0 where
   pub listed : List KeptAccount
   pub by_name : EachToLater IsAccountBefore listed
   pub all : (x : KeptAccount) → Has listed x ↔ IsEnrolled s x
-  pub told : answer ≡ told_rows (rows.Accounts listed)
+  pub told : answer ≡ kept_answer (rows.Accounts listed)
 
 -- ---- open years
 
@@ -60,12 +55,12 @@ line_of x = x.line
 -- the answer is the lines of the account's open years: each with its lookback total, with whether
 -- the account is carried into it, with its opening and its turn; and beside each its lookback total
 -- by the totals as they were first reported
-pub record AreYears (own : Entries) (answer : Answer) : Type 0 where
+pub record AreYears (own : Entries) (name : List ℕ) (answer : Answer) : Type 0 where
   pub listed : List KeptYear
   pub are_lines : AreLinesOf own (map line_of listed)
   pub first_lookbacks : (x : KeptYear) → Has listed x
       → HasLookback (as_first_reported own) x.line.year x.first_lookback
-  pub told : answer ≡ told_rows (rows.Years listed)
+  pub told : answer ≡ kept_answer (rows.Years name listed)
 
 -- ---- reported totals
 
@@ -88,11 +83,11 @@ abbrev pub IsTotalBefore : KeptTotal → KeptTotal → Type 0
 IsTotalBefore a b = period_of a < period_of b
 
 -- the answer is all of them, by quarter or year
-pub record AreTotals (own : Entries) (answer : Answer) : Type 0 where
+pub record AreTotals (own : Entries) (name : List ℕ) (answer : Answer) : Type 0 where
   pub listed : List KeptTotal
   pub by_period : EachToLater IsTotalBefore listed
   pub all : (x : KeptTotal) → Has listed x ↔ IsTotal (form_of own.account) own x
-  pub told : answer ≡ told_rows (rows.Reported listed)
+  pub told : answer ≡ kept_answer (rows.Reported name listed)
 
 -- ---- holidays
 
@@ -124,7 +119,7 @@ pub record AreHolidays (s : State) (year : ℕ) (answer : Answer) : Type 0 where
   pub added : List ℕ
   pub rising : EachToLater IsDayBefore added
   pub all : (day : ℕ) → Has added day ↔ IsAdded s year day
-  pub told : answer ≡ told_rows (rows.Holidays (kept_days s given added))
+  pub told : answer ≡ kept_answer (rows.Holidays year (kept_days s given added))
 
 -- ---- runs
 
@@ -141,11 +136,11 @@ IsRunBefore a b =
     ⊎ ((a.run.payday ≡ b.run.payday) × (a.number < b.number))
 
 -- the answer is all of them, in this order
-pub record AreRuns (own : Entries) (quarter : ℕ) (answer : Answer) : Type 0 where
+pub record AreRuns (own : Entries) (name : List ℕ) (quarter : ℕ) (answer : Answer) : Type 0 where
   pub listed : List KeptRun
   pub in_order : EachToLater IsRunBefore listed
   pub all : (x : KeptRun) → Has listed x ↔ IsRunIn own quarter x
-  pub told : answer ≡ told_rows (rows.Runs listed)
+  pub told : answer ≡ kept_answer (rows.Runs name quarter listed)
 
 -- ---- payments
 
@@ -171,14 +166,14 @@ IsPaymentBefore a b =
     ⊎ ((a.payment.for_day ≡ b.payment.for_day) × (a.number < b.number))
 
 -- the answer is all of them, in this order
-pub record ArePayments (holidays : List ℕ) (own : Entries) (quarter : ℕ) (answer : Answer)
-    : Type 0 where
+pub record ArePayments (holidays : List ℕ) (own : Entries) (name : List ℕ) (quarter : ℕ)
+    (answer : Answer) : Type 0 where
   pub owed : List Obligation
   pub are_owed : AreOwed holidays own owed
   pub listed : List KeptPayment
   pub in_order : EachToLater IsPaymentBefore listed
   pub all : (x : KeptPayment) → Has listed x ↔ IsPaymentIn owed own quarter x
-  pub told : answer ≡ told_rows (rows.Payments listed)
+  pub told : answer ≡ kept_answer (rows.Payments name quarter listed)
 
 -- ---- the question
 
@@ -195,12 +190,12 @@ kept_checks s (Payments name quarter) =
 -- where they pass, this is the answer
 abbrev pub TellsKept : State → Kept → Answer → Type 0
 TellsKept s Accounts answer = AreAccounts s answer
-TellsKept s (Years name) answer = AreYears (entries_of s name) answer
-TellsKept s (Reported name) answer = AreTotals (entries_of s name) answer
+TellsKept s (Years name) answer = AreYears (entries_of s name) name answer
+TellsKept s (Reported name) answer = AreTotals (entries_of s name) name answer
 TellsKept s (Holidays year) answer = AreHolidays s year answer
-TellsKept s (Runs name quarter) answer = AreRuns (entries_of s name) quarter answer
+TellsKept s (Runs name quarter) answer = AreRuns (entries_of s name) name quarter answer
 TellsKept s (Payments name quarter) answer =
-    ArePayments (holidays s) (entries_of s name) quarter answer
+    ArePayments (holidays s) (entries_of s name) name quarter answer
 
 -- the account that it names; all accounts and the holidays of a year name none
 abbrev pub account_kept : Kept → Option (List ℕ)

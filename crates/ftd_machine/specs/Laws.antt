@@ -7,13 +7,10 @@ use Rattle.ftd_machine.specs.Runs.{IsFault}
 use Rattle.ftd_machine.specs.declared.replies.Reply.{Reply}
 use Rattle.ftd_machine.specs.declared.replies.Reply.TheVariants as reply
 use Rattle.ftd_machine.specs.declared.requests.Request.{Request}
-use Rattle.ftd_machine.specs.declared.requests.Request.TheVariants.{Enrol, Calendar, AddHoliday}
-use Rattle.ftd_machine.specs.declared.requests.Request.TheVariants.{Report, ReportYear, OpenYear}
-use Rattle.ftd_machine.specs.declared.requests.Request.TheVariants.{Post, Void, Pay, VoidPay}
-use Rattle.ftd_machine.specs.declared.requests.Request.TheVariants.{CorrectReport}
-use Rattle.ftd_machine.specs.declared.requests.Request.TheVariants.{CorrectReportYear}
-use Rattle.ftd_machine.specs.declared.requests.Request.TheVariants.{ChangeHoliday, CorrectAccount}
-use Rattle.ftd_machine.specs.declared.requests.Request.TheVariants.{Question}
+use Rattle.ftd_machine.specs.declared.requests.Request.TheVariants.{Enter, Post, Void, Pay, VoidPay}
+use Rattle.ftd_machine.specs.declared.requests.Request.TheVariants.{Correct, Question}
+use Rattle.ftd_machine.specs.declared.requests.Entry.TheVariants as entry
+use Rattle.ftd_machine.specs.declared.requests.Correction.TheVariants as correction
 
 -- the request was done, or its run was posted or voided
 abbrev pub is_change : Answer → Bool
@@ -33,57 +30,32 @@ IsBounded (reply.Posted difference) = ⊤
 
 -- the request names the account; a calendar and holidays name none
 abbrev pub Names : Request → List ℕ → Type 0
-Names (Enrol name start carried form) account = name ≡ account
-Names (Calendar year days) account = ⊥
-Names (AddHoliday day) account = ⊥
-Names (Report name quarter cents) account = name ≡ account
-Names (ReportYear name year cents) account = name ≡ account
-Names (OpenYear name year) account = name ≡ account
-Names (Post name number payday fit ss medicare) account = name ≡ account
+Names (Enter (entry.Account name own)) account = name ≡ account
+Names (Enter (entry.Calendar year days)) account = ⊥
+Names (Enter (entry.Holiday day)) account = ⊥
+Names (Enter (entry.Total name period cents)) account = name ≡ account
+Names (Enter (entry.Year name year)) account = name ≡ account
+Names (Post name number run) account = name ≡ account
 Names (Void name number) account = name ≡ account
-Names (Pay name number paid for_day cents) account = name ≡ account
+Names (Pay name number payment) account = name ≡ account
 Names (VoidPay name number) account = name ≡ account
-Names (CorrectReport name quarter number cents) account = name ≡ account
-Names (CorrectReportYear name year number cents) account = name ≡ account
-Names (ChangeHoliday day number is_holiday) account = ⊥
-Names (CorrectAccount name number start carried) account = name ≡ account
+Names (Correct number (correction.Total name period cents)) account = name ≡ account
+Names (Correct number (correction.Holiday day is_holiday)) account = ⊥
+Names (Correct number (correction.Account name beginning)) account = name ≡ account
 Names (Question question) account = AsksOf question account
 
 -- the request asks for a run or a payment more
 unfoldable pub adds_entry : Request → Bool
-adds_entry (Enrol name start carried form) = false
-adds_entry (Calendar year days) = false
-adds_entry (AddHoliday day) = false
-adds_entry (Report name quarter cents) = false
-adds_entry (ReportYear name year cents) = false
-adds_entry (OpenYear name year) = false
-adds_entry (Post name number payday fit ss medicare) = true
-adds_entry (Void name number) = false
-adds_entry (Pay name number paid for_day cents) = true
-adds_entry (VoidPay name number) = false
-adds_entry (CorrectReport name quarter number cents) = false
-adds_entry (CorrectReportYear name year number cents) = false
-adds_entry (ChangeHoliday day number is_holiday) = false
-adds_entry (CorrectAccount name number start carried) = false
-adds_entry (Question question) = false
+adds_entry (Post name number run) = true
+adds_entry (Pay name number payment) = true
+adds_entry request = false
 
--- the request is on a run: it posts or voids one
+-- obligations may differ after the request: it posts or voids a run, or corrects a total
 unfoldable pub is_on_run : Request → Bool
-is_on_run (Enrol name start carried form) = false
-is_on_run (Calendar year days) = false
-is_on_run (AddHoliday day) = false
-is_on_run (Report name quarter cents) = false
-is_on_run (ReportYear name year cents) = false
-is_on_run (OpenYear name year) = false
-is_on_run (Post name number payday fit ss medicare) = true
+is_on_run (Post name number run) = true
 is_on_run (Void name number) = true
-is_on_run (Pay name number paid for_day cents) = false
-is_on_run (VoidPay name number) = false
-is_on_run (CorrectReport name quarter number cents) = true
-is_on_run (CorrectReportYear name year number cents) = true
-is_on_run (ChangeHoliday day number is_holiday) = false
-is_on_run (CorrectAccount name number start carried) = false
-is_on_run (Question question) = false
+is_on_run (Correct number (correction.Total name period cents)) = true
+is_on_run request = false
 
 -- how many runs the account has, and how many payments, voided ones too
 abbrev pub runs_of : List ℕ → State → ℕ

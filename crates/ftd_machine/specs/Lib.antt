@@ -5,6 +5,7 @@ pub mod History
 pub mod Checks
 pub mod Requests
 pub mod Posting
+pub mod Told
 pub mod Asking
 pub mod Agenda
 pub mod PaidInTime

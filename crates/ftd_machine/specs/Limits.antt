@@ -3,6 +3,7 @@ use Rattle.std.specs.Prelude.{ℕ, ◌==◌, ◌&&◌, nat_le, nat_lt, Bool, Lis
 use Rattle.std.specs.List.{list_all}
 use Rattle.ftd_days.specs.Calendar.{year_of}
 use Rattle.ftd_days.specs.declared.cents.Cents.{Cents}
+use Rattle.ftd_rules.specs.declared.TheConstants.{AMOUNTS_END}
 use Rattle.ftd_rules.specs.declared.run.PayRun.{PayRun}
 
 -- the year is one of these
@@ -42,4 +43,4 @@ most_entries = 20_000
 -- the amounts of an account are together below this, in cents: of 20,000 runs with three amounts
 -- each
 abbrev pub amounts_end : ℕ
-amounts_end = 6_000_000_000_000_000
+amounts_end = AMOUNTS_END

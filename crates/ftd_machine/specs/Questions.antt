@@ -12,6 +12,7 @@ use Rattle.ftd_machine.specs.Requests.{agenda_checks, owed_checks, unapplied_che
 use Rattle.ftd_machine.specs.Asking.{IsStatus, IsDueList, IsScheduleB}
 use Rattle.ftd_machine.specs.Agenda.{IsDueBetween, IsLeftBy, IsAgenda}
 use Rattle.ftd_machine.specs.Explaining.{IsExplanation}
+use Rattle.ftd_machine.specs.Told.{agenda_answer, owed_answer}
 use Rattle.ftd_machine.specs.Unapplied.{IsUnapplied}
 use Rattle.ftd_machine.specs.Kept.{kept_checks, TellsKept, account_kept}
 use Rattle.ftd_machine.specs.declared.facts.Facts.{Facts}
@@ -48,24 +49,27 @@ question_checks s (Kept kept) = kept_checks s kept
 -- accounts, what of it is not paid, which money counts for nothing, or what is kept
 abbrev pub Tells : State → Question → Answer → Type 0
 Tells s (Status name day) answer = IsStatus (entries_of s name) day answer
-Tells s (Explain name day) answer = IsExplanation (holidays s) (entries_of s name) day answer
+Tells s (Explain name day) answer = IsExplanation (holidays s) (entries_of s name) name day answer
 Tells s (DueList name quarter as_of) answer =
-    IsDueList (holidays s) (entries_of s name) quarter as_of answer
-Tells s (ScheduleB name quarter) answer = IsScheduleB (entries_of s name) quarter answer
-Tells s (Agenda from to as_of) answer = IsAgenda s (IsDueBetween from to) as_of answer
-Tells s (Owed until as_of) answer = IsAgenda s (IsLeftBy until) as_of answer
+    IsDueList (holidays s) (entries_of s name) name quarter as_of answer
+Tells s (ScheduleB name quarter) answer = IsScheduleB (entries_of s name) name quarter answer
+Tells s (Agenda from to as_of) answer =
+    IsAgenda s (IsDueBetween from to) as_of (agenda_answer from to as_of) answer
+Tells s (Owed until as_of) answer =
+    IsAgenda s (IsLeftBy until) as_of (owed_answer until as_of) answer
 Tells s (Unapplied until) answer = IsUnapplied s until answer
 Tells s (Kept kept) answer = TellsKept s kept answer
 
 -- the amounts of a list of one account that is told are together below 6,000,000,000,000,000 cents;
 -- what is due over all accounts has no such limit
 abbrev pub AreBounded : Facts → Type 0
-AreBounded (facts.Due rows) = sum_by amount_of rows < amounts_end
-AreBounded (facts.Days sums) = sum_by cents_of sums < amounts_end
-AreBounded (facts.Status kind reason) = ⊤
+AreBounded (facts.Due list) = sum_by amount_of list.rows < amounts_end
+AreBounded (facts.Days list) = sum_by cents_of list.sums < amounts_end
+AreBounded (facts.Status schedule) = ⊤
 AreBounded (facts.Explained explained) = ⊤
-AreBounded (facts.Agenda rows) = ⊤
-AreBounded (facts.Unapplied rows) = ⊤
+AreBounded (facts.Agenda agenda) = ⊤
+AreBounded (facts.Owed owed) = ⊤
+AreBounded (facts.Unapplied unapplied) = ⊤
 AreBounded (facts.Kept rows) = ⊤
 
 -- the account that a question names; what is due over all accounts names none
@@ -100,18 +104,5 @@ kept_asked kept = request.Question (Kept kept)
 
 -- the question that a request is, if it is one
 abbrev pub question_of : Request → Option Question
-question_of (request.Enrol name start carried form) = None
-question_of (request.Calendar year days) = None
-question_of (request.AddHoliday day) = None
-question_of (request.Report name quarter cents) = None
-question_of (request.ReportYear name year cents) = None
-question_of (request.OpenYear name year) = None
-question_of (request.Post name number payday fit ss medicare) = None
-question_of (request.Void name number) = None
-question_of (request.Pay name number paid for_day cents) = None
-question_of (request.VoidPay name number) = None
-question_of (request.CorrectReport name quarter number cents) = None
-question_of (request.CorrectReportYear name year number cents) = None
-question_of (request.ChangeHoliday day number is_holiday) = None
-question_of (request.CorrectAccount name number start carried) = None
 question_of (request.Question question) = Some question
+question_of other = None

@@ -25,13 +25,11 @@ use Rattle.ftd_machine.specs.declared.replies.Refusal.{Refusal}
 use Rattle.ftd_machine.specs.declared.replies.Refusal.TheVariants.{YearNotOpen}
 use Rattle.ftd_machine.specs.declared.requests.Question.{Question as Questions}
 use Rattle.ftd_machine.specs.declared.requests.Request.{Request}
-use Rattle.ftd_machine.specs.declared.requests.Request.TheVariants.{Enrol, Calendar, AddHoliday}
-use Rattle.ftd_machine.specs.declared.requests.Request.TheVariants.{Report, ReportYear, OpenYear}
-use Rattle.ftd_machine.specs.declared.requests.Request.TheVariants.{Post, Void, Pay, VoidPay}
-use Rattle.ftd_machine.specs.declared.requests.Request.TheVariants.{CorrectReport}
-use Rattle.ftd_machine.specs.declared.requests.Request.TheVariants.{CorrectReportYear}
-use Rattle.ftd_machine.specs.declared.requests.Request.TheVariants.{ChangeHoliday, CorrectAccount}
-use Rattle.ftd_machine.specs.declared.requests.Request.TheVariants.{Question}
+use Rattle.ftd_machine.specs.declared.requests.Request.TheVariants.{Enter, Post, Void, Pay, VoidPay}
+use Rattle.ftd_machine.specs.declared.requests.Request.TheVariants.{Correct, Question}
+use Rattle.ftd_machine.specs.declared.requests.Entry.TheVariants as entry
+use Rattle.ftd_machine.specs.declared.requests.Correction.TheVariants as correction
+use Rattle.ftd_machine.specs.declared.entries.ReturnPeriod.TheVariants.{Quarter, Year}
 
 -- an account more, under its name
 abbrev pub with_account : List Enrolled → List ℕ → Account → List Enrolled
@@ -228,47 +226,29 @@ module _ (s : State) (answer : Answer) (new : State) where
 
 -- the desk that keeps s answers this to the request, and keeps the new state then
 abbrev pub Step : State → Request → Answer → State → Type 0
-Step s (Enrol name start carried form) answer new =
-    Enrols s answer new name (record { start = start; carried = carried; form = form })
-Step s (Calendar year days) answer new = Takes s answer new year days
-Step s (AddHoliday day) answer new = Adds s answer new day
-Step s (Report name quarter cents) answer new = Reports s answer new name quarter cents
-Step s (ReportYear name year cents) answer new = ReportsYear s answer new name year cents
-Step s (OpenYear name year) answer new = Opens s answer new name year
-Step s (Post name number payday fit ss medicare) answer new =
-    let run : PayRun = record { payday = payday; fit = fit; ss = ss; medicare = medicare } in
-    Posts s answer new name number run
+Step s (Enter (entry.Account name account)) answer new = Enrols s answer new name account
+Step s (Enter (entry.Calendar year days)) answer new = Takes s answer new year days
+Step s (Enter (entry.Holiday day)) answer new = Adds s answer new day
+Step s (Enter (entry.Total name (Quarter quarter) cents)) answer new =
+    Reports s answer new name quarter cents
+Step s (Enter (entry.Total name (Year year) cents)) answer new =
+    ReportsYear s answer new name year cents
+Step s (Enter (entry.Year name year)) answer new = Opens s answer new name year
+Step s (Post name number run) answer new = Posts s answer new name number run
 Step s (Void name number) answer new = Voids s answer new name number
-Step s (Pay name number paid for_day cents) answer new =
-    Pays s answer new name number (record { paid = paid; for_day = for_day; cents = cents })
+Step s (Pay name number payment) answer new = Pays s answer new name number payment
 Step s (VoidPay name number) answer new = VoidsPayment s answer new name number
-Step s (CorrectReport name quarter number cents) answer new =
+Step s (Correct number (correction.Total name (Quarter quarter) cents)) answer new =
     CorrectsReport s answer new name quarter number cents
-Step s (CorrectReportYear name year number cents) answer new =
+Step s (Correct number (correction.Total name (Year year) cents)) answer new =
     CorrectsReportYear s answer new name year number cents
-Step s (ChangeHoliday day number is_holiday) answer new = Changes s answer new day number is_holiday
-Step s (CorrectAccount name number start carried) answer new =
-    Moves s answer new name number (record { start = start; carried = carried })
+Step s (Correct number (correction.Holiday day is_holiday)) answer new =
+    Changes s answer new day number is_holiday
+Step s (Correct number (correction.Account name beginning)) answer new =
+    Moves s answer new name number beginning
 Step s (Question question) answer new = Answers s answer new question
 
--- the same request under another number: a correction, or a change of a holiday. Any other request
--- stays as it is.
+-- the same correction under another number; any other request stays as it is
 abbrev pub with_number : Request → ℕ → Request
-with_number (Enrol name start carried form) number = Enrol name start carried form
-with_number (Calendar year days) number = Calendar year days
-with_number (AddHoliday day) number = AddHoliday day
-with_number (Report name quarter cents) number = Report name quarter cents
-with_number (ReportYear name year cents) number = ReportYear name year cents
-with_number (OpenYear name year) number = OpenYear name year
-with_number (Post name run payday fit ss medicare) number = Post name run payday fit ss medicare
-with_number (Void name run) number = Void name run
-with_number (Pay name payment paid for_day cents) number = Pay name payment paid for_day cents
-with_number (VoidPay name payment) number = VoidPay name payment
-with_number (CorrectReport name quarter known cents) number =
-    CorrectReport name quarter number cents
-with_number (CorrectReportYear name year known cents) number =
-    CorrectReportYear name year number cents
-with_number (ChangeHoliday day known is_holiday) number = ChangeHoliday day number is_holiday
-with_number (CorrectAccount name known start carried) number =
-    CorrectAccount name number start carried
-with_number (Question question) number = Question question
+with_number (Correct known correction) number = Correct number correction
+with_number request number = request

@@ -1,5 +1,5 @@
 -- What the desk answers to the question which money counts for nothing, over all accounts.
-use Rattle.std.specs.Prelude.{◌≡◌, ◌⊎◌, ◌≤◌, ◌<◌, ◌↔◌, ℕ, false, List, Option, None, Some, Ok}
+use Rattle.std.specs.Prelude.{◌≡◌, ◌⊎◌, ◌≤◌, ◌<◌, ◌↔◌, ℕ, false, List, Option, None, Some}
 use Rattle.ftd_rules.specs.declared.Obligation.{Obligation}
 use Rattle.ftd_rules.specs.declared.payment.Payment.{Payment}
 use Rattle.ftd_rules.specs.Laws.{Covers}
@@ -12,8 +12,7 @@ use Rattle.ftd_machine.specs.Checks.{Answer}
 use Rattle.ftd_machine.specs.Agenda.{EachToLater, IsNameBefore}
 use Rattle.ftd_machine.specs.declared.entries.Account.{Account}
 use Rattle.ftd_machine.specs.declared.lists.UnappliedRow.{UnappliedRow}
-use Rattle.ftd_machine.specs.declared.facts.Facts.TheVariants.{Unapplied}
-use Rattle.ftd_machine.specs.declared.replies.Reply.TheVariants.{Told}
+use Rattle.ftd_machine.specs.Told.{unapplied_answer}
 
 -- ---- a row
 
@@ -75,4 +74,4 @@ pub record IsUnapplied (s : State) (until : ℕ) (answer : Answer) : Type 0 wher
   pub listed : List UnappliedRow
   pub in_order : EachToLater IsUnappliedBefore listed
   pub all : (x : UnappliedRow) → Has listed x ↔ (IsUnappliedRow s x × (x.first ≤ until))
-  pub told : answer ≡ Ok (Told (Unapplied listed))
+  pub told : answer ≡ unapplied_answer until listed

@@ -1,6 +1,6 @@
 //! What a request gives the desk to keep.
 
-use ftd_days::Day;
+use ftd_days::{Day, Quarter};
 use ftd_rules::Form;
 
 /// An employer's account.
@@ -20,4 +20,11 @@ pub struct Account {
 pub struct Beginning {
     pub start: Day,
     pub carried: bool,
+}
+
+/// The period that a return is about: a quarter on Form 941, a year on Form 943.
+#[derive(Clone, Copy, Debug, PartialEq, Eq)]
+pub enum ReturnPeriod {
+    Quarter(Quarter),
+    Year(u32),
 }

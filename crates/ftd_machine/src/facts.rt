@@ -6,25 +6,107 @@ ghost use Rattle.ftd_machine.specs.Questions.{AreBounded};
 use crate::explained::Explanation;
 use crate::kept::KeptRows;
 use crate::limits::{are_rows_bounded, are_sums_bounded};
-use crate::lists::{AgendaRows, DaySums, DueRows, UnappliedRows};
+use crate::lists::{AccountName, AgendaRows, DaySums, DueRows, UnappliedRows};
 use crate::replies::Reason;
+use ftd_days::{Day, Quarter};
 use ftd_rules::Kind;
 
-/// What the desk tells, as far as it was asked for.
+/// The deposit schedule of a day.
+#[derive(Clone, Copy, Debug, PartialEq, Eq)]
+pub struct DaySchedule {
+    /// The day.
+    pub day: Day,
+    /// The schedule.
+    pub kind: Kind,
+    /// Why the account has it.
+    pub reason: Reason,
+}
+
+/// Why the obligation of an account is so whose deposit period holds a day.
+#[derive(Drop)]
+pub struct Explained {
+    /// The account.
+    pub account: AccountName,
+    /// The day.
+    pub day: Day,
+    /// Why it is so. None where no obligation's deposit period holds the day.
+    pub found: Option<Explanation>,
+}
+
+/// The due list of an account's quarter as of a day.
+#[derive(Drop)]
+pub struct DueList {
+    /// The account.
+    pub account: AccountName,
+    /// The quarter.
+    pub quarter: Quarter,
+    /// The day as of which it is told.
+    pub as_of: Day,
+    /// Its rows, by first day.
+    pub rows: DueRows,
+}
+
+/// The liability of an account's quarter by day, as Schedule B of Form 941 shows it.
+#[derive(Drop)]
+pub struct LiabilityByDay {
+    /// The account.
+    pub account: AccountName,
+    /// The quarter.
+    pub quarter: Quarter,
+    /// The days that have liability, by day.
+    pub sums: DaySums,
+}
+
+/// What is due between two days, both included, over all accounts, as of a day.
+#[derive(Drop)]
+pub struct Agenda {
+    /// The first of the days.
+    pub from: Day,
+    /// The last of the days.
+    pub to: Day,
+    /// The day as of which it is told.
+    pub as_of: Day,
+    /// Its rows, by due date, then by account, then by first day.
+    pub rows: AgendaRows,
+}
+
+/// What is due until a day over all accounts, and not paid as of a day.
+#[derive(Drop)]
+pub struct Owed {
+    /// The day until which it is due.
+    pub until: Day,
+    /// The day as of which it is told.
+    pub as_of: Day,
+    /// Its rows, in the order of those of an agenda.
+    pub rows: AgendaRows,
+}
+
+/// Money that counts for nothing, over all accounts, of the days up to one.
+#[derive(Drop)]
+pub struct Unapplied {
+    /// The last of the days.
+    pub until: Day,
+    /// Its rows, by account, first day and number.
+    pub rows: UnappliedRows,
+}
+
+/// What the desk tells, with what it was asked for.
 #[derive(Drop)]
 pub enum Facts {
     /// The deposit schedule of a day.
-    Status { kind: Kind, reason: Reason },
-    /// Why the obligation is so, or nothing where no obligation's deposit period holds the day.
-    Explained(Option<Explanation>),
-    /// The rows of a due list, by first day.
-    Due(DueRows),
-    /// The days of a quarter that have liability, by day.
-    Days(DaySums),
-    /// What is due over all accounts, by due date, then by account, then by first day.
-    Agenda(AgendaRows),
-    /// Money that counts for nothing, over all accounts, by account, first day and number.
-    Unapplied(UnappliedRows),
+    Status(DaySchedule),
+    /// Why an obligation is so.
+    Explained(Explained),
+    /// A due list.
+    Due(DueList),
+    /// The liability of a quarter by day.
+    Days(LiabilityByDay),
+    /// What is due between two days over all accounts.
+    Agenda(Agenda),
+    /// What is due until a day over all accounts, and not paid.
+    Owed(Owed),
+    /// Money that counts for nothing, over all accounts.
+    Unapplied(Unapplied),
     /// What is kept.
     Kept(KeptRows),
 }
@@ -36,11 +118,12 @@ pub(crate) fn are_bounded(facts: &Facts) -> bool
     ensures { IsTrue result ↔ AreBounded facts.now }
 {
     match facts {
-        Facts::Due(rows) => are_rows_bounded(rows.as_slice()),
-        Facts::Days(sums) => are_sums_bounded(sums.as_slice()),
-        Facts::Status { .. }
+        Facts::Due(list) => are_rows_bounded(list.rows.as_slice()),
+        Facts::Days(list) => are_sums_bounded(list.sums.as_slice()),
+        Facts::Status(_)
         | Facts::Explained(_)
         | Facts::Agenda(_)
+        | Facts::Owed(_)
         | Facts::Unapplied(_)
         | Facts::Kept(_) => true,
     }

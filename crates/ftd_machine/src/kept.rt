@@ -94,19 +94,38 @@ pub type KeptRuns = ListOf<KeptRun>;
 /// Payments.
 pub type KeptPayments = ListOf<KeptPayment>;
 
-/// What is kept, as far as it was asked for.
+/// What is kept, with what it was asked for.
 #[derive(Drop)]
 pub enum KeptRows {
     /// The accounts, by name.
-    Accounts(KeptAccounts),
+    Accounts {
+        rows: KeptAccounts,
+    },
     /// The open years of an account, by year.
-    Years(KeptYears),
+    Years {
+        account: AccountName,
+        rows: KeptYears,
+    },
     /// The totals that an account reported, by quarter or year.
-    Reported(KeptTotals),
+    Reported {
+        account: AccountName,
+        rows: KeptTotals,
+    },
     /// The days of a year that were given as holidays, rising, then those that were added, rising.
-    Holidays(KeptHolidays),
-    /// Runs of an account, by payday and number.
-    Runs(KeptRuns),
-    /// Payments of an account, by the day that they are for and number.
-    Payments(KeptPayments),
+    Holidays {
+        year: u32,
+        rows: KeptHolidays,
+    },
+    /// The runs of an account with a payday in the quarter, by payday and number.
+    Runs {
+        account: AccountName,
+        quarter: Quarter,
+        rows: KeptRuns,
+    },
+    /// The payments of an account for a day of the quarter, by that day and number.
+    Payments {
+        account: AccountName,
+        quarter: Quarter,
+        rows: KeptPayments,
+    },
 }

@@ -11,6 +11,7 @@ mod entries;
 mod explained;
 mod facts;
 mod kept;
+pub mod laws;
 mod limits;
 mod lists;
 mod replies;
@@ -25,11 +26,13 @@ pub use crate::checks::{
 pub use crate::corrections::{
     change_holiday_check, correct_account_check, correct_report_check, correct_report_year_check,
 };
-pub use crate::entries::{Account, Beginning};
+pub use crate::entries::{Account, Beginning, ReturnPeriod};
 pub use crate::explained::{
     CountedDay, CountedDays, DayKind, Explanation, RunningSum, RunningSums,
 };
-pub use crate::facts::Facts;
+pub use crate::facts::{
+    Agenda, DaySchedule, DueList, Explained, Facts, LiabilityByDay, Owed, Unapplied,
+};
 pub use crate::kept::{
     KeptAccount, KeptAccounts, KeptHoliday, KeptHolidays, KeptPayment, KeptPayments, KeptRows,
     KeptRun, KeptRuns, KeptTotal, KeptTotals, KeptYear, KeptYears,
@@ -39,4 +42,4 @@ pub use crate::lists::{
     AccountName, AgendaRow, AgendaRows, DaySums, Days, DueRows, ListOf, UnappliedRow, UnappliedRows,
 };
 pub use crate::replies::{Difference, Named, Reason, Refusal, Reply, is_bounded};
-pub use crate::requests::{Kept, Question, Request};
+pub use crate::requests::{Correction, Entry, Kept, Question, Request};

@@ -9,7 +9,7 @@ ghost use Rattle.ftd_machine.specs.Limits.{amounts_end, is_between, is_amount};
 ghost use Rattle.ftd_machine.specs.Limits.{is_number, are_rising, is_calendar};
 
 use ftd_days::{Cents, Day, Quarter};
-use ftd_rules::{DaySum, DueRow};
+use ftd_rules::{AMOUNTS_END, DaySum, DueRow};
 
 /// The most runs of an account, and the most payments, voided ones too.
 pub const MOST_ENTRIES: u32 = 20_000;
@@ -19,10 +19,6 @@ pub const MOST_HOLIDAYS: usize = 60;
 
 /// The largest amount that a request may name, in cents.
 const MOST_CENTS: u64 = 99_999_999_999;
-
-/// What the amounts of an account stay below together, in cents: 20,000 runs with three amounts
-/// each.
-const AMOUNTS_END: u64 = 6_000_000_000_000_000;
 
 /// Whether the year is one of these.
 pub(crate) fn is_between(from: u32, to: u32, year: u32) -> bool

@@ -1,11 +1,12 @@
 //! Texts and lists inside requests and replies. Contracts see each as a list.
 
-ghost use Rattle.std.specs.Prelude.{◌≡◌};
+ghost use Rattle.std.specs.Prelude.{◌≡◌, IfOk};
 ghost use Rattle.std.specs.String.{string_bytes};
 ghost use Rattle.ftd_machine.specs.Agenda.{depends_on_total};
 
 use ftd_days::{Cents, Day};
 use ftd_rules::{DaySum, DueRow, Form, Verdict};
+use std::alloc::{AllocError, Global};
 use std::marker::Model;
 
 /// The name of an account, as it was given.
@@ -29,6 +30,15 @@ impl AccountName {
         ensures { result ≡ string_bytes name }
     {
         AccountName { name }
+    }
+
+    /// A copy of the text as a name. An error if there is no memory.
+    pub fn copied(alloc: Global, name: &str) -> Result<AccountName, AllocError>
+        ensures { IfOk result (λ copy. copy ≡ name.now) }
+    {
+        Ok(AccountName {
+            name: String::from_str(alloc, name)?,
+        })
     }
 
     /// The name as a text.

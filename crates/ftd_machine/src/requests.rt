@@ -5,19 +5,55 @@ ghost use Rattle.ftd_machine.specs.Kept.{account_kept};
 ghost use Rattle.ftd_machine.specs.Questions.{account_asked, question_of};
 ghost use Rattle.ftd_machine.specs.Step.{with_number};
 
+use crate::entries::{Account, Beginning, ReturnPeriod};
 use crate::lists::{AccountName, Days};
 use ftd_days::{Cents, Day, Quarter};
-use ftd_rules::Form;
+use ftd_rules::{PayRun, Payment};
 
 /// What may be asked of the desk. `docs/REQUESTS.md` has the checks of each in their order.
 #[derive(Drop)]
 pub enum Request {
-    /// A new account: the employer's first day, whether it comes in as semiweekly, and its form.
-    Enrol {
+    /// Something that deposits rest on is entered.
+    Enter(Entry),
+    /// A pay run, under its number.
+    Post {
         account: AccountName,
-        start: Day,
-        carried: bool,
-        form: Form,
+        number: u32,
+        run: PayRun,
+    },
+    /// The pay run of a number is voided.
+    Void {
+        account: AccountName,
+        number: u32,
+    },
+    /// A payment, under its number.
+    Pay {
+        account: AccountName,
+        number: u32,
+        payment: Payment,
+    },
+    /// The payment of a number is voided.
+    VoidPay {
+        account: AccountName,
+        number: u32,
+    },
+    /// What was entered before is put right: the first correction of each thing has number 1, the
+    /// next one 2.
+    Correct {
+        number: u32,
+        correction: Correction,
+    },
+    /// A question. Its answer follows from what is kept, and nothing changes.
+    Question(Question),
+}
+
+/// What is entered.
+#[derive(Drop)]
+pub enum Entry {
+    /// A new account, under its name.
+    Account {
+        name: AccountName,
+        account: Account,
     },
     /// The legal holidays of a year.
     Calendar {
@@ -25,86 +61,43 @@ pub enum Request {
         days: Days,
     },
     /// A holiday that is added to a year whose calendar is given.
-    AddHoliday {
+    Holiday {
         day: Day,
     },
-    /// The total that a Form 941 account reported for a quarter, in cents.
-    Report {
+    /// The total that an account reported, in cents: for a quarter on Form 941, for a year on Form
+    /// 943.
+    Total {
         account: AccountName,
-        quarter: Quarter,
-        cents: Cents,
-    },
-    /// The total that a Form 943 account reported for a year, in cents.
-    ReportYear {
-        account: AccountName,
-        year: u32,
+        period: ReturnPeriod,
         cents: Cents,
     },
     /// A year of the account is opened: its paydays may be posted from now on.
-    OpenYear {
+    Year {
         account: AccountName,
         year: u32,
     },
-    /// A pay run, under its number. Amounts are in cents.
-    Post {
+}
+
+/// What is put right. What was entered first stays as it was.
+#[derive(Drop)]
+pub enum Correction {
+    /// The total that an account reported for a quarter or a year, in cents.
+    Total {
         account: AccountName,
-        run: u32,
-        payday: Day,
-        fit: Cents,
-        ss: Cents,
-        medicare: Cents,
-    },
-    /// A pay run is voided.
-    Void {
-        account: AccountName,
-        run: u32,
-    },
-    /// A payment, under its number, made on a day, for a day, in cents.
-    Pay {
-        account: AccountName,
-        payment: u32,
-        paid: Day,
-        for_day: Day,
+        period: ReturnPeriod,
         cents: Cents,
     },
-    /// A payment is voided.
-    VoidPay {
-        account: AccountName,
-        payment: u32,
-    },
-    /// The total of a quarter that a Form 941 account reported is put right, in cents: its first
-    /// correction has number 1, the next one 2.
-    CorrectReport {
-        account: AccountName,
-        quarter: Quarter,
-        number: u32,
-        cents: Cents,
-    },
-    /// The total of a year that a Form 943 account reported is put right, in cents, as that of a
-    /// quarter is.
-    CorrectReportYear {
-        account: AccountName,
-        year: u32,
-        number: u32,
-        cents: Cents,
-    },
-    /// A day of a year whose calendar is given is taken back as a holiday, or made one again: its
-    /// first change has number 1, the next one 2.
-    ChangeHoliday {
+    /// A day of a year whose calendar is given is taken back as a holiday, or made one again.
+    Holiday {
         day: Day,
-        number: u32,
         is_holiday: bool,
     },
-    /// The first day of an account, and whether it came in as semiweekly, are put right while
-    /// nothing rests on them: the first correction has number 1, the next one 2.
-    CorrectAccount {
+    /// The first day of an account, and whether it came in as semiweekly, while nothing rests on
+    /// them.
+    Account {
         account: AccountName,
-        number: u32,
-        start: Day,
-        carried: bool,
+        beginning: Beginning,
     },
-    /// A question. Its answer follows from what is kept, and nothing changes.
-    Question(Question),
 }
 
 impl Request {
@@ -113,46 +106,19 @@ impl Request {
         ensures { MatchOption result (question_of self.now ≡ None)
             (λ question. question_of self.now ≡ Some question.now) }
     {
-        match self {
-            Request::Question(question) => Some(question),
-            Request::Enrol { .. }
-            | Request::Calendar { .. }
-            | Request::AddHoliday { .. }
-            | Request::Report { .. }
-            | Request::ReportYear { .. }
-            | Request::OpenYear { .. }
-            | Request::Post { .. }
-            | Request::Void { .. }
-            | Request::Pay { .. }
-            | Request::VoidPay { .. }
-            | Request::CorrectReport { .. }
-            | Request::CorrectReportYear { .. }
-            | Request::ChangeHoliday { .. }
-            | Request::CorrectAccount { .. } => None,
+        if let Request::Question(question) = self {
+            Some(question)
+        } else {
+            None
         }
     }
 
-    /// The same request under another number: a correction, or a change of a holiday. Any other
-    /// request stays as it is.
+    /// The same correction under another number. Any other request stays as it is.
     pub fn with_number(mut self, number: u32) -> Request
         ensures { result ≡ with_number self number }
     {
-        match &mut self {
-            Request::CorrectReport { number: own, .. } => *own = number,
-            Request::CorrectReportYear { number: own, .. } => *own = number,
-            Request::ChangeHoliday { number: own, .. } => *own = number,
-            Request::CorrectAccount { number: own, .. } => *own = number,
-            Request::Enrol { .. }
-            | Request::Calendar { .. }
-            | Request::AddHoliday { .. }
-            | Request::Report { .. }
-            | Request::ReportYear { .. }
-            | Request::OpenYear { .. }
-            | Request::Post { .. }
-            | Request::Void { .. }
-            | Request::Pay { .. }
-            | Request::VoidPay { .. }
-            | Request::Question(_) => {}
+        if let Request::Correct { number: own, .. } = &mut self {
+            *own = number;
         }
         self
     }

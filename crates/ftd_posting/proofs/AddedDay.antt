@@ -16,7 +16,8 @@ use Rattle.ftd_store.specs.Rows.{holiday_row}
 use Rattle.ftd_store.specs.Changes.{with_added_holiday}
 use Rattle.ftd_store.specs.Finds.{FindsCalendar, ListsAdded}
 use Rattle.ftd_machine.specs.declared.requests.Request.{Request}
-use Rattle.ftd_machine.specs.declared.requests.Request.TheVariants.{AddHoliday}
+use Rattle.ftd_machine.specs.declared.requests.Request.TheVariants.{Enter}
+use Rattle.ftd_machine.specs.declared.requests.Entry.TheVariants as entry
 use Rattle.ftd_machine.specs.declared.replies.Reply.TheVariants.{Done}
 use Rattle.ftd_machine.specs.declared.replies.Refusal.TheVariants.{BadDay, BadCalendar}
 use Rattle.ftd_machine.specs.declared.replies.Refusal.TheVariants.{CalendarMissing}
@@ -161,7 +162,7 @@ module _ {A B : Type 0} (day year : ℕ) (its : year ≡ year_of day) (found : O
   -- a check decides
   pub added_decided : (answer : Answer) → checks ≡ Some answer → (t : Tables) (s : State)
       → StandsFor t s → IsSound s → FindsCalendar year found t → ListsAdded year added t
-      → Step s (AddHoliday day) answer s
+      → Step s (Enter (entry.Holiday day)) answer s
   added_decided answer decided t s stands sound finds lists =
       subst (λ o. Decides o s answer s ((answer ≡ Ok Done) × (s ≡ Next day s)))
       (sym (checks_known t s stands sound finds lists ∙ decided)) (refl, refl)
@@ -169,10 +170,10 @@ module _ {A B : Type 0} (day year : ℕ) (its : year ≡ year_of day) (found : O
   -- all checks pass
   pub added_done : checks ≡ None → (t u : Tables) (s : State) → StandsFor t s → IsSound s
       → FindsCalendar year found t × ListsAdded year added t → EntersDay (Added day) t u
-      → (next : State) × Step s (AddHoliday day) (Ok Done) next × StandsFor u next
+      → (next : State) × Step s (Enter (entry.Holiday day)) (Ok Done) next × StandsFor u next
   added_done passed t u s stands sound knows enters =
       let answer : Answer = Ok Done in
-      let request : Request = AddHoliday day in
+      let request : Request = Enter (entry.Holiday day) in
       let next : State = Next day s in
       let step : Step s request answer next =
       subst (λ o. Decides o s answer next ((answer ≡ Ok Done) × (next ≡ next)))

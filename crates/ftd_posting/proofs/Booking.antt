@@ -170,7 +170,7 @@ book_known name account year days ledger t of_year starts ends knows knows_ledge
 
 module _ (name : List ℕ) (number : ℕ) (run : PayRun) (count : ℕ) (book : Book) where
   abbrev Asked : Request
-  Asked = Post name number run.payday run.fit run.ss run.medicare
+  Asked = Post name number run
 
   abbrev checks_on : Entries → Option Answer
   checks_on own = first_of (post_checks name number run own.account (kept_at number own.runs)
@@ -442,7 +442,7 @@ module _ {S : Type 0} (g : store.Ghosts S) (name : List ℕ) (number : ℕ) (run
             tables = u;
             stands = made;
             stands_for = step.2;
-            sound = step_sound s (Post name number run.payday run.fit run.ss run.medicare)
+            sound = step_sound s (Post name number run)
                 (told difference) step.0 step.1 sound;
           },
           step.3,

@@ -15,7 +15,8 @@ use Rattle.ftd_store.specs.Rows.{holiday_change_row}
 use Rattle.ftd_store.specs.declared.correction_cells.HolidayChange.{HolidayChange}
 use Rattle.ftd_store.specs.Changes.{with_holiday_change}
 use Rattle.ftd_machine.specs.declared.requests.Request.{Request}
-use Rattle.ftd_machine.specs.declared.requests.Request.TheVariants.{ChangeHoliday}
+use Rattle.ftd_machine.specs.declared.requests.Request.TheVariants.{Correct}
+use Rattle.ftd_machine.specs.declared.requests.Correction.TheVariants as correction
 use Rattle.ftd_machine.specs.declared.replies.Reply.TheVariants.{Done}
 use Rattle.ftd_machine.specs.State.{State, DayChange, calendar_at, added_in, holidays, all_days}
 use Rattle.ftd_machine.specs.State.{changes_of, says_holiday, is_on_day, is_in_force, latest}
@@ -140,7 +141,7 @@ module _ (day : ℕ) (s : State) (among : is_holiday (all_days s) day ≡ true) 
 
 module _ (day number : ℕ) (word : Bool) where
   abbrev Asked : Request
-  Asked = ChangeHoliday day number word
+  Asked = Correct number (correction.Holiday day word)
 
   abbrev pub checks : KnownForChange → Option Answer
   checks known =

@@ -32,8 +32,9 @@ use Rattle.ftd_store.specs.Corrections.{IsAccountCorrection}
 use Rattle.ftd_store.specs.Finds.{FindsInForce}
 use Rattle.ftd_machine.specs.declared.entries.Account.{Account}
 use Rattle.ftd_machine.specs.declared.requests.Request.{Request}
-use Rattle.ftd_machine.specs.declared.requests.Request.TheVariants.{CorrectReport}
-use Rattle.ftd_machine.specs.declared.requests.Request.TheVariants.{CorrectReportYear}
+use Rattle.ftd_machine.specs.declared.requests.Request.TheVariants.{Correct}
+use Rattle.ftd_machine.specs.declared.requests.Correction.TheVariants as correction
+use Rattle.ftd_machine.specs.declared.entries.ReturnPeriod.TheVariants.{Quarter, Year}
 use Rattle.ftd_machine.specs.State.{State, Entry, entries_of, is_open, has_key}
 use Rattle.ftd_machine.specs.State.{content_of, kept_at, numbered, all_at, latest}
 use Rattle.ftd_machine.specs.History.{figure_of, figures, form_of, start_of, IsLookbackOn}
@@ -164,7 +165,7 @@ in_force_as name found t v accounts corrections f = record {
 module _ (name : List ℕ) (quarter number : ℕ) (cents : Cents) (year : ℕ)
     (only : IsOnlyYearOf quarter year) where
   abbrev QuarterAsked : Request
-  QuarterAsked = CorrectReport name quarter number cents
+  QuarterAsked = Correct number (correction.Total name (Quarter quarter) cents)
 
   abbrev quarter_correction : Correction
   quarter_correction = record { number = number; cents = cents }
@@ -329,7 +330,7 @@ module _ (name : List ℕ) (quarter number : ℕ) (cents : Cents) (year : ℕ)
 
 module _ (name : List ℕ) (reported_year number : ℕ) (cents : Cents) (counting : ℕ) where
   abbrev YearAsked : Request
-  YearAsked = CorrectReportYear name reported_year number cents
+  YearAsked = Correct number (correction.Total name (Year reported_year) cents)
 
   abbrev year_correction : Correction
   year_correction = record { number = number; cents = cents }

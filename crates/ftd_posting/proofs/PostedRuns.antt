@@ -66,7 +66,7 @@ module _ (name : List ℕ) (number : ℕ) (run : PayRun) (count : ℕ) where
   KnowsAll = KnowsForPost name number (year_of run.payday)
 
   abbrev Asked : Request
-  Asked = Post name number run.payday run.fit run.ss run.medicare
+  Asked = Post name number run
 
   abbrev pub checks : KnownForPost → Option Answer
   checks known = first_of (post_checks name number run known.account known.kept known.is_open count)

@@ -96,5 +96,5 @@ abbrev pub PostsBy : List ℕ → ℕ → PayRun → Book → Book → Answer �
     → Tables → Type 0
 PostsBy name number run old new answer before after t =
     (s : State) → StandsFor t s → IsSound s → IsBook s name old
-    → (next : State) × Step s (Post name number run.payday run.fit run.ss run.medicare) answer next
+    → (next : State) × Step s (Post name number run) answer next
     × IsKept after.now next × IsBook next name new

@@ -1,5 +1,5 @@
 -- What becomes of the tables where a run is posted or voided, whatever they hold.
-use Rattle.std.specs.Prelude.{◌≡◌, true, ℕ, ◌+◌, Bool, List, Some, Ok}
+use Rattle.std.specs.Prelude.{◌≡◌, true, ℕ, ◌+◌, Bool, List, Some, Ok, ⊤}
 use Rattle.sqlite.specs.Effect.{Database}
 use Rattle.ftd_days.specs.Calendar.{quarter_start, year_start}
 use Rattle.ftd_days.specs.declared.cents.Cents.{Cents}
@@ -14,13 +14,9 @@ use Rattle.ftd_machine.specs.Checks.{Answer}
 use Rattle.ftd_machine.specs.Laws.{is_change}
 use Rattle.ftd_machine.specs.declared.replies.Reply.TheVariants.{Posted}
 use Rattle.ftd_machine.specs.declared.requests.Request.{Request}
-use Rattle.ftd_machine.specs.declared.requests.Request.TheVariants.{CorrectReport}
-use Rattle.ftd_machine.specs.declared.requests.Request.TheVariants.{CorrectReportYear}
-use Rattle.ftd_machine.specs.declared.requests.Request.TheVariants.{ChangeHoliday, CorrectAccount}
-use Rattle.ftd_machine.specs.declared.requests.Request.TheVariants.{Enrol, Calendar, AddHoliday}
-use Rattle.ftd_machine.specs.declared.requests.Request.TheVariants.{Report, ReportYear, OpenYear}
-use Rattle.ftd_machine.specs.declared.requests.Request.TheVariants.{Post, Void, Pay, VoidPay}
-use Rattle.ftd_machine.specs.declared.requests.Request.TheVariants.{Question}
+use Rattle.ftd_machine.specs.declared.requests.Request.TheVariants.{Post, Void, Correct}
+use Rattle.ftd_machine.specs.declared.requests.Correction.TheVariants as correction
+use Rattle.ftd_machine.specs.declared.entries.ReturnPeriod.TheVariants.{Quarter, Year}
 use Rattle.ftd_machine.specs.declared.replies.Difference.{Difference}
 use Rattle.ftd_repairs.specs.Reposted.{IsReposted}
 use Rattle.ftd_posting.specs.Correcting.{EntersFigure, IsOnlyYearOf}
@@ -79,22 +75,10 @@ Becoming So answer before after t =
 
 -- so of a request that posts or voids a run, or corrects a figure; nothing is said here of others
 unfoldable pub Repairs : Request → Answer → Database → Database → Tables → Type 0
-Repairs (Post name number payday fit ss medicare) =
-    let run : PayRun = record { payday = payday; fit = fit; ss = ss; medicare = medicare } in
-    Becoming (PostsRun name number run)
+Repairs (Post name number run) = Becoming (PostsRun name number run)
 Repairs (Void name number) = Becoming (VoidsRun name number)
-Repairs (Enrol name start carried form) = λ answer before after t. Unit {0}
-Repairs (Calendar year days) = λ answer before after t. Unit {0}
-Repairs (AddHoliday day) = λ answer before after t. Unit {0}
-Repairs (Report name quarter cents) = λ answer before after t. Unit {0}
-Repairs (ReportYear name year cents) = λ answer before after t. Unit {0}
-Repairs (OpenYear name year) = λ answer before after t. Unit {0}
-Repairs (Pay name number paid for_day cents) = λ answer before after t. Unit {0}
-Repairs (VoidPay name number) = λ answer before after t. Unit {0}
-Repairs (CorrectReport name quarter number cents) =
+Repairs (Correct number (correction.Total name (Quarter quarter) cents)) =
     Becoming (CorrectsQuarter name quarter number cents)
-Repairs (CorrectReportYear name year number cents) =
+Repairs (Correct number (correction.Total name (Year year) cents)) =
     Becoming (CorrectsYear name year number cents)
-Repairs (ChangeHoliday day number is_holiday) = λ answer before after t. Unit {0}
-Repairs (CorrectAccount name number start carried) = λ answer before after t. Unit {0}
-Repairs (Question question) = λ answer before after t. Unit {0}
+Repairs other = λ answer before after t. ⊤

@@ -1,7 +1,8 @@
 //! A holiday is added.
 
 ghost use Rattle.ftd_store.specs.Frame.{Calls};
-ghost use Rattle.ftd_machine.specs.declared.requests.Request.TheVariants.{AddHoliday};
+ghost use Rattle.ftd_machine.specs.declared.requests.Request.TheVariants.{Enter};
+ghost use Rattle.ftd_machine.specs.declared.requests.Entry.TheVariants as entry;
 ghost use Rattle.ftd_entries.specs.Words.{Serves};
 
 use crate::moving::{DayEntry, enter_and_move};
@@ -18,7 +19,7 @@ pub fn add_holiday<S: Alter>(
     alloc: Global,
     day: Day,
 ) -> Result<Answer, StoreFault>
-    ensures call { Calls S.Store tx.old tx.new result (Serves (AddHoliday day)) }
+    ensures call { Calls S.Store tx.old tx.new result (Serves (Enter (entry.Holiday day))) }
 {
     let year = day.year();
     let calendar = tx.calendar(alloc, year)?;

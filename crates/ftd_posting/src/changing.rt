@@ -3,7 +3,8 @@
 ghost use Rattle.std.specs.Prelude.{◌≡◌, IfOk};
 ghost use Rattle.ftd_store.specs.Frame.{Calls, Reads};
 ghost use Rattle.ftd_store.specs.Holidays.{words_on};
-ghost use Rattle.ftd_machine.specs.declared.requests.Request.TheVariants.{ChangeHoliday};
+ghost use Rattle.ftd_machine.specs.declared.requests.Request.TheVariants.{Correct};
+ghost use Rattle.ftd_machine.specs.declared.requests.Correction.TheVariants as correction;
 ghost use Rattle.ftd_machine.specs.State.{numbered};
 ghost use Rattle.ftd_entries.specs.Words.{Serves};
 ghost use Rattle.ftd_posting.specs.Changing.{KnowsForChange, KnowsWords};
@@ -93,7 +94,7 @@ pub fn change_holiday<S: Alter>(
     is_holiday: bool,
 ) -> Result<Answer, StoreFault>
     ensures call { Calls S.Store tx.old tx.new result
-        (Serves (ChangeHoliday day number is_holiday)) }
+        (Serves (Correct number (correction.Holiday day is_holiday))) }
 {
     let before = known_for_change(tx, alloc, day)?;
     let checked = change_holiday_check(

@@ -3,8 +3,9 @@
 ghost use Rattle.std.specs.Prelude.{◌≡◌, ◌+◌};
 ghost use Rattle.ftd_store.specs.Frame.{Calls, Reads};
 ghost use Rattle.ftd_machine.specs.State.{numbered};
-ghost use Rattle.ftd_machine.specs.declared.requests.Request.TheVariants.{CorrectReport};
-ghost use Rattle.ftd_machine.specs.declared.requests.Request.TheVariants.{CorrectReportYear};
+ghost use Rattle.ftd_machine.specs.declared.requests.Request.TheVariants.{Correct};
+ghost use Rattle.ftd_machine.specs.declared.requests.Correction.TheVariants as correction;
+ghost use Rattle.ftd_machine.specs.declared.entries.ReturnPeriod.TheVariants as periods;
 ghost use Rattle.ftd_entries.specs.Known.{amounts_of};
 ghost use Rattle.ftd_entries.specs.Words.{Serves};
 ghost use Rattle.ftd_posting.specs.Correcting.{KnowsForReport, KnowsForYear};
@@ -112,7 +113,7 @@ pub fn correct_report<S: Alter>(
     cents: Cents,
 ) -> Result<Answer, StoreFault>
     ensures call { Calls S.Store tx.old tx.new result
-        (Serves (CorrectReport name.now quarter number cents)) }
+        (Serves (Correct number (correction.Total name.now (periods.Quarter quarter) cents))) }
     ensures repairs { Calls S.Store tx.old tx.new result (λ answer before after.
         Becoming (CorrectsQuarter name.now quarter number cents) answer before.now after.now) }
 {
@@ -151,7 +152,7 @@ pub fn correct_report_year<S: Alter>(
     cents: Cents,
 ) -> Result<Answer, StoreFault>
     ensures call { Calls S.Store tx.old tx.new result
-        (Serves (CorrectReportYear name.now year number cents)) }
+        (Serves (Correct number (correction.Total name.now (periods.Year year) cents))) }
     ensures repairs { Calls S.Store tx.old tx.new result (λ answer before after.
         Becoming (CorrectsYear name.now year number cents) answer before.now after.now) }
 {

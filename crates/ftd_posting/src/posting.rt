@@ -28,7 +28,7 @@ pub fn post<S: Alter>(
 ) -> Result<Answer, StoreFault>
     ensures call { Calls S.Store tx.old tx.new result (λ answer before after t.
         CountsRuns name.now count t
-        → Serves (Post name.now number run.payday run.fit run.ss run.medicare)
+        → Serves (Post name.now number run)
         answer before after t) }
     ensures repairs { Calls S.Store tx.old tx.new result (λ answer before after.
         Becoming (PostsRun name.now number run) answer before.now after.now) }

@@ -35,7 +35,7 @@ module _ {W : Type 0} (taken : W → Option (List ℕ)) (start : Option (List �
       (subst (λ z. Has z before) (sym (append-nil done)) has)
   has_more done (row ∷ rows) before after has (next, takes, later) =
       subst (λ z. Has z after) (append_assoc done (row ∷ []) rows)
-      (has_more (done ++ row ∷ []) rows next after (takes start account quarter as_of done has)
+      (has_more (done ++ row ∷ []) rows next after (takes.goes start account quarter as_of done has)
       later)
 
   pub has_taken : (rows : List DueRow) (before after : DueText W) → Has [] before
@@ -56,7 +56,7 @@ module _ {W : Type 0} (taken : W → Option (List ℕ)) (start : Option (List �
       → HasTaken (TakesRow taken) before first mid → BreaksAt taken failed mid row after
       → BreaksIn taken failed start account quarter as_of first row rest after
   has_broken failed first rest row before mid after has took broke =
-      broke start account quarter as_of first rest (has_taken first before mid has took)
+      broke.breaks start account quarter as_of first rest (has_taken first before mid has took)
 
 -- the amounts of the rows come to the bound
 pub come_to : (first rest : List DueRow) (row : DueRow)

@@ -17,3 +17,9 @@ mod FaultLines
 mod Numbered
 mod RecordFacts
 mod Puts
+mod PlainFields
+mod RecordText
+mod PrintedDays
+mod ReadBack
+mod Reread
+mod Imported

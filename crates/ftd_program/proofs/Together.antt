@@ -16,7 +16,7 @@ use Rattle.ftd_machine.specs.Sound.{IsSound}
 use Rattle.ftd_machine.specs.declared.replies.Refusal.{Refusal}
 use Rattle.ftd_machine.specs.declared.replies.Refusal.TheVariants as refusal
 use Rattle.ftd_machine.specs.declared.requests.Request.{Request}
-use Rattle.ftd_laws.proofs.Alike.{answers_once}
+use Rattle.ftd_machine.proofs.Alike.{answers_once}
 use Rattle.ftd_machine.proofs.Soundness.{step_sound}
 use Rattle.ftd_desk.specs.Desks.{Held, Keeps}
 use Rattle.ftd_desk.specs.Words.{AreSteps, HandlesAll, HandlesTogether, MayLeaveAll, MayLeaveRun}

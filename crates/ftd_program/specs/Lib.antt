@@ -1,3 +1,4 @@
+pub mod Exports
 pub mod Added
 pub mod Changed
 pub mod Collections

@@ -2,8 +2,6 @@
 use Rattle.std.specs.Prelude.{◌≡◌, ◌≤◌, ℕ, nat_lt, Bool, List, Option, None, Some, Result}
 use Rattle.std.specs.Prelude.{Ok, Err, ⊤, if◌then◌else◌}
 use Rattle.sqlite.specs.State.{HasCleanDisk}
-use Rattle.ftd_rules.specs.declared.payment.Payment.{Payment}
-use Rattle.ftd_rules.specs.declared.run.PayRun.{PayRun}
 use Rattle.ftd_machine.specs.Requests.{is_unused}
 use Rattle.ftd_machine.specs.State.{State, calendar_at, enrolled_in, entries_of}
 use Rattle.ftd_machine.specs.declared.entries.Account.{Account}
@@ -13,6 +11,8 @@ use Rattle.ftd_machine.specs.declared.replies.Refusal.{Refusal}
 use Rattle.ftd_machine.specs.declared.replies.Refusal.TheVariants as refusal
 use Rattle.ftd_machine.specs.declared.requests.Request.{Request}
 use Rattle.ftd_machine.specs.declared.requests.Request.TheVariants as request
+use Rattle.ftd_machine.specs.declared.requests.Entry.{Entry}
+use Rattle.ftd_machine.specs.declared.requests.Entry.TheVariants as entry
 use Rattle.ftd_questions.specs.Missing.{first_year, missing_from}
 use Rattle.ftd_questions.specs.Nearest.{IsMeant}
 use Rattle.ftd_desk.specs.Desks.{Held, Keeps}
@@ -47,41 +47,15 @@ ShowsDays None known = known ≡ Nothing
 -- where a year could not be opened, the quarters of its lookback period from this one on that are
 -- still to be reported
 abbrev pub KnowsQuarters : State → Request → ℕ → Known → Type 0
-KnowsQuarters s (request.OpenYear account year) first known =
+KnowsQuarters s (request.Enter (entry.Year account year)) first known =
     2001 ≤ year → year ≤ 2098
     → ShowsQuarters (missing_from (entries_of s account) first year) known
-KnowsQuarters s (request.Enrol account start carried form) first known = known ≡ Nothing
-KnowsQuarters s (request.Calendar year days) first known = known ≡ Nothing
-KnowsQuarters s (request.AddHoliday day) first known = known ≡ Nothing
-KnowsQuarters s (request.Report account quarter cents) first known = known ≡ Nothing
-KnowsQuarters s (request.ReportYear account year cents) first known = known ≡ Nothing
-KnowsQuarters s (request.Post account run payday fit ss medicare) first known = known ≡ Nothing
-KnowsQuarters s (request.Void account run) first known = known ≡ Nothing
-KnowsQuarters s (request.Pay account payment paid for_day cents) first known = known ≡ Nothing
-KnowsQuarters s (request.VoidPay account payment) first known = known ≡ Nothing
-KnowsQuarters s (request.CorrectReport account quarter number cents) first known = known ≡ Nothing
-KnowsQuarters s (request.CorrectReportYear account year number cents) first known = known ≡ Nothing
-KnowsQuarters s (request.ChangeHoliday day number is_holiday) first known = known ≡ Nothing
-KnowsQuarters s (request.CorrectAccount account number start carried) first known = known ≡ Nothing
-KnowsQuarters s (request.Question question) first known = known ≡ Nothing
+KnowsQuarters s other first known = known ≡ Nothing
 
 -- where a calendar differs, the days that it was given with
 abbrev pub KnowsDays : State → Request → Known → Type 0
-KnowsDays s (request.Calendar year days) known = ShowsDays (calendar_at s year) known
-KnowsDays s (request.Enrol account start carried form) known = known ≡ Nothing
-KnowsDays s (request.AddHoliday day) known = known ≡ Nothing
-KnowsDays s (request.Report account quarter cents) known = known ≡ Nothing
-KnowsDays s (request.ReportYear account year cents) known = known ≡ Nothing
-KnowsDays s (request.OpenYear account year) known = known ≡ Nothing
-KnowsDays s (request.Post account run payday fit ss medicare) known = known ≡ Nothing
-KnowsDays s (request.Void account run) known = known ≡ Nothing
-KnowsDays s (request.Pay account payment paid for_day cents) known = known ≡ Nothing
-KnowsDays s (request.VoidPay account payment) known = known ≡ Nothing
-KnowsDays s (request.CorrectReport account quarter number cents) known = known ≡ Nothing
-KnowsDays s (request.CorrectReportYear account year number cents) known = known ≡ Nothing
-KnowsDays s (request.ChangeHoliday day number is_holiday) known = known ≡ Nothing
-KnowsDays s (request.CorrectAccount account number start carried) known = known ≡ Nothing
-KnowsDays s (request.Question question) known = known ≡ Nothing
+KnowsDays s (request.Enter (entry.Calendar year days)) known = ShowsDays (calendar_at s year) known
+KnowsDays s other known = known ≡ Nothing
 
 -- where a year is not open, the first of the account's years, if that is a later one
 abbrev pub begins_after : ℕ → Option ℕ → Known
@@ -104,42 +78,14 @@ differs_as (Some differing) = Differs differing
 
 -- where a run or a payment differs, what has its number
 abbrev pub KnowsRun : State → Request → Known → Type 0
-KnowsRun s (request.Post account run payday fit ss medicare) known =
-    let asked : PayRun = record { payday = payday; fit = fit; ss = ss; medicare = medicare } in
-    known ≡ differs_as (run_difference s account run asked)
-KnowsRun s (request.Enrol account start carried form) known = known ≡ Nothing
-KnowsRun s (request.Calendar year days) known = known ≡ Nothing
-KnowsRun s (request.AddHoliday day) known = known ≡ Nothing
-KnowsRun s (request.Report account quarter cents) known = known ≡ Nothing
-KnowsRun s (request.ReportYear account year cents) known = known ≡ Nothing
-KnowsRun s (request.OpenYear account year) known = known ≡ Nothing
-KnowsRun s (request.Void account run) known = known ≡ Nothing
-KnowsRun s (request.Pay account payment paid for_day cents) known = known ≡ Nothing
-KnowsRun s (request.VoidPay account payment) known = known ≡ Nothing
-KnowsRun s (request.CorrectReport account quarter number cents) known = known ≡ Nothing
-KnowsRun s (request.CorrectReportYear account year number cents) known = known ≡ Nothing
-KnowsRun s (request.ChangeHoliday day number is_holiday) known = known ≡ Nothing
-KnowsRun s (request.CorrectAccount account number start carried) known = known ≡ Nothing
-KnowsRun s (request.Question question) known = known ≡ Nothing
+KnowsRun s (request.Post account number run) known =
+    known ≡ differs_as (run_difference s account number run)
+KnowsRun s other known = known ≡ Nothing
 
 abbrev pub KnowsPayment : State → Request → Known → Type 0
-KnowsPayment s (request.Pay account payment paid for_day cents) known =
-    let asked : Payment = record { paid = paid; for_day = for_day; cents = cents } in
-    known ≡ differs_as (payment_difference s account payment asked)
-KnowsPayment s (request.Enrol account start carried form) known = known ≡ Nothing
-KnowsPayment s (request.Calendar year days) known = known ≡ Nothing
-KnowsPayment s (request.AddHoliday day) known = known ≡ Nothing
-KnowsPayment s (request.Report account quarter cents) known = known ≡ Nothing
-KnowsPayment s (request.ReportYear account year cents) known = known ≡ Nothing
-KnowsPayment s (request.OpenYear account year) known = known ≡ Nothing
-KnowsPayment s (request.Post account run payday fit ss medicare) known = known ≡ Nothing
-KnowsPayment s (request.Void account run) known = known ≡ Nothing
-KnowsPayment s (request.VoidPay account payment) known = known ≡ Nothing
-KnowsPayment s (request.CorrectReport account quarter number cents) known = known ≡ Nothing
-KnowsPayment s (request.CorrectReportYear account year number cents) known = known ≡ Nothing
-KnowsPayment s (request.ChangeHoliday day number is_holiday) known = known ≡ Nothing
-KnowsPayment s (request.CorrectAccount account number start carried) known = known ≡ Nothing
-KnowsPayment s (request.Question question) known = known ≡ Nothing
+KnowsPayment s (request.Pay account number payment) known =
+    known ≡ differs_as (payment_difference s account number payment)
+KnowsPayment s other known = known ≡ Nothing
 
 -- where an account differs, as what it is enrolled, and whether nothing rests on it
 abbrev pub enrolled_as : Account → Option Account → Bool → Known
@@ -147,24 +93,14 @@ enrolled_as asked None unused = Nothing
 enrolled_as asked (Some kept) unused =
     Enrolled (record { asked = asked; kept = kept; is_unused = unused })
 
+abbrev pub KnowsEnrolled : State → Entry → Known → Type 0
+KnowsEnrolled s (entry.Account name account) known =
+    known ≡ enrolled_as account (enrolled_in s name) (is_unused (entries_of s name))
+KnowsEnrolled s other known = known ≡ Nothing
+
 abbrev pub KnowsAccount : State → Request → Known → Type 0
-KnowsAccount s (request.Enrol account start carried form) known =
-    let asked : Account = record { start = start; carried = carried; form = form } in
-    known ≡ enrolled_as asked (enrolled_in s account) (is_unused (entries_of s account))
-KnowsAccount s (request.Calendar year days) known = known ≡ Nothing
-KnowsAccount s (request.AddHoliday day) known = known ≡ Nothing
-KnowsAccount s (request.Report account quarter cents) known = known ≡ Nothing
-KnowsAccount s (request.ReportYear account year cents) known = known ≡ Nothing
-KnowsAccount s (request.OpenYear account year) known = known ≡ Nothing
-KnowsAccount s (request.Post account run payday fit ss medicare) known = known ≡ Nothing
-KnowsAccount s (request.Void account run) known = known ≡ Nothing
-KnowsAccount s (request.Pay account payment paid for_day cents) known = known ≡ Nothing
-KnowsAccount s (request.VoidPay account payment) known = known ≡ Nothing
-KnowsAccount s (request.CorrectReport account quarter number cents) known = known ≡ Nothing
-KnowsAccount s (request.CorrectReportYear account year number cents) known = known ≡ Nothing
-KnowsAccount s (request.ChangeHoliday day number is_holiday) known = known ≡ Nothing
-KnowsAccount s (request.CorrectAccount account number start carried) known = known ≡ Nothing
-KnowsAccount s (request.Question question) known = known ≡ Nothing
+KnowsAccount s (request.Enter entered) known = KnowsEnrolled s entered known
+KnowsAccount s other known = known ≡ Nothing
 
 -- what is known for a refusal of the request in this state
 abbrev pub KnowsFor : State → Request → Refusal → Known → Type 0

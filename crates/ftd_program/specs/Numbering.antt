@@ -5,7 +5,7 @@ use Rattle.std.specs.Fmt.{decimal}
 use Rattle.std.specs.List.{concat}
 use Rattle.ftd_machine.specs.Checks.{Answer}
 use Rattle.ftd_machine.specs.declared.replies.Refusal.TheVariants.{NumberSkipped}
-use Rattle.ftd_cli.specs.Values.{greatest_number}
+use Rattle.ftd_verbs.specs.Asked.{greatest_number}
 
 -- the next number, where the answer tells how many corrections there are, and there is one more
 abbrev pub next_of : Answer → Option ℕ

@@ -4,16 +4,14 @@ use Rattle.std.specs.Prelude.{None, Some, Ok, Err}
 use Rattle.std.specs.List.{filter, filter_map}
 use Rattle.ftd_csv.specs.Records.{Entry, SaidEntry, a_payment, a_run, a_total, an_account, enters}
 use Rattle.ftd_csv.specs.Records.{malformed}
-use Rattle.ftd_csv.specs.declared.entries.Period.{Period}
-use Rattle.ftd_csv.specs.declared.entries.Period.TheVariants as period
 use Rattle.ftd_csv.specs.declared.reading.RecordFault.{RecordFault}
 use Rattle.ftd_csv.specs.declared.reading.RecordFault.TheVariants as text_fault
-use Rattle.ftd_days.specs.declared.cents.Cents.{Cents}
 use Rattle.ftd_machine.specs.Checks.{Answer}
 use Rattle.ftd_machine.specs.declared.replies.Reply.TheVariants as reply
 use Rattle.ftd_machine.specs.declared.replies.Refusal.TheVariants as refusal
 use Rattle.ftd_machine.specs.declared.requests.Request.{Request}
 use Rattle.ftd_machine.specs.declared.requests.Request.TheVariants as request
+use Rattle.ftd_machine.specs.declared.requests.Entry.TheVariants as entry
 use Rattle.ftd_program.specs.declared.changes.AccountChange.{AccountChange}
 use Rattle.ftd_program.specs.declared.summary.Finding.TheVariants.{Malformed, Refused}
 use Rattle.ftd_program.specs.declared.summary.Note.{Note}
@@ -22,24 +20,18 @@ use Rattle.ftd_program.specs.declared.summary.StopCause.TheVariants as cause
 use Rattle.ftd_program.specs.declared.summary.Summary.{Summary}
 use Rattle.ftd_program.specs.Changed.{change_of}
 use Rattle.ftd_program.specs.Collections.{Collects, Follow}
-use Rattle.ftd_program.specs.Refused.{in_cents, refused_by}
+use Rattle.ftd_program.specs.Refused.{account_of, in_cents, pay_run_of, payment_of, refused_by}
 use Rattle.ftd_program.specs.declared.refusals.RefusedRecord.{RefusedRecord}
 
 -- the request by which an entry is posted
-abbrev pub total_request : List ℕ → Period → Cents → Request
-total_request employer (period.Quarter quarter) amount = request.Report employer quarter amount
-total_request employer (period.Year year) amount = request.ReportYear employer year amount
-
 abbrev pub post_of : Entry → Request
-post_of (a_run run) =
-    request.Post run.employer run.number run.payday (in_cents run.fit) (in_cents run.ss)
-    (in_cents run.medicare)
+post_of (a_run run) = request.Post run.employer run.number (pay_run_of run)
 post_of (an_account account) =
-    request.Enrol account.employer account.start account.carried account.form
-post_of (a_total total) = total_request total.employer total.period (in_cents total.amount)
+    request.Enter (entry.Account account.employer (account_of account))
+post_of (a_total total) =
+    request.Enter (entry.Total total.employer total.period (in_cents total.amount))
 post_of (a_payment payment) =
-    request.Pay payment.employer payment.number payment.paid payment.for_day
-    (in_cents payment.amount)
+    request.Pay payment.employer payment.number (payment_of payment)
 
 -- that of a record
 abbrev pub post_in : ℕ × SaidEntry → Option Request

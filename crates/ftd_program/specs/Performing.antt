@@ -35,7 +35,7 @@ use Rattle.ftd_program.specs.Trials.{FailsTrial, WouldImport}
 use Rattle.ftd_program.specs.declared.summary.StopCause.{StopCause}
 use Rattle.ftd_program.specs.declared.summary.Stopped.{Stopped}
 use Rattle.ftd_program.specs.declared.summary.Summary.{Summary}
-use Rattle.ftd_cli.specs.Values.{greatest_number}
+use Rattle.ftd_verbs.specs.Asked.{greatest_number}
 use Rattle.ftd_cli.specs.declared.tasks.Job.{Job}
 use Rattle.ftd_cli.specs.declared.tasks.Job.TheVariants as job
 use Rattle.ftd_csv.specs.Hints.{record_hints}
@@ -133,7 +133,7 @@ module _ {O E : Type 0} (o_taken : O → Option (List ℕ)) (o_failed : O → Bo
   -- the text of the reply in a format, and what is said below it, or the lines of the refusal
   abbrev pub Prints : List ℕ → Format → Request → Known → Answer → Type 0
   Prints db format request known (Ok reply) =
-      PrintsReply (reply_text format request reply) (below_text db request reply)
+      PrintsReply (reply_text format reply) (below_text db request reply)
   Prints db format request known (Err refusal) = PrintsRefusal db request known refusal
 
   -- the request was asked of the desk, which answered this, and its answer printed

@@ -6,7 +6,7 @@ use Rattle.std.specs.Borrow.{Bor}
 use Rattle.std.specs.Fmt.{decimal}
 use Rattle.std.specs.List.{concat, flat_map, range_with_len}
 use Rattle.sqlite.specs.State.{HasCleanDisk}
-use Rattle.ftd_csv.specs.declared.entries.Period.TheVariants as period
+use Rattle.ftd_machine.specs.declared.entries.ReturnPeriod.TheVariants as period
 use Rattle.ftd_days.specs.Text.{quarter_text}
 use Rattle.ftd_desk.specs.Desks.{Held, KeepsIfOpen}
 use Rattle.ftd_desk.specs.Telling.{StandsAsBefore}

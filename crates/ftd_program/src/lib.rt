@@ -12,6 +12,7 @@ mod deposits;
 mod differences;
 mod fault;
 mod importing;
+pub mod laws;
 mod lists;
 mod mending;
 mod noting;

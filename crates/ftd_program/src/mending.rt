@@ -8,16 +8,16 @@ ghost use Rattle.ftd_machine.specs.State.{State, enrolled_in, entries_of};
 ghost use Rattle.ftd_desk.specs.Desks.{KeepsIfOpen, held};
 ghost use Rattle.ftd_desk.specs.Telling.{StandsAsBefore};
 ghost use Rattle.ftd_questions.specs.Missing.{first_year};
-ghost use Rattle.ftd_program.specs.Mending.{KnowsAccount, KnowsDays, KnowsFor, KnowsMeant};
+ghost use Rattle.ftd_program.specs.Mending.{KnowsAccount, KnowsDays, KnowsEnrolled, KnowsFor};
+ghost use Rattle.ftd_program.specs.Mending.{KnowsMeant};
 ghost use Rattle.ftd_program.specs.Mending.{KnowsPayment, KnowsQuarters, KnowsRun};
 ghost use Rattle.ftd_program.specs.Mending.{begins_after, differs_as, enrolled_as, or_nothing};
 
 use crate::differences::{payment_difference, run_difference};
 use ftd_days::Quarter;
 use ftd_desk::Desk;
-use ftd_machine::{Account, Refusal, Request};
+use ftd_machine::{Account, Entry, Refusal, Request};
 use ftd_replies::{Differing, Enrolment, Known, account_in};
-use ftd_rules::{PayRun, Payment};
 use sqlite::Alter;
 
 /// What the desk keeps that the refusal of a request can be mended by. `Memory` and `Store` may
@@ -80,25 +80,11 @@ fn quarters_for<S: Alter>(
     ensures stands { StandsAsBefore (held S.Store desk.old) (held S.Store desk.new) }
 {
     match request {
-        Request::OpenYear { account, year } if 2001 <= *year && *year <= 2098 => {
+        Request::Enter(Entry::Year { account, year }) if 2001 <= *year && *year <= 2098 => {
             let quarters = desk.missing_quarters(account.as_str(), first, *year)?;
             Ok(Known::Missing(quarters))
         }
-        Request::Enrol { .. }
-        | Request::Calendar { .. }
-        | Request::AddHoliday { .. }
-        | Request::Report { .. }
-        | Request::ReportYear { .. }
-        | Request::OpenYear { .. }
-        | Request::Post { .. }
-        | Request::Void { .. }
-        | Request::Pay { .. }
-        | Request::VoidPay { .. }
-        | Request::CorrectReport { .. }
-        | Request::CorrectReportYear { .. }
-        | Request::ChangeHoliday { .. }
-        | Request::CorrectAccount { .. }
-        | Request::Question(_) => Ok(Known::Nothing),
+        _ => Ok(Known::Nothing),
     }
 }
 
@@ -110,25 +96,12 @@ fn days_for<S: Alter>(desk: &mut Desk<S>, request: &Request) -> Result<Known, Re
     ensures fault { IfErr result (λ fault. IsFault (Err fault)) }
     ensures stands { StandsAsBefore (held S.Store desk.old) (held S.Store desk.new) }
 {
-    match request {
-        Request::Calendar { year, .. } => match desk.given_days(*year)? {
-            Some(days) => Ok(Known::Given(days)),
-            None => Ok(Known::Nothing),
-        },
-        Request::Enrol { .. }
-        | Request::AddHoliday { .. }
-        | Request::Report { .. }
-        | Request::ReportYear { .. }
-        | Request::OpenYear { .. }
-        | Request::Post { .. }
-        | Request::Void { .. }
-        | Request::Pay { .. }
-        | Request::VoidPay { .. }
-        | Request::CorrectReport { .. }
-        | Request::CorrectReportYear { .. }
-        | Request::ChangeHoliday { .. }
-        | Request::CorrectAccount { .. }
-        | Request::Question(_) => Ok(Known::Nothing),
+    let Request::Enter(Entry::Calendar { year, .. }) = request else {
+        return Ok(Known::Nothing);
+    };
+    match desk.given_days(*year)? {
+        Some(days) => Ok(Known::Given(days)),
+        None => Ok(Known::Nothing),
     }
 }
 
@@ -150,39 +123,16 @@ fn run_for<S: Alter>(desk: &mut Desk<S>, request: &Request) -> Result<Known, Ref
     ensures fault { IfErr result (λ fault. IsFault (Err fault)) }
     ensures stands { StandsAsBefore (held S.Store desk.old) (held S.Store desk.new) }
 {
-    match request {
-        Request::Post {
-            account,
-            run,
-            payday,
-            fit,
-            ss,
-            medicare,
-        } => {
-            let asked = PayRun {
-                payday: *payday,
-                fit: *fit,
-                ss: *ss,
-                medicare: *medicare,
-            };
-            let found = run_difference(desk, account.as_str(), *run, asked)?;
-            Ok(differs_as(found))
-        }
-        Request::Enrol { .. }
-        | Request::Calendar { .. }
-        | Request::AddHoliday { .. }
-        | Request::Report { .. }
-        | Request::ReportYear { .. }
-        | Request::OpenYear { .. }
-        | Request::Void { .. }
-        | Request::Pay { .. }
-        | Request::VoidPay { .. }
-        | Request::CorrectReport { .. }
-        | Request::CorrectReportYear { .. }
-        | Request::ChangeHoliday { .. }
-        | Request::CorrectAccount { .. }
-        | Request::Question(_) => Ok(Known::Nothing),
-    }
+    let Request::Post {
+        account,
+        number,
+        run,
+    } = request
+    else {
+        return Ok(Known::Nothing);
+    };
+    let found = run_difference(desk, account.as_str(), *number, *run)?;
+    Ok(differs_as(found))
 }
 
 /// Of a payment that differs, the one that has its number.
@@ -193,37 +143,16 @@ fn payment_for<S: Alter>(desk: &mut Desk<S>, request: &Request) -> Result<Known,
     ensures fault { IfErr result (λ fault. IsFault (Err fault)) }
     ensures stands { StandsAsBefore (held S.Store desk.old) (held S.Store desk.new) }
 {
-    match request {
-        Request::Pay {
-            account,
-            payment,
-            paid,
-            for_day,
-            cents,
-        } => {
-            let asked = Payment {
-                paid: *paid,
-                for_day: *for_day,
-                cents: *cents,
-            };
-            let found = payment_difference(desk, account.as_str(), *payment, asked)?;
-            Ok(differs_as(found))
-        }
-        Request::Enrol { .. }
-        | Request::Calendar { .. }
-        | Request::AddHoliday { .. }
-        | Request::Report { .. }
-        | Request::ReportYear { .. }
-        | Request::OpenYear { .. }
-        | Request::Post { .. }
-        | Request::Void { .. }
-        | Request::VoidPay { .. }
-        | Request::CorrectReport { .. }
-        | Request::CorrectReportYear { .. }
-        | Request::ChangeHoliday { .. }
-        | Request::CorrectAccount { .. }
-        | Request::Question(_) => Ok(Known::Nothing),
-    }
+    let Request::Pay {
+        account,
+        number,
+        payment,
+    } = request
+    else {
+        return Ok(Known::Nothing);
+    };
+    let found = payment_difference(desk, account.as_str(), *number, *payment)?;
+    Ok(differs_as(found))
 }
 
 /// Of an account that differs, as what it is enrolled, and whether something rests on it.
@@ -246,6 +175,21 @@ fn enrolment_of<S: Alter>(desk: &mut Desk<S>, name: &str, asked: Account) -> Res
     }))
 }
 
+/// Of an entry of an account that differs, what is known of the one that has its name.
+fn enrolled_for<S: Alter>(desk: &mut Desk<S>, entry: &Entry) -> Result<Known, Refusal>
+    ensures knows { HasCleanDisk (held S.Store desk.new).db
+        → (s : State) → KeepsIfOpen (held S.Store desk.old) s
+        → IfOk result (KnowsEnrolled s entry.now) }
+    ensures fault { IfErr result (λ fault. IsFault (Err fault)) }
+    ensures stands { StandsAsBefore (held S.Store desk.old) (held S.Store desk.new) }
+{
+    if let Entry::Account { name, account } = entry {
+        enrolment_of(desk, name.as_str(), *account)
+    } else {
+        Ok(Known::Nothing)
+    }
+}
+
 /// Of an account that differs, what is known of the one that has its name.
 fn account_for<S: Alter>(desk: &mut Desk<S>, request: &Request) -> Result<Known, Refusal>
     ensures knows { HasCleanDisk (held S.Store desk.new).db
@@ -254,34 +198,10 @@ fn account_for<S: Alter>(desk: &mut Desk<S>, request: &Request) -> Result<Known,
     ensures fault { IfErr result (λ fault. IsFault (Err fault)) }
     ensures stands { StandsAsBefore (held S.Store desk.old) (held S.Store desk.new) }
 {
-    match request {
-        Request::Enrol {
-            account,
-            start,
-            carried,
-            form,
-        } => {
-            let asked = Account {
-                start: *start,
-                carried: *carried,
-                form: *form,
-            };
-            enrolment_of(desk, account.as_str(), asked)
-        }
-        Request::Calendar { .. }
-        | Request::AddHoliday { .. }
-        | Request::Report { .. }
-        | Request::ReportYear { .. }
-        | Request::OpenYear { .. }
-        | Request::Post { .. }
-        | Request::Void { .. }
-        | Request::Pay { .. }
-        | Request::VoidPay { .. }
-        | Request::CorrectReport { .. }
-        | Request::CorrectReportYear { .. }
-        | Request::ChangeHoliday { .. }
-        | Request::CorrectAccount { .. }
-        | Request::Question(_) => Ok(Known::Nothing),
+    if let Request::Enter(entry) = request {
+        enrolled_for(desk, entry)
+    } else {
+        Ok(Known::Nothing)
     }
 }
 

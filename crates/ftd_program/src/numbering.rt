@@ -7,10 +7,10 @@ ghost use Rattle.ftd_program.specs.Performing.{AsksNext, AsksUnder};
 
 use crate::performing::{Performed, answer, fail_output, print_answer};
 use ftd_answers::{Format, ListFormat};
-use ftd_cli::GREATEST_NUMBER;
 use ftd_desk::Desk;
 use ftd_machine::{Answer, Refusal, Request};
 use ftd_ports::{Target, WriteFault, write_pieces};
+use ftd_verbs::GREATEST_NUMBER;
 use itoa::Buffer;
 use sqlite::Alter;
 

@@ -412,10 +412,10 @@ fn print_reply<O: Target, E: Target>(
 ) -> Performed<O, E>
     requires bounded { IsBounded reply.now }
     ensures { PrintsReply O.taken O.failed E.taken E.failed out err result
-        (reply_text format request.now reply.now) (below_text db.now request.now reply.now) }
+        (reply_text format reply.now) (below_text db.now request.now reply.now) }
 {
     let mut out = out;
-    match write_reply(format, request, reply, &mut out) {
+    match write_reply(format, reply, &mut out) {
         Ok(()) => {
             let mut err = err;
             put_below(db, request, reply, &mut err);

@@ -6,8 +6,8 @@ ghost use Rattle.ftd_csv.specs.Answers.{total_view};
 ghost use Rattle.ftd_csv.specs.Records.{a_payment, a_run, a_total, an_account};
 ghost use Rattle.ftd_program.specs.Outcomes.{post_of};
 
-use ftd_csv::{EmployerAccount, EmployerPayment, EmployerRun, EmployerTotal, Period, SheetEntry};
-use ftd_machine::{AccountName, Request};
+use ftd_csv::{EmployerAccount, EmployerPayment, EmployerRun, EmployerTotal, SheetEntry};
+use ftd_machine::{Account, AccountName, Entry, Request};
 use std::alloc::{AllocError, Global};
 
 /// The account of this name.
@@ -23,11 +23,8 @@ fn post_of_run(alloc: Global, run: &EmployerRun) -> Result<Request, AllocError>
 {
     Ok(Request::Post {
         account: named(alloc, run.employer)?,
-        run: run.number,
-        payday: run.run.payday,
-        fit: run.run.fit,
-        ss: run.run.ss,
-        medicare: run.run.medicare,
+        number: run.number,
+        run: run.run,
     })
 }
 
@@ -35,32 +32,25 @@ fn post_of_run(alloc: Global, run: &EmployerRun) -> Result<Request, AllocError>
 fn post_of_account(alloc: Global, account: &EmployerAccount) -> Result<Request, AllocError>
     ensures { IfOk result (λ post. post ≡ post_of (an_account (account_view account.now))) }
 {
-    Ok(Request::Enrol {
-        account: named(alloc, account.employer)?,
-        start: account.start,
-        carried: account.carried,
-        form: account.form,
-    })
+    Ok(Request::Enter(Entry::Account {
+        name: named(alloc, account.employer)?,
+        account: Account {
+            start: account.start,
+            carried: account.carried,
+            form: account.form,
+        },
+    }))
 }
 
 /// The report of a total.
 fn post_of_total(alloc: Global, total: &EmployerTotal) -> Result<Request, AllocError>
     ensures { IfOk result (λ post. post ≡ post_of (a_total (total_view total.now))) }
 {
-    let account = named(alloc, total.employer)?;
-    let cents = total.amount;
-    match total.period {
-        Period::Quarter(quarter) => Ok(Request::Report {
-            account,
-            quarter,
-            cents,
-        }),
-        Period::Year(year) => Ok(Request::ReportYear {
-            account,
-            year,
-            cents,
-        }),
-    }
+    Ok(Request::Enter(Entry::Total {
+        account: named(alloc, total.employer)?,
+        period: total.period,
+        cents: total.amount,
+    }))
 }
 
 /// The payment.
@@ -69,10 +59,8 @@ fn post_of_payment(alloc: Global, payment: &EmployerPayment) -> Result<Request, 
 {
     Ok(Request::Pay {
         account: named(alloc, payment.employer)?,
-        payment: payment.number,
-        paid: payment.payment.paid,
-        for_day: payment.payment.for_day,
-        cents: payment.payment.cents,
+        number: payment.number,
+        payment: payment.payment,
     })
 }
 

@@ -17,9 +17,8 @@ ghost use Rattle.ftd_program.specs.RecordNotes.{PutsRefusals, records_in};
 use crate::differences::{account_difference, payment_difference, run_difference};
 use crate::{Collection, RecordEntry, RefusedRecord};
 use ftd_answers::{RowFormat, quarter_bytes, write_rows};
-use ftd_csv::Period;
 use ftd_desk::Desk;
-use ftd_machine::{AccountName, Refusal};
+use ftd_machine::{AccountName, Refusal, ReturnPeriod};
 use ftd_ports::{Target, WriteFault, write_all, write_pieces};
 use ftd_replies::{Differing, write_difference};
 use itoa::Buffer;
@@ -284,10 +283,10 @@ fn write_entry<W: Target>(entry: &RecordEntry, target: &mut W) -> Result<(), Wri
             write_pieces(target, &[b" payment ", digits.format(*number).as_bytes()])
         }
         RecordEntry::Account(_) => write_all(target, b""),
-        RecordEntry::Total(Period::Quarter(quarter)) => {
+        RecordEntry::Total(ReturnPeriod::Quarter(quarter)) => {
             write_pieces(target, &[b" ", &quarter_bytes(*quarter)])
         }
-        RecordEntry::Total(Period::Year(year)) => {
+        RecordEntry::Total(ReturnPeriod::Year(year)) => {
             write_pieces(target, &[b" ", digits.format(*year).as_bytes()])
         }
     }

@@ -1,12 +1,11 @@
 //! The records of an import that the desk refused.
 
 ghost use Rattle.std.specs.Prelude.{◌≡◌, IfOk};
-ghost use Rattle.ftd_csv.specs.Records.{Entry};
+ghost use Rattle.ftd_csv.specs.Records as records;
 ghost use Rattle.ftd_program.specs.Outcomes.{post_of};
 ghost use Rattle.ftd_program.specs.Refused.{refused_record};
 
-use ftd_csv::Period;
-use ftd_machine::{Account, AccountName, Refusal, Request};
+use ftd_machine::{Account, AccountName, Entry, Refusal, Request, ReturnPeriod};
 use ftd_rules::{PayRun, Payment};
 use std::alloc::{AllocError, Global};
 
@@ -18,7 +17,7 @@ pub enum RecordEntry {
     /// An account.
     Account(Account),
     /// The total that is reported for a period.
-    Total(Period),
+    Total(ReturnPeriod),
     /// A payment, under its number.
     Payment { number: u32, payment: Payment },
 }
@@ -60,82 +59,41 @@ pub(crate) fn refused_record(
     post: &Request,
     refusal: Refusal,
 ) -> Result<RefusedRecord, AllocError>
-    ensures { (it : Entry) → post.now ≡ post_of it
+    ensures { (it : records.Entry) → post.now ≡ post_of it
         → IfOk result (λ those. those ≡ refused_record number it refusal) }
 {
-    match post {
+    let (employer, entry) = match post {
         Request::Post {
             account,
-            run: number_of_run,
-            payday,
-            fit,
-            ss,
-            medicare,
-        } => {
-            let run = PayRun {
-                payday: *payday,
-                fit: *fit,
-                ss: *ss,
-                medicare: *medicare,
-            };
-            let entry = RecordEntry::Run {
-                number: *number_of_run,
-                run,
-            };
-            refused(alloc, number, account.as_str(), entry, refusal)
-        }
-        Request::Enrol {
+            number,
+            run,
+        } => (
             account,
-            start,
-            carried,
-            form,
-        } => {
-            let entry = RecordEntry::Account(Account {
-                start: *start,
-                carried: *carried,
-                form: *form,
-            });
-            refused(alloc, number, account.as_str(), entry, refusal)
-        }
-        Request::Report {
-            account,
-            quarter,
-            ..
-        } => {
-            let entry = RecordEntry::Total(Period::Quarter(*quarter));
-            refused(alloc, number, account.as_str(), entry, refusal)
-        }
-        Request::ReportYear { account, year, .. } => {
-            let entry = RecordEntry::Total(Period::Year(*year));
-            refused(alloc, number, account.as_str(), entry, refusal)
-        }
+            RecordEntry::Run {
+                number: *number,
+                run: *run,
+            },
+        ),
+        Request::Enter(Entry::Account { name, account }) => (name, RecordEntry::Account(*account)),
+        Request::Enter(
+            Entry::Total {
+                account,
+                period,
+                ..
+            },
+        ) => (account, RecordEntry::Total(*period)),
         Request::Pay {
             account,
-            payment: number_of_payment,
-            paid,
-            for_day,
-            cents,
-        } => {
-            let payment = Payment {
-                paid: *paid,
-                for_day: *for_day,
-                cents: *cents,
-            };
-            let entry = RecordEntry::Payment {
-                number: *number_of_payment,
-                payment,
-            };
-            refused(alloc, number, account.as_str(), entry, refusal)
-        }
-        Request::Calendar { .. }
-        | Request::AddHoliday { .. }
-        | Request::OpenYear { .. }
-        | Request::Void { .. }
-        | Request::VoidPay { .. }
-        | Request::CorrectReport { .. }
-        | Request::CorrectReportYear { .. }
-        | Request::ChangeHoliday { .. }
-        | Request::CorrectAccount { .. }
-        | Request::Question(_) => Err(AllocError),
-    }
+            number,
+            payment,
+        } => (
+            account,
+            RecordEntry::Payment {
+                number: *number,
+                payment: *payment,
+            },
+        ),
+        _ => return Err(AllocError),
+    };
+    refused(alloc, number, employer.as_str(), entry, refusal)
 }

@@ -20,6 +20,8 @@ use Rattle.ftd_machine.specs.Asking.{IsDueRow}
 use Rattle.ftd_machine.specs.Agenda.{first_day_of, return_last_of, IsDayFor, IsAgendaRow}
 use Rattle.ftd_machine.specs.Checks.{Answer}
 use Rattle.ftd_machine.specs.declared.lists.AgendaRow.{AgendaRow}
+use Rattle.ftd_machine.specs.Told.{due_answer}
+use Rattle.ftd_machine.specs.declared.facts.DueList.{DueList}
 use Rattle.ftd_machine.specs.declared.facts.Facts.TheVariants.{Due}
 use Rattle.ftd_machine.specs.declared.replies.Reply.TheVariants.{Told}
 use Rattle.ftd_questions.specs.Agendas.{IsListOf, KnowsList, KnowsLast, IsLast, day_for, IsRowOf}
@@ -54,11 +56,16 @@ pays_by row list hs as_of is MadeUp day e = e
 pays_by row list hs as_of is Short day e = e
 pays_by row list hs as_of is Late day e = e
 
-abbrev due_list_of : List DueRow → Answer
-due_list_of rows = Ok (Told (Due rows))
+abbrev due_of : DueList → Answer
+due_of list = Ok (Told (Due list))
 
-list_is : (rows listed : List DueRow) → due_list_of rows ≡ due_list_of listed → rows ≡ listed
-list_is rows listed e = cc
+told_list : (list other : DueList) → due_of list ≡ due_of other → list ≡ other
+told_list list other e = cc
+
+list_is : (name : List ℕ) (quarter as_of : ℕ) (rows listed : List DueRow)
+    → due_answer name quarter as_of rows ≡ due_answer name quarter as_of listed → rows ≡ listed
+list_is name quarter as_of rows listed e =
+    ap (λ (list : DueList). list.rows) (told_list _ _ e)
 
 -- a row of the account's due list is one of an agenda
 row_is : (s : State) (as_of : ℕ) (owed : AccountObligation) (list : AccountList) (x : AgendaRow)
@@ -67,7 +74,8 @@ row_is : (s : State) (as_of : ℕ) (owed : AccountObligation) (list : AccountLis
 row_is s as_of owed list x l r =
     let name = string_bytes owed.account in
     let rows : list.rows.items ≡ l.due_list.listed =
-    list_is list.rows.items l.due_list.listed l.due_list.told in
+    list_is name (quarter_of owed.obligation.first) as_of list.rows.items l.due_list.listed
+    l.due_list.told in
     let first : quarter_of owed.obligation.first ≡ quarter_of (first_day_of x) =
     ap quarter_of (sym r.first) in
     let is_row : IsDueRow (holidays s) (entries_of s name) l.due_list.rows

@@ -21,8 +21,7 @@ use Rattle.ftd_machine.specs.Step.{Step}
 use Rattle.ftd_machine.specs.declared.lists.AgendaRow.{AgendaRow}
 use Rattle.ftd_machine.specs.declared.requests.Question.TheVariants as asked
 use Rattle.ftd_machine.specs.declared.requests.Request.TheVariants.{Question}
-use Rattle.ftd_machine.specs.declared.facts.Facts.TheVariants.{Agenda}
-use Rattle.ftd_machine.specs.declared.replies.Reply.TheVariants.{Told}
+use Rattle.ftd_machine.specs.Told.{agenda_answer, owed_answer}
 use Rattle.ftd_machine.proofs.AgendaOrder.{agenda_row_one, first_one}
 use Rattle.ftd_machine.proofs.Deciding.{decided, passed}
 use Rattle.ftd_machine.proofs.Single.{IsOnce, owed_one}
@@ -118,7 +117,8 @@ module _ (unpaid : Option ℕ) (from to as_of : ℕ) (rows : List AgendaRow) (t 
   -- they are what is due, once they are by due date
   pub agenda_told : unpaid ≡ None → (sorted : List AgendaRow) → IsPermutation rows sorted
       → (EachToLater IsOwnBefore rows → EachToLater ComesBefore sorted)
-      → IsAgenda s (IsDueBetween from to) as_of (Ok (Told (Agenda sorted)))
+      → IsAgenda s (IsDueBetween from to) as_of (agenda_answer from to as_of)
+      (agenda_answer from to as_of sorted)
   agenda_told none sorted same order = record {
     listed = sorted;
     in_order = order rows_own;
@@ -135,7 +135,7 @@ module _ (unpaid : Option ℕ) (from to as_of : ℕ) (rows : List AgendaRow) (t 
   pub owed_told : unpaid ≡ Some as_of → from ≡ 0 → (sorted : List AgendaRow)
       → IsPermutation rows sorted
       → (EachToLater IsOwnBefore rows → EachToLater ComesBefore sorted)
-      → IsAgenda s (IsLeftBy to) as_of (Ok (Told (Agenda sorted)))
+      → IsAgenda s (IsLeftBy to) as_of (owed_answer to as_of) (owed_answer to as_of sorted)
   owed_told asked first sorted same order = record {
     listed = sorted;
     in_order = order rows_own;
@@ -164,16 +164,16 @@ module _ (unpaid : Option ℕ) (from to as_of : ℕ) (rows : List AgendaRow) (t 
   pub agenda_answered : unpaid ≡ None → first_of (agenda_checks from to as_of) ≡ None
       → (sorted : List AgendaRow) → IsPermutation rows sorted
       → (EachToLater IsOwnBefore rows → EachToLater ComesBefore sorted)
-      → Step s (Question (asked.Agenda from to as_of)) (Ok (Told (Agenda sorted))) s
+      → Step s (Question (asked.Agenda from to as_of)) (agenda_answer from to as_of sorted) s
   agenda_answered none passes sorted same order =
-      passed _ s (Ok (Told (Agenda sorted))) s _ passes (refl, agenda_told none sorted same order)
+      passed _ s (agenda_answer from to as_of sorted) s _ passes (refl, agenda_told none sorted same order)
 
   pub owed_answered : unpaid ≡ Some as_of → from ≡ 0 → first_of (owed_checks to as_of) ≡ None
       → (sorted : List AgendaRow) → IsPermutation rows sorted
       → (EachToLater IsOwnBefore rows → EachToLater ComesBefore sorted)
-      → Step s (Question (asked.Owed to as_of)) (Ok (Told (Agenda sorted))) s
+      → Step s (Question (asked.Owed to as_of)) (owed_answer to as_of sorted) s
   owed_answered left first passes sorted same order =
-      passed _ s (Ok (Told (Agenda sorted))) s _ passes
+      passed _ s (owed_answer to as_of sorted) s _ passes
       (refl, owed_told left first sorted same order)
 
 -- a check decides

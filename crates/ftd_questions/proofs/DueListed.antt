@@ -33,8 +33,7 @@ use Rattle.ftd_machine.specs.Sound.{IsSound}
 use Rattle.ftd_machine.specs.Asking.{return_period, return_total, paid_for_return, paid_for}
 use Rattle.ftd_machine.specs.Asking.{has_next_day, preceding, first_of_row, IsSmall, IsReturnPaid}
 use Rattle.ftd_machine.specs.Asking.{IsDueRow, IsDueList}
-use Rattle.ftd_machine.specs.declared.facts.Facts.TheVariants.{Due}
-use Rattle.ftd_machine.specs.declared.replies.Reply.TheVariants.{Told}
+use Rattle.ftd_machine.specs.Told.{due_answer}
 use Rattle.ftd_machine.proofs.Few.{few_in_force}
 use Rattle.ftd_machine.proofs.Members.{has_filtered}
 use Rattle.ftd_machine.proofs.DueSome.{makeup_one, verdict_one}
@@ -42,7 +41,7 @@ use Rattle.ftd_entries.specs.Standing.{StandsFor, IsSettled}
 use Rattle.ftd_entries.specs.Returns.{KnowsPeriod}
 use Rattle.ftd_questions.specs.DueRows.{begins_in, IsReturnBy, IsRowBy, KnowsReturnDue}
 use Rattle.ftd_questions.specs.Walks.{begun}
-use Rattle.ftd_entries.specs.declared.return_periods.ReturnPeriod.{ReturnPeriod}
+use Rattle.ftd_entries.specs.declared.return_periods.ReturnFacts.{ReturnFacts}
 use Rattle.ftd_questions.specs.declared.due_rows.QuarterReturn.{QuarterReturn}
 use Rattle.ftd_questions.proofs.OneVerdict.{same_test}
 use Rattle.ftd_entries.proofs.OwedRows.{kept_by_first_day}
@@ -99,7 +98,7 @@ return_known form quarter read day from_2001 to_2098 is t years s stands sound =
 
 -- ---- the list
 
-module _ (name : List ℕ) (quarter as_of : ℕ) (given : List YearDays) (period : ReturnPeriod)
+module _ (name : List ℕ) (quarter as_of : ℕ) (given : List YearDays) (period : ReturnFacts)
     (next_day : Bool) (of_return : QuarterReturn) (rows : List DueRow)
     (from_2001 : 2001 ≤ quarter_year quarter) (to_2098 : quarter_year quarter ≤ 2098)
     (t : Tables) (s : State) (stands : StandsFor t s) (sound : IsSound s)
@@ -347,7 +346,7 @@ module _ (name : List ℕ) (quarter as_of : ℕ) (given : List YearDays) (period
       (begun_has o is.owed is.begins) in
       subst (Has rows) (sym (row_one row to.0 to.2.obligation is (of_listed to.0 to.1))) to.1
 
-  pub due_listed : IsDueList all own quarter as_of (Ok (Told (Due rows)))
+  pub due_listed : IsDueList all own name quarter as_of (due_answer name quarter as_of rows)
   due_listed = record {
     rows = owed;
     owed = (

@@ -15,8 +15,7 @@ use Rattle.ftd_store.specs.Holidays.{HasYears}
 use Rattle.ftd_machine.specs.declared.entries.Account.{Account}
 use Rattle.ftd_machine.specs.declared.requests.Question.TheVariants.{DueList}
 use Rattle.ftd_machine.specs.declared.requests.Request.TheVariants.{Question}
-use Rattle.ftd_machine.specs.declared.facts.Facts.TheVariants.{Due}
-use Rattle.ftd_machine.specs.declared.replies.Reply.TheVariants.{Told}
+use Rattle.ftd_machine.specs.Told.{due_answer}
 use Rattle.ftd_machine.specs.Checks.{Answer, first_of}
 use Rattle.ftd_machine.specs.Asking.{return_period, has_next_day}
 use Rattle.ftd_machine.specs.History.{form_of}
@@ -35,7 +34,7 @@ use Rattle.ftd_questions.specs.DueRows.{KnowsForDue, KnowsDueList}
 use Rattle.ftd_questions.specs.Telling.{Passes, KnowsAsked, KnowsRows}
 use Rattle.ftd_questions.specs.Walks.{KnowsNextDayOfReturn}
 use Rattle.ftd_questions.specs.declared.asking.KnownReturn.{KnownReturn}
-use Rattle.ftd_entries.specs.declared.return_periods.ReturnPeriod.{ReturnPeriod}
+use Rattle.ftd_entries.specs.declared.return_periods.ReturnFacts.{ReturnFacts}
 use Rattle.ftd_questions.specs.declared.due_rows.QuarterReturn.{QuarterReturn}
 use Rattle.ftd_questions.specs.declared.due.KnownForDue.{KnownForDue}
 use Rattle.ftd_questions.proofs.DueListed.{due_listed}
@@ -43,7 +42,7 @@ use Rattle.ftd_questions.proofs.FoundRows.{next_day_found, found_begun}
 
 -- the rows by what was read are the due list of each sound state
 pub due_known : (name : List ℕ) (form : Form) (quarter as_of : ℕ) (given : List YearDays)
-    (period : ReturnPeriod) (next_day : Bool) (found : List Obligation) (of_return : QuarterReturn)
+    (period : ReturnFacts) (next_day : Bool) (found : List Obligation) (of_return : QuarterReturn)
     (rows : List DueRow) → 2001 ≤ quarter_year quarter → quarter_year quarter ≤ 2098
     → IsReturnBy form quarter next_day period given of_return
     → next_day ≡ list_any is_next_day_row found → Pairs (IsRowBy of_return as_of)
@@ -72,7 +71,7 @@ rows_known name quarter as_of read next_day of_return from to is_return t knows 
     sound rows are_rows =
     let asked = knows.1 s stands in
     let form_is = asked.1 in
-    passed _ s (Ok (Told (Due rows))) s _ asked.0 (
+    passed _ s (due_answer name quarter as_of rows) s _ asked.0 (
       refl,
       due_listed name quarter as_of read.holidays read.period next_day of_return rows from to t s
           stands sound
@@ -133,7 +132,7 @@ module _ (name : List ℕ) (quarter as_of : ℕ) (known : KnownForDue) where
       → (t : Tables) (s : State) → StandsFor t s → IsSound s → KnowsForDue name quarter known t
       × KnowsDueList name account.form quarter as_of rows t
       → Step s (Question (DueList name quarter as_of))
-      (Ok (Told (Due rows))) s
+      (due_answer name quarter as_of rows) s
   due_told account rows is_account is t s stands sound knows =
-      passed _ s (Ok (Told (Due rows))) s _ (checks_are t s stands knows.0 ∙ is)
+      passed _ s (due_answer name quarter as_of rows) s _ (checks_are t s stands knows.0 ∙ is)
       (refl, knows.1 s stands sound (ap form_of (knows.0.account s stands ∙ is_account)))

@@ -20,7 +20,7 @@ use Rattle.ftd_entries.specs.Owed.{KnowsObligations}
 use Rattle.ftd_entries.specs.Returns.{KnowsPeriod}
 use Rattle.ftd_questions.specs.DueRows.{begins_in, is_next_day_row}
 use Rattle.ftd_questions.specs.Walks.{begun}
-use Rattle.ftd_entries.specs.declared.return_periods.ReturnPeriod.{ReturnPeriod}
+use Rattle.ftd_entries.specs.declared.return_periods.ReturnFacts.{ReturnFacts}
 use Rattle.ftd_questions.proofs.DueListed.{same_return}
 use Rattle.ftd_questions.proofs.OwedDays.{quarter_begins, begins_is}
 
@@ -62,7 +62,7 @@ kept_twice {X = X} p q (x ∷ xs) implied =
     ]
 
 module _ (name : List ℕ) (quarter : ℕ) (to_2098 : quarter_year quarter ≤ 2098)
-    (period : ReturnPeriod) (found : List Obligation) (t : Tables) (s : State)
+    (period : ReturnFacts) (found : List Obligation) (t : Tables) (s : State)
     (stands : StandsFor t s)
     (known : KnowsPeriod name (form_of (entries_of s name).account) quarter period t)
     (are_found : KnowsObligations name period.first period.last found t) where

@@ -41,6 +41,7 @@ use Rattle.ftd_machine.specs.Limits.{is_between}
 use Rattle.ftd_rules.specs.Accounts.{is_account_name}
 use Rattle.ftd_rules.proofs.Members.{filter_in, filter_out}
 use Rattle.ftd_rules.specs.Obligations.{begins_on}
+use Rattle.ftd_machine.specs.declared.facts.DueList.{DueList}
 use Rattle.ftd_machine.specs.declared.facts.Facts.TheVariants.{Due}
 use Rattle.ftd_machine.specs.declared.replies.Reply.TheVariants.{Told}
 use Rattle.ftd_machine.specs.declared.requests.Question.{Question}
@@ -55,8 +56,8 @@ use Rattle.ftd_questions.specs.declared.due_rows.QuarterReturn.{QuarterReturn}
 use Rattle.ftd_questions.proofs.OwedDays.{filter_same, quarter_begins}
 use Rattle.ftd_entries.proofs.OwedRows.{begins, begins_is, first_key, key_is, paired, rows_begin}
 
-abbrev due_of : List DueRow → Answer
-due_of rows = Ok (Told (Due rows))
+abbrev due_of : DueList → Answer
+due_of list = Ok (Told (Due list))
 
 -- ---- lists whose keys do not fall
 
@@ -361,9 +362,9 @@ unknown_refused name quarter as_of known unknown none =
 
 -- ---- answers
 
--- the rows that were told
-pub told_rows : (rows others : List DueRow) → due_of rows ≡ due_of others → rows ≡ others
-told_rows rows others e = cc
+-- the list that was told
+pub told_list : (list other : DueList) → due_of list ≡ due_of other → list ≡ other
+told_list list other e = cc
 
 -- what was read shows that the answer does
 pub shown_by : {S A : Type 0} (g : store.Ghosts S) (old new : Tx S) (x : A) (answer : Answer)

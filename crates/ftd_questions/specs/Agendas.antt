@@ -17,8 +17,7 @@ use Rattle.ftd_machine.specs.Asking.{IsDueList}
 use Rattle.ftd_machine.specs.Agenda.{return_last_of, IsAgendaRow}
 use Rattle.ftd_machine.specs.declared.entries.Account.{Account}
 use Rattle.ftd_machine.specs.declared.lists.AgendaRow.{AgendaRow}
-use Rattle.ftd_machine.specs.declared.facts.Facts.TheVariants.{Due}
-use Rattle.ftd_machine.specs.declared.replies.Reply.TheVariants.{Told}
+use Rattle.ftd_machine.specs.Told.{due_answer}
 use Rattle.ftd_entries.specs.Standing.{StandsFor}
 use Rattle.ftd_questions.specs.DueRows.{KnowsYears}
 use Rattle.ftd_questions.specs.Listing.{KnowsDue}
@@ -34,8 +33,8 @@ pub record IsListOf (s : State) (name : List ℕ) (quarter as_of : ℕ) (list : 
   pub account : Account
   pub enrolled : (entries_of s name).account ≡ Some account
   pub form_is : list.form ≡ account.form
-  pub due_list : IsDueList (holidays s) (entries_of s name) quarter as_of
-      (Ok (Told (Due list.rows.items)))
+  pub due_list : IsDueList (holidays s) (entries_of s name) name quarter as_of
+      (due_answer name quarter as_of list.rows.items)
   pub return_due : IsReturnDue list.form (holidays s) quarter list.return_due
 
 -- so in each sound state for which the tables stand

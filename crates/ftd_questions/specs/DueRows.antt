@@ -15,11 +15,10 @@ use Rattle.ftd_machine.specs.State.{State, entries_of, holidays}
 use Rattle.ftd_machine.specs.History.{form_of}
 use Rattle.ftd_machine.specs.Sound.{IsSound}
 use Rattle.ftd_machine.specs.Asking.{is_next_day, IsDueList}
-use Rattle.ftd_machine.specs.declared.facts.Facts.TheVariants.{Due}
-use Rattle.ftd_machine.specs.declared.replies.Reply.TheVariants.{Told}
+use Rattle.ftd_machine.specs.Told.{due_answer}
 use Rattle.ftd_entries.specs.Known.{KnowsAccount, KnowsYear}
 use Rattle.ftd_entries.specs.Standing.{StandsFor}
-use Rattle.ftd_entries.specs.declared.return_periods.ReturnPeriod.{ReturnPeriod}
+use Rattle.ftd_entries.specs.declared.return_periods.ReturnFacts.{ReturnFacts}
 use Rattle.ftd_questions.specs.declared.due_rows.QuarterReturn.{QuarterReturn}
 use Rattle.ftd_questions.specs.declared.due.KnownForDue.{KnownForDue}
 
@@ -33,7 +32,7 @@ begins_in quarter o = quarter_of o.first == quarter
 
 -- how the return of a quarter stands: when it is due, whether its obligations may be paid with it,
 -- and whether what was paid for its return period by then reaches its total
-pub record IsReturnBy (form : Form) (quarter : ℕ) (next_day : Bool) (period : ReturnPeriod)
+pub record IsReturnBy (form : Form) (quarter : ℕ) (next_day : Bool) (period : ReturnFacts)
     (given : List YearDays) (of_return : QuarterReturn) : Type 0 where
   pub form_is : of_return.form ≡ form
   pub due : IsReturnDue form (holidays_of given) quarter of_return.due
@@ -84,7 +83,8 @@ KnowsYears quarter given t =
 abbrev pub KnowsDueList : List ℕ → Form → ℕ → ℕ → List DueRow → Tables → Type 0
 KnowsDueList name form quarter as_of rows t =
     (s : State) → StandsFor t s → IsSound s → form_of (entries_of s name).account ≡ form
-    → IsDueList (holidays s) (entries_of s name) quarter as_of (Ok (Told (Due rows)))
+    → IsDueList (holidays s) (entries_of s name) name quarter as_of
+    (due_answer name quarter as_of rows)
 
 -- the return of the quarter is due on the day, in each sound state for which the tables stand
 abbrev pub KnowsReturnDue : Form → ℕ → ℕ → Tables → Type 0

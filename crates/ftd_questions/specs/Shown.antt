@@ -11,6 +11,7 @@ use Rattle.ftd_store.specs.Walking.{rows_in}
 use Rattle.ftd_machine.specs.Asking.{first_of_row}
 use Rattle.ftd_machine.specs.Checks.{Answer}
 use Rattle.ftd_machine.specs.Questions.{due_list_of}
+use Rattle.ftd_machine.specs.declared.facts.DueList.{DueList}
 use Rattle.ftd_machine.specs.declared.facts.Facts.TheVariants.{Due}
 use Rattle.ftd_machine.specs.declared.replies.Reply.TheVariants.{Told}
 use Rattle.ftd_questions.specs.DueRows.{KnowsDueList, KnowsReturnDue}
@@ -45,7 +46,7 @@ KnowsQuarter name form quarter as_of found t =
 abbrev pub ShowsList : Option (List ℕ × ℕ) → Answer → Tables → Type 0
 ShowsList None answer t = ⊤
 ShowsList (Some asked) answer t =
-    (rows : List DueRow) → answer ≡ Ok (Told (Due rows)) → ShowsRows asked.0 asked.1 rows t
+    (list : DueList) → answer ≡ Ok (Told (Due list)) → ShowsRows asked.0 asked.1 list.rows t
 
 abbrev pub Shows : Question → Answer → Tables → Type 0
 Shows question answer t = ShowsList (due_list_of question) answer t

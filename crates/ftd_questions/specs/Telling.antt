@@ -14,8 +14,7 @@ use Rattle.ftd_machine.specs.Requests.{due_list_checks}
 use Rattle.ftd_machine.specs.Runs.{IsFault}
 use Rattle.ftd_machine.specs.Step.{Step}
 use Rattle.ftd_machine.specs.declared.replies.Refusal.{Refusal}
-use Rattle.ftd_machine.specs.declared.facts.Facts.TheVariants.{Due}
-use Rattle.ftd_machine.specs.declared.replies.Reply.TheVariants.{Told}
+use Rattle.ftd_machine.specs.Told.{due_answer}
 use Rattle.ftd_machine.specs.declared.requests.Question.TheVariants.{DueList}
 use Rattle.ftd_machine.specs.declared.requests.Request.TheVariants.{Question}
 use Rattle.ftd_entries.specs.Standing.{StandsFor}
@@ -44,7 +43,7 @@ TakesShown took name quarter old new t =
 -- the machine's reply to the question is the due list of these rows, or it refuses the question
 module _ (s : State) (name : List ℕ) (quarter as_of : ℕ) where
   abbrev pub Replies : List DueRow → Type 0
-  Replies rows = Step s (Question (DueList name quarter as_of)) (Ok (Told (Due rows))) s
+  Replies rows = Step s (Question (DueList name quarter as_of)) (due_answer name quarter as_of rows) s
 
   abbrev pub Refuses : Refusal → Type 0
   Refuses refusal = Step s (Question (DueList name quarter as_of)) (Err refusal) s

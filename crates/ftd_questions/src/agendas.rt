@@ -4,13 +4,15 @@ ghost use Rattle.std.specs.Prelude.{IfOk};
 ghost use Rattle.std.specs.List.Sorted.{IsPermutation};
 ghost use Rattle.ftd_store.specs.Frame.{Calls};
 ghost use Rattle.ftd_machine.specs.Agenda.{EachToLater, IsOwnBefore, ComesBefore};
-ghost use Rattle.ftd_machine.specs.declared.requests.Question.TheVariants.{Agenda, Owed};
+ghost use Rattle.ftd_machine.specs.declared.requests.Question.TheVariants as questions;
 ghost use Rattle.ftd_machine.specs.declared.requests.Request.TheVariants.{Question};
 ghost use Rattle.ftd_entries.specs.Words.{Serves};
 
 use crate::agenda_rows::rows_due;
 use ftd_days::Day;
-use ftd_machine::{AgendaRow, AgendaRows, Answer, Facts, Reply, agenda_check, owed_check};
+use ftd_machine::{
+    Agenda, AgendaRow, AgendaRows, Answer, Facts, Owed, Reply, agenda_check, owed_check,
+};
 use ftd_store::{StoreFault, Tx};
 use sqlite::Alter;
 use std::alloc::{AllocError, Global};
@@ -35,14 +37,19 @@ pub fn agenda<S: Alter>(
     to: Day,
     as_of: Day,
 ) -> Result<Answer, StoreFault>
-    ensures call { Calls S.Store tx.old tx.new result (Serves (Question (Agenda from to as_of))) }
+    ensures call { Calls S.Store tx.old tx.new result (Serves (Question (questions.Agenda from to as_of))) }
 {
     let rows = rows_due(tx, alloc, from, to, as_of, None)?;
     if let Some(answer) = agenda_check(from, to, as_of) {
         return Ok(answer);
     }
     match by_due_date(rows) {
-        Ok(rows) => Ok(Ok(Reply::Told(Facts::Agenda(AgendaRows::from_vec(rows))))),
+        Ok(rows) => Ok(Ok(Reply::Told(Facts::Agenda(Agenda {
+            from,
+            to,
+            as_of,
+            rows: AgendaRows::from_vec(rows),
+        })))),
         Err(_) => tx.give_up(StoreFault::Memory),
     }
 }
@@ -54,7 +61,7 @@ pub fn owed<S: Alter>(
     until: Day,
     as_of: Day,
 ) -> Result<Answer, StoreFault>
-    ensures call { Calls S.Store tx.old tx.new result (Serves (Question (Owed until as_of))) }
+    ensures call { Calls S.Store tx.old tx.new result (Serves (Question (questions.Owed until as_of))) }
 {
     let from = Day::first_of_month(0);
     let rows = rows_due(tx, alloc, from, until, as_of, Some(as_of))?;
@@ -62,7 +69,11 @@ pub fn owed<S: Alter>(
         return Ok(answer);
     }
     match by_due_date(rows) {
-        Ok(rows) => Ok(Ok(Reply::Told(Facts::Agenda(AgendaRows::from_vec(rows))))),
+        Ok(rows) => Ok(Ok(Reply::Told(Facts::Owed(Owed {
+            until,
+            as_of,
+            rows: AgendaRows::from_vec(rows),
+        })))),
         Err(_) => tx.give_up(StoreFault::Memory),
     }
 }

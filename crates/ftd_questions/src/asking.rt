@@ -19,9 +19,9 @@ ghost use Rattle.ftd_questions.specs.Walks.{Stays, StandIfOpen};
 use crate::due::{KnownForDue, known_for_due};
 use crate::faults::refusal_of;
 use ftd_days::{Day, Holidays, Quarter};
-use ftd_entries::{ReturnPeriod, return_period};
+use ftd_entries::{ReturnFacts, return_period};
 use ftd_machine::{Answer, Refusal, due_list_check};
-use ftd_rules::Form;
+use ftd_rules::{AMOUNTS_END, Form};
 use ftd_store::{Store, StoreFault, Tx};
 use sqlite::Alter;
 use std::alloc::Global;
@@ -34,7 +34,7 @@ pub(crate) struct KnownReturn {
     /// The holidays of the year of the quarter and of the next.
     pub holidays: Holidays,
     /// What is known of the return period.
-    pub period: ReturnPeriod,
+    pub period: ReturnFacts,
 }
 
 /// Why a request is refused, if the check that decided refuses it.
@@ -84,7 +84,7 @@ fn known_return<S: Alter>(
     ensures call { Reads S.Store tx.old tx.new result (KnowsReturn name.now quarter) }
     ensures form { IfOk result (λ known. known.form ≡ form) }
     ensures small { IfOk result (λ known.
-        sum_by payment_cents known.period.payments.items < 6_000_000_000_000_000) }
+        sum_by payment_cents known.period.payments.items < AMOUNTS_END) }
 {
     let year = quarter.year();
     let holidays = tx.holidays(alloc, year, year + 1)?;
@@ -108,7 +108,7 @@ fn asked<S: Alter>(
     ensures years { IfOk result (λ asked. IfOk asked (λ known.
         (2001 ≤ quarter_year quarter) × (quarter_year quarter ≤ 2098))) }
     ensures small { IfOk result (λ asked. IfOk asked (λ known.
-        sum_by payment_cents known.period.payments.items < 6_000_000_000_000_000)) }
+        sum_by payment_cents known.period.payments.items < AMOUNTS_END)) }
 {
     let before = known_for_due(tx, alloc, name, quarter)?;
     let form = match asked_form(name, quarter, as_of, &before) {
@@ -138,7 +138,7 @@ pub(crate) fn read_return<S: Alter>(
     ensures years { IfOk result (λ known.
         (2001 ≤ quarter_year quarter) × (quarter_year quarter ≤ 2098)) }
     ensures small { IfOk result (λ known.
-        sum_by payment_cents known.period.payments.items < 6_000_000_000_000_000) }
+        sum_by payment_cents known.period.payments.items < AMOUNTS_END) }
     ensures stays { Stays (seen S.Store store.old) (seen S.Store store.new) }
 {
     let mut tx = match store.begin() {

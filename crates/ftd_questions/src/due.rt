@@ -3,7 +3,7 @@
 ghost use Rattle.std.specs.Prelude.{◌≡◌, ◌≤◌, IfOk};
 ghost use Rattle.ftd_days.specs.Calendar.{quarter_year};
 ghost use Rattle.ftd_store.specs.Frame.{Calls, Reads};
-ghost use Rattle.ftd_machine.specs.declared.requests.Question.TheVariants.{DueList};
+ghost use Rattle.ftd_machine.specs.declared.requests.Question.TheVariants as questions;
 ghost use Rattle.ftd_machine.specs.declared.requests.Request.TheVariants.{Question};
 ghost use Rattle.ftd_entries.specs.Words.{Serves};
 ghost use Rattle.ftd_questions.specs.DueRows.{KnowsForDue, KnowsYears};
@@ -12,7 +12,9 @@ ghost use Rattle.ftd_questions.specs.Shown.{KnowsQuarter, Shows};
 use crate::due_rows::{due_rows, has_next_day, quarter_return};
 use ftd_days::{Day, Holidays, Quarter};
 use ftd_entries::{is_open, known, return_period};
-use ftd_machine::{Account, Answer, DueRows, Facts, Refusal, Reply, due_list_check};
+use ftd_machine::{
+    Account, AccountName, Answer, DueList, DueRows, Facts, Refusal, Reply, due_list_check,
+};
 use ftd_rules::{DueRow, Form};
 use ftd_store::{StoreFault, Tx};
 use sqlite::Alter;
@@ -95,10 +97,13 @@ pub fn due_list<S: Alter>(
     as_of: Day,
 ) -> Result<Answer, StoreFault>
     ensures call { Calls S.Store tx.old tx.new result
-        (Serves (Question (DueList name.now quarter as_of))) }
+        (Serves (Question (questions.DueList name.now quarter as_of))) }
     ensures shows { Calls S.Store tx.old tx.new result (λ answer before after t.
-        Shows (DueList name.now quarter as_of) answer t) }
+        Shows (questions.DueList name.now quarter as_of) answer t) }
 {
+    let Ok(owner) = AccountName::copied(alloc, name) else {
+        return tx.give_up(StoreFault::Memory);
+    };
     let before = known_for_due(tx, alloc, name, quarter)?;
     let checked = due_list_check(name, quarter, as_of, before.account, before.is_open);
     if let Some(answer) = checked {
@@ -111,5 +116,10 @@ pub fn due_list<S: Alter>(
     let year = quarter.year();
     let holidays = tx.holidays(alloc, year, year + 1)?;
     let found = rows_of_quarter(tx, alloc, name, form, quarter, as_of, holidays)?;
-    Ok(Ok(Reply::Told(Facts::Due(DueRows::from_vec(found.rows)))))
+    Ok(Ok(Reply::Told(Facts::Due(DueList {
+        account: owner,
+        quarter,
+        as_of,
+        rows: DueRows::from_vec(found.rows),
+    }))))
 }

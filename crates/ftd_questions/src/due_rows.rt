@@ -8,9 +8,10 @@ ghost use Rattle.ftd_store.specs.Lists.{Pairs};
 ghost use Rattle.ftd_questions.specs.DueRows.{IsReturnBy, IsRowBy, begins_in, is_next_day_row};
 
 use ftd_days::{Day, Holidays, Quarter};
-use ftd_entries::{AMOUNTS_END, ReturnPeriod};
+use ftd_entries::ReturnFacts;
 use ftd_rules::{
-    Case, DueRow, Form, Obligation, Payment, Rule, makeup, paid_by, return_due, with_return,
+    AMOUNTS_END, Case, DueRow, Form, Obligation, Payment, Rule, makeup, paid_by, return_due,
+    with_return,
 };
 use ftd_store::StoreFault;
 use std::alloc::Global;
@@ -62,15 +63,15 @@ pub(crate) fn quarter_return(
     form: Form,
     quarter: Quarter,
     next_day: bool,
-    period: ReturnPeriod,
+    period: ReturnFacts,
     holidays: Holidays,
 ) -> QuarterReturn
     requires early { quarter_year quarter ≤ 2098 }
-    requires small { sum_by payment_cents period.payments.items < 6_000_000_000_000_000 }
+    requires small { sum_by payment_cents period.payments.items < AMOUNTS_END }
     ensures stands { IsReturnBy form quarter next_day period holidays result }
-    ensures small { sum_by payment_cents result.payments.items < 6_000_000_000_000_000 }
+    ensures small { sum_by payment_cents result.payments.items < AMOUNTS_END }
 {
-    let ReturnPeriod {
+    let ReturnFacts {
         first,
         last,
         payments,
@@ -97,7 +98,7 @@ pub(crate) fn due_row(
     as_of: Day,
     of_return: &QuarterReturn,
 ) -> Option<DueRow>
-    requires { sum_by payment_cents of_return.now.payments.items < 6_000_000_000_000_000 }
+    requires { sum_by payment_cents of_return.now.payments.items < AMOUNTS_END }
     ensures { IfSome result (IsRowBy of_return.now as_of obligation) }
 {
     let Obligation {
@@ -140,7 +141,7 @@ pub(crate) fn due_rows(
     of_return: &QuarterReturn,
     obligations: &[Obligation],
 ) -> Result<Vec<DueRow>, StoreFault>
-    requires { sum_by payment_cents of_return.now.payments.items < 6_000_000_000_000_000 }
+    requires { sum_by payment_cents of_return.now.payments.items < AMOUNTS_END }
     ensures { IfOk result (λ rows. Pairs (IsRowBy of_return.now as_of)
         (filter (begins_in quarter) obligations.now) rows.items) }
 {

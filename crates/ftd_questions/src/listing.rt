@@ -11,7 +11,7 @@ ghost use Rattle.ftd_questions.specs.Listing.{AddsDue, KnowsDue, KnowsOwn, is_du
 
 use ftd_days::Day;
 use ftd_entries::{all_accounts, payments_of};
-use ftd_rules::{Obligation, Payment, paid_by};
+use ftd_rules::{AMOUNTS_END, Obligation, Payment, paid_by};
 use ftd_store::{AccountObligation, StoreFault, Tx};
 use sqlite::Alter;
 use std::alloc::Global;
@@ -28,7 +28,7 @@ fn year_before(day: Day) -> Day
 
 /// Whether the payments do not reach the amount of the obligation, as of a day.
 fn is_unpaid(obligation: &Obligation, payments: &[Payment], as_of: Day) -> bool
-    requires { sum_by payment_cents payments.now < 6_000_000_000_000_000 }
+    requires { sum_by payment_cents payments.now < AMOUNTS_END }
     ensures { result ≡ is_unpaid payments.now as_of obligation.now }
 {
     let (first, last) = (obligation.first, obligation.last);
@@ -42,7 +42,7 @@ fn unpaid_of(
     payments: &[Payment],
     as_of: Day,
 ) -> Result<Vec<Obligation>, StoreFault>
-    requires { sum_by payment_cents payments.now < 6_000_000_000_000_000 }
+    requires { sum_by payment_cents payments.now < AMOUNTS_END }
     ensures { IfOk result (λ left.
         left.items ≡ filter (is_unpaid payments.now as_of) owed.now) }
 {

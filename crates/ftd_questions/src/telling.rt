@@ -23,7 +23,7 @@ use crate::faults::DueFault;
 use crate::walking::return_has_next_day;
 use ftd_days::{Day, Quarter};
 use ftd_machine::Refusal;
-use ftd_rules::{DueSink, Obligation, SinkFault};
+use ftd_rules::{AMOUNTS_END, DueSink, Obligation, SinkFault};
 use ftd_store::{Store, StoreFault, next_obligation, rows_of};
 use sqlite::{Alter, Connection, Rows};
 use std::alloc::Global;
@@ -36,7 +36,7 @@ fn tell_row<K: DueSink>(
     of_return: &QuarterReturn,
     sink: &mut K,
 ) -> Result<(), DueFault>
-    requires { sum_by payment_cents of_return.now.payments.items < 6_000_000_000_000_000 }
+    requires { sum_by payment_cents of_return.now.payments.items < AMOUNTS_END }
     ensures took { OnOk result ((row : DueRowValue)
         × IsRowBy of_return.now as_of obligation row × K.took sink.old row sink.new) }
     ensures refused { (refusal : RefusalValue) → result ≡ Err (DueFault.Refused refusal)
@@ -61,7 +61,7 @@ fn tell_rows<S: Alter, K: DueSink>(
     of_return: &QuarterReturn,
     sink: &mut K,
 ) -> Result<(), DueFault>
-    requires { sum_by payment_cents of_return.now.payments.items < 6_000_000_000_000_000 }
+    requires { sum_by payment_cents of_return.now.payments.items < AMOUNTS_END }
     ensures same_reference { rows.new.conn.ghost_name ≡ rows.old.conn.ghost_name }
     ensures tells { HasCleanDisk (walked S.Store rows.new)
         → (name : List ℕ) (quarter : ℕ) → HasListed S.Store name quarter rows.old []
@@ -99,7 +99,7 @@ fn tell_quarter<S: Alter, K: DueSink>(
     of_return: &QuarterReturn,
     sink: &mut K,
 ) -> Result<(), DueFault>
-    requires { sum_by payment_cents of_return.now.payments.items < 6_000_000_000_000_000 }
+    requires { sum_by payment_cents of_return.now.payments.items < AMOUNTS_END }
     ensures tells { HasCleanDisk (state S.Store conn.new) → (t : Tables)
         → StandIfOpen (state S.Store conn.old) t
         → KnowsRows name.now quarter as_of of_return.now t

@@ -16,7 +16,7 @@ use crate::windows::window_sums;
 use ftd_buckets::{Patch, Window, opens};
 use ftd_days::{Day, Holidays};
 use ftd_rules::year::{add_year, first_day, last_day};
-use ftd_rules::{DaySum, Form, Obligation, Obligations, YearLine, YearLines};
+use ftd_rules::{AMOUNTS_END, DaySum, Form, Obligation, Obligations, YearLine, YearLines};
 use ftd_store::{StoreFault, Tx};
 use sqlite::Alter;
 use std::alloc::{AllocError, Global};
@@ -74,7 +74,7 @@ fn add_sums(
     requires from { 2001 ≤ line.now.year }
     requires to { line.now.year ≤ 2098 }
     requires rise { SumsRise (year_start line.now.year) (year_last line.now.year) sums.now }
-    requires small { sum_by cents_of sums.now < 6_000_000_000_000_000 }
+    requires small { sum_by cents_of sums.now < AMOUNTS_END }
     ensures adds { IfOk result
         (AddsYear form line.now (holidays_of holidays.now) sums.now known) }
     ensures total { IfOk result (λ later. later.total ≡ total) }
@@ -111,11 +111,11 @@ fn add_anew<S: Alter>(
 ) -> Result<Anew, StoreFault>
     requires from { 2001 ≤ line.now.year }
     requires to { line.now.year ≤ 2098 }
-    requires small { known.total < 6_000_000_000_000_000 }
+    requires small { known.total < AMOUNTS_END }
     ensures call { Reads S.Store tx.old tx.new result
         (AddsYearOf account.now form line.now (holidays_of holidays.now) known) }
     ensures to { IfOk result (λ later. later.to ≡ year_last line.now.year) }
-    ensures small { IfOk result (λ later. later.total < 6_000_000_000_000_000) }
+    ensures small { IfOk result (λ later. later.total < AMOUNTS_END) }
 {
     let window = Window {
         from: first_day(line.year),

@@ -7,13 +7,10 @@ ghost use Rattle.ftd_store.specs.Frame.{Reads};
 ghost use Rattle.ftd_repairs.specs.Repaired.{AreLiveIn, AreWithin};
 
 use ftd_buckets::Window;
-use ftd_rules::DaySum;
+use ftd_rules::{AMOUNTS_END, DaySum};
 use ftd_store::{StoreFault, Tx};
 use sqlite::Alter;
 use std::alloc::{AllocError, Global};
-
-/// All amounts of an account together are less than so many cents.
-const AMOUNTS_END: u64 = 6_000_000_000_000_000;
 
 /// The day sums of a window.
 #[derive(Drop)]
@@ -25,9 +22,9 @@ pub(crate) struct WindowSums {
 
 /// The amount together with that of the sums, or None where it reaches 60,000,000,000,000.00.
 fn total_with(before: u64, sums: &[DaySum]) -> Option<u64>
-    requires { before < 6_000_000_000_000_000 }
+    requires { before < AMOUNTS_END }
     ensures total { IfSome result (λ total. total ≡ before + sum_by cents_of sums.now) }
-    ensures small { IfSome result (λ total. total < 6_000_000_000_000_000) }
+    ensures small { IfSome result (λ total. total < AMOUNTS_END) }
 {
     let mut total = before;
     for sum in sums {
@@ -42,11 +39,11 @@ fn total_with(before: u64, sums: &[DaySum]) -> Option<u64>
 /// The sums as those of the window. None where they do not rise within it, and where the amounts
 /// with those before reach 60,000,000,000,000.00.
 fn tested(window: Window, sums: Vec<DaySum>, before: u64) -> Option<WindowSums>
-    requires { before < 6_000_000_000_000_000 }
+    requires { before < AMOUNTS_END }
     ensures same { IfSome result (λ read. read.sums.items ≡ sums.items) }
     ensures rise { IfSome result (λ read. SumsRise window.from window.to read.sums.items) }
     ensures total { IfSome result (λ read. read.total ≡ before + sum_by cents_of read.sums.items) }
-    ensures small { IfSome result (λ read. read.total < 6_000_000_000_000_000) }
+    ensures small { IfSome result (λ read. read.total < AMOUNTS_END) }
 {
     if !window.has_rising(&sums) {
         return None;
@@ -64,12 +61,12 @@ pub(crate) fn window_sums<S: Alter>(
     window: Window,
     before: u64,
 ) -> Result<WindowSums, StoreFault>
-    requires { before < 6_000_000_000_000_000 }
+    requires { before < AMOUNTS_END }
     ensures call { Reads S.Store tx.old tx.new result
         (λ read t. AreLiveIn account.now t window read.sums.items) }
     ensures rise { IfOk result (λ read. SumsRise window.from window.to read.sums.items) }
     ensures total { IfOk result (λ read. read.total ≡ before + sum_by cents_of read.sums.items) }
-    ensures small { IfOk result (λ read. read.total < 6_000_000_000_000_000) }
+    ensures small { IfOk result (λ read. read.total < AMOUNTS_END) }
 {
     let sums = tx.day_sums(alloc, account, window.from, window.to)?;
     match tested(window, sums, before) {
@@ -99,11 +96,11 @@ pub(crate) fn known_sums(
     window: Window,
     before: u64,
 ) -> Result<WindowSums, StoreFault>
-    requires { before < 6_000_000_000_000_000 }
+    requires { before < AMOUNTS_END }
     ensures within { IfOk result (λ known. AreWithin window sums.now known.sums.items) }
     ensures rise { IfOk result (λ known. SumsRise window.from window.to known.sums.items) }
     ensures total { IfOk result (λ known. known.total ≡ before + sum_by cents_of known.sums.items) }
-    ensures small { IfOk result (λ known. known.total < 6_000_000_000_000_000) }
+    ensures small { IfOk result (λ known. known.total < AMOUNTS_END) }
 {
     let within = sums_in(alloc, sums, &window)?;
     tested(window, within, before).ok_or(StoreFault::Failed)

@@ -10,6 +10,8 @@ use Rattle.ftd_machine.specs.declared.replies.Reply.{Reply}
 use Rattle.ftd_machine.specs.declared.replies.Reply.TheVariants as reply
 use Rattle.ftd_machine.specs.declared.requests.Request.{Request}
 use Rattle.ftd_machine.specs.declared.requests.Request.TheVariants as request
+use Rattle.ftd_machine.specs.declared.requests.Entry.{Entry}
+use Rattle.ftd_machine.specs.declared.requests.Entry.TheVariants as entry
 use Rattle.ftd_answers.specs.Agendas.{left_cents}
 use Rattle.ftd_replies.specs.Added.{changes_text}
 use Rattle.ftd_replies.specs.Commands.{command_on}
@@ -23,41 +25,19 @@ holidays_hint db (day ∷ days) = []
 
 -- below a request that was done
 abbrev pub done_hint : List ℕ → Request → List ℕ
-done_hint db (request.Enrol account start carried form) = []
-done_hint db (request.Calendar year days) = holidays_hint db days
-done_hint db (request.AddHoliday day) = []
-done_hint db (request.Report account quarter cents) = []
-done_hint db (request.ReportYear account year cents) = []
-done_hint db (request.OpenYear account year) = []
-done_hint db (request.Post account run payday fit ss medicare) = []
-done_hint db (request.Void account run) = []
-done_hint db (request.Pay account payment paid for_day cents) = []
-done_hint db (request.VoidPay account payment) = []
-done_hint db (request.CorrectReport account quarter number cents) = []
-done_hint db (request.CorrectReportYear account year number cents) = []
-done_hint db (request.ChangeHoliday day number is_holiday) = []
-done_hint db (request.CorrectAccount account number start carried) = []
-done_hint db (request.Question question) = []
+done_hint db (request.Enter (entry.Calendar year days)) = holidays_hint db days
+done_hint db other = []
 
 -- below a request that was done before: a day was given or added, and may be taken back since
-abbrev pub already_hint : List ℕ → Request → List ℕ
-already_hint db (request.Enrol account start carried form) = []
-already_hint db (request.Calendar year days) = []
-already_hint db (request.AddHoliday day) =
+abbrev pub entry_already : List ℕ → Entry → List ℕ
+entry_already db (entry.Holiday day) =
     command_on (codes "hint: if the day was taken back, ftd change-holiday --db ") db (day_text day)
     (codes " yes\n")
-already_hint db (request.Report account quarter cents) = []
-already_hint db (request.ReportYear account year cents) = []
-already_hint db (request.OpenYear account year) = []
-already_hint db (request.Post account run payday fit ss medicare) = []
-already_hint db (request.Void account run) = []
-already_hint db (request.Pay account payment paid for_day cents) = []
-already_hint db (request.VoidPay account payment) = []
-already_hint db (request.CorrectReport account quarter number cents) = []
-already_hint db (request.CorrectReportYear account year number cents) = []
-already_hint db (request.ChangeHoliday day number is_holiday) = []
-already_hint db (request.CorrectAccount account number start carried) = []
-already_hint db (request.Question question) = []
+entry_already db other = []
+
+abbrev pub already_hint : List ℕ → Request → List ℕ
+already_hint db (request.Enter entered) = entry_already db entered
+already_hint db other = []
 
 -- below what is due over all accounts: something is left of a deposit that may be paid with its
 -- return only if a total stays small, which may still grow
@@ -68,13 +48,17 @@ abbrev pub depends_hint : List ℕ
 depends_hint =
     codes "hint: with-return: pay it with the return if the total for the return stays below 2500.00; if you are not sure of that, pay by the day shown\n"
 
+abbrev pub rows_hint : List AgendaRow → List ℕ
+rows_hint rows = if list_any depends rows then depends_hint else []
+
 abbrev pub told_hint : Facts → List ℕ
-told_hint (facts.Agenda rows) = if list_any depends rows then depends_hint else []
-told_hint (facts.Status kind reason) = []
+told_hint (facts.Agenda agenda) = rows_hint agenda.rows
+told_hint (facts.Owed owed) = rows_hint owed.rows
+told_hint (facts.Status schedule) = []
 told_hint (facts.Explained explained) = []
-told_hint (facts.Due rows) = []
-told_hint (facts.Days sums) = []
-told_hint (facts.Unapplied rows) = []
+told_hint (facts.Due list) = []
+told_hint (facts.Days list) = []
+told_hint (facts.Unapplied unapplied) = []
 told_hint (facts.Kept rows) = []
 
 -- below the reply to a request, for the desk of this file

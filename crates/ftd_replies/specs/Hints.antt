@@ -10,6 +10,11 @@ use Rattle.ftd_machine.specs.declared.replies.Refusal.TheVariants as refusal
 use Rattle.ftd_machine.specs.Questions.{account_asked}
 use Rattle.ftd_machine.specs.declared.requests.Request.{Request}
 use Rattle.ftd_machine.specs.declared.requests.Request.TheVariants as request
+use Rattle.ftd_machine.specs.declared.requests.Entry.{Entry}
+use Rattle.ftd_machine.specs.declared.requests.Entry.TheVariants as entry
+use Rattle.ftd_machine.specs.declared.requests.Correction.TheVariants as correction
+use Rattle.ftd_machine.specs.declared.entries.ReturnPeriod.{ReturnPeriod}
+use Rattle.ftd_machine.specs.declared.entries.ReturnPeriod.TheVariants.{Quarter, Year}
 use Rattle.ftd_replies.specs.Questions.{paydays_years, calendars_years, years_asked}
 use Rattle.ftd_replies.specs.Questions.{paydays_days, days_asked}
 use Rattle.ftd_replies.specs.Commands.{command_of, command_on, file_text}
@@ -25,38 +30,24 @@ use Rattle.ftd_replies.specs.declared.hints.Known.TheVariants.{Meant, Differs, E
 -- the account that a request names, the empty text where it names none; and the number of its run
 -- or payment
 abbrev pub account_in : Request → List ℕ
-account_in (request.Enrol account start carried form) = account
-account_in (request.Calendar year days) = []
-account_in (request.AddHoliday day) = []
-account_in (request.Report account quarter cents) = account
-account_in (request.ReportYear account year cents) = account
-account_in (request.OpenYear account year) = account
-account_in (request.Post account run payday fit ss medicare) = account
-account_in (request.Void account run) = account
-account_in (request.Pay account payment paid for_day cents) = account
-account_in (request.VoidPay account payment) = account
-account_in (request.CorrectReport account quarter number cents) = account
-account_in (request.CorrectReportYear account year number cents) = account
-account_in (request.ChangeHoliday day number is_holiday) = []
-account_in (request.CorrectAccount account number start carried) = account
+account_in (request.Enter (entry.Account name account)) = name
+account_in (request.Enter (entry.Calendar year days)) = []
+account_in (request.Enter (entry.Holiday day)) = []
+account_in (request.Enter (entry.Total account period cents)) = account
+account_in (request.Enter (entry.Year account year)) = account
+account_in (request.Post account number run) = account
+account_in (request.Void account number) = account
+account_in (request.Pay account number payment) = account
+account_in (request.VoidPay account number) = account
+account_in (request.Correct number (correction.Total account period cents)) = account
+account_in (request.Correct number (correction.Holiday day is_holiday)) = []
+account_in (request.Correct number (correction.Account account beginning)) = account
 account_in (request.Question asked) = unwrap_or (account_asked asked) []
 
 abbrev pub number_in : Request → ℕ
-number_in (request.Enrol account start carried form) = 0
-number_in (request.Calendar year days) = 0
-number_in (request.AddHoliday day) = 0
-number_in (request.Report account quarter cents) = 0
-number_in (request.ReportYear account year cents) = 0
-number_in (request.OpenYear account year) = 0
-number_in (request.Post account run payday fit ss medicare) = run
-number_in (request.Void account run) = 0
-number_in (request.Pay account payment paid for_day cents) = payment
-number_in (request.VoidPay account payment) = 0
-number_in (request.CorrectReport account quarter number cents) = 0
-number_in (request.CorrectReportYear account year number cents) = 0
-number_in (request.ChangeHoliday day number is_holiday) = 0
-number_in (request.CorrectAccount account number start carried) = 0
-number_in (request.Question question) = 0
+number_in (request.Post account number run) = number
+number_in (request.Pay account number payment) = number
+number_in other = 0
 
 -- ---- what is said of a refusal that names nothing, by the request
 
@@ -64,21 +55,11 @@ abbrev totals_years : List ℕ
 totals_years = codes "hint: the years of reported totals are 1999 to 2098\n"
 
 abbrev pub years_text : Request → List ℕ
-years_text (request.Enrol account start carried form) = paydays_years
-years_text (request.Calendar year days) = calendars_years
-years_text (request.AddHoliday day) = paydays_years
-years_text (request.Report account quarter cents) = totals_years
-years_text (request.ReportYear account year cents) = totals_years
-years_text (request.OpenYear account year) = paydays_years
-years_text (request.Post account run payday fit ss medicare) = paydays_years
-years_text (request.Void account run) = paydays_years
-years_text (request.Pay account payment paid for_day cents) = paydays_years
-years_text (request.VoidPay account payment) = paydays_years
-years_text (request.CorrectReport account quarter number cents) = totals_years
-years_text (request.CorrectReportYear account year number cents) = totals_years
-years_text (request.ChangeHoliday day number is_holiday) = paydays_years
-years_text (request.CorrectAccount account number start carried) = paydays_years
+years_text (request.Enter (entry.Calendar year days)) = calendars_years
+years_text (request.Enter (entry.Total account period cents)) = totals_years
+years_text (request.Correct number (correction.Total account period cents)) = totals_years
 years_text (request.Question question) = years_asked question
+years_text other = paydays_years
 
 abbrev first_days : List ℕ
 first_days = codes "hint: an employer's first day is not after 2098-12-31\n"
@@ -87,66 +68,35 @@ abbrev holidays_days : List ℕ
 holidays_days = codes "hint: the days of holidays are those of 2001 to 2099\n"
 
 abbrev pub days_text : Request → List ℕ
-days_text (request.Enrol account start carried form) = first_days
-days_text (request.Calendar year days) = paydays_days
-days_text (request.AddHoliday day) = holidays_days
-days_text (request.Report account quarter cents) = paydays_days
-days_text (request.ReportYear account year cents) = paydays_days
-days_text (request.OpenYear account year) = paydays_days
-days_text (request.Post account run payday fit ss medicare) = paydays_days
-days_text (request.Void account run) = paydays_days
-days_text (request.Pay account payment paid for_day cents) =
+days_text (request.Enter (entry.Account name account)) = first_days
+days_text (request.Enter (entry.Holiday day)) = holidays_days
+days_text (request.Pay account number payment) =
     codes "hint: a payment is made in 2001 to 2099, for a day of 2001 to 2098\n"
-days_text (request.VoidPay account payment) = paydays_days
-days_text (request.CorrectReport account quarter number cents) = paydays_days
-days_text (request.CorrectReportYear account year number cents) = paydays_days
-days_text (request.ChangeHoliday day number is_holiday) = holidays_days
-days_text (request.CorrectAccount account number start carried) = first_days
+days_text (request.Correct number (correction.Holiday day is_holiday)) = holidays_days
+days_text (request.Correct number (correction.Account account beginning)) = first_days
 days_text (request.Question asked) = days_asked asked
+days_text other = paydays_days
 
 abbrev calendar_days : List ℕ
 calendar_days = codes "hint: give at most 60 days, all in that year, in ascending order\n"
 
 abbrev pub calendar_text : Request → List ℕ
-calendar_text (request.Enrol account start carried form) = calendar_days
-calendar_text (request.Calendar year days) = calendar_days
-calendar_text (request.AddHoliday day) = codes "hint: a year has at most 60 holidays\n"
-calendar_text (request.Report account quarter cents) = calendar_days
-calendar_text (request.ReportYear account year cents) = calendar_days
-calendar_text (request.OpenYear account year) = calendar_days
-calendar_text (request.Post account run payday fit ss medicare) = calendar_days
-calendar_text (request.Void account run) = calendar_days
-calendar_text (request.Pay account payment paid for_day cents) = calendar_days
-calendar_text (request.VoidPay account payment) = calendar_days
-calendar_text (request.CorrectReport account quarter number cents) = calendar_days
-calendar_text (request.CorrectReportYear account year number cents) = calendar_days
-calendar_text (request.ChangeHoliday day number is_holiday) = calendar_days
-calendar_text (request.CorrectAccount account number start carried) = calendar_days
-calendar_text (request.Question question) = calendar_days
+calendar_text (request.Enter (entry.Holiday day)) = codes "hint: a year has at most 60 holidays\n"
+calendar_text other = calendar_days
 
 abbrev no_schedule_b : List ℕ
 no_schedule_b = codes "hint: this account files Form 943, which has no Schedule B\n"
 
 abbrev pub form_text : Request → List ℕ
-form_text (request.Enrol account start carried form) = no_schedule_b
-form_text (request.Calendar year days) = no_schedule_b
-form_text (request.AddHoliday day) = no_schedule_b
-form_text (request.Report account quarter cents) =
+form_text (request.Enter (entry.Total account (Quarter quarter) cents)) =
     codes "hint: this account files Form 943: use ftd report-year\n"
-form_text (request.ReportYear account year cents) =
+form_text (request.Enter (entry.Total account (Year year) cents)) =
     codes "hint: this account files Form 941: use ftd report\n"
-form_text (request.OpenYear account year) = no_schedule_b
-form_text (request.Post account run payday fit ss medicare) = no_schedule_b
-form_text (request.Void account run) = no_schedule_b
-form_text (request.Pay account payment paid for_day cents) = no_schedule_b
-form_text (request.VoidPay account payment) = no_schedule_b
-form_text (request.CorrectReport account quarter number cents) =
+form_text (request.Correct number (correction.Total account (Quarter quarter) cents)) =
     codes "hint: this account files Form 943: use ftd correct-report-year\n"
-form_text (request.CorrectReportYear account year number cents) =
+form_text (request.Correct number (correction.Total account (Year year) cents)) =
     codes "hint: this account files Form 941: use ftd correct-report\n"
-form_text (request.ChangeHoliday day number is_holiday) = no_schedule_b
-form_text (request.CorrectAccount account number start carried) = no_schedule_b
-form_text (request.Question question) = no_schedule_b
+form_text other = no_schedule_b
 
 -- what is said of a refusal that no command mends; nothing of the others
 unfoldable pub said_text : Request → Refusal → List ℕ
@@ -199,21 +149,10 @@ quarter_hint db account quarter =
 -- what stands behind the account in the command that enrols it: the form, where a year's total is
 -- reported, which is one of Form 943
 abbrev pub enrolled_as : Request → List ℕ
-enrolled_as (request.Enrol account start carried form) = codes " START\n"
-enrolled_as (request.Calendar year days) = codes " START\n"
-enrolled_as (request.AddHoliday day) = codes " START\n"
-enrolled_as (request.Report account quarter cents) = codes " START\n"
-enrolled_as (request.ReportYear account year cents) = codes " START --form 943\n"
-enrolled_as (request.OpenYear account year) = codes " START\n"
-enrolled_as (request.Post account run payday fit ss medicare) = codes " START\n"
-enrolled_as (request.Void account run) = codes " START\n"
-enrolled_as (request.Pay account payment paid for_day cents) = codes " START\n"
-enrolled_as (request.VoidPay account payment) = codes " START\n"
-enrolled_as (request.CorrectReport account quarter number cents) = codes " START\n"
-enrolled_as (request.CorrectReportYear account year number cents) = codes " START --form 943\n"
-enrolled_as (request.ChangeHoliday day number is_holiday) = codes " START\n"
-enrolled_as (request.CorrectAccount account number start carried) = codes " START\n"
-enrolled_as (request.Question question) = codes " START\n"
+enrolled_as (request.Enter (entry.Total account (Year year) cents)) = codes " START --form 943\n"
+enrolled_as (request.Correct number (correction.Total account (Year year) cents)) =
+    codes " START --form 943\n"
+enrolled_as other = codes " START\n"
 
 -- the command that corrects what is known otherwise: the first day of an account, and whether it is
 -- carried, or a reported total
@@ -234,25 +173,21 @@ year_otherwise =
     codes "hint: the year is reported with another amount\n"
     ++ codes "hint: if that is wrong, ftd correct-report-year --db "
 
-abbrev pub correct_text : List ℕ → Request → List ℕ
-correct_text db (request.Enrol account start carried form) =
-    command_on enrolled_otherwise db account (codes " START\n")
-correct_text db (request.Calendar year days) = []
-correct_text db (request.AddHoliday day) = []
-correct_text db (request.Report account quarter cents) =
+abbrev pub total_otherwise : List ℕ → List ℕ → ReturnPeriod → List ℕ
+total_otherwise db account (Quarter quarter) =
     command_of quarter_otherwise db account (quarter_text quarter) (codes " AMOUNT\n")
-correct_text db (request.ReportYear account year cents) =
+total_otherwise db account (Year year) =
     command_of year_otherwise db account (decimal year) (codes " AMOUNT\n")
-correct_text db (request.OpenYear account year) = []
-correct_text db (request.Post account run payday fit ss medicare) = []
-correct_text db (request.Void account run) = []
-correct_text db (request.Pay account payment paid for_day cents) = []
-correct_text db (request.VoidPay account payment) = []
-correct_text db (request.CorrectReport account quarter number cents) = []
-correct_text db (request.CorrectReportYear account year number cents) = []
-correct_text db (request.ChangeHoliday day number is_holiday) = []
-correct_text db (request.CorrectAccount account number start carried) = []
-correct_text db (request.Question question) = []
+
+abbrev pub entry_otherwise : List ℕ → Entry → List ℕ
+entry_otherwise db (entry.Account name account) =
+    command_on enrolled_otherwise db name (codes " START\n")
+entry_otherwise db (entry.Total account period cents) = total_otherwise db account period
+entry_otherwise db other = []
+
+abbrev pub correct_text : List ℕ → Request → List ℕ
+correct_text db (request.Enter entered) = entry_otherwise db entered
+correct_text db other = []
 
 -- the next number, where there are so many
 abbrev pub next_text : ℕ → List ℕ
@@ -325,21 +260,8 @@ hint_text db asked refusal = mended_text db asked refusal (hint_of refusal)
 
 -- the days of a request's calendar
 abbrev pub days_in : Request → List ℕ
-days_in (request.Enrol account start carried form) = []
-days_in (request.Calendar year days) = days
-days_in (request.AddHoliday day) = []
-days_in (request.Report account quarter cents) = []
-days_in (request.ReportYear account year cents) = []
-days_in (request.OpenYear account year) = []
-days_in (request.Post account run payday fit ss medicare) = []
-days_in (request.Void account run) = []
-days_in (request.Pay account payment paid for_day cents) = []
-days_in (request.VoidPay account payment) = []
-days_in (request.CorrectReport account quarter number cents) = []
-days_in (request.CorrectReportYear account year number cents) = []
-days_in (request.ChangeHoliday day number is_holiday) = []
-days_in (request.CorrectAccount account number start carried) = []
-days_in (request.Question question) = []
+days_in (request.Enter (entry.Calendar year days)) = days
+days_in other = []
 
 -- the first of the days that is not among those
 abbrev pub first_beside : List ℕ → List ℕ → Option ℕ

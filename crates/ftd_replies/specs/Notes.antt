@@ -16,42 +16,22 @@ use Rattle.ftd_machine.specs.declared.requests.Question.{Question}
 use Rattle.ftd_machine.specs.declared.requests.Question.TheVariants as question
 use Rattle.ftd_machine.specs.declared.requests.Request.{Request}
 use Rattle.ftd_machine.specs.declared.requests.Request.TheVariants as request
-use Rattle.ftd_cli.specs.Asking.{last_asked}
+use Rattle.ftd_verbs.specs.Asked.{last_asked}
 use Rattle.ftd_replies.specs.Commands.{file_text}
 
 -- ---- what is asked
 
 -- after a payment was recorded, what explains the obligation of the day that it is for
 abbrev pub asked_when_done : Request → Option Request
-asked_when_done (request.Pay account payment paid for_day cents) =
-    Some (request.Question (question.Explain account for_day))
-asked_when_done (request.Enrol account start carried form) = None
-asked_when_done (request.Calendar year days) = None
-asked_when_done (request.AddHoliday day) = None
-asked_when_done (request.Report account quarter cents) = None
-asked_when_done (request.ReportYear account year cents) = None
-asked_when_done (request.OpenYear account year) = None
-asked_when_done (request.Post account run payday fit ss medicare) = None
-asked_when_done (request.Void account run) = None
-asked_when_done (request.VoidPay account payment) = None
-asked_when_done (request.CorrectReport account quarter number cents) = None
-asked_when_done (request.CorrectReportYear account year number cents) = None
-asked_when_done (request.ChangeHoliday day number is_holiday) = None
-asked_when_done (request.CorrectAccount account number start carried) = None
-asked_when_done (request.Question asked) = None
+asked_when_done (request.Pay account number payment) =
+    Some (request.Question (question.Explain account payment.for_day))
+asked_when_done other = None
 
 -- after what is due and not paid, which money counts for nothing
 abbrev pub asked_when_told : Option Question → Option Request
 asked_when_told (Some (question.Owed until as_of)) =
     Some (request.Question (question.Unapplied last_asked))
-asked_when_told (Some (question.Status account day)) = None
-asked_when_told (Some (question.Explain account day)) = None
-asked_when_told (Some (question.DueList account quarter as_of)) = None
-asked_when_told (Some (question.ScheduleB account quarter)) = None
-asked_when_told (Some (question.Agenda from to as_of)) = None
-asked_when_told (Some (question.Unapplied until)) = None
-asked_when_told (Some (question.Kept asked)) = None
-asked_when_told None = None
+asked_when_told other = None
 
 abbrev pub asked_after : Request → Reply → Option Request
 asked_after asked reply.Done = asked_when_done asked
@@ -96,10 +76,11 @@ unapplied_hint db (x ∷ rows) =
 
 -- what is said of the answer, for the desk of this file
 abbrev pub note_text : List ℕ → Facts → List ℕ
-note_text db (facts.Explained explained) = payment_note explained
-note_text db (facts.Unapplied rows) = unapplied_hint db rows
-note_text db (facts.Status kind reason) = []
-note_text db (facts.Due rows) = []
-note_text db (facts.Days sums) = []
-note_text db (facts.Agenda rows) = []
+note_text db (facts.Explained explained) = payment_note explained.found
+note_text db (facts.Unapplied unapplied) = unapplied_hint db unapplied.rows
+note_text db (facts.Status schedule) = []
+note_text db (facts.Due list) = []
+note_text db (facts.Days list) = []
+note_text db (facts.Agenda agenda) = []
+note_text db (facts.Owed owed) = []
 note_text db (facts.Kept rows) = []

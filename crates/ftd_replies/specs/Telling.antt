@@ -10,50 +10,60 @@ use Rattle.ftd_cli.specs.declared.table.Word.{Word}
 use Rattle.ftd_cli.specs.declared.table.Word.TheVariants as word
 use Rattle.ftd_cli.specs.declared.tasks.CliFault.{CliFault}
 use Rattle.ftd_cli.specs.declared.tasks.CliFault.TheVariants as fault
+use Rattle.ftd_verbs.specs.FieldRows.{kind_of}
+use Rattle.ftd_verbs.specs.declared.field.Kind.{Kind}
+use Rattle.ftd_verbs.specs.declared.field.Kind.TheVariants as kind
+use Rattle.ftd_verbs.specs.declared.formats.Formats.{Formats}
+use Rattle.ftd_verbs.specs.declared.formats.Formats.TheVariants as formats
 use Rattle.ftd_replies.specs.Putting.{IsPut}
 
--- what is asked for as the value of a word
+-- what is asked for as a value of a kind
 abbrev pub day_form : List ℕ
 day_form = codes "a date from 1900 to 2199; write it like 2024-05-27"
-
-abbrev pub amount_form : List ℕ
-amount_form = codes "an amount up to 999999999.99; write it like 1234.56"
 
 abbrev pub number_form : List ℕ
 number_form = codes "a number from 1 to 999999999"
 
-abbrev pub asked_text : Word → List ℕ
-asked_text word.Start = day_form
-asked_text word.Payday = day_form
-asked_text word.Paid = day_form
-asked_text word.For = day_form
-asked_text word.Day = day_form
-asked_text word.Days = day_form
-asked_text word.AsOf = day_form
-asked_text word.From = day_form
-asked_text word.To = day_form
-asked_text word.Until = day_form
-asked_text word.LastDay = day_form
-asked_text word.Holidays = day_form
-asked_text word.Quarter = codes "a quarter from 1900Q1 to 2199Q4; write it like 2024Q2"
-asked_text word.Amount = amount_form
-asked_text word.Fit = amount_form
-asked_text word.Ss = amount_form
-asked_text word.Medicare = amount_form
-asked_text word.Account =
+abbrev pub allowed : List ℕ
+allowed = codes "a value that is allowed here"
+
+abbrev pub kind_text : Kind → List ℕ
+kind_text kind.Day = day_form
+kind_text kind.DayOrOther = day_form
+kind_text kind.Days = day_form
+kind_text kind.Quarter = codes "a quarter from 1900Q1 to 2199Q4; write it like 2024Q2"
+kind_text kind.Amount = codes "an amount up to 999999999.99; write it like 1234.56"
+kind_text kind.Account =
     codes "an account name: 1 to 20 bytes, a lower-case letter, "
     ++ codes "then lower-case letters, digits or hyphens"
-asked_text word.Year = codes "a year from 2001 to 2098"
-asked_text word.Run = number_form
-asked_text word.Payment = number_form
-asked_text word.Number = number_form
-asked_text word.IsHoliday = codes "yes or no"
+kind_text kind.Year = codes "a year from 2001 to 2098"
+kind_text kind.Number = number_form
+kind_text kind.NumberOrNext = number_form
+kind_text kind.Answer = codes "yes or no"
+kind_text kind.Mark = allowed
+kind_text kind.Form = allowed
+
+-- what is asked for as a format of an answer
+abbrev pub formats_text : Formats → List ℕ
+formats_text formats.Fixed = allowed
+formats_text formats.Explanation = codes "a format: text or json"
+formats_text formats.List = codes "a format: text, csv or json"
+formats_text formats.Calendar = codes "a format: text, csv, json or ics"
+
+-- what is asked for as the value of a word
+abbrev pub asked_text : Word → List ℕ
+asked_text (word.Field at) = kind_text (kind_of at)
+asked_text (word.Format formats) = formats_text formats
+asked_text word.Holidays = day_form
 asked_text word.Port = codes "a port from 0 to 65535"
 asked_text word.Wait = codes "a number of seconds from 0 to 3600"
-asked_text word.Format = codes "a format: text, csv, json or ics"
-asked_text word.ListFormat = codes "a format: text, csv or json"
-asked_text word.ExplanationFormat = codes "a format: text or json"
-asked_text _ = codes "a value that is allowed here"
+asked_text word.Db = allowed
+asked_text word.Connections = allowed
+asked_text word.Idle = allowed
+asked_text word.Silence = allowed
+asked_text word.Duration = allowed
+asked_text word.CsvFile = allowed
+asked_text word.Check = allowed
 
 -- the value that was given; it is told in words where it is empty, and where it is not known
 abbrev pub given_text : Option (List ℕ) → List ℕ

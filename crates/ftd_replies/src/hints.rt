@@ -8,12 +8,14 @@ ghost use Rattle.ftd_replies.specs.Differing.{difference_text};
 ghost use Rattle.ftd_replies.specs.Hints.{account_in, calendar_text};
 ghost use Rattle.ftd_replies.specs.Commands.{command_of, command_on, file_text, is_plain};
 ghost use Rattle.ftd_replies.specs.Hints.{correct_text, days_in, days_text};
+ghost use Rattle.ftd_replies.specs.Hints.{entry_otherwise};
 ghost use Rattle.ftd_replies.specs.Hints.{differing_text, enrolled_as};
 ghost use Rattle.ftd_replies.specs.Hints.{first_beside, first_text, form_text};
 ghost use Rattle.ftd_replies.specs.Hints.{hint_of, hint_text, hints_text};
 ghost use Rattle.ftd_replies.specs.Hints.{left_out_text, meant_line, new_text};
 ghost use Rattle.ftd_replies.specs.Hints.{next_text, number_in};
 ghost use Rattle.ftd_replies.specs.Hints.{quarter_hint, said_text, told_text, years_text};
+ghost use Rattle.ftd_replies.specs.Hints.{total_otherwise};
 
 use crate::differing::{Differing, write_difference};
 use crate::enrolment::{Enrolment, write_enrolment};
@@ -21,7 +23,7 @@ use crate::questions::{days_asked, years_asked};
 use crate::refusals::write_refusal;
 use ftd_answers::{day_bytes, quarter_bytes};
 use ftd_days::{Day, Quarter};
-use ftd_machine::{AccountName, Refusal, Request};
+use ftd_machine::{AccountName, Correction, Entry, Refusal, Request, ReturnPeriod};
 use ftd_ports::{Target, WriteFault, write_all, write_pieces};
 use itoa::Buffer;
 
@@ -161,18 +163,21 @@ pub fn account_in(request: &Request) -> &str
     ensures { result.now ≡ account_in request.now }
 {
     match request {
-        Request::Calendar { .. } | Request::AddHoliday { .. } | Request::ChangeHoliday { .. } => "",
-        Request::Enrol { account, .. } => account.as_str(),
-        Request::Report { account, .. } => account.as_str(),
-        Request::ReportYear { account, .. } => account.as_str(),
-        Request::OpenYear { account, .. } => account.as_str(),
-        Request::Post { account, .. } => account.as_str(),
-        Request::Void { account, .. } => account.as_str(),
-        Request::Pay { account, .. } => account.as_str(),
-        Request::VoidPay { account, .. } => account.as_str(),
-        Request::CorrectReport { account, .. } => account.as_str(),
-        Request::CorrectReportYear { account, .. } => account.as_str(),
-        Request::CorrectAccount { account, .. } => account.as_str(),
+        Request::Enter(Entry::Calendar { .. } | Entry::Holiday { .. }) => "",
+        Request::Enter(Entry::Account { name, .. }) => name.as_str(),
+        Request::Enter(Entry::Total { account, .. } | Entry::Year { account, .. }) => {
+            account.as_str()
+        }
+        Request::Post { account, .. }
+        | Request::Void { account, .. }
+        | Request::Pay { account, .. }
+        | Request::VoidPay { account, .. } => account.as_str(),
+        Request::Correct { correction, .. } => match correction {
+            Correction::Total { account, .. } | Correction::Account { account, .. } => {
+                account.as_str()
+            }
+            Correction::Holiday { .. } => "",
+        },
         Request::Question(question) => match question.account() {
             Some(account) => account.as_str(),
             None => "",
@@ -185,21 +190,8 @@ fn number_in(request: &Request) -> u32
     ensures { result ≡ number_in request.now }
 {
     match request {
-        Request::Post { run, .. } => *run,
-        Request::Pay { payment, .. } => *payment,
-        Request::Enrol { .. }
-        | Request::Calendar { .. }
-        | Request::AddHoliday { .. }
-        | Request::Report { .. }
-        | Request::ReportYear { .. }
-        | Request::OpenYear { .. }
-        | Request::Void { .. }
-        | Request::VoidPay { .. }
-        | Request::CorrectReport { .. }
-        | Request::CorrectReportYear { .. }
-        | Request::ChangeHoliday { .. }
-        | Request::CorrectAccount { .. }
-        | Request::Question(_) => 0,
+        Request::Post { number, .. } | Request::Pay { number, .. } => *number,
+        _ => 0,
     }
 }
 
@@ -207,22 +199,10 @@ fn number_in(request: &Request) -> u32
 fn days_in(request: &Request) -> &[Day]
     ensures { result.now ≡ days_in request.now }
 {
-    match request {
-        Request::Calendar { days, .. } => days.as_slice(),
-        Request::Enrol { .. }
-        | Request::AddHoliday { .. }
-        | Request::Report { .. }
-        | Request::ReportYear { .. }
-        | Request::OpenYear { .. }
-        | Request::Post { .. }
-        | Request::Void { .. }
-        | Request::Pay { .. }
-        | Request::VoidPay { .. }
-        | Request::CorrectReport { .. }
-        | Request::CorrectReportYear { .. }
-        | Request::ChangeHoliday { .. }
-        | Request::CorrectAccount { .. }
-        | Request::Question(_) => &[],
+    if let Request::Enter(Entry::Calendar { days, .. }) = request {
+        days.as_slice()
+    } else {
+        &[]
     }
 }
 
@@ -231,23 +211,16 @@ fn years_said(request: &Request) -> &'static [u8]
     ensures { result.now ≡ years_text request.now }
 {
     match request {
-        Request::Calendar { .. } => b"hint: the years of calendars are 2001 to 2099\n",
-        Request::Report { .. }
-        | Request::ReportYear { .. }
-        | Request::CorrectReport { .. }
-        | Request::CorrectReportYear { .. } => {
-            b"hint: the years of reported totals are 1999 to 2098\n"
+        Request::Enter(Entry::Calendar { .. }) => {
+            b"hint: the years of calendars are 2001 to 2099\n"
         }
-        Request::Enrol { .. }
-        | Request::AddHoliday { .. }
-        | Request::OpenYear { .. }
-        | Request::Post { .. }
-        | Request::Void { .. }
-        | Request::Pay { .. }
-        | Request::VoidPay { .. }
-        | Request::ChangeHoliday { .. }
-        | Request::CorrectAccount { .. } => b"hint: the years of paydays are 2001 to 2098\n",
+        Request::Enter(Entry::Total { .. })
+        | Request::Correct {
+            correction: Correction::Total { .. },
+            ..
+        } => b"hint: the years of reported totals are 1999 to 2098\n",
         Request::Question(question) => years_asked(question),
+        _ => b"hint: the years of paydays are 2001 to 2098\n",
     }
 }
 
@@ -256,27 +229,21 @@ fn days_said(request: &Request) -> &'static [u8]
     ensures { result.now ≡ days_text request.now }
 {
     match request {
-        Request::Enrol { .. } | Request::CorrectAccount { .. } => {
-            b"hint: an employer's first day is not after 2098-12-31\n"
-        }
-        Request::AddHoliday { .. } | Request::ChangeHoliday { .. } => {
-            b"hint: the days of holidays are those of 2001 to 2099\n"
-        }
+        Request::Enter(Entry::Account { .. })
+        | Request::Correct {
+            correction: Correction::Account { .. },
+            ..
+        } => b"hint: an employer's first day is not after 2098-12-31\n",
+        Request::Enter(Entry::Holiday { .. })
+        | Request::Correct {
+            correction: Correction::Holiday { .. },
+            ..
+        } => b"hint: the days of holidays are those of 2001 to 2099\n",
         Request::Pay { .. } => {
             b"hint: a payment is made in 2001 to 2099, for a day of 2001 to 2098\n"
         }
         Request::Question(question) => days_asked(question),
-        Request::Calendar { .. }
-        | Request::Report { .. }
-        | Request::ReportYear { .. }
-        | Request::OpenYear { .. }
-        | Request::Post { .. }
-        | Request::Void { .. }
-        | Request::VoidPay { .. }
-        | Request::CorrectReport { .. }
-        | Request::CorrectReportYear { .. } => {
-            b"hint: the days of paydays are those of 2001 to 2098\n"
-        }
+        _ => b"hint: the days of paydays are those of 2001 to 2098\n",
     }
 }
 
@@ -284,24 +251,10 @@ fn days_said(request: &Request) -> &'static [u8]
 fn calendar_said(request: &Request) -> &'static [u8]
     ensures { result.now ≡ calendar_text request.now }
 {
-    match request {
-        Request::AddHoliday { .. } => b"hint: a year has at most 60 holidays\n",
-        Request::Enrol { .. }
-        | Request::Calendar { .. }
-        | Request::Report { .. }
-        | Request::ReportYear { .. }
-        | Request::OpenYear { .. }
-        | Request::Post { .. }
-        | Request::Void { .. }
-        | Request::Pay { .. }
-        | Request::VoidPay { .. }
-        | Request::CorrectReport { .. }
-        | Request::CorrectReportYear { .. }
-        | Request::ChangeHoliday { .. }
-        | Request::CorrectAccount { .. }
-        | Request::Question(_) => {
-            b"hint: give at most 60 days, all in that year, in ascending order\n"
-        }
+    if let Request::Enter(Entry::Holiday { .. }) = request {
+        b"hint: a year has at most 60 holidays\n"
+    } else {
+        b"hint: give at most 60 days, all in that year, in ascending order\n"
     }
 }
 
@@ -310,25 +263,33 @@ fn form_said(request: &Request) -> &'static [u8]
     ensures { result.now ≡ form_text request.now }
 {
     match request {
-        Request::Report { .. } => { b"hint: this account files Form 943: use ftd report-year\n" }
-        Request::ReportYear { .. } => { b"hint: this account files Form 941: use ftd report\n" }
-        Request::CorrectReport { .. } => {
-            b"hint: this account files Form 943: use ftd correct-report-year\n"
-        }
-        Request::CorrectReportYear { .. } => {
-            b"hint: this account files Form 941: use ftd correct-report\n"
-        }
-        Request::Enrol { .. }
-        | Request::Calendar { .. }
-        | Request::AddHoliday { .. }
-        | Request::OpenYear { .. }
-        | Request::Post { .. }
-        | Request::Void { .. }
-        | Request::Pay { .. }
-        | Request::VoidPay { .. }
-        | Request::ChangeHoliday { .. }
-        | Request::CorrectAccount { .. }
-        | Request::Question(_) => b"hint: this account files Form 943, which has no Schedule B\n",
+        Request::Enter(
+            Entry::Total {
+                period: ReturnPeriod::Quarter(_),
+                ..
+            },
+        ) => b"hint: this account files Form 943: use ftd report-year\n",
+        Request::Enter(
+            Entry::Total {
+                period: ReturnPeriod::Year(_),
+                ..
+            },
+        ) => b"hint: this account files Form 941: use ftd report\n",
+        Request::Correct {
+            correction: Correction::Total {
+                period: ReturnPeriod::Quarter(_),
+                ..
+            },
+            ..
+        } => b"hint: this account files Form 943: use ftd correct-report-year\n",
+        Request::Correct {
+            correction: Correction::Total {
+                period: ReturnPeriod::Year(_),
+                ..
+            },
+            ..
+        } => b"hint: this account files Form 941: use ftd correct-report\n",
+        _ => b"hint: this account files Form 943, which has no Schedule B\n",
     }
 }
 
@@ -521,20 +482,20 @@ fn enrolled_as(request: &Request) -> &'static [u8]
     ensures { result.now ≡ enrolled_as request.now }
 {
     match request {
-        Request::ReportYear { .. } | Request::CorrectReportYear { .. } => b" START --form 943\n",
-        Request::Enrol { .. }
-        | Request::Calendar { .. }
-        | Request::AddHoliday { .. }
-        | Request::Report { .. }
-        | Request::OpenYear { .. }
-        | Request::Post { .. }
-        | Request::Void { .. }
-        | Request::Pay { .. }
-        | Request::VoidPay { .. }
-        | Request::CorrectReport { .. }
-        | Request::ChangeHoliday { .. }
-        | Request::CorrectAccount { .. }
-        | Request::Question(_) => b" START\n",
+        Request::Enter(
+            Entry::Total {
+                period: ReturnPeriod::Year(_),
+                ..
+            },
+        )
+        | Request::Correct {
+            correction: Correction::Total {
+                period: ReturnPeriod::Year(_),
+                ..
+            },
+            ..
+        } => b" START --form 943\n",
+        _ => b" START\n",
     }
 }
 
@@ -607,41 +568,61 @@ const QUARTER_OTHERWISE: &[u8] = b"hint: the quarter is reported with another am
 const YEAR_OTHERWISE: &[u8] = b"hint: the year is reported with another amount\n\
     hint: if that is wrong, ftd correct-report-year --db ";
 
+/// Writes the command that corrects a total which is reported otherwise.
+fn write_otherwise<W: Target>(
+    db: &str,
+    account: &str,
+    period: ReturnPeriod,
+    target: &mut W,
+) -> Result<(), WriteFault>
+    ensures { Writes result (W.taken target.old) (W.taken target.new)
+        (W.failed target.new) (total_otherwise db.now account.now period) }
+{
+    match period {
+        ReturnPeriod::Quarter(quarter) => {
+            let text = quarter_bytes(quarter);
+            write_of(QUARTER_OTHERWISE, db, account, &text, b" AMOUNT\n", target)
+        }
+        ReturnPeriod::Year(year) => {
+            write_number(YEAR_OTHERWISE, db, account, year, b" AMOUNT\n", target)
+        }
+    }
+}
+
+/// Writes the command that corrects what was entered otherwise.
+fn write_entry_otherwise<W: Target>(
+    db: &str,
+    entry: &Entry,
+    target: &mut W,
+) -> Result<(), WriteFault>
+    ensures { Writes result (W.taken target.old) (W.taken target.new)
+        (W.failed target.new) (entry_otherwise db.now entry.now) }
+{
+    match entry {
+        Entry::Account { name, .. } => {
+            let name = name.as_str().as_bytes();
+            write_on(ENROLLED_OTHERWISE, db, name, b" START\n", target)
+        }
+        Entry::Total {
+            account,
+            period,
+            ..
+        } => { write_otherwise(db, account.as_str(), *period, target) }
+        Entry::Calendar { .. } | Entry::Holiday { .. } | Entry::Year { .. } => {
+            write_all(target, b"")
+        }
+    }
+}
+
 /// Writes the command that corrects what is known otherwise.
 fn write_correct<W: Target>(db: &str, request: &Request, target: &mut W) -> Result<(), WriteFault>
     ensures { Writes result (W.taken target.old) (W.taken target.new)
         (W.failed target.new) (correct_text db.now request.now) }
 {
-    match request {
-        Request::Enrol { account, .. } => {
-            let name = account.as_str().as_bytes();
-            write_on(ENROLLED_OTHERWISE, db, name, b" START\n", target)
-        }
-        Request::Report {
-            account,
-            quarter,
-            ..
-        } => {
-            let name = account.as_str();
-            let text = quarter_bytes(*quarter);
-            write_of(QUARTER_OTHERWISE, db, name, &text, b" AMOUNT\n", target)
-        }
-        Request::ReportYear { account, year, .. } => {
-            let name = account.as_str();
-            write_number(YEAR_OTHERWISE, db, name, *year, b" AMOUNT\n", target)
-        }
-        Request::Calendar { .. }
-        | Request::AddHoliday { .. }
-        | Request::OpenYear { .. }
-        | Request::Post { .. }
-        | Request::Void { .. }
-        | Request::Pay { .. }
-        | Request::VoidPay { .. }
-        | Request::CorrectReport { .. }
-        | Request::CorrectReportYear { .. }
-        | Request::ChangeHoliday { .. }
-        | Request::CorrectAccount { .. }
-        | Request::Question(_) => write_all(target, b""),
+    if let Request::Enter(entry) = request {
+        write_entry_otherwise(db, entry, target)
+    } else {
+        write_all(target, b"")
     }
 }
 

@@ -11,10 +11,10 @@ ghost use Rattle.ftd_replies.specs.Notes.{rest_text, unapplied_hint};
 
 use crate::hints::file_bytes;
 use ftd_answers::{Counted, amount_text, day_bytes, total};
-use ftd_cli::last_asked;
 use ftd_days::Cents;
 use ftd_machine::{Explanation, Facts, KeptPayment, Question, Reply, Request, UnappliedRow};
 use ftd_ports::{Target, WriteFault, write_all, write_pieces};
+use ftd_verbs::last_asked;
 use itoa::Buffer;
 
 // ---- what is asked
@@ -23,26 +23,16 @@ use itoa::Buffer;
 fn asked_when_done(request: Request) -> Option<Request>
     ensures { result ≡ asked_when_done request }
 {
-    match request {
-        Request::Pay {
-            account,
-            for_day: day,
-            ..
-        } => Some(Request::Question(Question::Explain { account, day })),
-        Request::Enrol { .. }
-        | Request::Calendar { .. }
-        | Request::AddHoliday { .. }
-        | Request::Report { .. }
-        | Request::ReportYear { .. }
-        | Request::OpenYear { .. }
-        | Request::Post { .. }
-        | Request::Void { .. }
-        | Request::VoidPay { .. }
-        | Request::CorrectReport { .. }
-        | Request::CorrectReportYear { .. }
-        | Request::ChangeHoliday { .. }
-        | Request::CorrectAccount { .. }
-        | Request::Question(_) => None,
+    if let Request::Pay {
+        account,
+        payment,
+        ..
+    } = request
+    {
+        let day = payment.for_day;
+        Some(Request::Question(Question::Explain { account, day }))
+    } else {
+        None
     }
 }
 
@@ -50,20 +40,12 @@ fn asked_when_done(request: Request) -> Option<Request>
 fn asked_when_told(request: &Request) -> Option<Request>
     ensures { result ≡ asked_when_told (question_of request.now) }
 {
-    match request.question() {
-        Some(Question::Owed { .. }) => Some(Request::Question(Question::Unapplied {
+    if let Some(Question::Owed { .. }) = request.question() {
+        Some(Request::Question(Question::Unapplied {
             until: last_asked(),
-        })),
-        Some(
-            Question::Status { .. }
-            | Question::Explain { .. }
-            | Question::DueList { .. }
-            | Question::ScheduleB { .. }
-            | Question::Agenda { .. }
-            | Question::Unapplied { .. }
-            | Question::Kept(_),
-        )
-        | None => None,
+        }))
+    } else {
+        None
     }
 }
 
@@ -177,9 +159,13 @@ pub fn write_note<W: Target>(db: &str, facts: &Facts, target: &mut W) -> Result<
         (W.failed target.new) (note_text db.now facts.now) }
 {
     match facts {
-        Facts::Explained(explained) => write_payment_note(explained, target),
-        Facts::Unapplied(rows) => write_unapplied_hint(db, rows.as_slice(), target),
-        Facts::Status { .. } | Facts::Due(_) | Facts::Days(_) | Facts::Agenda(_) | Facts::Kept(_) =>
-            write_all(target, b""),
+        Facts::Explained(explained) => write_payment_note(&explained.found, target),
+        Facts::Unapplied(unapplied) => write_unapplied_hint(db, unapplied.rows.as_slice(), target),
+        Facts::Status(_)
+        | Facts::Due(_)
+        | Facts::Days(_)
+        | Facts::Agenda(_)
+        | Facts::Owed(_)
+        | Facts::Kept(_) => write_all(target, b""),
     }
 }

@@ -2,47 +2,28 @@
 
 ghost use Rattle.ftd_ports.specs.Writing.{Writes};
 ghost use Rattle.ftd_machine.specs.Laws.{IsBounded};
-ghost use Rattle.ftd_machine.specs.Questions.{AreBounded, question_of};
-ghost use Rattle.ftd_replies.specs.Replies.{facts_told, posted_text, reply_text};
+ghost use Rattle.ftd_replies.specs.Replies.{posted_text, reply_text};
 
 use ftd_answers::{Format, day_bytes, write_facts};
-use ftd_machine::{Difference, Facts, Reply, Request};
-use ftd_ports::{Target, WriteFault, write_all, write_pieces};
+use ftd_machine::{Difference, Reply};
+use ftd_ports::{Target, WriteFault, write_pieces};
 use itoa::Buffer;
 
-/// Writes the text of the reply to a request, in a format where it has several.
+/// Writes the text of a reply, in a format where it has several.
 pub fn write_reply<W: Target>(
     format: Format,
-    request: &Request,
     reply: &Reply,
     target: &mut W,
 ) -> Result<(), WriteFault>
     requires bounded { IsBounded reply.now }
     ensures { Writes result (W.taken target.old) (W.taken target.new)
-        (W.failed target.new) (reply_text format request.now reply.now) }
+        (W.failed target.new) (reply_text format reply.now) }
 {
     match reply {
         Reply::Done => write_pieces(target, &[b"done", b"\n"]),
         Reply::Already => write_pieces(target, &[b"already", b"\n"]),
         Reply::Posted(difference) => write_posted(difference, target),
-        Reply::Told(facts) => write_answer(format, request, facts, target),
-    }
-}
-
-/// Writes what is told of a question, in a format; nothing where the request is none.
-fn write_answer<W: Target>(
-    format: Format,
-    request: &Request,
-    facts: &Facts,
-    target: &mut W,
-) -> Result<(), WriteFault>
-    requires bounded { AreBounded facts.now }
-    ensures { Writes result (W.taken target.old) (W.taken target.new)
-        (W.failed target.new) (facts_told format (question_of request.now) facts.now) }
-{
-    match request.question() {
-        Some(question) => write_facts(format, question, facts, target),
-        None => write_all(target, b""),
+        Reply::Told(facts) => write_facts(format, facts, target),
     }
 }
 

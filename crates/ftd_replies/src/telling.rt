@@ -3,10 +3,11 @@
 ghost use Rattle.std.specs.Prelude.{◌≡◌, option_map};
 ghost use Rattle.ftd_replies.specs.Putting.{IsPut};
 ghost use Rattle.ftd_replies.specs.Telling.{Tells, TellsHelp, asked_text, bad_text, bad_word};
-ghost use Rattle.ftd_replies.specs.Telling.{given_text};
+ghost use Rattle.ftd_replies.specs.Telling.{formats_text, given_text, kind_text};
 
 use ftd_cli::{CliFault, Word};
 use ftd_ports::{Target, write_all, write_pieces};
+use ftd_verbs::{Formats, Kind};
 
 /// Prints why the words of a command line ask nothing, or the help that they ask for, and answers
 /// the exit status: 0 for help, 2 for a bad command line, 3 where there was no memory, or where
@@ -42,31 +43,57 @@ pub fn put<E: Target>(text: &[u8], err: &mut E)
 /// What is asked for as a day.
 const DAY_FORM: &[u8] = b"a date from 1900 to 2199; write it like 2024-05-27";
 
+/// What is asked for where no other words are.
+const ALLOWED: &[u8] = b"a value that is allowed here";
+
+/// What is asked for as a value of a kind.
+fn kind_bytes(kind: Kind) -> &'static [u8]
+    ensures { result.now ≡ kind_text kind }
+{
+    match kind {
+        Kind::Day | Kind::DayOrOther | Kind::Days => DAY_FORM,
+        Kind::Quarter => b"a quarter from 1900Q1 to 2199Q4; write it like 2024Q2",
+        Kind::Amount => b"an amount up to 999999999.99; write it like 1234.56",
+        Kind::Account => {
+            b"an account name: 1 to 20 bytes, a lower-case letter, \
+              then lower-case letters, digits or hyphens"
+        }
+        Kind::Year => b"a year from 2001 to 2098",
+        Kind::Number | Kind::NumberOrNext => b"a number from 1 to 999999999",
+        Kind::Answer => b"yes or no",
+        Kind::Mark | Kind::Form => ALLOWED,
+    }
+}
+
+/// What is asked for as a format of an answer.
+fn formats_bytes(formats: Formats) -> &'static [u8]
+    ensures { result.now ≡ formats_text formats }
+{
+    match formats {
+        Formats::Fixed => ALLOWED,
+        Formats::Explanation => b"a format: text or json",
+        Formats::List => b"a format: text, csv or json",
+        Formats::Calendar => b"a format: text, csv, json or ics",
+    }
+}
+
 /// What is asked for as the value of a word.
 fn asked_bytes(word: Word) -> &'static [u8]
     ensures { result.now ≡ asked_text word }
 {
     match word {
-        Word::Start | Word::Payday | Word::Paid | Word::For => DAY_FORM,
-        Word::Day | Word::Days | Word::AsOf | Word::Holidays => DAY_FORM,
-        Word::From | Word::To | Word::Until | Word::LastDay => DAY_FORM,
-        Word::Quarter => b"a quarter from 1900Q1 to 2199Q4; write it like 2024Q2",
-        Word::Amount | Word::Fit | Word::Ss | Word::Medicare => {
-            b"an amount up to 999999999.99; write it like 1234.56"
-        }
-        Word::Account => {
-            b"an account name: 1 to 20 bytes, a lower-case letter, \
-              then lower-case letters, digits or hyphens"
-        }
-        Word::Year => b"a year from 2001 to 2098",
-        Word::Run | Word::Payment | Word::Number => b"a number from 1 to 999999999",
-        Word::IsHoliday => b"yes or no",
+        Word::Field(field) => kind_bytes(field.kind()),
+        Word::Format(formats) => formats_bytes(formats),
+        Word::Holidays => DAY_FORM,
         Word::Port => b"a port from 0 to 65535",
         Word::Wait => b"a number of seconds from 0 to 3600",
-        Word::Format => b"a format: text, csv, json or ics",
-        Word::ListFormat => b"a format: text, csv or json",
-        Word::ExplanationFormat => b"a format: text or json",
-        _ => b"a value that is allowed here",
+        Word::Db
+        | Word::Connections
+        | Word::Idle
+        | Word::Silence
+        | Word::Duration
+        | Word::CsvFile
+        | Word::Check => ALLOWED,
     }
 }
 

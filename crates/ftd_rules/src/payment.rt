@@ -4,6 +4,7 @@ ghost use Rattle.std.specs.Prelude.{◌≡◌, ◌<◌};
 ghost use Rattle.std.specs.List.{sum_by};
 ghost use Rattle.ftd_rules.specs.Payments.{counts_by, paid_by, payment_cents};
 
+use crate::AMOUNTS_END;
 use ftd_days::{Cents, Day};
 
 /// A payment of tax for the liability of a day. Only those that are not void count.
@@ -38,7 +39,7 @@ impl Payment {
 /// with the days of a quarter and the due date of its return what a small quarter's does (Pub. 15
 /// section 11, "Accuracy of Deposits Rule" and "Payment with return"). Takes no memory.
 pub fn paid_by(payments: &[Payment], first: Day, last: Day, as_of: Day, by: Day) -> Cents
-    requires { sum_by payment_cents payments.now < 6_000_000_000_000_000 }
+    requires { sum_by payment_cents payments.now < AMOUNTS_END }
     ensures { result.0 ≡ paid_by payments.now first last as_of by }
 {
     let known_by = by.min(as_of);

@@ -1,6 +1,5 @@
 pub mod Responses
 pub mod Refusals
-pub mod Facts
 pub mod Replying
 pub mod Serving
 pub mod Wires

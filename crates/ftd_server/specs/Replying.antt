@@ -2,16 +2,15 @@
 use Rattle.std.specs.Prelude.{◌≡◌, ℕ, ◌∷◌, [], List, codes, length, Ok, Err}
 use Rattle.ftd_days.specs.Text.{day_text}
 use Rattle.ftd_http.specs.declared.status.Status.TheVariants as status
-use Rattle.ftd_machine.specs.Questions.{question_of}
 use Rattle.ftd_machine.specs.declared.requests.Request.{Request}
 use Rattle.ftd_machine.specs.declared.replies.Difference.{Difference}
 use Rattle.ftd_machine.specs.declared.replies.Reply.{Reply}
 use Rattle.ftd_machine.specs.declared.replies.Reply.TheVariants as reply
 use Rattle.ftd_machine.specs.Checks.{Answer}
+use Rattle.ftd_answers.specs.Facts.{facts_text}
 use Rattle.ftd_answers.specs.Fields.{Told, members_of, number_field, object_of, text_field}
 use Rattle.ftd_answers.specs.declared.formats.Format.{Format}
-use Rattle.ftd_server.specs.Facts.{facts_said}
-use Rattle.ftd_server.specs.Responses.{Said, bare, json}
+use Rattle.ftd_server.specs.Responses.{Said, bare, formatted, json}
 use Rattle.ftd_server.specs.Responses.{other_method}
 use Rattle.ftd_server.specs.Refusals.{refused}
 use Rattle.ftd_http.specs.declared.ask.Asked.{Asked}
@@ -32,15 +31,15 @@ abbrev pub posted : Difference → Said
 posted d = json status.Okay (object_of (members_of (posted_fields d)))
 
 -- the response to a reply, in a format where it has several
-abbrev pub replied : Format → Request → Reply → Said
-replied format request reply.Done = named (codes "done")
-replied format request reply.Already = named (codes "already")
-replied format request (reply.Posted difference) = posted difference
-replied format request (reply.Told facts) = facts_said format (question_of request) facts
+abbrev pub replied : Format → Reply → Said
+replied format reply.Done = named (codes "done")
+replied format reply.Already = named (codes "already")
+replied format (reply.Posted difference) = posted difference
+replied format (reply.Told facts) = formatted format (facts_text format facts)
 
-abbrev pub answered : Format → Request → Answer → Said
-answered format request (Ok reply) = replied format request reply
-answered format request (Err refusal) = refused refusal
+abbrev pub answered : Format → Answer → Said
+answered format (Ok reply) = replied format reply
+answered format (Err refusal) = refused refusal
 
 -- The response to what is asked of a machine: where nothing is asked of it, it stays as it is.
 -- `goes` has the machine, a request, its answer, and the machine after it.
@@ -50,4 +49,4 @@ module _ {M : Type 0} (goes : M → Request → Answer → M → Type 0) where
   Responds now (asked.OtherMethod allow) said later = (later ≡ now) × (said ≡ other_method allow)
   Responds now asked.BadForm said later = (later ≡ now) × (said ≡ bare status.BadRequest)
   Responds now (asked.Asks format request) said later =
-      (answer : Answer) × goes now request answer later × (said ≡ answered format request answer)
+      (answer : Answer) × goes now request answer later × (said ≡ answered format answer)

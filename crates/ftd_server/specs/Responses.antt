@@ -9,7 +9,7 @@ use Rattle.ftd_answers.specs.declared.formats.Format.{Format}
 use Rattle.ftd_answers.specs.declared.formats.Format.TheVariants as format
 use Rattle.ftd_answers.specs.declared.formats.ListFormat.{ListFormat}
 use Rattle.ftd_answers.specs.declared.formats.ListFormat.TheVariants.{Text, Csv, Json}
-use Rattle.ftd_http.specs.declared.ask.Method.{Method}
+use Rattle.ftd_verbs.specs.declared.rows.Method.{Method}
 use Rattle.ftd_http.specs.Asking.{method_text}
 use Rattle.ftd_server.specs.declared.response.Content.{Content}
 use Rattle.ftd_server.specs.declared.response.Content.TheVariants as content

@@ -13,10 +13,9 @@ ghost use Rattle.ftd_server.specs.Serving.{IsAnswer, BreaksOff, HasFailed, refus
 use crate::machine::Machine;
 use crate::respond::respond;
 use crate::response::{bare, write_response};
-use ftd_http::{
-    Ask, Next, Parts, Peer, ReadFault, Status, make_router, next_message, what_is_asked,
-};
+use ftd_http::{Next, Parts, Peer, ReadFault, Status, make_router, next_message, what_is_asked};
 use ftd_ports::{Target, WriteFault};
+use ftd_verbs::Verb;
 use matchit::Router;
 use std::alloc::Global;
 
@@ -103,7 +102,7 @@ pub fn serve_machine<By, M: Machine<By>, R: Peer, W: Target>(
 /// open after the answer.
 fn serve_next<By, M: Machine<By>, R: Peer, W: Target>(
     alloc: Global,
-    router: &Router<Ask>,
+    router: &Router<Verb>,
     machine: &mut M,
     source: &mut R,
     target: &mut W,
@@ -178,7 +177,7 @@ fn refuse<W: Target>(alloc: Global, target: &mut W, status: Status) -> Result<()
 /// Answers the message at the front of the buffer, after so many others.
 fn answer<By, M: Machine<By>, W: Target>(
     alloc: Global,
-    router: &Router<Ask>,
+    router: &Router<Verb>,
     machine: &mut M,
     target: &mut W,
     buf: &[u8],

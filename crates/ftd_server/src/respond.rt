@@ -11,7 +11,7 @@ use crate::refusals::refused;
 use crate::response::{Response, bare, json, object_text, other_method};
 use ftd_answers::{Format, Value};
 use ftd_http::{Asked, Status};
-use ftd_machine::{Answer, Difference, Reply, Request, is_bounded};
+use ftd_machine::{Answer, Difference, Reply, is_bounded};
 use std::alloc::{AllocError, Global};
 
 /// The response to what is asked. Where there is no memory for it, the machine may have answered.
@@ -31,35 +31,25 @@ pub fn respond<By, M: Machine<By>>(
         Asked::BadForm => Ok(bare(alloc, Status::BadRequest)),
         Asked::Asks { format, request } => {
             let answer = machine.answer(request);
-            answered(alloc, *format, request, &answer)
+            answered(alloc, *format, &answer)
         }
     }
 }
 
 /// The response to an answer.
-fn answered(
-    alloc: Global,
-    format: Format,
-    request: &Request,
-    answer: &Answer,
-) -> Result<Response, AllocError>
-    ensures { IfOk result (λ response. said_of response ≡ answered format request.now answer.now) }
+fn answered(alloc: Global, format: Format, answer: &Answer) -> Result<Response, AllocError>
+    ensures { IfOk result (λ response. said_of response ≡ answered format answer.now) }
 {
     match answer {
-        Ok(reply) => replied(alloc, format, request, reply),
+        Ok(reply) => replied(alloc, format, reply),
         Err(refusal) => refused(alloc, refusal),
     }
 }
 
 /// The response to a reply. The amounts of one account that a desk answers come to less than
 /// 6,000,000,000,000,000 cents; a list of others has no text.
-fn replied(
-    alloc: Global,
-    format: Format,
-    request: &Request,
-    reply: &Reply,
-) -> Result<Response, AllocError>
-    ensures { IfOk result (λ response. said_of response ≡ replied format request.now reply.now) }
+fn replied(alloc: Global, format: Format, reply: &Reply) -> Result<Response, AllocError>
+    ensures { IfOk result (λ response. said_of response ≡ replied format reply.now) }
 {
     if !is_bounded(reply) {
         return Err(AllocError);
@@ -68,7 +58,7 @@ fn replied(
         Reply::Done => named(alloc, "done"),
         Reply::Already => named(alloc, "already"),
         Reply::Posted(difference) => posted(alloc, difference),
-        Reply::Told(facts) => facts_said(alloc, format, request, facts),
+        Reply::Told(facts) => facts_said(alloc, format, facts),
     }
 }
 

@@ -9,8 +9,9 @@ ghost use Rattle.ftd_server.specs.Responses.{status_text, allow_line, content_li
 ghost use Rattle.ftd_server.specs.Responses.{connection_line, head_text, response_text};
 
 use ftd_answers::{Format, ListFormat, Value, write_object};
-use ftd_http::{Method, Status};
+use ftd_http::Status;
 use ftd_ports::{Port, Target, WriteFault, write_all, write_pieces};
+use ftd_verbs::Method;
 use itoa::Buffer;
 use std::alloc::{AllocError, Global};
 

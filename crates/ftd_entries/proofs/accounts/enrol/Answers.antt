@@ -1,5 +1,6 @@
 use Rattle.std.proofs.Common.{rules}
-use Rattle.ftd_machine.specs.declared.requests.Request.TheVariants.{Enrol}
+use Rattle.ftd_machine.specs.declared.requests.Request.TheVariants.{Enter}
+use Rattle.ftd_machine.specs.declared.requests.Entry.TheVariants as entry
 use Rattle.ftd_entries.proofs.Serving.{served_looked, served_changed}
 use Rattle.ftd_entries.proofs.Enrolling.{enrol_decided, enrol_done}
 use Rattle.ftd_entries.proofs.accounts.enrol.Goals as goal
@@ -8,7 +9,7 @@ pub returns-in-Some : goal.returns-in-Some
 returns-in-Some g c =
     let account = c.args.account in
     record {
-      call = served_looked (Enrol c.args.name.now account.start account.carried account.form)
+      call = served_looked (Enter (entry.Account c.args.name.now account))
           c.in-Some.answer c.in_ok-known.ensures.call (enrol_decided c.args.name.now account
           c.in_ok-known.known c.in-Some.answer (search rules));
     }
@@ -17,7 +18,7 @@ pub returns : goal.returns
 returns g c =
     let account = c.args.account in
     record {
-      call = served_changed (Enrol c.args.name.now account.start account.carried account.form) _
+      call = served_changed (Enter (entry.Account c.args.name.now account)) _
           c.in_ok-known.ensures.call c.in_ok-add.ensures.call
           (enrol_done c.args.name.now account c.in_ok-known.known (search rules));
     }

@@ -1,6 +1,7 @@
 use Rattle.std.proofs.Common.{◌≡◌, ◌-◌, ◌==◌, ◌||◌, rules, Bool, true, length, refl, sym, subst}
 use Rattle.std.specs.List.{list_any}
-use Rattle.ftd_machine.specs.declared.requests.Request.TheVariants.{OpenYear}
+use Rattle.ftd_machine.specs.declared.requests.Request.TheVariants.{Enter}
+use Rattle.ftd_machine.specs.declared.requests.Entry.TheVariants as entry
 use Rattle.ftd_entries.specs.Opening.{IsNextLine, is_line_of}
 use Rattle.ftd_entries.proofs.Deciding.{year_decided, served_lacking, served_opened}
 use Rattle.ftd_entries.proofs.Deciding.{served_waiting}
@@ -12,7 +13,7 @@ use Rattle.ftd_entries.proofs.open_years.open_year.Goals.{else-not-is_empty-via-
 
 pub returns-in-Some : goal.returns-in-Some
 returns-in-Some g c = record {
-  call = served_looked (OpenYear c.args.name.now c.args.year) c.in-Some.answer
+  call = served_looked (Enter (entry.Year c.args.name.now c.args.year)) c.in-Some.answer
       c.in_ok-known.ensures.call
       (year_decided c.args.name.now c.args.year c.in_ok-known.known c.has_year-there.result
       (search rules) c.in-Some.answer (search rules));

@@ -8,8 +8,7 @@ use Rattle.ftd_entries.proofs.payments.pay.Goals as goal
 pub returns-in-Some : goal.returns-in-Some
 returns-in-Some g c = record {
   call = served_looked_where (CountsPayments c.args.name.now c.args.count)
-      (Pay c.args.name.now c.args.number c.args.payment.paid c.args.payment.for_day
-      c.args.payment.cents) _
+      (Pay c.args.name.now c.args.number c.args.payment) _
       c.in_ok-before.ensures.call (pay_decided c.args.name.now c.args.number c.args.payment
       c.args.count c.in_ok-before.before c.in-Some.answer (search rules));
 }
@@ -17,8 +16,7 @@ returns-in-Some g c = record {
 pub returns : goal.returns
 returns g c = record {
   call = served_changed_where (CountsPayments c.args.name.now c.args.count)
-      (Pay c.args.name.now c.args.number c.args.payment.paid c.args.payment.for_day
-      c.args.payment.cents) _
+      (Pay c.args.name.now c.args.number c.args.payment) _
       c.in_ok-before.ensures.call c.in_ok-add_payment.ensures.call (pay_done c.args.name.now
       c.args.number c.args.payment c.args.count c.in_ok-before.before (search rules));
 }

@@ -1,5 +1,7 @@
 use Rattle.std.proofs.Common.{rules}
-use Rattle.ftd_machine.specs.declared.requests.Request.TheVariants.{Report}
+use Rattle.ftd_machine.specs.declared.requests.Request.TheVariants.{Enter}
+use Rattle.ftd_machine.specs.declared.requests.Entry.TheVariants as entry
+use Rattle.ftd_machine.specs.declared.entries.ReturnPeriod.TheVariants.{Quarter}
 use Rattle.ftd_entries.proofs.Reading.{both_read}
 use Rattle.ftd_entries.proofs.Serving.{served_looked, served_changed}
 use Rattle.ftd_entries.proofs.Reporting.{report_decided, report_done}
@@ -8,7 +10,7 @@ use Rattle.ftd_entries.proofs.reported.report.Goals as goal
 pub returns-in-Some : goal.returns-in-Some
 returns-in-Some g c = record {
   call = served_looked
-      (Report c.args.name.now c.args.quarter c.args.cents) _
+      (Enter (entry.Total c.args.name.now (Quarter c.args.quarter) c.args.cents)) _
       (both_read c.in_ok-account.ensures.call c.in_ok-reported.ensures.call)
       (report_decided c.args.name.now c.args.quarter c.args.cents
       (c.in_ok-account.account, c.in_ok-reported.reported) c.in-Some.answer (search rules));
@@ -17,7 +19,7 @@ returns-in-Some g c = record {
 pub returns : goal.returns
 returns g c = record {
   call = served_changed
-      (Report c.args.name.now c.args.quarter c.args.cents) _
+      (Enter (entry.Total c.args.name.now (Quarter c.args.quarter) c.args.cents)) _
       (both_read c.in_ok-account.ensures.call c.in_ok-reported.ensures.call)
       c.in_ok-add_reported.ensures.call (report_done c.args.name.now c.args.quarter c.args.cents
       (c.in_ok-account.account, c.in_ok-reported.reported) (search rules));

@@ -1,4 +1,5 @@
-use Rattle.std.proofs.Common.{None, sym, ◌∙◌}
+use Rattle.std.proofs.Common.{None, sym, ap, ◌∙◌}
+use Rattle.ftd_verbs.specs.Rows.{VerbRow}
 use Rattle.ftd_http.proofs.AskFacts.{no_text, by_route, wrong_method, right_method}
 use Rattle.ftd_http.proofs.ask.what_is_asked.Goals as goal
 
@@ -13,17 +14,19 @@ returns-in_default-look_up c =
 
 pub returns-then-not-is_method : goal.returns-then-not-is_method
 returns-then-not-is_method c =
-    rw c.method_of-then-not-is_method.ensures
+    let wanted = ap (λ (row : VerbRow). row.method) c.row-wanted.ensures in
+    rw wanted
     (wrong_method c.args.method.now c.args.target.now c.args.body.now c.in-Some.route
     c.in-Ok.ensures.cases.1
     (rw (c.requires, c.in-Ok.ensures.cases.0) at c.in-Some.ensures)
-    (sym (rw c.method_of.ensures at c.if-not-is_method.ensures)))
+    (sym (rw wanted at c.if-not-is_method.ensures)))
 
 pub returns : goal.returns
 returns c =
-    (rw c.format_of.ensures at c.formed.ensures)
+    let wanted = ap (λ (row : VerbRow). row.method) c.row-wanted.ensures in
+    c.formed.ensures
     ∙ right_method c.args.method.now c.args.target.now c.args.body.now c.in-Some.route
     c.in_ok-request.request c.in-Ok.ensures.cases.1
     (rw (c.requires, c.in-Ok.ensures.cases.0) at c.in-Some.ensures)
-    (sym (rw c.method_of.ensures at c.if-not-is_method.ensures))
+    (sym (rw wanted at c.if-not-is_method.ensures))
     (rw c.in-Ok.ensures.cases.0 at c.in_ok-request.ensures)

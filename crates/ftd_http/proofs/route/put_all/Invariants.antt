@@ -1,8 +1,7 @@
-use Rattle.std.proofs.Common.{◌≡◌, drop, map}
-use Rattle.ftd_http.specs.Routes.{with_routes}
-use Rattle.ftd_http.proofs.RouteFacts.{seen}
+use Rattle.std.proofs.Common.{◌≡◌, drop}
+use Rattle.ftd_http.specs.Routes.{with_verbs}
 use Rattle.ftd_http.proofs.route.put_all.Given as goal
 
-abbrev pub invariant-loop-route : goal.invariant-loop-route
-invariant-loop-route l = with_routes (map seen (drop l.route-index l.routes)) l.router
-    ≡ with_routes (map seen l.routes) l.initial.router
+abbrev pub invariant-loop-verb : goal.invariant-loop-verb
+invariant-loop-verb l = with_verbs (drop l.verb-index l.verbs) l.router
+    ≡ with_verbs l.verbs l.initial.router

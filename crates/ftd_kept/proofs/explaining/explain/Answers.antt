@@ -1,8 +1,7 @@
-use Rattle.std.proofs.Common.{◌∙◌, Ok, refl, rules, ap, subst}
+use Rattle.std.proofs.Common.{◌∙◌, refl, rules, ap, subst}
 use Rattle.ftd_store.proofs.Telling.{then_reads}
 use Rattle.ftd_machine.specs.History.{form_of}
-use Rattle.ftd_machine.specs.declared.facts.Facts.TheVariants.{Explained}
-use Rattle.ftd_machine.specs.declared.replies.Reply.TheVariants.{Told}
+use Rattle.ftd_machine.specs.Told.{explained_answer}
 use Rattle.ftd_machine.specs.declared.requests.Question.TheVariants.{Explain}
 use Rattle.ftd_machine.specs.declared.requests.Request.TheVariants.{Question}
 use Rattle.ftd_machine.proofs.Deciding.{decided, passed}
@@ -29,13 +28,13 @@ returns g c =
     let lines = c.in_ok-lines.lines.items in
     let account = c.in_ok-account.account in
     let form = c.in-Some-account.account.form in
-    let explained = c.in_ok-explained.explained in
-    let answer = Ok (Told (Explained explained)) in
+    let explained = c.in_ok-found.found in
+    let answer = explained_answer c.in-Ok.owner day explained in
     record {
       call = served_looked (Question (Explain name day)) answer (then_reads explained
           (λ x t. KnowsLines name account lines t × KnowsExplained name form lines day x t)
           (account_and_lines name c.in_ok-account.ensures.call c.in_ok-lines.ensures.call)
-          c.in_ok-explained.ensures.call (λ t first second. (
+          c.in_ok-found.ensures.call (λ t first second. (
             first,
             subst (λ xs. KnowsExplained name form xs day explained t) c.deref-2.ensures.value
                 second,
@@ -50,7 +49,7 @@ returns g c =
               explained = explained;
               is_explained = knows.1 s stands sound
                   (ap form_of (told.0 ∙ c.in-Some-account.is)) told.1;
-              told = refl;
+              told = ap (λ n. explained_answer n day explained) c.in-Ok.ensures;
             },
           )));
     }

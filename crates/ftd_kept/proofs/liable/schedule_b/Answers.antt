@@ -1,8 +1,8 @@
-use Rattle.std.proofs.Common.{Ok, rules, subst, sym}
+use Rattle.std.proofs.Common.{rules, subst, sym}
 use Rattle.ftd_days.specs.Calendar.{quarter_start}
 use Rattle.ftd_store.specs.Finds.{ListsLiability}
-use Rattle.ftd_machine.specs.declared.facts.Facts.TheVariants.{Days}
-use Rattle.ftd_machine.specs.declared.replies.Reply.TheVariants.{Told}
+use Rattle.ftd_machine.specs.Step.{Step}
+use Rattle.ftd_machine.specs.Told.{days_answer}
 use Rattle.ftd_machine.specs.declared.requests.Question.TheVariants.{ScheduleB}
 use Rattle.ftd_machine.specs.declared.requests.Request.TheVariants.{Question}
 use Rattle.ftd_entries.specs.Known.{KnowsYear}
@@ -33,7 +33,7 @@ returns g c =
     let there = c.in_ok-there.there in
     record {
       call = served_looked (Question (ScheduleB name c.args.quarter))
-          (Ok (Told (Days c.from_vec.result)))
+          (days_answer c.in-Ok.owner c.args.quarter c.from_vec.result)
           (three_told c.in_ok-account.ensures.call c.in_ok-there.ensures.call
           c.in_ok-sums.ensures.call sums (λ listed t. Knows name c.args.quarter
           (c.in_ok-account.account, there) t × ListsLiability name (quarter_start c.args.quarter)
@@ -41,7 +41,9 @@ returns g c =
             (knows, subst (λ year. KnowsYear name year there t) c.year.ensures opened),
             subst (λ from. ListsLiability name from c.last.result sums t) c.first.ensures lists,
           )))
-          (λ t s stands sound knows. rw (sym c.from_vec.ensures) at (days_told name c.args.quarter
+          (λ t s stands sound knows. subst (λ n. Step s (Question (ScheduleB name c.args.quarter))
+          (days_answer n c.args.quarter c.from_vec.result) s) (sym c.in-Ok.ensures)
+          (rw (sym c.from_vec.ensures) at (days_told name c.args.quarter
           (c.in_ok-account.account, there) c.last.result sums c.last.ensures (search rules) t s
-          stands sound knows));
+          stands sound knows)));
     }

@@ -3,7 +3,7 @@ use Rattle.std.specs.Prelude.{is_some, option_map}
 use Rattle.ftd_store.specs.Finds.{FindsCalendar}
 use Rattle.ftd_store.proofs.Telling.{then_reads}
 use Rattle.ftd_machine.specs.Checks.{first_of}
-use Rattle.ftd_machine.specs.Kept.{told_rows}
+use Rattle.ftd_machine.specs.Told.{kept_answer}
 use Rattle.ftd_machine.specs.Requests.{holidays_checks}
 use Rattle.ftd_machine.specs.State.{calendar_at}
 use Rattle.ftd_machine.specs.declared.kept.KeptRows.TheVariants as rows
@@ -44,7 +44,7 @@ returns g c =
       subst (λ ds. KnowsHolidays year ds listed.items t) c.deref.ensures.value knows,
     )) in
     let is : first_of (holidays_checks year (is_some given)) ≡ None = search rules in
-    let answer = told_rows (rows.Holidays c.from_vec.result) in
+    let answer = kept_answer (rows.Holidays c.args.year c.from_vec.result) in
     record {
       call = served_looked (Question (questions.Kept (kept.Holidays year))) answer read
           (λ t s stands sound knows.
@@ -61,7 +61,7 @@ returns g c =
               added = knows.1.added;
               rising = knows.1.rising;
               all = knows.1.all s stands;
-              told = ap (λ xs. told_rows (rows.Holidays xs))
+              told = ap (λ xs. kept_answer (rows.Holidays c.args.year xs))
                   (c.from_vec.ensures ∙ knows.1.told s stands sound found);
             },
           )));

@@ -1,8 +1,9 @@
-use Rattle.std.proofs.Common.{◌∙◌, ap, refl, rules, subst, sym}
+use Rattle.std.proofs.Common.{◌∙◌, ap₂, ap, refl, rules, subst, sym}
 use Rattle.ftd_rules.specs.Lists.{Has}
 use Rattle.ftd_store.proofs.Telling.{then_reads}
 use Rattle.ftd_machine.specs.Checks.{first_of}
-use Rattle.ftd_machine.specs.Kept.{IsTotal, told_rows}
+use Rattle.ftd_machine.specs.Kept.{IsTotal}
+use Rattle.ftd_machine.specs.Told.{kept_answer}
 use Rattle.ftd_machine.specs.Requests.{kept_of_checks}
 use Rattle.ftd_machine.specs.History.{form_of}
 use Rattle.ftd_machine.specs.State.{entries_of}
@@ -28,7 +29,7 @@ pub returns : goal.returns
 returns g c =
     let name = c.args.name.now in
     let listed = c.in_ok-rows.rows in
-    let answer = told_rows (rows.Reported c.from_vec.result) in
+    let answer = kept_answer (rows.Reported c.in-Ok.owner c.from_vec.result) in
     record {
       call = served_looked (Question (questions.Kept (kept.Reported name))) answer
           (then_reads c.in_ok-found.found (λ a t. KnowsAccount name a t
@@ -44,7 +45,7 @@ returns g c =
                   × (IsTotal f (entries_of s name) x → Has listed.items x))
                   (sym (ap form_of (knows.0 s stands ∙ c.in-Some-found.is)))
                   (knows.1.all s stands sound x);
-              told = ap (λ xs. told_rows (rows.Reported xs)) c.from_vec.ensures;
+              told = ap₂ (λ n xs. kept_answer (rows.Reported n xs)) c.in-Ok.ensures c.from_vec.ensures;
             },
           ));
     }

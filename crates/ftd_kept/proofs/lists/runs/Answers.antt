@@ -1,9 +1,10 @@
-use Rattle.std.proofs.Common.{◌≡◌, ◌∙◌, None, ap, refl, rules, subst, sym, map}
+use Rattle.std.proofs.Common.{◌≡◌, ◌∙◌, None, ap₂, ap, refl, rules, subst, sym, map}
 use Rattle.ftd_rules.specs.Lists.{Has}
 use Rattle.ftd_store.specs.Kept.{ListsKeptRuns}
 use Rattle.ftd_store.proofs.Telling.{then_reads}
 use Rattle.ftd_machine.specs.Checks.{first_of}
-use Rattle.ftd_machine.specs.Kept.{IsRunIn, told_rows}
+use Rattle.ftd_machine.specs.Kept.{IsRunIn}
+use Rattle.ftd_machine.specs.Told.{kept_answer}
 use Rattle.ftd_machine.specs.Requests.{kept_in_quarter_checks}
 use Rattle.ftd_machine.specs.State.{entries_of}
 use Rattle.ftd_machine.specs.declared.kept.KeptRows.TheVariants as rows
@@ -28,15 +29,15 @@ returns-in-Some g c = record {
       (knows s stands) ∙ search rules));
 }
 
-pub returns-in-Ok : goal.returns-in-Ok
-returns-in-Ok g c =
+pub returns-in-Ok-told_runs : goal.returns-in-Ok-told_runs
+returns-in-Ok-told_runs g c =
     let name = c.args.name.now in
     let quarter = c.args.quarter in
     let account = c.in_ok-account.account in
     let found = c.in_ok-found.found in
     let is : first_of (kept_in_quarter_checks name quarter account) ≡ None = search rules in
-    let told = c.in-Ok.ensures in
-    let answer = told_rows (rows.Runs c.from_vec.result) in
+    let told = c.in-Ok-told_runs.ensures in
+    let answer = kept_answer (rows.Runs c.in-Ok.owner c.args.quarter c.from_vec.result) in
     record {
       call = served_looked (Question (questions.Kept (kept.Runs name quarter))) answer
           (then_reads account
@@ -47,7 +48,7 @@ returns-in-Ok g c =
           (ap (λ a. first_of (kept_in_quarter_checks name quarter a)) (knows.0 s stands) ∙ is) (
             refl,
             record {
-              listed = c.in-Ok.rows.items;
+              listed = c.in-Ok-told_runs.rows.items;
               in_order = told.in_order;
               all = λ x. subst (λ xs. (Has xs x → IsRunIn (entries_of s name) quarter x)
                   × (IsRunIn (entries_of s name) quarter x → Has xs x))
@@ -56,7 +57,8 @@ returns-in-Ok g c =
                   (early_quarter name quarter account is) t s stands sound found.items
                   (subst (λ d. ListsKeptRuns name d c.last.result found t) c.first.ensures knows.1)
                   x);
-              told = ap (λ xs. told_rows (rows.Runs xs)) c.from_vec.ensures;
+              told = ap₂ (λ n xs. kept_answer (rows.Runs n c.args.quarter xs))
+                  c.in-Ok.ensures c.from_vec.ensures;
             },
           ));
     }

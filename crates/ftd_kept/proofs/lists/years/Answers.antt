@@ -1,7 +1,7 @@
-use Rattle.std.proofs.Common.{◌∙◌, ap, refl, rules}
+use Rattle.std.proofs.Common.{◌∙◌, ap₂, ap, refl, rules}
 use Rattle.ftd_store.proofs.Telling.{then_reads}
 use Rattle.ftd_machine.specs.Checks.{first_of}
-use Rattle.ftd_machine.specs.Kept.{told_rows}
+use Rattle.ftd_machine.specs.Told.{kept_answer}
 use Rattle.ftd_machine.specs.Requests.{kept_of_checks}
 use Rattle.ftd_machine.specs.declared.kept.KeptRows.TheVariants as rows
 use Rattle.ftd_machine.specs.declared.requests.Kept.TheVariants as kept
@@ -26,7 +26,7 @@ returns g c =
     let name = c.args.name.now in
     let account = c.in-Some-found.account in
     let listed = c.in_ok-rows.rows in
-    let answer = told_rows (rows.Years c.from_vec.result) in
+    let answer = kept_answer (rows.Years c.in-Ok.owner c.from_vec.result) in
     record {
       call = served_looked (Question (questions.Kept (kept.Years name))) answer
           (then_reads c.in_ok-found.found
@@ -41,7 +41,7 @@ returns g c =
               listed = listed.items;
               are_lines = years.are_lines;
               first_lookbacks = years.first_lookbacks;
-              told = ap (λ xs. told_rows (rows.Years xs)) c.from_vec.ensures;
+              told = ap₂ (λ n xs. kept_answer (rows.Years n xs)) c.in-Ok.ensures c.from_vec.ensures;
             },
           )));
     }

@@ -1,9 +1,9 @@
-use Rattle.std.proofs.Common.{◌≡◌, ◌∙◌, None, ap, arith, refl, rules, subst}
+use Rattle.std.proofs.Common.{◌≡◌, ◌∙◌, None, ap₂, ap, arith, refl, rules, subst}
 use Rattle.ftd_days.proofs.Months.{month_start-zero}
 use Rattle.ftd_store.specs.Lists.{Pairs}
 use Rattle.ftd_store.specs.Kept.{ListsKeptPayments}
 use Rattle.ftd_machine.specs.Checks.{first_of}
-use Rattle.ftd_machine.specs.Kept.{told_rows}
+use Rattle.ftd_machine.specs.Told.{kept_answer}
 use Rattle.ftd_machine.specs.Requests.{kept_in_quarter_checks}
 use Rattle.ftd_machine.specs.declared.kept.KeptRows.TheVariants as rows
 use Rattle.ftd_machine.specs.declared.requests.Kept.TheVariants as kept
@@ -32,14 +32,14 @@ returns-in-Some g c = record {
       (knows s stands) ∙ search rules));
 }
 
-pub returns-in-Ok : goal.returns-in-Ok
-returns-in-Ok g c =
+pub returns-in-Ok-told_payments : goal.returns-in-Ok-told_payments
+returns-in-Ok-told_payments g c =
     let name = c.args.name.now in
     let quarter = c.args.quarter in
     let account = c.in_ok-account.account in
     let found = c.in_ok-found.found in
     let owed = c.in_ok-owed.owed in
-    let told = c.in-Ok.rows in
+    let told = c.in-Ok-told_payments.rows in
     let last = c.last.result in
     let first_is : c.first_of_month.result ≡ 0 =
     c.first_of_month.ensures.value ∙ month_start-zero in
@@ -58,8 +58,8 @@ returns-in-Ok g c =
     let is : first_of (kept_in_quarter_checks name quarter account) ≡ None = search rules in
     let pairs = subst (λ xs. Pairs (IsKeptPayment owed.items) xs told.items) c.deref.ensures.value
     (subst (λ os. Pairs (IsKeptPayment os) c.deref.result.now told.items) c.deref-2.ensures.value
-    c.in-Ok.ensures.told) in
-    let answer = told_rows (rows.Payments c.from_vec.result) in
+    c.in-Ok-told_payments.ensures.told) in
+    let answer = kept_answer (rows.Payments c.in-Ok.owner c.args.quarter c.from_vec.result) in
     record {
       call = served_looked (Question (questions.Kept (kept.Payments name quarter))) answer read
           (λ t s stands sound knows. passed _ s answer s _
@@ -69,12 +69,13 @@ returns-in-Ok g c =
               owed = (stands.settled name).owed;
               are_owed = owes (stands.settled name);
               listed = told.items;
-              in_order = c.in-Ok.ensures.in_order;
+              in_order = c.in-Ok-told_payments.ensures.in_order;
               all = payments_are name quarter last c.last.ensures (early_quarter name quarter
                   account is) t s stands sound found.items
                   (subst (λ d. ListsKeptPayments name d last found t) c.first.ensures knows.1)
                   owed.items (knows.2 s stands) told.items pairs;
-              told = ap (λ xs. told_rows (rows.Payments xs)) c.from_vec.ensures;
+              told = ap₂ (λ n xs. kept_answer (rows.Payments n c.args.quarter xs))
+                  c.in-Ok.ensures c.from_vec.ensures;
             },
           ));
     }

@@ -1,9 +1,8 @@
-use Rattle.std.proofs.Common.{◌≡◌, Ok, rules, sym, true}
+use Rattle.std.proofs.Common.{◌≡◌, rules, sym, true}
 use Rattle.ftd_rules.specs.Lists.{are_in_order}
 use Rattle.ftd_machine.specs.declared.requests.Question.TheVariants as asked
 use Rattle.ftd_machine.specs.declared.requests.Request.TheVariants.{Question}
-use Rattle.ftd_machine.specs.declared.facts.Facts.TheVariants.{Unapplied}
-use Rattle.ftd_machine.specs.declared.replies.Reply.TheVariants.{Told}
+use Rattle.ftd_machine.specs.Told.{unapplied_answer}
 use Rattle.ftd_entries.proofs.Serving.{served_looked}
 use Rattle.ftd_kept.specs.Unapplied.{is_unapplied_before}
 use Rattle.ftd_kept.proofs.UnappliedKnown.{unapplied_answered, unapplied_refused}
@@ -24,7 +23,7 @@ returns g c =
     let order : are_in_order is_unapplied_before rows.items ≡ true = search rules in
     record {
       call = served_looked (Question (asked.Unapplied until))
-          (Ok (Told (Unapplied c.from_vec.result))) c.in_ok-rows.ensures.call
+          (unapplied_answer until c.from_vec.result) c.in_ok-rows.ensures.call
           (λ t s stands sound knows. rw (sym c.from_vec.ensures) at
           (unapplied_answered until rows.items t s stands sound knows (search rules)
           (unapplied_in_order rows.items order)));

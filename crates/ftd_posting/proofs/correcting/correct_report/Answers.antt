@@ -1,5 +1,7 @@
 use Rattle.std.proofs.Common.{refl, rules}
-use Rattle.ftd_machine.specs.declared.requests.Request.TheVariants.{CorrectReport}
+use Rattle.ftd_machine.specs.declared.requests.Request.TheVariants.{Correct}
+use Rattle.ftd_machine.specs.declared.requests.Correction.TheVariants as correction
+use Rattle.ftd_machine.specs.declared.entries.ReturnPeriod.TheVariants.{Quarter}
 use Rattle.ftd_entries.proofs.Serving.{served_looked, served_turned}
 use Rattle.ftd_posting.specs.Repaired.{CorrectsQuarter}
 use Rattle.ftd_posting.proofs.Becoming.{becomes_turned}
@@ -8,14 +10,16 @@ use Rattle.ftd_posting.proofs.correcting.correct_report.Goals as goal
 
 pub returns-in-Some-clause-call : goal.returns-in-Some-clause-call
 returns-in-Some-clause-call g c =
-    served_looked (CorrectReport c.args.name.now c.args.quarter c.args.number c.args.cents) _
+    served_looked (Correct c.args.number (correction.Total c.args.name.now (Quarter
+    c.args.quarter) c.args.cents)) _
     c.in_ok-before.ensures.call (quarter_decided c.args.name.now c.args.quarter c.args.number
     c.args.cents _ c.year_counting-year.ensures c.in_ok-before.before c.in-Some.answer
     (search rules))
 
 pub returns-clause-call : goal.returns-clause-call
 returns-clause-call g c =
-    served_turned (CorrectReport c.args.name.now c.args.quarter c.args.number c.args.cents) _
+    served_turned (Correct c.args.number (correction.Total c.args.name.now (Quarter
+    c.args.quarter) c.args.cents)) _
     c.in_ok-before.ensures.call
     (rw c.first-first.ensures at c.in_ok-difference.ensures.call)
     (λ t u s stands sound knows enters. quarter_done c.args.name.now

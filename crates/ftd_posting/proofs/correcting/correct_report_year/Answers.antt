@@ -1,5 +1,7 @@
 use Rattle.std.proofs.Common.{◌≡◌, ◌+◌, refl, rules}
-use Rattle.ftd_machine.specs.declared.requests.Request.TheVariants.{CorrectReportYear}
+use Rattle.ftd_machine.specs.declared.requests.Request.TheVariants.{Correct}
+use Rattle.ftd_machine.specs.declared.requests.Correction.TheVariants as correction
+use Rattle.ftd_machine.specs.declared.entries.ReturnPeriod.TheVariants.{Year}
 use Rattle.ftd_entries.proofs.Serving.{served_looked, served_turned}
 use Rattle.ftd_posting.specs.Repaired.{CorrectsYear}
 use Rattle.ftd_posting.proofs.Becoming.{becomes_turned}
@@ -8,7 +10,8 @@ use Rattle.ftd_posting.proofs.correcting.correct_report_year.Goals as goal
 
 pub returns-in-Some-clause-call : goal.returns-in-Some-clause-call
 returns-in-Some-clause-call g c =
-    served_looked (CorrectReportYear c.args.name.now c.args.year c.args.number c.args.cents) _
+    served_looked (Correct c.args.number (correction.Total c.args.name.now (Year c.args.year)
+    c.args.cents)) _
     c.in_ok-before.ensures.call (year_decided c.args.name.now c.args.year c.args.number
     c.args.cents _ c.in_ok-before.before c.in-Some.answer (search rules))
 
@@ -16,7 +19,8 @@ pub returns-clause-call : goal.returns-clause-call
 returns-clause-call g c =
     let is : c.saturating_add-counting.result ≡ c.args.year + 2 = search rules in
     let first = c.in-Some-days_from.ensures.first in
-    served_turned (CorrectReportYear c.args.name.now c.args.year c.args.number c.args.cents) _
+    served_turned (Correct c.args.number (correction.Total c.args.name.now (Year c.args.year)
+    c.args.cents)) _
     c.in_ok-before.ensures.call (rw first at c.in_ok-difference.ensures.call)
     (λ t u s stands sound knows enters. year_done c.args.name.now c.args.year
     c.args.number c.args.cents _ is c.in_ok-before.before c.unwrap-account.result _ (search rules)

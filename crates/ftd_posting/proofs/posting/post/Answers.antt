@@ -9,8 +9,7 @@ use Rattle.ftd_posting.proofs.posting.post.Goals as goal
 
 pub returns-in-Some : goal.returns-in-Some
 returns-in-Some g c = record {
-  call = served_looked_where (CountsRuns c.args.name.now c.args.count) (Post c.args.name.now
-      c.args.number c.args.run.payday c.args.run.fit c.args.run.ss c.args.run.medicare)
+  call = served_looked_where (CountsRuns c.args.name.now c.args.count) (Post c.args.name.now c.args.number c.args.run)
       c.in-Some.answer c.in_ok-before.ensures.call (post_decided c.args.name.now c.args.number
       c.args.run c.args.count c.in_ok-before.before c.in-Some.answer (search rules));
   repairs = becomes_none (PostsRun c.args.name.now c.args.number c.args.run)
@@ -23,8 +22,7 @@ returns g c =
     let name = c.args.name.now in
     let account = c.unwrap-form.result in
     record {
-      call = served_turned_where (CountsRuns name c.args.count) (Post name c.args.number
-          c.args.run.payday c.args.run.fit c.args.run.ss c.args.run.medicare) _
+      call = served_turned_where (CountsRuns name c.args.count) (Post name c.args.number c.args.run) _
           c.in_ok-before.ensures.call
           c.in_ok-difference.ensures.call (λ t u s stands sound counted knows turned.
           post_done name c.args.number c.args.run c.args.count

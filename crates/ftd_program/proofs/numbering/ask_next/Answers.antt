@@ -1,6 +1,6 @@
 use Rattle.std.proofs.Common.{◌≡◌, ◌∙◌, sym, ap}
 use Rattle.ftd_machine.specs.Step.{with_number}
-use Rattle.ftd_cli.specs.Values.{greatest_number}
+use Rattle.ftd_verbs.specs.Asked.{greatest_number}
 use Rattle.ftd_program.specs.Performing.{counted, answered}
 use Rattle.ftd_program.proofs.Numbered.{renumbered}
 use Rattle.ftd_program.proofs.numbering.ask_next.Goals as goal

@@ -4,7 +4,7 @@ use Rattle.sqlite.specs.State.{HasCleanDisk}
 use Rattle.ftd_machine.specs.State.{State}
 use Rattle.ftd_machine.specs.declared.requests.Question.TheVariants.{DueList}
 use Rattle.ftd_machine.specs.declared.requests.Request.TheVariants.{Question}
-use Rattle.ftd_machine.specs.declared.facts.Facts.TheVariants.{Due}
+use Rattle.ftd_machine.specs.Told.{due_facts}
 use Rattle.ftd_machine.specs.declared.replies.Reply.TheVariants.{Told}
 use Rattle.ftd_machine.proofs.Listed.{lists_bounded}
 use Rattle.ftd_desk.specs.Desks.{KeepsIfOpen, held}
@@ -155,7 +155,8 @@ returns-in-Err-Sink g c =
               | inr over ↦ absurd (let reached = come_to told.0 told.2 told.1 over in
                   let below = lists_bounded s
                   (Question (DueList c.args.account.now c.args.quarter c.args.as_of))
-                  (Told (Due rows)) s keeps.rests.kept.sound told.3 in omega arith)
+                  (Told (due_facts c.args.account.now c.args.quarter c.args.as_of rows)) s
+                  keeps.rests.kept.sound told.3 in omega arith)
             ]);
             line = c.fail_output-in-Err-Sink.ensures.line;
           });

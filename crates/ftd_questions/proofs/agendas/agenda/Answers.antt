@@ -1,9 +1,8 @@
-use Rattle.std.proofs.Common.{None, Ok, refl, rules, sym}
+use Rattle.std.proofs.Common.{None, refl, rules, sym}
 use Rattle.ftd_store.proofs.Turning.{gave_up_after}
 use Rattle.ftd_machine.specs.declared.requests.Question.TheVariants as asked
 use Rattle.ftd_machine.specs.declared.requests.Request.TheVariants.{Question}
-use Rattle.ftd_machine.specs.declared.facts.Facts.TheVariants.{Agenda}
-use Rattle.ftd_machine.specs.declared.replies.Reply.TheVariants.{Told}
+use Rattle.ftd_machine.specs.Told.{agenda_answer}
 use Rattle.ftd_entries.proofs.Serving.{served_looked}
 use Rattle.ftd_questions.proofs.AgendaTold.{agenda_answered, agenda_refused}
 use Rattle.ftd_questions.proofs.agendas.agenda.Goals as goal
@@ -28,7 +27,7 @@ returns-in-Ok g c =
     let rows = c.in_ok-rows.rows in
     record {
       call = served_looked (Question (asked.Agenda from to as_of))
-          (Ok (Told (Agenda c.from_vec.result))) c.in_ok-rows.ensures.call
+          (agenda_answer from to as_of c.from_vec.result) c.in_ok-rows.ensures.call
           (λ t s stands sound knows. rw (sym c.from_vec.ensures) at
           (agenda_answered None from to as_of rows.items t s stands sound knows refl (search rules)
           c.in-Ok.rows.items c.in-Ok.ensures.same c.in-Ok.ensures.in_order));

@@ -1,10 +1,9 @@
-use Rattle.std.proofs.Common.{◌≡◌, ◌∙◌, Ok, Some, refl, rules, sym}
+use Rattle.std.proofs.Common.{◌≡◌, ◌∙◌, Some, refl, rules, sym}
 use Rattle.ftd_days.proofs.Months.{month_start-zero}
 use Rattle.ftd_store.proofs.Turning.{gave_up_after}
 use Rattle.ftd_machine.specs.declared.requests.Question.TheVariants.{Owed}
 use Rattle.ftd_machine.specs.declared.requests.Request.TheVariants.{Question}
-use Rattle.ftd_machine.specs.declared.facts.Facts.TheVariants.{Agenda}
-use Rattle.ftd_machine.specs.declared.replies.Reply.TheVariants.{Told}
+use Rattle.ftd_machine.specs.Told.{owed_answer}
 use Rattle.ftd_entries.proofs.Serving.{served_looked}
 use Rattle.ftd_questions.proofs.AgendaTold.{owed_answered, owed_refused}
 use Rattle.ftd_questions.proofs.agendas.owed.Goals as goal
@@ -26,7 +25,7 @@ returns-in-Ok g c =
     let first : c.first_of_month-from.result ≡ 0 =
     c.first_of_month-from.ensures.value ∙ month_start-zero in
     record {
-      call = served_looked (Question (Owed until as_of)) (Ok (Told (Agenda c.from_vec.result)))
+      call = served_looked (Question (Owed until as_of)) (owed_answer until as_of c.from_vec.result)
           c.in_ok-rows.ensures.call (λ t s stands sound knows. rw (sym c.from_vec.ensures) at
           (owed_answered (Some as_of) c.first_of_month-from.result until as_of rows.items t s stands
           sound knows refl first (search rules) c.in-Ok.rows.items c.in-Ok.ensures.same

@@ -1,16 +1,19 @@
-use Rattle.std.proofs.Common.{◌≡◌, ◌+◌, ◌∙◌, Some, None, Ok, rules, sym, ap, subst}
+use Rattle.std.proofs.Common.{◌≡◌, ◌+◌, ◌∙◌, Some, None, rules, sym, ap, subst}
 use Rattle.ftd_days.specs.Holidays.{holidays_of}
 use Rattle.ftd_store.specs.Holidays.{HasYears}
 use Rattle.ftd_store.proofs.Telling.{then_reads}
 use Rattle.ftd_machine.specs.declared.requests.Question.TheVariants.{DueList}
 use Rattle.ftd_machine.specs.declared.requests.Request.TheVariants.{Question}
+use Rattle.ftd_machine.specs.declared.facts.DueList.{DueList as DueListRow}
 use Rattle.ftd_machine.specs.declared.facts.Facts.TheVariants.{Due}
+use Rattle.ftd_machine.specs.Step.{Step}
+use Rattle.ftd_machine.specs.Told.{due_answer}
 use Rattle.ftd_machine.specs.declared.replies.Reply.TheVariants.{Told}
 use Rattle.ftd_entries.proofs.Serving.{served_looked}
 use Rattle.ftd_questions.specs.DueRows.{KnowsForDue, KnowsYears}
 use Rattle.ftd_questions.specs.Shown.{KnowsQuarter}
 use Rattle.ftd_questions.proofs.DueTold.{checks, due_decided, due_told}
-use Rattle.ftd_questions.proofs.Shown.{due_list_refuses, shown_by, told_rows}
+use Rattle.ftd_questions.proofs.Shown.{due_list_refuses, shown_by, told_list}
 use Rattle.ftd_questions.proofs.due.due_list.Goals as goal
 
 pub returns-in-Some : goal.returns-in-Some
@@ -25,8 +28,8 @@ returns-in-Some g c =
           c.in_ok-before.ensures.call (due_decided name quarter as_of known answer (search rules));
       shows = shown_by g.S.Store c.args.tx.now c.known_for_due.new.tx known answer
           (DueList name quarter as_of) (KnowsForDue name quarter) c.in_ok-before.ensures.call
-          (λ t knows rows is. absurd ((due_list_refuses name quarter as_of known).never
-          (Told (Due rows)) (search rules ∙ ap Some is)));
+          (λ t knows list is. absurd ((due_list_refuses name quarter as_of known).never
+          (Told (Due list)) (search rules ∙ ap Some is)));
     }
 
 pub returns : goal.returns
@@ -39,6 +42,7 @@ returns g c =
     let given = c.in_ok-holidays.holidays in
     let found = c.in_ok-found.found in
     let rows = found.rows in
+    let owner = c.in-Ok.owner in
     let passed : checks name quarter as_of known ≡ None = search rules in
     let years = then_reads given
     (λ hs t. KnowsForDue name quarter known t × KnowsYears quarter hs t) c.in_ok-before.ensures.call
@@ -51,12 +55,15 @@ returns g c =
     years c.in_ok-found.ensures.call (λ t knows lists. (knows.0, lists knows.1)) in
     record {
       call = served_looked (Question (DueList name quarter as_of))
-          (Ok (Told (Due c.from_vec.result))) read (λ t s stands sound knows.
-          rw (sym c.from_vec.ensures) at
+          (due_answer owner quarter as_of c.from_vec.result) read (λ t s stands sound knows.
+          subst (λ n. Step s (Question (DueList name quarter as_of))
+          (due_answer n quarter as_of c.from_vec.result) s) (sym c.in-Ok.ensures)
+          (rw (sym c.from_vec.ensures) at
           (due_told name quarter as_of known account rows.items c.in-Some-account.is passed t s
-          stands sound (knows.0, knows.1.0.0)));
+          stands sound (knows.0, knows.1.0.0))));
       shows = shown_by g.S.Store c.args.tx.now c.rows_of_quarter.new.tx found
-          (Ok (Told (Due c.from_vec.result))) (DueList name quarter as_of) _ read
-          (λ t knows others is.
-          rw (sym c.from_vec.ensures ∙ told_rows c.from_vec.result others is) at knows.1.0.1);
+          (due_answer owner quarter as_of c.from_vec.result) (DueList name quarter as_of) _ read
+          (λ t knows other is.
+          rw (sym c.from_vec.ensures ∙ ap (λ (list : DueListRow). list.rows) (told_list _ other is))
+          at knows.1.0.1);
     }

@@ -1,5 +1,5 @@
 use Rattle.std.proofs.Common.{refl, inr}
-use Rattle.std.specs.Prelude.{Result, Ok, Err, OnErr}
+use Rattle.std.specs.Prelude.{Result, Ok, Err, IfOk, OnErr}
 use Rattle.ftd_server.specs.Replying.{answered}
 use Rattle.ftd_server.proofs.respond.respond.Goals as goal
 
@@ -12,6 +12,18 @@ pub returns-in-Asks-clause-err : goal.returns-in-Asks-clause-err
 returns-in-Asks-clause-err g c =
     on_err c.answered.result
     (inr (
-      answered c.in-Asks.format c.in-Asks.request c.answer-answer.result,
+      answered c.in-Asks.format c.answer-answer.result,
       rw c.in-Asks.is (c.answer-answer.result, c.answer-answer.ensures, refl),
     ))
+
+-- what follows from the value of an Ok
+if_ok : {T E : Type 0} {P Q : T → Type 0} (result : Result T E) → ((x : T) → P x → Q x)
+    → IfOk result P → IfOk result Q
+if_ok (Ok x) to fact = to x fact
+if_ok (Err e) to fact = fact
+
+pub returns-in-Asks-clause-ok : goal.returns-in-Asks-clause-ok
+returns-in-Asks-clause-ok g c =
+    if_ok c.answered.result
+    (λ response said. rw c.in-Asks.is (c.answer-answer.result, c.answer-answer.ensures, said))
+    c.answered.ensures
